@@ -1,4 +1,5 @@
 -- What is made of a list in another order.
+use Rattle.std.proofs.lemmas.Grind.{common_steps}
 use Rattle.std.proofs.Common.{◌≡◌, refl, ap, ◌∙◌, ℕ, zero, suc, ◌<◌, Bool, true, false, cond, ◌&&◌, List, [], ◌∷◌, ◌++◌, length, get_or, set, swap, filter, flat_map, append_assoc, arith}
 use Rattle.std.specs.List.{list_all}
 use Rattle.std.specs.List.Sorted.{IsPermutation}
@@ -41,12 +42,7 @@ IsPermutation-flat_map f = along_permutation (λ xs ys. IsPermutation (flat_map 
 
 filter_as_flat_map : {A : Type 0} (p : A → Bool) (xs : List A) → filter p xs ≡ flat_map (λ x. cond (p x) (x ∷ []) []) xs
 filter_as_flat_map p [] = refl
-filter_as_flat_map p (x ∷ xs) = by (p x) (filter_as_flat_map p xs)
-  where
-    by : (b : Bool) → filter p xs ≡ flat_map (λ y. cond (p y) (y ∷ []) []) xs → cond b (x ∷ filter p xs) (filter p xs)
-        ≡ cond b (x ∷ []) [] ++ flat_map (λ y. cond (p y) (y ∷ []) []) xs
-    by true rest = ap (λ l. x ∷ l) rest
-    by false rest = rest
+filter_as_flat_map p (x ∷ xs) = grind (arith, common_steps, filter_as_flat_map p xs)
 
 pub IsPermutation-filter : {A : Type 0} (p : A → Bool) (xs ys : List A) → IsPermutation xs ys
     → IsPermutation (filter p xs) (filter p ys)

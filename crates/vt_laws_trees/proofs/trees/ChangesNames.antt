@@ -55,10 +55,7 @@ module _ (files : FileTree ℕ) (directory : ℕ) (name : List ℕ) where
       by : (b : Bool) → bytes_eq n name ≡ b → d ≡ directory
           → ((d ≡ directory) × (n ≡ name)) ⊎ (entry_at (without_name nat_eq files directory name).tree d n ≡ Some k)
       by true same here = inl (here, (bytes_decides n name).0 same)
-      by false differ here = inr (ap (λ m. entry_at (without_name nat_eq files directory name).tree m n) here
-          ∙ ap (entry_named n) entries_there ∙ entry_named-without_entry n name (entries_in (files.tree.node directory))
-          ∙ ap (λ b. cond (not b) (entry_named n (entries_in (files.tree.node directory))) None) differ
-          ∙ ap (λ m. entry_at files.tree m n) (sym here) ∙ e)
+      by false differ here = grind (arith, common_steps, entries_there, entry_named-without_entry)
 
   -- entries stay in order, and what is empty stays so
   pub untaken_in_order : ((d : ℕ) → is_sorted name_cmp (entries_in (files.tree.node d)) ≡ true)

@@ -5,7 +5,7 @@ use Rattle.vt_spec.specs.declared.attributes.Attr.{Attr}
 use Rattle.vt_spec.specs.Rights.{is_directory}
 use Rattle.vt_spec.specs.Tree.{Node, Content, kind_of, entries_of, is_directory_node, entries_in, parent_of, parent_in}
 use Rattle.vt_spec.specs.Tree.Content.{Directory, Regular, Symlink, Whiteout}
-use Rattle.vt_spec.specs.Language.Changes.{changed_node, content_with_mark, content_with_parent, node_with_attr, node_with_mark, node_with_parent}
+use Rattle.vt_spec.specs.Language.Changes.{changed_node, content_with_mark, node_with_attr, node_with_mark, node_with_parent}
 use Rattle.vt_spec.specs.FileTree.{FileTree}
 use Rattle.vt_spec.proofs.Nodes.{node_other, node_set, part_kept}
 
@@ -64,10 +64,4 @@ module _ (opaque : Bool) where
 -- with itself as the parent, it is its own
 pub own_parent-node_with_parent : (own : ℕ) (o : Option (Node ℕ)) → parent_in own (node_with_parent own o) ≡ own
 own_parent-node_with_parent own None = refl
-own_parent-node_with_parent own (Some node) = by node.content
-  where
-    by : (content : Content ℕ) → parent_of own (content_with_parent own content) ≡ own
-    by (Directory old entries opaque) = refl
-    by (Regular bytes) = refl
-    by (Symlink text) = refl
-    by Whiteout = refl
+own_parent-node_with_parent own (Some node) = grind (arith, common_steps)

@@ -1,5 +1,6 @@
 -- Changes of inodes, links, removals and renames are rearrangements of a tree.
-use Rattle.std.proofs.Common.{◌≡◌, ◌≢◌, refl, sym, ap, subst, ◌∙◌, true≢false, ℕ, nat_eq, List, ◌⊎◌, inl, inr, ⊎_elim, Option, Some, None, is_some}
+use Rattle.std.proofs.Common.{arith, ◌≡◌, ◌≢◌, refl, sym, ap, subst, ◌∙◌, true≢false, ℕ, nat_eq, List, ◌⊎◌, inl, inr, ⊎_elim, Option, Some, None, is_some}
+use Rattle.std.proofs.lemmas.Grind.{common_steps}
 use Rattle.std.proofs.lemmas.Bool.Decides.{eqb_tells}
 use Rattle.std.proofs.lemmas.Option.{same_Some}
 use Rattle.std.specs.FinMap.Entries.{is_sorted}
@@ -205,9 +206,7 @@ module _ (files : FileTree ℕ) where
       → parent_in k ((without_parent nat_eq files o).tree.node k) ≡ k
   unparented_own None k e = none_is_not None k refl e
   unparented_own (Some object) k e =
-      subst (λ m. parent_in m ((without_parent nat_eq files (Some object)).tree.node m) ≡ m) (same_Some object k e)
-      (ap (parent_in object) (changed_node_there files object (node_with_parent object))
-      ∙ own_parent-node_with_parent object (files.tree.node object))
+      grind (arith, common_steps, same_Some, changed_node_there, own_parent-node_with_parent)
 
   pub unparented_parent : (o : Option ℕ) (k : ℕ) → o ≢ Some k
       → parent_in k ((without_parent nat_eq files o).tree.node k) ≡ parent_in k (files.tree.node k)

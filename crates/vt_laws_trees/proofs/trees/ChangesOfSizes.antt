@@ -1,13 +1,10 @@
 -- Changes keep trees within the limits of names, texts and files.
 use Rattle.std.proofs.Common.{arith, eq-eqb, eqb-true, ◌≡◌, refl, ap, ◌∙◌, ℕ, nat_eq, nat_le, Bool, true, false, not, cond, List, [], ◌∷◌, length, map, ◌&&◌, Option, Some, None}
 use Rattle.std.proofs.lemmas.Grind.{common_steps}
-use Rattle.std.specs.declared.cmp.Ordering.{Ordering}
-use Rattle.std.specs.declared.cmp.Ordering.TheVariants.{Equal, Greater, Less}
-use Rattle.std.specs.FinMap.Entries.{by_order}
 use Rattle.std.specs.List.{filter, list_all}
 use Rattle.std.specs.Str.{bytes_eq}
 use Rattle.vt_spec.specs.declared.attributes.Attr.{Attr}
-use Rattle.vt_spec.specs.Tree.{Content, Entries, Node, name_cmp, node_with_bytes, node_with_entry, with_entry, entries_in, entry_named}
+use Rattle.vt_spec.specs.Tree.{Content, Entries, Node, node_with_bytes, node_with_entry, with_entry, entries_in, entry_named}
 use Rattle.vt_spec.specs.Tree.Content.{Directory, Regular, Symlink, Whiteout}
 use Rattle.vt_spec.specs.Language.Changes.{changed_node, node_with_attr, node_with_mark, node_with_parent, node_without_entry, with_inode, with_name, without_entry, without_name, without_parent}
 use Rattle.vt_spec.specs.Language.Changes.Change.{AddName, CopyUp, Make, Move, Remove, SetAttr, SetBytes, SetMark}
@@ -32,30 +29,13 @@ put_fits : (name : List ℕ) (number : ℕ) (entries : Entries ℕ) → is_fit_n
     → list_all is_fit_name (map (λ e. e.0) entries) ≡ true
     → list_all is_fit_name (map (λ e. e.0) (with_entry name number entries)) ≡ true
 put_fits name number [] h k = both (is_fit_name name) true h refl
-put_fits name number (entry ∷ entries) h k = by (name_cmp name entry.0) (put_fits name number entries h
-    ((and_parts (is_fit_name entry.0) (list_all is_fit_name (map (λ e. e.0) entries)) k).1))
-  where
-    by : (o : Ordering) → list_all is_fit_name (map (λ e. e.0) (with_entry name number entries)) ≡ true
-        → list_all is_fit_name (map (λ e. e.0)
-        (by_order o ((name, number) ∷ entry ∷ entries) ((entry.0, number) ∷ entries)
-        (entry ∷ with_entry name number entries))) ≡ true
-    by Less rest = both (is_fit_name name) (list_all is_fit_name (map (λ e. e.0) (entry ∷ entries))) h k
-    by Equal rest = k
-    by Greater rest =
-        both (is_fit_name entry.0) (list_all is_fit_name (map (λ e. e.0) (with_entry name number entries)))
-        ((and_parts (is_fit_name entry.0) (list_all is_fit_name (map (λ e. e.0) entries)) k).0) rest
+put_fits name number (entry ∷ entries) h k =
+    grind (arith, common_steps, and_parts, both, put_fits name number entries h)
 
 filter_fits : (stays : List ℕ × ℕ → Bool) (entries : Entries ℕ) → list_all is_fit_name (map (λ e. e.0) entries) ≡ true
     → list_all is_fit_name (map (λ e. e.0) (filter stays entries)) ≡ true
 filter_fits stays [] k = refl
-filter_fits stays (entry ∷ entries) k = by (stays entry) (filter_fits stays entries
-    ((and_parts (is_fit_name entry.0) (list_all is_fit_name (map (λ e. e.0) entries)) k).1))
-  where
-    by : (b : Bool) → list_all is_fit_name (map (λ e. e.0) (filter stays entries)) ≡ true
-        → list_all is_fit_name (map (λ e. e.0) (cond b (entry ∷ filter stays entries) (filter stays entries))) ≡ true
-    by true rest = both (is_fit_name entry.0) (list_all is_fit_name (map (λ e. e.0) (filter stays entries)))
-        ((and_parts (is_fit_name entry.0) (list_all is_fit_name (map (λ e. e.0) entries)) k).0) rest
-    by false rest = rest
+filter_fits stays (entry ∷ entries) k = grind (arith, common_steps, and_parts, both, filter_fits stays entries)
 
 -- a directory's limits are those of its names
 names_of_directory : (b : Bool) → (true && b && true) ≡ true → b ≡ true

@@ -112,11 +112,7 @@ overwritten_fits offset more short (Some node) k = by node.attr node.content k
         → fits (node_with_bytes (overwritten offset more (bytes_in (Some (record { attr = attr; content = content }))))
         (Some (record { attr = attr; content = content }))) ≡ true
     by attr (Directory parent entries opaque) g = g
-    by attr (Regular bytes) g = ap (λ b. b && true && true)
-        (le-leb (length (overwritten offset more bytes)) largest_file
-        (overwritten_length offset more bytes largest_file short (leb-true (length bytes) largest_file
-        ((and_parts (nat_le (length bytes) largest_file) true
-        ((and_parts (nat_le (length bytes) largest_file && true) true g).0)).0))))
+    by attr (Regular bytes) g = grind (arith, common_steps, le-leb, overwritten_length, leb-true, and_parts)
     by attr (Symlink text) g = g
     by attr Whiteout g = g
 

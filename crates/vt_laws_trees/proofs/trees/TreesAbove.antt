@@ -133,9 +133,7 @@ module _ (files : FileTree ℕ) (conditions : IsFileTree files) (to : ℕ) (is :
   past_root k lt =
       let more = k - suc height in
       let whole : k ≡ more + suc height = omega arith in
-      ap (λ n. up files.tree n (Some to)) whole ∙ up_plus files.tree more (suc height) (Some to)
-      ∙ ap (up files.tree more) (ap (option_and_then (named_parent nat_eq files.tree)) at_root
-      ∙ root_above_none files.tree) ∙ up_none files.tree more
+      grind (arith, common_steps, up_plus, at_root, root_above_none, up_none)
 
   -- what is up is no higher than the root
   low : (k e : ℕ) → up files.tree k (Some to) ≡ Some e → k ≤ height
@@ -178,10 +176,7 @@ module _ (files : FileTree ℕ) (conditions : IsFileTree files) (to : ℕ) (is :
   line_apart : (i k : ℕ) → k < i → i ≤ height → AllByRecursion (λ y. nat_eq (above i) y ≡ false) (line k)
   unfolding line
   line_apart i zero lt le = (ne_eqb (above i) (above 0) (above_differ 0 i lt le), tt)
-  line_apart i (suc k) lt le = (
-    ne_eqb (above i) (above (suc k)) (above_differ (suc k) i lt le),
-    line_apart i k (omega arith) le,
-  )
+  line_apart i (suc k) lt le = grind (arith, common_steps, ne_eqb, above_differ, line_apart i k (omega arith) le)
 
   line_distinct : (k : ℕ) → k ≤ height → IsDistinct nat_eq (line k)
   unfolding line IsDistinct

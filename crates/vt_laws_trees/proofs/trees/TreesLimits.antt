@@ -49,11 +49,8 @@ same_tasks a b same is = ap (list_all is_within_limits) same ∙ is
 pub lazily_tasks : (mounts : List (Mount ℕ)) (world : World ℕ)
     → (folded (unmounted_if_there nat_eq) world mounts).tasks ≡ world.tasks
 lazily_tasks [] world = refl
-lazily_tasks (mount ∷ mounts) world = lazily_tasks mounts (unmounted_if_there nat_eq world mount) ∙ by _
-  where
-    by : (b : Bool) → (cond b (unmounted nat_eq world mount.number) world).tasks ≡ world.tasks
-    by true = tasks-taken_away world _
-    by false = refl
+lazily_tasks (mount ∷ mounts) world =
+    grind (arith, common_steps, tasks-taken_away, lazily_tasks mounts (unmounted_if_there nat_eq world mount))
 
 pub typed_tasks : (fresh : Fresh ℕ) (world : World ℕ) (number : ℕ) (word : TypeWord) (recursive : Bool)
     → (with_type nat_eq fresh world number word recursive).tasks ≡ world.tasks

@@ -1,5 +1,6 @@
 -- A change of a filesystem in a world of trees leaves a world of trees.
-use Rattle.std.proofs.Common.{eqb-true, ◌≡◌, refl, sym, ap, subst, ◌∙◌, true≢false, ℕ, nat_eq, Bool, true, false, cond, List, [], ◌∷◌, map, ◌⊎◌, inl, inr, ⊎_elim, Some, None, is_some}
+use Rattle.std.proofs.Common.{arith, eqb-true, ◌≡◌, refl, sym, ap, subst, ◌∙◌, true≢false, ℕ, nat_eq, Bool, true, false, cond, List, [], ◌∷◌, map, ◌⊎◌, inl, inr, ⊎_elim, Some, None, is_some}
+use Rattle.std.proofs.lemmas.Grind.{common_steps}
 use Rattle.std.specs.Prelude.{unwrap_or}
 use Rattle.std.specs.List.{All, find, list_any}
 use Rattle.std.proofs.lemmas.List.Elements.{All-cons, All-head, All-nil, All-tail}
@@ -47,13 +48,7 @@ numbered_anyhow P number list h none =
 -- its number is the one it is found by
 pub number_numbered : (number : ℕ) (list : List (Filesystem ℕ)) → (numbered number list).number ≡ number
 number_numbered number [] = refl
-number_numbered number (filesystem ∷ list) = by (nat_eq number filesystem.number) refl (number_numbered number list)
-  where
-    by : (b : Bool) → nat_eq number filesystem.number ≡ b → (numbered number list).number ≡ number
-        → (unwrap_or (cond b (Some filesystem) (find (λ other. nat_eq number other.number) list))
-        (no_filesystem number)).number ≡ number
-    by true e rest = sym (eqb-true number filesystem.number e)
-    by false e rest = rest
+number_numbered number (filesystem ∷ list) = grind (arith, common_steps, eqb-true, number_numbered number list)
 
 -- one filesystem replaced
 pub replaced_all : (P : Filesystem ℕ → Type 0) (new : Filesystem ℕ) (list : List (Filesystem ℕ)) → All P list

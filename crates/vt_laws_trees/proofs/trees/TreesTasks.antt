@@ -110,24 +110,11 @@ replaced_within new old h k = by (same_name new.name old.name)
 -- Descriptors: the least free number is no larger than how many there are
 free_small : (number : ℕ) (list : List (Descriptor ℕ)) → free_from number list ≤ number + length list
 free_small number [] = omega arith
-free_small number (descriptor ∷ list) = by (descriptor.number == number) (free_small (number + 1) list)
-  where
-    later : (a b c : ℕ) → c ≤ (a + 1) + b → c ≤ a + suc b
-    later a b c h = omega arith
-
-    by : (b : Bool) → free_from (number + 1) list ≤ (number + 1) + length list
-        → cond b (free_from (number + 1) list) number ≤ number + suc (length list)
-    by true h = later number (length list) (free_from (number + 1) list) h
-    by false h = omega arith
+free_small number (descriptor ∷ list) = grind (arith, common_steps, free_small (number + 1) list)
 
 inserted_length : (new : Descriptor ℕ) (list : List (Descriptor ℕ)) → length (inserted new list) ≡ suc (length list)
 inserted_length new [] = refl
-inserted_length new (descriptor ∷ list) = by (nat_lt new.number descriptor.number) (inserted_length new list)
-  where
-    by : (b : Bool) → length (inserted new list) ≡ suc (length list)
-        → length (cond b (new ∷ descriptor ∷ list) (descriptor ∷ inserted new list)) ≡ suc (suc (length list))
-    by true h = refl
-    by false h = ap suc h
+inserted_length new (descriptor ∷ list) = grind (arith, common_steps, inserted_length new list)
 
 inserted_all : (test : Descriptor ℕ → Bool) (new : Descriptor ℕ) (list : List (Descriptor ℕ)) → test new ≡ true
     → list_all test list ≡ true → list_all test (inserted new list) ≡ true
@@ -176,12 +163,7 @@ inserted_ascending least new (descriptor ∷ list) e h =
 
 filtered_length : (stays : Descriptor ℕ → Bool) (list : List (Descriptor ℕ)) → length (filter stays list) ≤ length list
 filtered_length stays [] = omega arith
-filtered_length stays (descriptor ∷ list) = by (stays descriptor) (filtered_length stays list)
-  where
-    by : (b : Bool) → length (filter stays list) ≤ length list
-        → length (cond b (descriptor ∷ filter stays list) (filter stays list)) ≤ suc (length list)
-    by true h = omega (arith, h)
-    by false h = omega (arith, h)
+filtered_length stays (descriptor ∷ list) = grind (arith, common_steps, filtered_length stays list)
 
 -- a descriptor more, where there are fewer than 256; and one less
 pub opened_within : (task : Task ℕ) (location : Location ℕ) (access : Access) → is_within_limits task ≡ true

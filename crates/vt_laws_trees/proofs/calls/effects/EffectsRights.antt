@@ -271,10 +271,7 @@ stays part (Some a) (Some b) was now e f h = ap part (same_Some now b (sym f)) �
 
 unchanged : (o p : Option (Node ℕ)) (was now : Node ℕ) → o ≡ Some was → p ≡ Some now → (p ≡ o) ⊎ (p ≡ None) → was ≡ now
 unchanged o p was now e f (inl same) = same_Some was now (sym e ∙ sym same ∙ f)
-unchanged o p was now e f (inr gone) = none_now (sym gone ∙ f)
-  where
-    none_now : Path (Option (Node ℕ)) None (Some now) → was ≡ now
-    none_now e = cc
+unchanged o p was now e f (inr gone) = grind (arith, common_steps)
 
 pub changes_are_by_right : ChangesAreByRight
 changes_are_by_right fresh world name call task permit filesystem number was now plain other called judged handed before

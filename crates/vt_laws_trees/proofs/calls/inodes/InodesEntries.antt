@@ -1,5 +1,6 @@
 -- In a directory that stays, a call changes no entry but those that its permit names.
-use Rattle.std.proofs.Common.{◌≡◌, refl, sym, ap, ◌∙◌, true≢false, ℕ, nat_eq, eq-eqb, Bool, true, false, cond, not, ◌&&◌, List, [], ◌∷◌, Option, Some, None}
+use Rattle.std.proofs.Common.{arith, ◌≡◌, refl, sym, ap, ◌∙◌, true≢false, ℕ, nat_eq, eq-eqb, Bool, true, false, cond, ◌&&◌, List, [], ◌∷◌, Option, Some, None}
+use Rattle.std.proofs.lemmas.Grind.{common_steps}
 use Rattle.std.specs.Cmp.Lexicographic.{bytes_decides}
 use Rattle.std.specs.Ordering.{eq_by_cmp}
 use Rattle.std.specs.Str.{bytes_eq}
@@ -20,7 +21,7 @@ use Rattle.vt_spec.specs.Machine.Looks.{looks_of}
 use Rattle.vt_spec.specs.Machine.Mounts.{Location}
 use Rattle.vt_spec.specs.Machine.Permits.{Permit}
 use Rattle.vt_spec.specs.Machine.Permits.Permit.{ToChange, ToMake, ToMountOverlay, ToMountPlain, ToOpenNew, ToWritePart}
-use Rattle.vt_spec.specs.Machine.World.{Task, World, files_at, mount_at}
+use Rattle.vt_spec.specs.Machine.World.{Task, World, mount_at}
 use Rattle.vt_spec.specs.Tree.{Content, Node, entries_of, entry_named, name_cmp, node_with_bytes, node_with_entry, with_bytes, with_entries, with_entry}
 use Rattle.vt_spec.specs.Tree.Content.{Directory, Regular, Symlink, Whiteout}
 use Rattle.vt_spec.proofs.Nodes.{entry_named-with_entry, entry_named-without_entry, same_name}
@@ -56,8 +57,7 @@ module _ (entry : List ℕ) where
 
   taken : (content : Content ℕ) (name : List ℕ) → bytes_eq entry name ≡ false
       → led_of (with_entries content (without_entry name (entries_of content))) ≡ led_of content
-  taken (Directory parent entries opaque) name apart =
-      entry_named-without_entry entry name entries ∙ ap (λ b. cond (not b) (entry_named entry entries) None) apart
+  taken (Directory parent entries opaque) name apart = grind (arith, common_steps, entry_named-without_entry)
   taken (Regular bytes) name apart = refl
   taken (Symlink text) name apart = refl
   taken Whiteout name apart = refl
@@ -178,11 +178,7 @@ module _ (entry : List ℕ) where
       made_kept_by : (made : Option (Location ℕ × Change ℕ)) → NewApartIn made → IsOther made
           → MadeBy (Stays Led Was) filesystem other fresh world plain (itself Led Was) made
       made_kept_by None new apart = tt
-      made_kept_by (Some made) new apart = λ same.
-          change_holds_if_kept Led other fresh world plain filesystem handed made.0 made.1
-          (kept (files_at nat_eq world made.0) made.1 new
-          (ap (λ b. b && is_among same_entry (other, entry) (entries_named_by made.1))
-          (sym (eq-eqb filesystem (mount_at nat_eq world made.0).filesystem same)) ∙ apart)) same
+      made_kept_by (Some made) new apart = grind (arith, common_steps, change_holds_if_kept, kept, eq-eqb)
 
       written_apart : (file : Location ℕ) (offset : ℕ) (bytes : List ℕ)
           → NewApartIn (change_of fresh world (ToWritePart file offset bytes))

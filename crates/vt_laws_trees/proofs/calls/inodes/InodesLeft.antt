@@ -38,31 +38,13 @@ module _ (Q : Option (Node ℕ) → Type 0) (number inode : ℕ) where
   replaced_holds : (new : Filesystem ℕ) → (number ≡ new.number → Q (new.files.tree.node inode))
       → (list : List (Filesystem ℕ)) → Holds list → Holds (map (replaced_if_numbered nat_eq new) list)
   replaced_holds new here [] h = h
-  replaced_holds new here (first ∷ rest) h =
-      by (nat_eq new.number first.number) refl (nat_eq number first.number) refl h (replaced_holds new here rest)
-    where
-      others : List (Filesystem ℕ)
-      others = map (replaced_if_numbered nat_eq new) rest
-
-      by : (b : Bool) → nat_eq new.number first.number ≡ b → (c : Bool) → nat_eq number first.number ≡ c
-          → Q ((found c first rest).files.tree.node inode) → (Holds rest → Holds others)
-          → Holds (cond b new first ∷ others)
-      by b e c f h later = grind (arith, common_steps, eqb-true, eq-eqb)
+  replaced_holds new here (first ∷ rest) h = grind (arith, common_steps, eqb-true, eq-eqb, replaced_holds new here rest)
 
   -- one filesystem more
   added_holds : (new : Filesystem ℕ) → (number ≡ new.number → Q None → Q (new.files.tree.node inode))
       → (list : List (Filesystem ℕ)) → Holds list → Holds (list ++ (new ∷ []))
-  added_holds new here [] h = by (nat_eq number new.number) refl
-    where
-      by : (b : Bool) → nat_eq number new.number ≡ b → Q ((found b new []).files.tree.node inode)
-      by true e = here (eqb-true number new.number e) h
-      by false e = h
-  added_holds new here (first ∷ rest) h = by (nat_eq number first.number) h (added_holds new here rest)
-    where
-      by : (b : Bool) → Q ((found b first rest).files.tree.node inode) → (Holds rest → Holds (rest ++ (new ∷ [])))
-          → Q ((found b first (rest ++ (new ∷ []))).files.tree.node inode)
-      by true h later = h
-      by false h later = later h
+  added_holds new here [] h = grind (arith, common_steps, eqb-true)
+  added_holds new here (first ∷ rest) h = grind (arith, common_steps, added_holds new here rest)
 
   -- what a change makes of the inode, in the filesystem that it is made in
   abbrev pub ChangeHolds : World ℕ → Location ℕ → Change ℕ → Type 0

@@ -11,12 +11,12 @@ use Rattle.vt_spec.specs.Language.Calls.{Call}
 use Rattle.vt_spec.specs.Language.Changes.{Change, changed, without_parent}
 use Rattle.vt_spec.specs.FileTree.{FileTree}
 use Rattle.vt_spec.specs.Machine.Judge.{judge_in}
-use Rattle.vt_spec.specs.Lists.{Fresh, evens, holds_of, is_among}
+use Rattle.vt_spec.specs.Lists.{Fresh, holds_of, is_among}
 use Rattle.vt_spec.specs.Machine.Looks.{looks_of}
 use Rattle.vt_spec.specs.Machine.Mounts.{Location}
 use Rattle.vt_spec.specs.Machine.Permits.{Permit}
 use Rattle.vt_spec.specs.Machine.Permits.Permit.{ToMountOverlay, ToMountPlain}
-use Rattle.vt_spec.specs.Machine.World.{Task, World, files_at, mount_at}
+use Rattle.vt_spec.specs.Machine.World.{Task, World}
 use Rattle.vt_spec.specs.Tree.{Node}
 use Rattle.std.proofs.lemmas.Bool.{or_parts}
 use Rattle.vt_laws_trees.specs.Trees.Calls.{mounts_overlay}
@@ -56,23 +56,15 @@ module _ (fresh : Fresh ℕ) (world : World ℕ) (plain : IsPlain world) (filesy
       → holds_of (λ own. nat_eq filesystem own.0 && is_among nat_eq number own.1) (own_by world made) ≡ false
       → MadeBy Kept filesystem number fresh world plain (inl refl) made
   made_elsewhere None apart = tt
-  made_elsewhere (Some made) apart = λ same. inl (changed_elsewhere (files_at nat_eq world made.0) made.1 number
-      (sym (ap (λ b. b && is_among nat_eq number (named_by (files_at nat_eq world made.0) made.1))
-      (eq-eqb filesystem (mount_at nat_eq world made.0).filesystem same)) ∙ apart)
-      ∙ ap (λ n. inode_in world n number) (sym same))
+  made_elsewhere (Some made) apart = grind (arith, common_steps, changed_elsewhere, eq-eqb)
 
   left_elsewhere : (task : Task ℕ) (call : Call) → mounts_overlay call ≡ false → (permit : Permit ℕ)
       → IsFor (looks_of nat_eq world) task call permit → is_own fresh world permit filesystem number ≡ false
       → Left permit
   left_elsewhere task call no_overlay (ToMountPlain place flags) for apart =
-      λ same is. absurd (true≢false (sym (own same is) ∙ apart))
-    where
-      own : filesystem ≡ evens fresh 0 → number ≡ evens fresh 1
-          → (nat_eq filesystem (evens fresh 0) && (nat_eq number (evens fresh 1) || false)) ≡ true
-      own same is = ap (λ b. b && (nat_eq number (evens fresh 1) || false)) (eq-eqb filesystem (evens fresh 0) same)
-          ∙ ap (λ b. b || false) (eq-eqb number (evens fresh 1) is)
+      grind (arith, common_steps, true≢false, eq-eqb)
   left_elsewhere task call no_overlay (ToMountOverlay place overlay flags) for apart =
-      absurd (true≢false (sym (ap mounts_overlay for.2) ∙ no_overlay))
+      grind (arith, common_steps, true≢false)
   left_elsewhere task call no_overlay permit for apart = made_elsewhere (change_of fresh world permit) apart
 
 pub calls_change_their_own : CallsChangeTheirOwn

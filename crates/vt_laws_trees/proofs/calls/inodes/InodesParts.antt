@@ -181,40 +181,25 @@ module _ {A : Type 0} (part : Node ℕ → A) where
         left_kept : (permit : Permit ℕ) → IsFor (looks_of nat_eq world) task call permit → Left permit
         left_kept (ToChange location (Make directory name number node)) for = absurd for
         left_kept (ToChange location (AddName directory name object)) for =
-            change_holds_if_kept location (AddName directory name object)
-            (named_kept (names (ap changes_names for.2)) directory name object (files_at nat_eq world location))
+            grind (arith, common_steps, change_holds_if_kept, named_kept)
         left_kept (ToChange location (Remove directory name object)) for =
-            let kept = names (ap changes_names for.1) in
-            change_holds_if_kept location (Remove directory name object)
-            (removed_kept kept.2 (files_at nat_eq world location) directory name object
-            (unnamed_kept kept directory name (files_at nat_eq world location)))
+            grind (arith, common_steps, change_holds_if_kept, removed_kept, unnamed_kept)
         left_kept (ToChange location (Move from old to new object)) for = absurd for
-        left_kept (ToChange location (SetBytes file bytes)) for = change_holds_if_kept location (SetBytes file bytes)
-            (kept_at (files_at nat_eq world location) file (node_with_bytes bytes)
-            (bytes_kept (ap writes_bytes for.1) bytes))
+        left_kept (ToChange location (SetBytes file bytes)) for =
+            grind (arith, common_steps, change_holds_if_kept, kept_at)
         left_kept (ToChange location (SetAttr object attr)) for = set location object attr for.0 for.1
         left_kept (ToChange location (SetMark directory opaque)) for =
-            change_holds_if_kept location (SetMark directory opaque)
-            (kept_at (files_at nat_eq world location) directory (node_with_mark opaque)
-            (marks (ap sets_mark for.1) opaque))
+            grind (arith, common_steps, change_holds_if_kept, kept_at)
         left_kept (ToChange location (CopyUp object)) for = absurd for
         left_kept (ToMake directory name node) for = made (makes_changes call for) directory name node
         left_kept (ToRemoveDirectory parent name directory) for =
-            let kept = names (ap changes_names for.1) in
-            change_holds_if_kept parent (Remove parent.node name directory.node)
-            (removed_kept kept.2 (files_at nat_eq world parent) parent.node name directory.node
-            (unnamed_kept kept parent.node name (files_at nat_eq world parent)))
+            grind (arith, common_steps, change_holds_if_kept, removed_kept, unnamed_kept)
         left_kept (ToRename from old to new object replaced) for =
-            let kept = names (ap changes_names for.2) in
-            change_holds_if_kept from (Move from.node old to.node new object.node)
-            (moved_kept kept.2 (files_at nat_eq world from) from.node old to.node new object.node
-            (unnamed_kept kept from.node old) (named_kept kept to.node new object.node))
+            grind (arith, common_steps, change_holds_if_kept, moved_kept, unnamed_kept, named_kept)
         left_kept (ToOpenNew directory name node access) for = made (ap changes_names for.2 ∙ for.3) directory name node
         left_kept (ToWritePart file offset bytes) for = part_written file offset bytes (ap writes_bytes for.1)
-        left_kept (ToMountPlain place flags) for =
-            λ same is. absurd (true≢false (sym (eq-eqb other (evens fresh 1) is) ∙ handed 2))
-        left_kept (ToMountOverlay place overlay flags) for =
-            absurd (true≢false (sym (ap mounts_overlay for.2) ∙ no_overlay))
+        left_kept (ToMountPlain place flags) for = grind (arith, common_steps, true≢false, eq-eqb)
+        left_kept (ToMountOverlay place overlay flags) for = grind (arith, common_steps, true≢false)
         left_kept permit for = tt
 
   -- so for a call of which these do not hold

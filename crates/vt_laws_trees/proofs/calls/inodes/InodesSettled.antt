@@ -33,18 +33,7 @@ module _ (Q : Inode → Type 0) (number inode : ℕ) where
       → Q ((change filesystem).files.tree.node inode))
       → (list : List (Filesystem ℕ)) → HoldsIn list → HoldsIn (map change list)
   mapped change keeps holds [] h = h
-  mapped change keeps holds (first ∷ rest) h =
-      subst (λ n. Q ((found (nat_eq number n) (change first) (map change rest)).files.tree.node inode))
-      (sym (keeps first)) (by (nat_eq number first.number) h (mapped change keeps holds rest))
-    where
-      found : (b : Bool) → Filesystem ℕ → List (Filesystem ℕ) → Filesystem ℕ
-      found b one others = unwrap_or (cond b (Some one) (find (λ filesystem. nat_eq number filesystem.number) others))
-          (no_filesystem number)
-
-      by : (b : Bool) → Q ((found b first rest).files.tree.node inode) → (HoldsIn rest → HoldsIn (map change rest))
-          → Q ((found b (change first) (map change rest)).files.tree.node inode)
-      by true h later = holds first h
-      by false h later = later h
+  mapped change keeps holds (first ∷ rest) h = grind (arith, common_steps, mapped change keeps holds rest)
 
   -- raising
   pub raised_holds : (changed : List ℕ) (world : World ℕ) → HoldsIn world.filesystems
@@ -80,17 +69,7 @@ module _ (Q : Inode → Type 0) (number inode : ℕ) where
 
             none : (list : List (Filesystem ℕ)) → HoldsIn (filter (λ filesystem. lives filesystem.number) list)
             none [] = gone
-            none (one ∷ others) = inside (lives one.number) refl (nat_eq number one.number) refl (none others)
-              where
-                inside : (b : Bool) → lives one.number ≡ b → (c : Bool) → nat_eq number one.number ≡ c
-                    → HoldsIn (filter (λ filesystem. lives filesystem.number) others)
-                    → HoldsIn (cond b (one ∷ filter (λ filesystem. lives filesystem.number) others)
-                    (filter (λ filesystem. lives filesystem.number) others))
-                inside true e' true f' later =
-                    absurd (true≢false (sym e' ∙ ap lives (sym (eqb-true number one.number f')) ∙ dead))
-                inside true e' false f' later = subst (λ c. Q ((found c one (filter
-                    (λ filesystem. lives filesystem.number) others)).files.tree.node inode)) (sym f') later
-                inside false e' c f' later = later
+            none (one ∷ others) = grind (arith, common_steps, true≢false, eqb-true, dead, none others)
 
     used_by_holds : (whole : Bool) (used : List ℕ) (filesystem : Filesystem ℕ) → Q (filesystem.files.tree.node inode)
         → Q ((only_used_by nat_eq whole used filesystem).files.tree.node inode)

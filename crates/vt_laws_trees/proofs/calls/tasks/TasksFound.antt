@@ -19,27 +19,13 @@ called name tasks = find (λ task. same_name name task.name) tasks
 pub found_name : (name : TaskName) (tasks : List (Task ℕ)) (task : Task ℕ) → called name tasks ≡ Some task
     → name ≡ task.name
 found_name name [] task e = cc
-found_name name (first ∷ rest) task e = by (same_name name first.name) refl e (found_name name rest task)
-  where
-    by : (b : Bool) → same_name name first.name ≡ b → cond b (Some first) (called name rest) ≡ Some task
-        → (called name rest ≡ Some task → name ≡ task.name) → name ≡ task.name
-    by true is e later =
-        let same : first ≡ task = cc in same_task_name name first.name is ∙ ap (λ t. t.name) same
-    by false is e later = later e
+found_name name (first ∷ rest) task e = grind (arith, common_steps, same_task_name, found_name name rest task)
 
 -- a change that keeps names is found changed
 pub find_mapped : (change : Task ℕ → Task ℕ) → ((task : Task ℕ) → (change task).name ≡ task.name)
     → (name : TaskName) (tasks : List (Task ℕ)) → called name (map change tasks) ≡ option_map change (called name tasks)
 find_mapped change keeps name [] = refl
-find_mapped change keeps name (first ∷ rest) =
-    ap (λ n. cond (same_name name n) (Some (change first)) (called name (map change rest))) (keeps first)
-    ∙ by (same_name name first.name) (find_mapped change keeps name rest)
-  where
-    by : (b : Bool) → called name (map change rest) ≡ option_map change (called name rest)
-        → cond b (Some (change first)) (called name (map change rest))
-        ≡ option_map change (cond b (Some first) (called name rest))
-    by true later = refl
-    by false later = later
+find_mapped change keeps name (first ∷ rest) = grind (arith, common_steps, find_mapped change keeps name rest)
 
 -- raising changes the change number alone
 pub raised_is : (name : TaskName) (task : Task ℕ)
@@ -54,15 +40,7 @@ pivoted_keeps_name namespace root new task = grind (arith, common_steps)
 pub none_left : (name : TaskName) (tasks : List (Task ℕ))
     → called name (filter (λ task. not (same_name name task.name)) tasks) ≡ None
 none_left name [] = refl
-none_left name (first ∷ rest) = by (same_name name first.name) refl (none_left name rest)
-  where
-    stay : List (Task ℕ)
-    stay = filter (λ task. not (same_name name task.name)) rest
-
-    by : (b : Bool) → same_name name first.name ≡ b → called name stay ≡ None
-        → called name (cond (not b) (first ∷ stay) stay) ≡ None
-    by true e later = later
-    by false e later = ap (λ b. cond b (Some first) (called name stay)) e ∙ later
+none_left name (first ∷ rest) = grind (arith, common_steps, none_left name rest)
 
 -- and each other one as before
 pub others_left : (name other : TaskName) → same_name name other ≡ false → (tasks : List (Task ℕ))

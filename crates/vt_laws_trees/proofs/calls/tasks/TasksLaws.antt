@@ -1,5 +1,6 @@
 -- The laws of tasks.
-use Rattle.std.proofs.Common.{◌≡◌, refl, sym, ap, subst, ◌∙◌, inl, inr, ◌⊎◌, ⊎_elim, ℕ, Contains, true, Some, None}
+use Rattle.std.proofs.Common.{arith, ◌≡◌, refl, sym, ap, subst, ◌∙◌, inl, inr, ◌⊎◌, ⊎_elim, ℕ, Contains, true, Some, None}
+use Rattle.std.proofs.lemmas.Grind.{common_steps}
 use Rattle.vt_laws_trees.proofs.calls.tasks.TasksFound.{Found}
 use Rattle.vt_laws_trees.proofs.calls.tasks.TasksOwn.{Becomes, BecomesTask, IsRaised, becomes, stays_or_changed}
 use Rattle.vt_laws_trees.specs.Calls.Tasks.{IsForked, IsNoMore, NewTasksAreChildren, OnlyDropTakesRights, OnlyExitLeaves, OnlyOpenGivesDescriptors, OnlyTheseMoveDirectories, OnlyTheseMoveNamespaces, OnlyTheseMoveRoots, OnlyUmaskSetsUmask, Opens, OtherTasksStay, Pivots, RightsOnlyShrink, StaysOrIsPivoted, moves_directory, moves_namespace, moves_root, task_after}
@@ -168,11 +169,4 @@ new_tasks_are_children fresh world name call other child none is = by it.0 it.1.
     by : (left : Found) → Becomes fresh world name call other None left → IsRaised name other left (Some child)
         → IsForked fresh world name call other child
     by None so raised = absurd raised
-    by (Some left) so raised = subst (IsForked fresh world name call other) (sym same) so
-      where
-        -- it is not the caller, who was there
-        apart : other ≡ name → ⊥
-        apart it = let both : None ≡ Some so.1 = sym none ∙ ap (task_called world) it ∙ so.3 in cc
-
-        same : child ≡ left
-        same = ⊎_elim (λ same. same) (λ it. absurd (apart it)) raised.1
+    by (Some left) so raised = grind (arith, common_steps, it)

@@ -1,5 +1,5 @@
 -- What tasks are after a call.
-use Rattle.std.proofs.Common.{arith, ◌≡◌, refl, sym, ap, subst, ◌∙◌, inl, inr, ◌⊎◌, ⊎_elim, ℕ, ◌+◌, nat_eq, nat_lt, eqb-true, eq-eqb, Bool, true, false, cond, not, ◌&&◌, ◌==◌, bit_and, bytes_eq, List, [], ◌∷◌, ◌++◌, map, filter, Option, Some, None, option_map, Ok}
+use Rattle.std.proofs.Common.{arith, ◌≡◌, refl, sym, ap, subst, ◌∙◌, inl, inr, ◌⊎◌, ⊎_elim, ℕ, ◌+◌, nat_eq, eqb-true, eq-eqb, Bool, true, false, cond, not, ◌&&◌, ◌==◌, bit_and, bytes_eq, List, [], ◌∷◌, ◌++◌, map, filter, Option, Some, None, option_map, Ok}
 use Rattle.std.proofs.lemmas.Grind.{common_steps}
 use Rattle.vt_spec.specs.Errors.{NoneFails}
 use Rattle.std.proofs.lemmas.Nat.{and_assoc}
@@ -37,8 +37,7 @@ held_of_held : (set part wanted : ℕ) → has_all set part ≡ true → has_all
 held_of_held set part wanted e f =
     let p : bit_and set part ≡ part = eqb-true (bit_and set part) part e in
     let q : bit_and part wanted ≡ wanted = eqb-true (bit_and part wanted) wanted f in
-    eq-eqb (bit_and set wanted) wanted
-    (ap (bit_and set) (sym q) ∙ sym (and_assoc wanted set part) ∙ ap (λ h. bit_and h wanted) p ∙ q)
+    grind (arith, common_steps, eq-eqb, and_assoc)
 
 part_is_held : (set kept : ℕ) → has_all set (bit_and set kept) ≡ true
 part_is_held set kept = eq-eqb (bit_and set (bit_and set kept)) (bit_and set kept)
@@ -86,15 +85,7 @@ HasOrOpens call was now =
 among_inserted : (new descriptor : Descriptor ℕ) (descriptors : List (Descriptor ℕ))
     → Among descriptor (inserted new descriptors) → (descriptor ≡ new) ⊎ Among descriptor descriptors
 among_inserted new descriptor [] among = among
-among_inserted new descriptor (first ∷ rest) among =
-    by (nat_lt new.number first.number) among (among_inserted new descriptor rest)
-  where
-    by : (b : Bool) → Among descriptor (cond b (new ∷ first ∷ rest) (first ∷ inserted new rest))
-        → (Among descriptor (inserted new rest) → (descriptor ≡ new) ⊎ Among descriptor rest)
-        → (descriptor ≡ new) ⊎ ((descriptor ≡ first) ⊎ Among descriptor rest)
-    by true among later = among
-    by false among later =
-        ⊎_elim (λ same. inr (inl same)) (λ below. ⊎_elim inl (λ there. inr (inr there)) (later below)) among
+among_inserted new descriptor (first ∷ rest) among = grind (arith, common_steps, among_inserted new descriptor rest)
 
 -- the caller afterwards, by its own call
 abbrev pub Changed : Call → Task ℕ → Task ℕ → Type 0

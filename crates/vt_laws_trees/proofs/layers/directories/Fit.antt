@@ -15,7 +15,7 @@ use Rattle.vt_spec.specs.Machine.NewMounts.{inode_count, overlay_filesystem}
 use Rattle.vt_spec.specs.Machine.World.{Overlay, World, open_layer, shown_layers}
 use Rattle.vt_spec.specs.Machine.Invariants.{IsWorld, ListsNumbers, is_fit_filesystem}
 use Rattle.vt_spec.specs.PathText.{is_empty}
-use Rattle.vt_spec.specs.Tree.{Content, Entries, Node, bytes_in, entries_in, entry_named, name_cmp, names_in}
+use Rattle.vt_spec.specs.Tree.{Content, Entries, Node, bytes_in, entry_named, name_cmp, names_in}
 use Rattle.vt_spec.specs.Tree.Content.{Directory, Regular, Symlink, Whiteout}
 use Rattle.vt_spec.specs.TreeInvariant.{entry_at, led}
 use Rattle.vt_spec.proofs.Nodes.{same_name}
@@ -100,10 +100,7 @@ module _ (layers : List (OpenLayer ℕ)) (are_open : AreOpen layers) (longest : 
           → option_and_then (λ directory. entry_at layer.tree directory name) o ≡ Some object.seen.object
           → is_fit_name name ≡ true
       by layer fit None e = none_is_some object.seen.object e
-      by layer fit (Some directory) e = named_fits name (entries_in (layer.tree.node directory)) object.seen.object
-          (and_true_right (no_larger (layer.tree.node directory)) _
-          (and_true_left (no_larger (layer.tree.node directory)
-          && list_all is_fit_name (names_in (layer.tree.node directory))) _ (fit directory))) e
+      by layer fit (Some directory) e = grind (arith, common_steps, named_fits, and_true_right, and_true_left)
 
   merged_names_fit : (path : List (List ℕ))
       → list_all is_fit_name (map (λ e. e.0) (filter_map (entry_in_directory nat_eq fresh has_upper all path) all))

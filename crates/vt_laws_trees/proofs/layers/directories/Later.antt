@@ -8,7 +8,7 @@ use Rattle.std.proofs.lemmas.List.Folds.{list_any-append}
 use Rattle.vt_spec.specs.FileTree.{is_directory_under, is_file_under, is_under}
 use Rattle.vt_spec.specs.Lists.{Fresh, evens, holds_of, is_among, odds}
 use Rattle.vt_spec.specs.Machine.Locked.{counts_in_layer, is_real_upper, lies_in_layer, lies_or_counts_under, overlaps_one_of, overlays}
-use Rattle.vt_spec.specs.Machine.Merging.{Merged, real_object, real_of}
+use Rattle.vt_spec.specs.Machine.Merging.{real_of}
 use Rattle.vt_spec.specs.Machine.NewMounts.{inode_count, overlay_filesystem, with_new_filesystem}
 use Rattle.vt_spec.specs.Machine.World.{Filesystem, Layer, Overlay, Real, World, filesystem_numbered, is_overlay, no_filesystem, open_layer, shown_layers}
 use Rattle.vt_spec.specs.Machine.World.Real.{Lower, Upper}
@@ -17,7 +17,7 @@ use Rattle.vt_spec.specs.Tree.{is_directory_node}
 use Rattle.vt_spec.specs.TreeInvariant.{IsTree, led}
 use Rattle.vt_laws_trees.specs.Layers.Layers.Mounted.{AreLayers}
 use Rattle.vt_laws_trees.proofs.layers.directories.Lower.{led_below}
-use Rattle.vt_laws_trees.proofs.layers.layers.ShownMerged.{InLayer, inodes}
+use Rattle.vt_laws_trees.proofs.layers.layers.ShownMerged.{inodes}
 use Rattle.vt_laws_trees.proofs.layers.layers.ShownMounted.{are_open, bounded}
 use Rattle.vt_laws_trees.proofs.layers.layers.ShownObjects.{Among}
 use Rattle.vt_laws_trees.proofs.layers.layers.ShownWhole.{has_real}
@@ -121,16 +121,7 @@ module _ (world : World ℕ) (conditions : IsWorld nat_eq world) (overlay : Over
       (are_open world conditions overlay are_layers) (inode_count world)
       (bounded world conditions overlay are_layers) (odds fresh)
       (odds-distinct fresh distinct) (is_some overlay.upper) number (Upper object) e in
-      by real.object real.layer real.object.seen.layer refl
-      (real.is ∙ ap (λ o. real_object (is_some o) real.object.seen.layer real.object) is)
-    where
-      by : (m : Merged ℕ) → InLayer (map (open_layer nat_eq world) (shown_layers overlay))
-          (are_open world conditions overlay are_layers) (inode_count world)
-          (bounded world conditions overlay are_layers) (odds fresh)
-          (odds-distinct fresh distinct) (is_some overlay.upper) m → (l : ℕ)
-          → m.seen.layer ≡ l → Upper object ≡ real_object true l m → (path : List (List ℕ)) × (led
-          (filesystem_numbered nat_eq world upper.filesystem).files.tree upper.directory path ≡ Some object)
-      by m found l lm r = grind (arith, common_steps, same_Some, none_is_some)
+      grind (arith, common_steps, are_open, bounded, odds-distinct, same_Some, none_is_some)
 
   new_counts : (fs object : ℕ) (layer : Layer ℕ) → IsOld layer
       → counts_in_layer nat_eq later fs object layer new ≡ true → lies_in_layer nat_eq world fs object layer ≡ true

@@ -44,15 +44,7 @@ still_among number (first ∷ list) = by (nat_eq number first) refl (still_among
     kept : nat_eq number first ≡ false → (rest : List ℕ)
         → list_any (nat_eq number) (filter (λ b. not (nat_eq first b)) rest) ≡ list_any (nat_eq number) rest
     kept n [] = refl
-    kept n (other ∷ rest) = choose (nat_eq first other) refl (kept n rest)
-      where
-        choose : (b : Bool) → nat_eq first other ≡ b
-            → list_any (nat_eq number) (filter (λ b. not (nat_eq first b)) rest) ≡ list_any (nat_eq number) rest
-            → list_any (nat_eq number) (cond (not b) (other ∷ filter (λ b. not (nat_eq first b)) rest)
-            (filter (λ b. not (nat_eq first b)) rest)) ≡ (nat_eq number other || list_any (nat_eq number) rest)
-        choose true e on = on ∙ ap (λ b. b || list_any (nat_eq number) rest)
-            (sym (ap (nat_eq number) (sym (eqb-true first other e)) ∙ n))
-        choose false e on = ap (λ b. nat_eq number other || b) on
+    kept n (other ∷ rest) = grind (arith, common_steps, number, eqb-true, kept n rest)
 
     by : (b : Bool) → nat_eq number first ≡ b
         → list_any (nat_eq number) (each_once nat_eq list) ≡ list_any (nat_eq number) list
@@ -196,8 +188,7 @@ module _ (layers : List (OpenLayer ℕ)) (are_open : AreOpen layers) (longest : 
       let inode = inode_at layers are_open longest bounded fresh distinct has_upper top is_top path seen s in
       let node = same_Some inode.node found.node
       (sym inode.seen ∙ layer_node_of layers are_open longest bounded fresh distinct has_upper (at path seen) found) in
-      ap is_directory_node inode.is ∙ merged_kind inode.other.path inode.node.content
-      ∙ ap (λ m. is_directory (kind_of m.content)) node ∙ d
+      grind (arith, common_steps, merged_kind)
 
   -- an entry of the tree leads to what is shown under its name
   record IsEntry (directory : ℕ) (name : List ℕ) (n : ℕ) : Type 0 where

@@ -36,10 +36,8 @@ module _ {A : Type 0} where
   pub pairwise_append : (R : A → A → Type 0) (list other : List A) → Pairwise R list → Pairwise R other
       → ((a b : A) → Among list a → Among other b → R a b) → Pairwise R (list ++ other)
   pairwise_append R [] other p q across = q
-  pairwise_append R (first ∷ list) other p q across = (
-    λ b among. ⊎_elim (λ l. p.0 b l) (λ r. across first b (inl refl) r) (from_append list other b among),
-    pairwise_append R list other p.1 q (λ a b l r. across a b (inr l) r),
-  )
+  pairwise_append R (first ∷ list) other p q across =
+      grind (arith, common_steps, from_append, pairwise_append R list other p.1 q)
 
   pub among_filtered : (test : A → Bool) (list : List A) (a : A) → Among (filter test list) a → Among list a
   among_filtered test [] a among = absurd among
@@ -82,10 +80,8 @@ module _ {X : Type 0} where
 
   pub names_rise : (entries : Entries X) → T (is_sorted name_cmp entries) → Pairwise NameBelow (map (λ e. e.0) entries)
   names_rise [] h = tt
-  names_rise (entry ∷ entries) h = (
-    all_below entry.0 entries (T_and_left _ _ h),
-    names_rise entries (T_and_right (below_all name_cmp entry.0 entries) _ h),
-  )
+  names_rise (entry ∷ entries) h =
+      grind (arith, common_steps, all_below, names_rise entries (T_and_right (below_all name_cmp entry.0 entries) _ h))
 
   below_each : (name : List ℕ) (entries : Entries X)
       → ((entry : List ℕ × X) → Among entries entry → NameBelow name entry.0) → T (below_all name_cmp name entries)
@@ -168,14 +164,8 @@ module _ (views : List (View ℕ)) where
           → (names : List (List ℕ)) → Pairwise NameBelow names
           → Pairwise PathBelow (flat_map (λ name. paths_from depth views (base ++ name ∷ [])) names)
       each rise [] p = tt
-      each rise (name ∷ names) p = pairwise_append PathBelow (paths_from depth views (base ++ name ∷ []))
-          (flat_map (λ name. paths_from depth views (base ++ name ∷ [])) names) (rise name) (each rise names p.1)
-          (λ path other a b.
-          let one = under_name depth base name path a in
-          let found = from_flat_map (λ name. paths_from depth views (base ++ name ∷ [])) names other b in
-          let two = under_name depth base found.0 other found.2 in
-          subst (λ q. PathBelow q other) one.1 (subst (PathBelow (base ++ name ∷ one.0)) two.1
-          (below_beside base name found.0 one.0 two.0 (p.0 found.0 found.1))))
+      each rise (name ∷ names) p =
+          grind (arith, common_steps, pairwise_append, under_name, from_flat_map, below_beside, each rise names p.1)
 
 -- so do the entries of a merged directory
 module _ (layers : List (OpenLayer ℕ)) (are_open : AreOpen layers) (longest : ℕ)

@@ -177,10 +177,7 @@ module _ (views : List (View ℕ)) where
             ends f =
                 let none_shown = nothing_merged (views_of directory) name from.are_views from.of_place
                 (sym (same_directory _ _ ((is.directories front directory from.is_led d).entries name)) ∙ f) in
-                subst (λ o. Said path o (shown views path)) (sym (nothing_led tree directory name other rest f))
-                (subst (Said path None) (sym (ap (λ v. shown_in v (other ∷ rest)) none_shown)
-                ∙ sym (shown_under_name (views_of directory) name (other ∷ rest) from.are_views (not_empty other rest))
-                ∙ from.same (name ∷ other ∷ rest) (not_empty name (other ∷ rest))) (nothing path))
+                grind (arith, common_steps, nothing_led, shown_under_name, not_empty)
 
             by : (o : Option ℕ) → entry_at tree directory name ≡ o → (b : Bool)
                 → is_directory_node (then_some (entry_at tree directory name) tree.node) ≡ b

@@ -54,8 +54,7 @@ same_object : (one other : Option (Node ℕ)) → IsAlike one other → is_kind_
 same_object None None is seen = tt
 same_object None (Some there) is seen = absurd (true≢false is.there)
 same_object (Some here) None is seen = absurd (true≢false (sym is.there))
-same_object (Some here) (Some there) is seen =
-    (sym is.attr, contents_alike here.content there.content is.kind is.bytes seen)
+same_object (Some here) (Some there) is seen = grind (arith, common_steps, contents_alike)
 
 -- What names lead to in a tree is there.
 led_alive : (tree : Tree ℕ) → IsTree tree → (path : List (List ℕ)) (start object : ℕ)
@@ -162,8 +161,7 @@ show_alike (layer ∷ layers) (other ∷ others) as_others are_open others_open 
     under lower true true same = tt
     under lower true false same = absurd (true≢false (sym same))
     under lower false true same = absurd (true≢false same)
-    under lower false false same = shown_deeper depth layer other layers others (shown_from (depth + 1) layers path)
-        (shown_from (depth + 1) others path) lower
+    under lower false false same = grind (arith, common_steps, shown_deeper, shown_from)
 
     by : (led_to : Option ℕ) → at_path layer path ≡ led_to → (others_led_to : Option ℕ)
         → at_path other path ≡ others_led_to → LowerAlike depth layers others path

@@ -10,7 +10,7 @@ use Rattle.vt_spec.specs.Machine.Layers.{OpenLayer, Shown, at_path, shown}
 use Rattle.vt_spec.specs.Lists.{Fresh, without_last, last_or, then_some, when}
 use Rattle.vt_spec.specs.Machine.Merging.{Merged, MergedInode, entry_in_directory, inode_of, is_one_inode, is_root_path, layer_node, merged_content, merged_inode, merged_inodes, merged_number, merged_objects, real_object, real_of, same_path}
 use Rattle.vt_spec.specs.Rights.{is_directory}
-use Rattle.vt_spec.specs.Tree.{Node, entry_named, is_directory_node, kind_of, name_cmp}
+use Rattle.vt_spec.specs.Tree.{Node, entry_named, kind_of, name_cmp}
 use Rattle.vt_spec.proofs.Nodes.{same_name}
 use Rattle.vt_laws_trees.proofs.layers.layers.ShownAtPath.{computed}
 use Rattle.vt_laws_trees.proofs.layers.layers.ShownDirectories.{AreOpen, last_of, led_is_there}
@@ -74,10 +74,7 @@ module _ (layers : List (OpenLayer ℕ)) (are_open : AreOpen layers) (longest : 
       (is_shown first.element first.among) first.passes in
       let two = is_one layers has_upper b second.element (is_shown b in_b)
       (is_shown second.element second.among) second.passes in
-      record {
-        seen = one.seen ∙ ap (λ m. m.seen) same ∙ sym two.seen;
-        real = one.real ∙ ap (λ m. real_object has_upper m.seen.layer m) same ∙ sym two.real;
-      }
+      grind (arith, common_steps)
 
   -- the inode of an object
   pub record HasInode (object : Merged ℕ) : Type 0 where
@@ -125,19 +122,7 @@ module _ (layers : List (OpenLayer ℕ)) (are_open : AreOpen layers) (longest : 
           (eqb-true (number object) found.element.number found.passes ∙ ap (λ inode. inode.number) (sym element)) in
           let same_node = same_Some there.node own.node
           (sym (layer_node_of other there) ∙ ap (layer_node layers) (sym one.seen) ∙ own_node) in
-          record {
-            other = other;
-            among = among_other;
-            one = one;
-            node = own.node;
-            seen = own_node;
-            is = ap (λ o. option_map (λ inode. inode.node) o) found.is ∙ ap (λ inode. Some inode.node) (sym element)
-                ∙ ap (λ n. Some (record {
-                  attr = n.attr;
-                  content = merged_content nat_eq fresh has_upper objects other.path n.content;
-                })) same_node;
-            real = ap (λ o. option_map (λ inode. inode.real) o) found.is ∙ ap (λ inode. Some inode.real) (sym element);
-          }
+          grind (arith, common_steps)
 
   -- an inode of a directory is that of one path
   pub one_directory : (object : Merged ℕ) → Among objects object → (inode : HasInode object)
@@ -149,10 +134,7 @@ module _ (layers : List (OpenLayer ℕ)) (are_open : AreOpen layers) (longest : 
       (sym there.there ∙ ap (λ seen. slice_get layers seen.layer) (sym inode.one.seen) ∙ here.there) in
       let open_here = are_open object.seen.layer here.layer here.there in
       let node = same_Some here.node inode.node (sym (layer_node_of object here) ∙ inode.seen) in
-      one_path here.layer.tree open_here.0 here.layer.directory inode.other.path object.path object.seen.object
-      (ap (λ l. at_path l inode.other.path) (sym same_layer) ∙ there.at
-      ∙ ap (λ seen. Some seen.object) (sym inode.one.seen)) here.at
-      (ap is_directory_node here.is ∙ ap (λ n. is_directory (kind_of n.content)) node ∙ d)
+      grind (arith, common_steps, one_path)
 
   -- The entries of a merged directory lead to what is shown under their names.
   module _ (path : List (List ℕ)) (name : List ℕ) where

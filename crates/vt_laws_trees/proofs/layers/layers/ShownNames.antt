@@ -42,10 +42,9 @@ contains_name name (other ∷ names) e = by (is_name name other) refl (contains_
 pub name_found : (name : List ℕ) (names : List (List ℕ)) (k : ℕ) → k < length names → get_or names k name ≡ name
     → list_any (is_name name) names ≡ true
 name_found name [] k h e = absurd (let l : k < 0 = h in omega arith)
-name_found name (other ∷ names) zero h e = ap (λ n. is_name name n || list_any (is_name name) names) e
-    ∙ ap (λ b. b || list_any (is_name name) names) (is_itself name)
+name_found name (other ∷ names) zero h e = grind (arith, common_steps, is_itself)
 name_found name (other ∷ names) (suc k) h e =
-    or_right (is_name name other) (list_any (is_name name) names) (name_found name names k (omega arith) e)
+    grind (arith, common_steps, or_right, name_found name names k (omega arith) e)
 
 -- of the names that pass a test, those that are there
 filtered : (test : List ℕ → Bool) (name : List ℕ) (names : List (List ℕ))

@@ -46,10 +46,9 @@ module _ {A B : Type 0} where
   pub among_filter_map : (f : A → Option B) (list : List A) (a : A) (b : B) → Among list a → f a ≡ Some b
       → Among (filter_map f list) b
   among_filter_map f [] a b among e = absurd among
-  among_filter_map f (first ∷ list) a b (inl same) e =
-      among_cons_option (f first) (filter_map f list) b (inl (ap f same ∙ e))
+  among_filter_map f (first ∷ list) a b (inl same) e = grind (arith, common_steps, among_cons_option)
   among_filter_map f (first ∷ list) a b (inr among) e =
-      among_cons_option (f first) (filter_map f list) b (inr (among_filter_map f list a b among e))
+      grind (arith, common_steps, among_cons_option, among_filter_map f list a b among e)
 
   pub from_filter_map : (f : A → Option B) (list : List A) (b : B) → Among (filter_map f list) b
       → (a : A) × Among list a × (f a ≡ Some b)
@@ -61,10 +60,9 @@ module _ {A B : Type 0} where
   pub among_flat_map : (f : A → List B) (list : List A) (a : A) (b : B) → Among list a → Among (f a) b
       → Among (flat_map f list) b
   among_flat_map f [] a b among inside = absurd among
-  among_flat_map f (first ∷ list) a b (inl e) inside =
-      among_append_left (f first) (flat_map f list) b (subst (λ x. Among (f x) b) (sym e) inside)
+  among_flat_map f (first ∷ list) a b (inl e) inside = grind (arith, common_steps, among_append_left)
   among_flat_map f (first ∷ list) a b (inr among) inside =
-      among_append_right (f first) (flat_map f list) b (among_flat_map f list a b among inside)
+      grind (arith, common_steps, among_append_right, among_flat_map f list a b among inside)
 
 module _ {A : Type 0} where
   -- the first that passes
@@ -80,21 +78,9 @@ module _ {A : Type 0} where
     where
       by : (b : Bool) → test first ≡ b → (first ≡ a) ⊎ Among list a → (Among list a → Found test list)
           → Found test (first ∷ list)
-      by true t among rest = record {
-        element = first;
-        is = ap (λ b. cond b (Some first) (find test list)) t;
-        among = inl refl;
-        passes = t;
-      }
+      by true t among rest = grind (arith, common_steps)
       by false t (inl same) rest = absurd (true≢false (sym e ∙ ap test (sym same) ∙ t))
-      by false t (inr later) rest =
-          let found = rest later in
-          record {
-            element = found.element;
-            is = ap (λ b. cond b (Some first) (find test list)) t ∙ found.is;
-            among = inr found.among;
-            passes = found.passes;
-          }
+      by false t (inr later) rest = grind (arith, common_steps)
 
   pub record Placed (test : A → Bool) (k : ℕ) (list : List A) : Type 0 where
     pub place : ℕ

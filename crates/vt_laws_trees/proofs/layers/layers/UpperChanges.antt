@@ -1,9 +1,9 @@
 -- A change of an overlay writes to new inodes and to objects of the upper layer alone.
 use Rattle.std.proofs.Common.{arith, ◌≡◌, ◌≢◌, refl, sym, ap, subst, ◌∙◌, true≢false, ℕ, ◌+◌, ◌*◌, nat_eq, ne_eqb, Bool, true, false, cond, List, Option, Some, None, is_some}
 use Rattle.std.proofs.lemmas.Grind.{common_steps}
-use Rattle.vt_spec.specs.Language.Changes.{Change, changed_node, node_with_attr, node_with_mark, node_with_parent, node_without_entries, node_without_entry, with_inode, with_moved, without_name}
+use Rattle.vt_spec.specs.Language.Changes.{Change, changed_node, node_with_attr, node_with_mark, node_with_parent, node_without_entries, with_inode, with_moved, without_name}
 use Rattle.vt_spec.specs.Language.Changes.Change.{AddName, CopyUp, Make, Move, Remove, SetAttr, SetBytes, SetMark}
-use Rattle.vt_spec.specs.Machine.CopyUp.{Merge, Stack, changed_both, copied_up, hides_directory, merge_changed, merge_with_link, merge_with_moved, merge_with_new, merge_without_name, name_left_by, shown_in_lowers_at, upper_directory_named, upper_of, whiteout_of, with_mark, without_contents}
+use Rattle.vt_spec.specs.Machine.CopyUp.{Merge, Stack, changed_both, copied_up, hides_directory, merge_changed, merge_with_link, merge_with_moved, merge_with_new, merge_without_name, name_left_by, shown_in_lowers_at, upper_directory_named, upper_of, with_mark, without_contents}
 use Rattle.vt_spec.specs.FileTree.{FileTree, a_name}
 use Rattle.vt_spec.specs.Lists.{Fresh, evens, odds}
 use Rattle.vt_spec.specs.Machine.World.{Real}
@@ -30,10 +30,8 @@ module _ (inode : ℕ) where
       (name : List ℕ) → nat_eq inode (fresh 0) ≡ false → nat_eq inode directory ≡ false
       → (name_left_by nat_eq hidden fresh stack upper directory name).tree.node inode ≡ upper.tree.node inode
   left_elsewhere true fresh stack upper directory name new e =
-      kept_elsewhere (with_inode nat_eq upper (fresh 0) (whiteout_of stack.mounter)) directory
-      (node_with_entry name (fresh 0)) inode e ∙ inode_elsewhere upper (fresh 0) (whiteout_of stack.mounter) new
-  left_elsewhere false fresh stack upper directory name new e =
-      kept_elsewhere upper directory (node_without_entry name) inode e
+      grind (arith, common_steps, kept_elsewhere, inode_elsewhere)
+  left_elsewhere false fresh stack upper directory name new e = grind (arith, common_steps, kept_elsewhere)
 
   emptied_elsewhere : (upper : FileTree ℕ) (object : Option ℕ)
       → ((number : ℕ) → object ≡ Some number → nat_eq inode number ≡ false)

@@ -77,17 +77,7 @@ has_a_name files numbers directory name object e = searched files.numbers (numbe
     searched : (list : List ℕ) → list_any (nat_eq directory) list ≡ true
         → is_some (first_of_list (filter_map (name_in nat_eq files object) list)) ≡ true
     searched [] e = absurd (true≢false (sym e))
-    searched (number ∷ list) e = by (nat_eq directory number) refl e (searched list)
-      where
-        by : (b : Bool) → nat_eq directory number ≡ b → (b || list_any (nat_eq directory) list) ≡ true
-            → (list_any (nat_eq directory) list ≡ true
-            → is_some (first_of_list (filter_map (name_in nat_eq files object) list)) ≡ true)
-            → is_some (first_of_list (cons_option (name_in nat_eq files object number)
-            (filter_map (name_in nat_eq files object) list))) ≡ true
-        by true t e rest = first (name_in nat_eq files object number) (filter_map (name_in nat_eq files object) list)
-            (ap (λ n. is_some (name_in nat_eq files object n)) (sym (eqb-true directory number t)) ∙ here)
-        by false t e rest = later (name_in nat_eq files object number) (filter_map (name_in nat_eq files object) list)
-            (rest e)
+    searched (number ∷ list) e = grind (arith, common_steps, first, eqb-true, here, later, searched list)
 
 -- Layers with an upper one on top
 module _ (top : OpenLayer ℕ) (lower : List (OpenLayer ℕ)) where
@@ -115,10 +105,7 @@ module _ (top : OpenLayer ℕ) (lower : List (OpenLayer ℕ)) where
           (record { layer = layer; object = object }) → is_some (upper_object (Some (real_object true layer
           (record { path = path ++ name ∷ []; seen = record { layer = layer; object = object } })))) ≡ true
           → is_some (upper_object (real_at path)) ≡ true
-      seen_by zero object is h = in_upper (at_path top path) refl object
-          (sym (last_name top.tree top.directory path name)
-          ∙ ap (λ l. at_path l (path ++ name ∷ [])) (same_Some top is.has_uncut.0.0 is.has_uncut.0.1)
-          ∙ is.has_uncut.0.2)
+      seen_by zero object is h = grind (arith, common_steps, in_upper, last_name, same_Some)
       seen_by (suc layer) object is h = absurd (true≢false (sym h))
 
       by : (o : Option (Shown ℕ)) → shown (top ∷ lower) (path ++ name ∷ []) ≡ o

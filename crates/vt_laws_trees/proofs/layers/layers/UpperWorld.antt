@@ -164,9 +164,7 @@ module _ (world : World ℕ) (conditions : IsWorld nat_eq world) (number : ℕ) 
         (shown_there (way.0 ++ old ∷ []) object here (overlay_tree.alive from old object e))
         (ap (λ o. is_some (upper_object o)) (sym (real_named (way.0 ++ old ∷ []) object here)) ∙ low)
         (sym (real_named (way.0 ++ old ∷ []) object here) ∙ real_named (way_other.0 ++ name ∷ []) object there) in
-        same_Some from other (sym way.1 ∙ ap (led files.tree files.tree.root)
-        (sym (without_last_of_longer way.0 old) ∙ ap without_last same ∙ without_last_of_longer way_other.0 name)
-        ∙ way_other.1)
+        grind (arith, common_steps, same_Some, without_last_of_longer)
 
     -- so where an object that has a name is copied, the directory that it leaves is there
     pub from_too : (from : ℕ) (old : List ℕ) (object : ℕ) → entry_at files.tree from old ≡ Some object

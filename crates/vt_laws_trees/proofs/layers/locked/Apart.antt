@@ -36,12 +36,7 @@ pair_append : {A : Type 0} (test : A → A → Bool) (xs bs : List A) → any_pa
     → (any_pair test bs ≡ false) × ((a b : A) → Among a xs → Among b bs → test a b ≡ false)
 pair_append test [] bs e = (e, λ a b m n. absurd m)
 pair_append test (x ∷ xs) bs e =
-    let rest = pair_append test xs bs (or_false_right (list_any (test x) (xs ++ bs)) _ e) in (
-      rest.0,
-      λ a b m n. ⊎_elim (λ (same : a ≡ x). ap (λ y. test y b) same
-          ∙ none_among (test x) (xs ++ bs) (or_false_left (list_any (test x) (xs ++ bs)) _ e) b
-          (among-append_right xs bs b n)) (λ later. rest.1 a b later n) m,
-    )
+    grind (arith, common_steps, or_false_right, none_among, or_false_left, among-append_right, pair_append test xs bs)
 
 apart_pairs : {A B : Type 0} (test : B → B → Bool) (f : A → List B) (xs : List A)
     → any_pair test (flat_map f xs) ≡ false

@@ -1,10 +1,9 @@
 -- Where a task's walk ends something is, and so where its descriptors are.
-use Rattle.std.proofs.Common.{arith, ◌≡◌, refl, sym, ap, subst, ℕ, zero, suc, nat_eq, Bool, true, false, cond, List, [], ◌∷◌, ◌+◌, reverse, Option, Some, None, is_some, Ok, Err, Result, ok_or, inr}
+use Rattle.std.proofs.Common.{arith, ◌≡◌, refl, sym, ap, subst, ℕ, zero, suc, nat_eq, Bool, true, false, cond, List, [], ◌∷◌, ◌+◌, reverse, Option, Some, None, is_some, Ok, Result, ok_or, inr}
 use Rattle.std.proofs.lemmas.Grind.{common_steps}
 use Rattle.std.specs.List.{find}
 use Rattle.std.specs.Prelude.{option_to_list}
 use Rattle.vt_spec.specs.Errors.{denial}
-use Rattle.vt_spec.specs.declared.errors.Deny.{Deny}
 use Rattle.vt_spec.specs.declared.errors.Rule.TheVariants.{S4}
 use Rattle.vt_spec.specs.PathText.{ends_in_slash, is_absolute, words}
 use Rattle.vt_spec.specs.FileTree.{symlink_text}
@@ -137,14 +136,7 @@ module _ (world : World ℕ) (conditions : IsWorld nat_eq world) (task : Task �
       chosen : (held : Descriptor ℕ) → Among held task.descriptors → (b : Bool)
           → ok_or (cond b (Some held) None) (denial S4) ≡ Ok descriptor → Among descriptor task.descriptors
       chosen held m true h = subst (λ d. Among d task.descriptors) (ok_same held descriptor (Ok held) refl h) m
-      chosen held m false h = absurd (no_answer h)
-        where
-          is_answer : Result (Descriptor ℕ) Deny → Bool
-          is_answer (Ok d) = true
-          is_answer (Err d) = false
-
-          no_answer : Err (denial S4) ≡ Ok descriptor → ⊥
-          no_answer h = Rattle.std.proofs.Common.true≢false (sym (ap is_answer h))
+      chosen held m false h = grind (arith, common_steps)
 
       by : (o : Option (Descriptor ℕ)) → descriptor_numbered task number ≡ o
           → ok_or (find fits (option_to_list o)) (denial S4) ≡ Ok descriptor → Among descriptor task.descriptors

@@ -1,5 +1,6 @@
 -- Names lead to the layers of an overlay when it is mounted.
-use Rattle.std.proofs.Common.{◌≡◌, refl, sym, ap, subst, ◌∙◌, true≢false, ⊎_elim, ℕ, nat_eq, eqb-true, Bool, true, false, not, ◌||◌, List, [], ◌∷◌, ◌++◌, map, Option, Some, None, is_some, Ok}
+use Rattle.std.proofs.Common.{arith, ◌≡◌, refl, sym, ap, subst, ◌∙◌, true≢false, ⊎_elim, ℕ, nat_eq, eqb-true, Bool, true, false, not, ◌||◌, List, [], ◌∷◌, ◌++◌, map, Option, Some, None, is_some, Ok}
+use Rattle.std.proofs.lemmas.Grind.{common_steps}
 use Rattle.std.specs.Prelude.{All, option_map, option_to_list}
 use Rattle.std.proofs.lemmas.List.Elements.{All-cons, All-head, All-nil, All-tail}
 use Rattle.vt_laws_trees.proofs.layers.mounting.Walked.{gives_end, gives_then}
@@ -89,11 +90,7 @@ module _ (world : World ℕ) (conditions : IsWorld nat_eq world) (task : Task �
   given_reached : (path : Option (List ℕ))
       → Gives (λ place. AllReached (option_to_list (option_map at place))) (walked_if_given nat_eq world task path)
   given_reached None = All-nil ReachedLayer
-  given_reached (Some path) =
-      gives_then (λ here. Reached here.location) (λ place. AllReached (option_to_list (option_map at place)))
-      (walk_end (source_walk nat_eq world task path)) _
-      (gives_end _ (source_walk nat_eq world task path) (source_reached path))
-      (λ here is. All-cons ReachedLayer (at here.location) [] is (All-nil ReachedLayer))
+  given_reached (Some path) = grind (arith, common_steps, gives_then, source_walk, gives_end, source_reached)
 
   both : (a b : List (Layer ℕ)) → AllReached a → AllReached b → AllReached (a ++ b)
   both [] b all other = other

@@ -56,20 +56,14 @@ module _ (world : World ℕ) (task : Task ℕ) where
 
   each_ends : (paths : List (List ℕ)) → Gives AreDirectories (each_walked nat_eq world task paths)
   each_ends [] = refl
-  each_ends (path ∷ paths) = gives_then (λ here. is_directory_at nat_eq world here.location ≡ true) AreDirectories
-      (walk_end (source_walk nat_eq world task path)) _
-      (gives_end _ (source_walk nat_eq world task path) (source_ends path)) (λ here is.
-      gives_then AreDirectories AreDirectories (each_walked nat_eq world task paths) _ (each_ends paths) (λ rest are.
-      ap (λ b. b && list_all (is_directory_at nat_eq world) rest) is ∙ are))
+  each_ends (path ∷ paths) =
+      grind (arith, common_steps, gives_then, source_walk, gives_end, source_ends, each_walked, each_ends paths)
 
   given_ends : (path : Option (List ℕ))
       → Gives (λ place. AreDirectories (option_to_list place) × (is_some place ≡ is_some path))
       (walked_if_given nat_eq world task path)
   given_ends None = (refl, refl)
-  given_ends (Some path) = gives_then (λ here. is_directory_at nat_eq world here.location ≡ true)
-      (λ place. AreDirectories (option_to_list place) × (is_some place ≡ true))
-      (walk_end (source_walk nat_eq world task path)) _
-      (gives_end _ (source_walk nat_eq world task path) (source_ends path)) (λ here is. (ap (λ b. b && true) is, refl))
+  given_ends (Some path) = grind (arith, common_steps, gives_then, source_walk, gives_end, source_ends)
 
   -- the places of layers: directories, and a work directory only beside an upper one
   pub record AreWalked (places : LayerLocations ℕ) : Type 0 where

@@ -104,10 +104,8 @@ module _ (before after : Tree ℕ) (from : ℕ) (old : List ℕ) (to : ℕ) (new
     stops_there : (o : Option ℕ) → entry_at before to new ≡ o → (rest : List (List ℕ))
         → option_and_then (λ next. led before next rest) o ≡ Some to → ⊥
     stops_there None e rest l = none_is_some to l
-    stops_there (Some k) e [] l = none_is_some k (sym (no_entries before k (replaced k e) new)
-        ∙ ap (λ n. entry_at before n new) (same_Some k to l) ∙ e)
-    stops_there (Some k) e (word ∷ rest) l = none_is_some to (sym
-        (ap (option_and_then (λ next. led before next rest)) (no_entries before k (replaced k e) word)) ∙ l)
+    stops_there (Some k) e [] l = grind (arith, common_steps, none_is_some, no_entries, same_Some)
+    stops_there (Some k) e (word ∷ rest) l = grind (arith, common_steps, none_is_some, no_entries)
 
     -- nor does a way to the new name's directory
     way_led : (way : List (List ℕ)) (start : ℕ) → led before start way ≡ Some to → led after start way ≡ Some to

@@ -51,11 +51,7 @@ module _ (tree : Tree ℕ) (directory : ℕ) (name : List ℕ) where
       → ((word : List ℕ) (rest : List (List ℕ)) → one (word ∷ rest) ≡ other (word ∷ rest))
       → (path : List (List ℕ)) → list_any one (prefixes path) ≡ list_any other (prefixes path)
   prefixes_alike one other same [] = refl
-  prefixes_alike one other same (word ∷ path) =
-      ap (λ b. one (word ∷ []) || b) (list_any_of_map one (λ front. word ∷ front) (prefixes path)
-      ∙ any_alike (λ front. one (word ∷ front)) (λ front. other (word ∷ front)) (same word) (prefixes path)
-      ∙ sym (list_any_of_map other (λ front. word ∷ front) (prefixes path)))
-      ∙ ap (λ b. b || list_any other (map (λ front. word ∷ front) (prefixes path))) (same word [])
+  prefixes_alike one other same (word ∷ path) = grind (arith, common_steps, list_any_of_map, any_alike)
 
   pub goes_through_it : (path : List (List ℕ)) (start : ℕ)
       → goes_through (view_from tree start) directory name path ≡ passes start path

@@ -67,9 +67,7 @@ shown_before stack merge later whole after uncovers path layer object e = by (nu
         → shown (layers_under stack merge) path ≡ Some (record { layer = suc layer; object = found }) → found ≡ object
     same_object old found f =
         let was = (computed (layers_under stack merge) path (record { layer = suc layer; object = found })).0 f in
-        same_Some found object (sym was.has_uncut.0.2
-        ∙ ap (λ l. at_path l path) (same_Some was.has_uncut.0.0 is.has_uncut.0.0
-        (sym was.has_uncut.0.1 ∙ is.has_uncut.0.1)) ∙ is.has_uncut.0.2)
+        grind (arith, common_steps, same_Some, is)
 
     lies_at : (found : Shown ℕ) → shown (layers_under stack merge) path ≡ Some found → (k : ℕ) → found.layer ≡ k
         → Some (Lower layer path) ≡ Some (real_object true k (record { path = path; seen = found }))

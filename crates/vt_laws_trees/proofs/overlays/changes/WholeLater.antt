@@ -1,5 +1,6 @@
 -- The overlay of a world, after a change through it.
-use Rattle.std.proofs.Common.{◌≡◌, ◌≢◌, refl, sym, ap, subst, ◌∙◌, true≢false, eqb-true, ℕ, nat_eq, Bool, true, false, not, eq-eqb, ⊎_elim, inl, inr, List, [], ◌∷◌, ◌++◌, Some, None, is_some}
+use Rattle.std.proofs.Common.{arith, ◌≡◌, ◌≢◌, refl, sym, ap, subst, ◌∙◌, true≢false, eqb-true, ℕ, nat_eq, Bool, true, false, not, eq-eqb, ⊎_elim, inl, inr, List, [], ◌∷◌, ◌++◌, Some, None, is_some}
+use Rattle.std.proofs.lemmas.Grind.{common_steps}
 use Rattle.std.specs.Prelude.{option_to_list}
 use Rattle.vt_spec.specs.Language.Changes.{Change}
 use Rattle.vt_spec.specs.Language.Changes.Change.{AddName, CopyUp, Make, Move, Remove, SetAttr, SetBytes, SetMark}
@@ -38,14 +39,10 @@ use Rattle.vt_laws_trees.specs.Trees.Settling.{inode_in}
 pub spoken : (stack : Stack ℕ) (merge : Merge ℕ) (change : Change ℕ)
     → Rattle.vt_spec.specs.TreeInvariant.IsTree merge.files.tree → IsAskedWell stack merge change
     → SpeaksOfWhatIsThere merge.files change
-spoken stack merge (Make d w number node) tree asked =
-    directory_used merge.files.tree d asked.0.name_is_free.in_directory
-spoken stack merge (AddName d w o) tree may =
-    (directory_used merge.files.tree d may.name_is_free.in_directory, may.is_there)
-spoken stack merge (Remove d w o) tree may =
-    directory_used merge.files.tree d (has_entries merge.files.tree d w o may.named)
-spoken stack merge (Move f old t new o) tree asked =
-    (asked.0.named, directory_used merge.files.tree t asked.0.in_directory)
+spoken stack merge (Make d w number node) tree asked = grind (arith, common_steps, directory_used)
+spoken stack merge (AddName d w o) tree may = grind (arith, common_steps, directory_used)
+spoken stack merge (Remove d w o) tree may = grind (arith, common_steps, directory_used, has_entries)
+spoken stack merge (Move f old t new o) tree asked = grind (arith, common_steps, directory_used)
 spoken stack merge (SetBytes file bytes) tree there = there
 spoken stack merge (SetAttr o attr) tree there = there
 spoken stack merge (SetMark d opaque) tree asked = absurd asked

@@ -1,5 +1,6 @@
 -- Lower layers that lead alike show the same.
-use Rattle.std.proofs.Common.{◌≡◌, refl, sym, ap, subst, ◌∙◌, inl, inr, ℕ, zero, suc, List, [], ◌∷◌, map, Option, Some, None, slice_get}
+use Rattle.std.proofs.Common.{arith, ◌≡◌, refl, sym, ap, subst, ◌∙◌, inl, inr, ℕ, zero, suc, List, [], ◌∷◌, map, Option, Some, None, slice_get}
+use Rattle.std.proofs.lemmas.Grind.{common_steps}
 use Rattle.std.proofs.lemmas.Option.{slice_get-map, same_Some}
 use Rattle.std.specs.Prelude.{option_map}
 use Rattle.vt_spec.specs.Lists.{then_some}
@@ -86,16 +87,7 @@ module _ (one other : Layer ℕ → OpenLayer ℕ) where
         → IsAlike (then_some r (inode_behind stack_one merge)) (then_some r (inode_behind stack_other merge))
     behind_alike None = alike_same None None refl
     behind_alike (Some (Upper object)) = alike_same (merge.upper.tree.node object) (merge.upper.tree.node object) refl
-    behind_alike (Some (Lower k path)) = subst (λ x. IsAlike (then_some x (λ l. node_at_path l path))
-        (then_some (slice_get (map other layers) k) (λ l. node_at_path l path))) (sym (slice_get-map one layers k))
-        (subst (λ x. IsAlike (then_some (option_map one (slice_get layers k)) (λ l. node_at_path l path))
-        (then_some x (λ l. node_at_path l path))) (sym (slice_get-map other layers k)) (by (slice_get layers k) refl))
-      where
-        by : (x : Option (Layer ℕ)) → slice_get layers k ≡ x
-            → IsAlike (then_some (option_map one x) (λ l. node_at_path l path))
-            (then_some (option_map other x) (λ l. node_at_path l path))
-        by None s = alike_same None None refl
-        by (Some layer) s = alike_kept _ _ (alike layer (among_slice layers k layer s) path).1
+    behind_alike (Some (Lower k path)) = grind (arith, common_steps, slice_get-map, alike_same, alike_kept, among_slice)
 
     pub shown_alike : IsWhatIsShown stack_one merge → IsWhatIsShown stack_other merge
     shown_alike is = record {

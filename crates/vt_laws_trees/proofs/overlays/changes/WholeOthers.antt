@@ -1,5 +1,6 @@
 -- Every other overlay of a world, after a change through one.
-use Rattle.std.proofs.Common.{◌≡◌, ◌≢◌, refl, sym, ap, subst, ◌∙◌, true≢false, eqb-true, eq-eqb, ⊎_elim, inl, inr, ℕ, zero, suc, nat_eq, Bool, true, false, map, List, [], ◌∷◌, ◌++◌, Option, Some, None, is_some, slice_get}
+use Rattle.std.proofs.Common.{arith, ◌≡◌, ◌≢◌, refl, sym, ap, subst, ◌∙◌, true≢false, eqb-true, eq-eqb, ⊎_elim, inl, inr, ℕ, zero, suc, nat_eq, Bool, true, false, map, List, [], ◌∷◌, ◌++◌, Option, Some, None, is_some, slice_get}
+use Rattle.std.proofs.lemmas.Grind.{common_steps}
 use Rattle.std.proofs.lemmas.Option.{slice_get-map, same_Some}
 use Rattle.std.specs.Prelude.{option_map, option_to_list}
 use Rattle.vt_spec.specs.Language.Calls.{Call}
@@ -96,21 +97,9 @@ module _ (world later : World ℕ) (filesystem : Filesystem ℕ) (other : Overla
   behind_alike : (number : ℕ) (r : Option (Real ℕ)) → other.real number ≡ r
       → IsAlike (then_some r (real_node nat_eq world other)) (then_some r (real_node nat_eq later other))
   behind_alike number None e = alike_same None None refl
-  behind_alike number (Some (Upper object)) e = by other.upper refl
-    where
-      by : (x : Option (Layer ℕ)) → other.upper ≡ x
-          → IsAlike (then_some x (λ layer. (filesystem_numbered nat_eq world layer.filesystem).files.tree.node object))
-          (then_some x (λ layer. (filesystem_numbered nat_eq later layer.filesystem).files.tree.node object))
-      by None u = alike_same None None refl
-      by (Some layer) u = alike_kept _ _ (own layer object u (number, e))
-  behind_alike number (Some (Lower k path)) e = by (slice_get other.lowers k) refl
-    where
-      by : (x : Option (Layer ℕ)) → slice_get other.lowers k ≡ x
-          → IsAlike (then_some x (λ l. node_at_path (one l) path)) (then_some x (λ l. node_at_path (two l) path))
-      by None s = alike_same None None refl
-      by (Some layer) s = alike_kept _ _
-          (leads layer (among-append_right (option_to_list other.upper) other.lowers layer
-          (among_slice other.lowers k layer s)) path).1
+  behind_alike number (Some (Upper object)) e = grind (arith, common_steps, alike_same, alike_kept, own)
+  behind_alike number (Some (Lower k path)) e =
+      grind (arith, common_steps, alike_same, alike_kept, leads, among-append_right, among_slice)
 
   pub stays_merged : IsMerged nat_eq world filesystem other → IsMerged nat_eq later filesystem other
   stays_merged is = record {

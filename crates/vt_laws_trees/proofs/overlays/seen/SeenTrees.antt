@@ -1,5 +1,6 @@
 -- Each merged tree that is named so is the tree that is seen.
-use Rattle.std.proofs.Common.{◌≡◌, ◌⊎◌, ◌≢◌, inl, inr, refl, sym, ap, ◌∙◌, true≢false, ℕ, nat_eq, eq-eqb, eqb-true, Bool, true, false, List, [], ◌∷◌, Option, Some, None, if◌then◌else◌, is_some}
+use Rattle.std.proofs.Common.{arith, ◌≡◌, ◌⊎◌, ◌≢◌, inl, inr, refl, sym, ap, ◌∙◌, true≢false, ℕ, nat_eq, eq-eqb, eqb-true, Bool, true, false, List, [], ◌∷◌, Option, Some, None, if◌then◌else◌, is_some}
+use Rattle.std.proofs.lemmas.Grind.{common_steps}
 use Rattle.std.specs.List.{find}
 use Rattle.std.specs.Prelude.{get_or, option_map, unwrap_or}
 use Rattle.vt_spec.proofs.Found.{found_passes}
@@ -20,11 +21,9 @@ use Rattle.vt_laws_trees.proofs.overlays.seen.Paths.{paths_are_no_longer}
 by_first : {A : Type 0} (test : A → Bool) (first : A) (list : List A) (a : A) (b : Bool) → test first ≡ b
     → (Among list a → find test list ≢ None) → (first ≡ a) ⊎ Among list a → test a ≡ true
     → find test (first ∷ list) ≢ None
-by_first test first list a true s rest among passes e =
-    none_is_some first (sym e ∙ ap (λ b. if b then Some first else find test list) s)
+by_first test first list a true s rest among passes e = grind (arith, common_steps, none_is_some)
 by_first test first list a false s rest (inl same) passes e = true≢false (sym passes ∙ ap test (sym same) ∙ s)
-by_first test first list a false s rest (inr among) passes e =
-    rest among (sym (ap (λ b. if b then Some first else find test list) s) ∙ e)
+by_first test first list a false s rest (inr among) passes e = grind (arith, common_steps)
 
 not_missed : {A : Type 0} (test : A → Bool) (list : List A) (a : A) → test a ≡ true → Among list a
     → find test list ≢ None

@@ -104,12 +104,10 @@ module _ (stack : Stack ℕ) (merge : Merge ℕ) (whole : IsWhole stack merge) (
           → SameObject (merge.files.tree.node number) (then_some o (inode_behind stack merge))
           → SameObject (cond b (change (merge.files.tree.node file)) (merge.files.tree.node number))
           (then_some o (inode_behind stack later))
-      by None r true n same = none_is_some (Upper (upper_of merge file))
-          (sym r ∙ ap merge.real (eqb-true number file n) ∙ real)
+      by None r true n same = grind (arith, common_steps, none_is_some, real, eqb-true)
       by None r false n same = same
       by (Some (Upper u)) r b n same = at_upper u r b n (nat_eq u (upper_of merge file)) refl same
-      by (Some (Lower layer path)) r true n same = absurd (true≢false (sym (ap (λ o. is_some (upper_object o)) real)
-          ∙ ap (λ o. is_some (upper_object o)) (sym (ap merge.real (eqb-true number file n)) ∙ r)))
+      by (Some (Lower layer path)) r true n same = grind (arith, common_steps, true≢false, real, eqb-true)
       by (Some (Lower layer path)) r false n same = same
 
   not_there : (o p : Option (Node ℕ)) → is_some o ≡ is_some p → o ≡ None → p ≡ None

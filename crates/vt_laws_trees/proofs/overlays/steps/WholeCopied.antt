@@ -1,5 +1,6 @@
 -- One object is copied up: the tree is still what the layers show.
-use Rattle.std.proofs.Common.{◌≡◌, ◌≢◌, refl, sym, ap, subst, ◌∙◌, true≢false, eq-eqb, ne_eqb, ◌⊎◌, ⊎_elim, inl, inr, ℕ, nat_eq, Bool, true, false, not, cond, List, [], ◌∷◌, ◌++◌, map, Option, Some, None, is_some, option_and_then}
+use Rattle.std.proofs.Common.{arith, ◌≡◌, ◌≢◌, refl, sym, ap, subst, ◌∙◌, true≢false, eq-eqb, ne_eqb, ◌⊎◌, ⊎_elim, inl, inr, ℕ, nat_eq, Bool, true, false, not, cond, List, [], ◌∷◌, ◌++◌, map, Option, Some, None, is_some, option_and_then}
+use Rattle.std.proofs.lemmas.Grind.{common_steps}
 use Rattle.std.proofs.lemmas.Bool.Decides.{eqb_tells}
 use Rattle.vt_spec.specs.declared.attributes.Kind.TheVariants.{White}
 use Rattle.vt_spec.specs.FileTree.{FileTree, a_name, is_kind, is_kind_in}
@@ -480,14 +481,8 @@ module _ (stack : Stack ℕ) (merge : Merge ℕ) (whole : IsWhole stack merge) (
       where
         still_reached : (b : Bool) → names_entry (view_in merge.upper merge.upper.tree.root) ud w whole.reached.0 ≡ b
             → IsReached with_copy.tree stack.directory
-        still_reached true e = none_is_some stack.directory (sym
-            (named_led merge.upper merge.upper.tree.root ud w whole.reached.0 e ∙ free) ∙ whole.reached.1)
-        still_reached false e = (
-          whole.reached.0,
-          make_adds_path merge.upper merge.upper.tree.root ud copy w (copy_node ud) takes vacant bare whole.reached.0
-              ∙ ap (λ b. cond b (Some copy) (led merge.upper.tree merge.upper.tree.root whole.reached.0)) e
-              ∙ whole.reached.1,
-        )
+        still_reached true e = grind (arith, common_steps, none_is_some, named_led, free)
+        still_reached false e = grind (arith, common_steps, make_adds_path, takes, bare)
 
 pub copy_keeps_whole : CopyKeepsWhole
 copy_keeps_whole stack merge object copy node whole is low vacant parents = by (a_name nat_eq merge.files object) refl

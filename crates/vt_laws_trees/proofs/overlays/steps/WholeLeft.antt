@@ -3,7 +3,7 @@ use Rattle.std.proofs.lemmas.Grind.{common_steps}
 use Rattle.std.proofs.Common.{◌≡◌, refl, sym, ap, subst, ◌∙◌, true≢false, arith, ℕ, suc, ◌+◌, nat_eq, map, slice_get, Bool, true, false, not, cond, ◌&&◌, ◌||◌, List, [], ◌∷◌, ◌++◌, Option, Some, None, is_some, option_and_then}
 use Rattle.vt_spec.specs.FileTree.{FileTree}
 use Rattle.vt_spec.specs.Language.Changes.{changed_node, node_with_parent, node_without_entries}
-use Rattle.vt_spec.specs.Lists.{holds_of, then_some, when}
+use Rattle.vt_spec.specs.Lists.{then_some, when}
 use Rattle.vt_spec.specs.Machine.CopyUp.{Merge, Stack, upper_directory_named, without_contents}
 use Rattle.vt_spec.proofs.Layers.{shown_from}
 use Rattle.vt_spec.specs.Machine.Layers.{OpenLayer, Shown, at_path, view_of}
@@ -40,25 +40,14 @@ module _ (before after : Tree ℕ) (to : ℕ) (new : List ℕ) (value : Option �
   pub beside_led : (path : List (List ℕ)) (start : ℕ) → passes before to new start path ≡ false
       → led after start path ≡ led before start path
   beside_led [] start e = refl
-  beside_led (word ∷ rest) start e = ap (option_and_then (λ next. led after next rest)) (told start word)
-      ∙ by (is_entry to new start word) (entry_at before start word) e (beside_led rest)
-    where
-      by : (is_new : Bool) (o : Option ℕ) → (is_new || holds_of (λ inner. passes before to new inner rest) o) ≡ false
-          → ((inner : ℕ) → passes before to new inner rest ≡ false → led after inner rest ≡ led before inner rest)
-          → option_and_then (λ next. led after next rest) (cond is_new value o)
-          ≡ option_and_then (λ next. led before next rest) o
-      by true o e later = absurd (true≢false e)
-      by false None e later = refl
-      by false (Some inner) e later = later inner e
+  beside_led (word ∷ rest) start e = grind (arith, common_steps, is_entry, passes, true≢false, beside_led rest)
 
 -- a directory that loses its whiteouts and its parent is as it was but for names
 pub emptied_alike : (files : FileTree ℕ) (o : Option ℕ) (u : ℕ)
     → IsAlike (files.tree.node u) ((without_contents nat_eq files o).tree.node u)
 emptied_alike files None u = alike_same (files.tree.node u) (files.tree.node u) refl
 emptied_alike files (Some k) u =
-    alike_both (files.tree.node u) ((changed_node nat_eq files k node_without_entries).tree.node u) _
-    (alike_after files k node_without_entries without_entries_keeps u)
-    (alike_after (changed_node nat_eq files k node_without_entries) k (node_with_parent k) (parent_keeps k) u)
+    grind (arith, common_steps, alike_both, alike_after, without_entries_keeps, parent_keeps)
 
 -- and all others have their names
 pub emptied_entries : (files : FileTree ℕ) (k other : ℕ) (word : List ℕ) → nat_eq other k ≡ false
@@ -91,10 +80,7 @@ lowers_have (first ∷ lowers) depth place object layer path there is at d =
         → Views.lowers_have_directory (map view_of lowers) path ≡ true)
         → Views.lowers_have_directory (map view_of (first ∷ lowers)) path ≡ true
     below true c k f e rest = none_is_some _ e
-    below false c k f e rest = or_right (is_directory_node (node_led (view_of first) path)) _
-        (ap (λ b. not b && Views.lowers_have_directory (map view_of lowers) path) c
-        ∙ rest k f (e ∙ ap (λ n. Some (record { layer = n; object = object }))
-        (let h : depth + suc k ≡ depth + 1 + k = omega arith in h)))
+    below false c k f e rest = grind (arith, common_steps, or_right)
 
     over : (k : ℕ) (found : ℕ) (white : Bool)
         → when {A = Shown ℕ} (not white) (record { layer = depth; object = found })

@@ -157,9 +157,7 @@ module _ (stack : Stack ℕ) (fresh : Fresh ℕ) (distinct : (j k : ℕ) → fre
       → (copy_named nat_eq merge copy o (with_inode nat_eq merge.upper copy node)).tree.node x ≡ None
   still_vacant merge copy node None x none differ = node_other merge.upper.tree copy (Some node) x differ ∙ none
   still_vacant merge copy node (Some name) x none differ =
-      none_from_not_some _ (part-changed_node is_some (with_inode nat_eq merge.upper copy node) (upper_of merge name.0)
-      (node_with_entry name.1 copy) (is_some-node_with_entry name.1 copy) x
-      ∙ ap is_some (node_other merge.upper.tree copy (Some node) x differ ∙ none))
+      grind (arith, common_steps, none_from_not_some, part-changed_node, is_some-node_with_entry, node_other)
 
   -- what lies below after a copy lay there before
   pub below_before : (merge : Merge ℕ) (object copy n layer : ℕ) (path : List (List ℕ))

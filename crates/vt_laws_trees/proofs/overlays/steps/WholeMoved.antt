@@ -7,7 +7,7 @@ use Rattle.vt_spec.specs.FileTree.{FileTree, is_kind, is_kind_in}
 use Rattle.vt_spec.specs.Language.Changes.{changed, content_with_mark, node_with_mark, with_inode}
 use Rattle.vt_spec.specs.Language.Changes.Change.{Move}
 use Rattle.vt_spec.specs.Lists.{Fresh, then_some, when}
-use Rattle.vt_spec.specs.Machine.CopyUp.{Merge, Stack, hides_directory, is_directory_shown, merge_with_moved as moved_overlay, path_to, shown_in_lowers_at, upper_directory_named, whiteout_of, without_contents}
+use Rattle.vt_spec.specs.Machine.CopyUp.{Merge, Stack, hides_directory, merge_with_moved as moved_overlay, path_to, shown_in_lowers_at, upper_directory_named, whiteout_of, without_contents}
 use Rattle.vt_spec.specs.Machine.Layers.{Shown, has_lower_directory, view_of}
 use Rattle.vt_spec.specs.Machine.Views
 use Rattle.vt_spec.specs.Machine.Views.{View, cuts, hides, node_led, shown_from, shown_over}
@@ -35,7 +35,7 @@ use Rattle.vt_laws_trees.proofs.layers.views.Lower.{way_goes_elsewhere}
 use Rattle.vt_laws_trees.proofs.layers.views.Fronts.{prefixes_agree, hides_so, hiding_alike}
 use Rattle.vt_laws_trees.proofs.layers.views.Moves.{moved_leads_on, old_leads_nowhere, through_is_split}
 use Rattle.vt_laws_trees.proofs.layers.views.Names.{alike_after, names_leave_inodes, no_entries}
-use Rattle.vt_laws_trees.specs.Overlays.WhatIsShown.{IsWhole, MoveKeepsShown, inode_behind, layers_under, real_seen}
+use Rattle.vt_laws_trees.specs.Overlays.WhatIsShown.{IsWhole, MoveKeepsShown, inode_behind, real_seen}
 use Rattle.vt_laws_trees.proofs.overlays.steps.WholeAttributes.{top_open}
 use Rattle.vt_laws_trees.proofs.overlays.steps.WholeGrown.{alike_objects}
 use Rattle.vt_laws_trees.proofs.overlays.steps.WholeLeft.{emptied_alike, lowers_have, one_named}
@@ -471,10 +471,7 @@ module _ (fresh : Fresh ℕ) (stack : Stack ℕ) (merge : Merge ℕ) (whole : Is
           (ap (shown_from 1 lowers) (append_assoc from_way (old ∷ []) (word ∷ rest)) ∙ e) in
           let has = lowers_have stack.lowers 1 shows.place shows.object shows.layer
           (from_way ++ old ∷ []) shows.there shows.is shows.at shows.directory in
-          true≢false (sym (ap (λ b. not (b || false) && Views.lowers_have_directory lowers (from_way ++ old ∷ []))
-          (uncut_here uncut) ∙ has)
-          ∙ ap (has_lower_directory (record { tree = merge.upper.tree; directory = stack.directory } ∷ []) stack.lowers)
-          (sym (path_to_is merge whole.tree whole.numbers from_way f old from_number f_directory)) ∙ alone is_dir)
+          grind (arith, common_steps, true≢false, uncut_here, path_to_is, from_number, f_directory)
 
       lower_none : cuts before (from_way ++ old ∷ word ∷ rest) ≡ false → (x : Option (Shown ℕ))
           → shown_from 1 lowers (from_way ++ old ∷ word ∷ rest) ≡ x → x ≡ None
@@ -521,10 +518,7 @@ module _ (fresh : Fresh ℕ) (stack : Stack ℕ) (merge : Merge ℕ) (whole : Is
           marks to l)
           (WholeMovedTree.way_not_old fresh stack merge whole f old t new o stands_f stands_t stands_o may vacant left
           marks to l) uncut in
-          true≢false (sym (mark_cuts (sym is_marks ∙ ap (is_directory_shown (layers_under stack merge))
-          (below_name stack merge whole t new to there t_directory uncut_to)
-          ∙ directory_below_top (record { tree = merge.upper.tree; directory = stack.directory }) stack.lowers
-          (to ++ new ∷ []) shows)) ∙ uncut)
+          grind (arith, common_steps, true≢false, mark_cuts, below_name, there, t_directory, directory_below_top)
 
       lower_none : cuts after (to ++ new ∷ word ∷ rest) ≡ false → (x : Option (Shown ℕ))
           → shown_from 1 lowers (to ++ new ∷ word ∷ rest) ≡ x → x ≡ None

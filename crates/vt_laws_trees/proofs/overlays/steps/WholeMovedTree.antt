@@ -1,5 +1,6 @@
 -- Where names lead in the upper layer after a move, with what is left of the old name and of a replaced directory.
-use Rattle.std.proofs.Common.{◌≡◌, ◌≢◌, refl, sym, ap, subst, ◌∙◌, true≢false, eq-eqb, ne_eqb, ℕ, nat_eq, Bool, true, false, cond, ◌&&◌, List, [], ◌∷◌, ◌++◌, Option, Some, None, is_some, option_and_then}
+use Rattle.std.proofs.Common.{arith, ◌≡◌, ◌≢◌, refl, sym, ap, subst, ◌∙◌, true≢false, eq-eqb, ne_eqb, ℕ, nat_eq, Bool, true, false, cond, ◌&&◌, List, [], ◌∷◌, ◌++◌, Option, Some, None, is_some, option_and_then}
+use Rattle.std.proofs.lemmas.Grind.{common_steps}
 use Rattle.vt_spec.specs.FileTree.{FileTree}
 use Rattle.vt_spec.specs.Language.Changes.{node_with_mark, node_without_entry, with_inode, with_moved}
 use Rattle.vt_spec.specs.Language.Changes.Change.{Move}
@@ -119,8 +120,7 @@ module _ (fresh : Fresh ℕ) (stack : Stack ℕ) (merge : Merge ℕ) (whole : Is
       let two = is_that_entry uf old other word b in
       let same : t ≡ f = fine_before.one t f (ap is_some real_t)
       (real_t ∙ ap (λ n. Some (Upper n)) (sym one.0 ∙ two.0) ∙ sym real_f) in
-      may.replaced_other (ap (λ n. entry_at merge.files.tree n new) same
-      ∙ ap (entry_at merge.files.tree f) (sym one.1 ∙ two.1) ∙ may.named)
+      grind (arith, common_steps)
 
   -- what stands under the old name
   abbrev pub value : Bool → Option ℕ
@@ -260,9 +260,7 @@ module _ (fresh : Fresh ℕ) (stack : Stack ℕ) (merge : Merge ℕ) (whole : Is
       where
         by : (l a b : Bool) → cond a (value l) (cond b None (led merge.upper.tree start path)) ≡ Some ut
             → led merge.upper.tree start path ≡ Some ut
-        by true true b e =
-            absurd (true≢false (sym (Rattle.vt_spec.proofs.Nodes.directory_used merge.upper.tree ut ut_directory)
-            ∙ ap (λ n. is_some (merge.upper.tree.node n)) (sym (same_Some c ut e)) ∙ ap is_some vacant))
+        by true true b e = grind (arith, common_steps, true≢false, ut_directory, same_Some)
         by false true b e = none_is_some ut e
         by l false true e = none_is_some ut e
         by l false false e = e
@@ -390,8 +388,7 @@ module _ (fresh : Fresh ℕ) (stack : Stack ℕ) (merge : Merge ℕ) (whole : Is
 
         at : (l a b : Bool) → names_entry before uf old path ≡ a → goes_through before ut new path ≡ false
             → cond a (value l) (cond b None (led merge.upper.tree stack.directory path)) ≡ Some r → ⊥
-        at true true b n g e = true≢false
-            (sym there ∙ ap (λ k. is_some (merge.upper.tree.node k)) (sym (same_Some c r e)) ∙ ap is_some vacant)
+        at true true b n g e = grind (arith, common_steps, true≢false, there, same_Some)
         at false true b n g e = none_is_some r e
         at l false true n g e = none_is_some r e
         at l false false n g e = true≢false (sym (named_so path e) ∙ named_not ut new path g)

@@ -38,8 +38,7 @@ pub shown_is_there : (layers : List (OpenLayer ℕ)) → AreOpen layers → (pat
 shown_is_there layers are_open path seen e =
     let is = (computed layers path seen).0 e in
     let open_one = are_open seen.layer is.has_uncut.0.0 is.has_uncut.0.1 in
-    ap (λ o. is_some (then_some o (λ layer. layer.tree.node seen.object))) is.has_uncut.0.1
-    ∙ led_is_there is.has_uncut.0.0 open_one.0 open_one.1 path seen.object is.has_uncut.0.2
+    grind (arith, common_steps, led_is_there)
 
 module _ (stack : Stack ℕ) (merge : Merge ℕ) where
   pub record IsFine : Type 0 where

@@ -185,8 +185,7 @@ module _ (stack : Stack ℕ) (merge : Merge ℕ) (whole : IsWhole stack merge) (
             here to rest is l =
                 let there = same_is _ d (same_place stack merge whole d ud real_d ud_directory to
                 ∙ same_holds _ ud l) in
-                sym (below_name stack merge whole d w to there d_directory (uncut_to to rest path is there uncut))
-                ∙ none
+                grind (arith, common_steps, below_name, there, d_directory, uncut_to)
 
             seen : (to rest : List (List ℕ)) → to ++ w ∷ rest ≡ path
                 → led merge.upper.tree stack.directory to ≡ Some ud → ⊥

@@ -325,18 +325,9 @@ module _ (fresh : Fresh ℕ) (world : World ℕ) (location : Location ℕ) (chan
       by : (fs : List (Filesystem ℕ)) → any_pair (λ (a b : Filesystem ℕ). nat_eq a.number b.number) fs ≡ false
           → Among f fs → Rattle.std.specs.Prelude.find (λ (g : Filesystem ℕ). nat_eq f.number g.number) fs ≡ Some f
       by [] e m = absurd m
-      by (x ∷ fs) e (inl same) =
-          ap (λ b. cond b (Some x) (Rattle.std.specs.Prelude.find (λ (g : Filesystem ℕ). nat_eq f.number g.number) fs))
-          (eq-eqb f.number x.number (ap (λ g. g.number) same)) ∙ ap Some (sym same)
+      by (x ∷ fs) e (inl same) = grind (arith, common_steps, eq-eqb)
       by (x ∷ fs) e (inr l) =
-          ap (λ b. cond b (Some x) (Rattle.std.specs.Prelude.find (λ (g : Filesystem ℕ). nat_eq f.number g.number) fs))
-          (ne_eqb f.number x.number (λ same.
-          true≢false (sym (eq-eqb x.number f.number (sym same))
-          ∙ none_among (λ (g : Filesystem ℕ). nat_eq x.number g.number) fs
-          (or_false_left (list_any (λ (g : Filesystem ℕ). nat_eq x.number g.number) fs)
-          (any_pair (λ (a b : Filesystem ℕ). nat_eq a.number b.number) fs) e) f l)))
-          ∙ by fs (or_false_right (list_any (λ (g : Filesystem ℕ). nat_eq x.number g.number) fs)
-          (any_pair (λ (a b : Filesystem ℕ). nat_eq a.number b.number) fs) e) l
+          grind (arith, common_steps, ne_eqb, true≢false, eq-eqb, none_among, or_false_left, or_false_right, by fs)
 
   -- What counts under a layer: the parts of it
   record Counts (w : World ℕ) (layer : Layer ℕ) (n object : ℕ) (g : Filesystem ℕ) : Type 0 where

@@ -106,9 +106,7 @@ module _ (files : FileTree ℕ) (d : ℕ) (w : List ℕ)
           (cond b (Some node) (free.tree.node j))
           ≡ cond a (node_with_entry w c (cond (nat_eq d c) (Some node) (files.tree.node d)))
           (cond b (Some node) (files.tree.node j))
-      by j true e b f = ap (node_with_entry w c) (at_d (free.tree.node d) ∙ there)
-          ∙ node_with_over_without w c (files.tree.node d) in_order
-          ∙ sym (ap (node_with_entry w c) (at_d (files.tree.node d)))
+      by j true e b f = grind (arith, common_steps, at_d, there, node_with_over_without, in_order)
       by j false e true f = refl
       by j false e false f = elsewhere j (λ same. true≢false (sym (eq-eqb j d same) ∙ e))
 

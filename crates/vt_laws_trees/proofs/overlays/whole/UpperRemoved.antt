@@ -1,11 +1,11 @@
 -- A name is taken away in the upper layer, or exchanged: its tree goes on to be one.
-use Rattle.std.proofs.Common.{◌≡◌, ◌≢◌, refl, sym, ap, subst, ◌∙◌, true≢false, inr, ℕ, nat_eq, Bool, true, false, cond, List, [], ◌∷◌, ◌++◌, Option, Some, None, is_some}
+use Rattle.std.proofs.Common.{arith, ◌≡◌, ◌≢◌, refl, sym, ap, subst, ◌∙◌, true≢false, inr, ℕ, nat_eq, Bool, true, false, List, [], ◌∷◌, ◌++◌, Option, Some, None, is_some}
+use Rattle.std.proofs.lemmas.Grind.{common_steps}
 use Rattle.vt_spec.specs.FileTree.{FileTree}
 use Rattle.vt_spec.specs.Language.Changes.{changed, changed_node, node_with_parent, node_without_entries, node_without_entry, with_inode, with_name, without_name, without_parent}
 use Rattle.vt_spec.specs.Language.Changes.Change.{Make, Remove}
-use Rattle.vt_spec.specs.Lists.{Fresh, then_some}
+use Rattle.vt_spec.specs.Lists.{Fresh}
 use Rattle.vt_spec.specs.Machine.CopyUp.{Merge, Stack, merge_without_name, name_left_by, shown_in_lowers_at, upper_directory_named, upper_of, whiteout_of, without_contents}
-use Rattle.vt_spec.specs.Machine.World.{upper_object}
 use Rattle.vt_spec.specs.Machine.World.Real.{Upper}
 use Rattle.vt_spec.specs.Machine.Invariants.{number_at_path}
 use Rattle.vt_spec.specs.Tree.{Node, entries_in, entry_named, is_directory_node, node_with_entry}
@@ -51,9 +51,7 @@ module _ (stack : Stack ℕ) (merge : Merge ℕ) (whole : IsWhole stack merge) (
   own_named k e is =
       let found = named_below stack merge whole d ud real_d way there w k e
       (directory_no_whiteout (merge.upper.tree.node k) is) in
-      ap (λ o. then_some o (λ n. cond (is_directory_node (merge.files.tree.node n))
-      (upper_object (merge.real n)) None)) found.1 ∙ ap (λ b. cond b (upper_object (merge.real found.0)) None)
-      (sym (directory_above stack merge whole found.0 k found.2) ∙ is) ∙ ap upper_object found.2
+      grind (arith, common_steps, directory_above, is)
 
   -- where there is none, what has it is no directory
   pub none_named : upper_directory_named merge d w ≡ None

@@ -71,10 +71,7 @@ told_bare P files r x n y e =
 
 pub told_emptied : (P : ℕ → Type 0) (files : FileTree ℕ) (o : Option ℕ) → Told P files (without_contents nat_eq files o)
 told_emptied P files None = told_none P files
-told_emptied P files (Some r) =
-    told_both P files (changed_node nat_eq files r node_without_entries) (without_contents nat_eq files (Some r))
-    (told_bare P files r)
-    (told_stay P (changed_node nat_eq files r node_without_entries) r (node_with_parent r) (entries-node_with_parent r))
+told_emptied P files (Some r) = grind (arith, common_steps, told_both, told_bare, told_stay, entries-node_with_parent)
 
 pub told_unparented : (P : ℕ → Type 0) (files : FileTree ℕ) (o : Option ℕ)
     → Told P files (without_parent nat_eq files o)

@@ -1,5 +1,6 @@
 -- Each call is answered alike in two worlds that are alike.
-use Rattle.std.proofs.Common.{◌≡◌, refl, sym, ap, subst, ◌∙◌, ℕ, nat_eq, Bool, true, false, not, ◌||◌, List, Option, Some, None, Ok, Err, is_ok, ok_or}
+use Rattle.std.proofs.Common.{arith, ◌≡◌, refl, sym, ap, subst, ◌∙◌, ℕ, nat_eq, Bool, true, false, not, ◌||◌, List, Option, Some, None, Ok, Err, is_ok, ok_or}
+use Rattle.std.proofs.lemmas.Grind.{common_steps}
 use Rattle.vt_laws_rules.proofs.given.GivenPermits.{permits_are_for_their_calls}
 use Rattle.vt_laws_rules.specs.Given.{IsFor}
 use Rattle.vt_laws_rules.proofs.judged.CallsJudged.{policy_judges_then_applies}
@@ -105,8 +106,4 @@ same_worlds_are_answered_alike one other same plain fresh name call no_mount =
 pub same_worlds_are_directed_alike : SameWorldsAreDirectedAlike
 same_worlds_are_directed_alike one other same plain directive =
     let alike = directed_alike one other (alike_from_same one other same plain) directive in
-    record {
-      answer = alike.answer;
-      worlds = same_from_alike _ _ alike.worlds;
-      plain = plain_from_alike _ _ alike.worlds;
-    }
+    grind (arith, common_steps, same_from_alike, plain_from_alike)

@@ -1,5 +1,5 @@
 -- What is found in two worlds that are alike, and changes of their filesystems and tasks.
-use Rattle.std.proofs.Common.{arith, ◌≡◌, sym, ap, subst, ℕ, nat_eq, List, map, Option, Some, None}
+use Rattle.std.proofs.Common.{arith, ◌≡◌, ap, subst, ℕ, nat_eq, List, map, Option, Some, None}
 use Rattle.std.proofs.lemmas.Grind.{common_steps}
 use Rattle.std.proofs.lemmas.List.Sorted.{IsPermutation-cons}
 use Rattle.vt_laws_trees.proofs.runs.answered.AlikeWorlds.{Alike, AlikeFilesystem, SameTask, files_itself}
@@ -122,11 +122,7 @@ change_alike one other same fresh location change =
     let here = here_alike one other same location in
     let first = filesystem_at nat_eq one location in
     let second = filesystem_at nat_eq other location in
-    subst (λ world. Alike world (with_change nat_eq fresh other location change))
-    (sym (plain_changed fresh one first change here.plain))
-    (subst (Alike (with_filesystem nat_eq one (with_files first (changed nat_eq first.files change))))
-    (sym (plain_changed fresh other second change here.plain_too)) (with_filesystem_alike one other same _ _
-    (with_files_alike first second here _ _ (changed_alike first.files second.files here.files change))))
+    grind (arith, common_steps, plain_changed, with_filesystem_alike, with_files_alike, changed_alike)
 
 -- Tasks
 pub with_tasks_alike : (one other : World ℕ) → Alike one other → (tasks again : List (Task ℕ))

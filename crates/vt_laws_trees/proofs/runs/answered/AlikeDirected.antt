@@ -1,21 +1,19 @@
 -- Directives are answered alike in two worlds that are alike.
-use Rattle.std.proofs.Common.{◌≡◌, refl, sym, ap, subst, ◌∙◌, ℕ, nat_eq, Bool, true, false, cond, not, ◌&&◌, ◌||◌, ◌+◌, List, [], ◌∷◌, ◌++◌, map, filter, flat_map, Option, Some, None, Ok, is_some, option_map}
+use Rattle.std.proofs.Common.{arith, ◌≡◌, refl, sym, ap, ◌∙◌, ℕ, nat_eq, Bool, true, false, cond, not, ◌&&◌, ◌||◌, ◌+◌, List, [], ◌∷◌, ◌++◌, map, filter, flat_map, Option, Some, None, is_some, option_map}
+use Rattle.std.proofs.lemmas.Grind.{common_steps}
 use Rattle.std.specs.List.{list_all, list_any}
 use Rattle.vt_laws_trees.proofs.runs.answered.AlikeApplied.{OutcomesAlike}
 use Rattle.vt_laws_trees.proofs.runs.answered.AlikeChanges.{found_alike, task_alike}
 use Rattle.vt_laws_trees.proofs.runs.answered.AlikeSettled.{overlay_same}
 use Rattle.vt_laws_trees.proofs.runs.answered.AlikeWorlds.{Alike, AlikeFilesystem, SameNamespace, SameTask, mounts_of_one, with_mounts_of}
 use Rattle.vt_laws_trees.proofs.runs.Each.{Each, IfAny, each_any, each_filter, each_flat, each_to_one}
-use Rattle.vt_spec.specs.declared.errors.Rule.TheVariants.{S2}
 use Rattle.vt_spec.specs.Language.Answers.{PeerLine}
-use Rattle.vt_spec.specs.Language.Answers.Answer.{PeerList, YesNo}
 use Rattle.vt_spec.specs.Language.Calls.{Directive, TaskName}
 use Rattle.vt_spec.specs.Language.Calls.Directive.{AskPeers, AskSealed}
 use Rattle.vt_spec.specs.Lists.{counted_from, each_once, holds_of}
 use Rattle.vt_spec.specs.Machine.Listing.{attached_in, groups_seen, is_slave_of, number_among, peer_lines}
 use Rattle.vt_spec.specs.Machine.Locked.{overlay_or, overlays}
 use Rattle.vt_spec.specs.Machine.Mounts.{Location, Mount}
-use Rattle.vt_spec.specs.Machine.Outcomes.{granted, judged}
 use Rattle.vt_spec.specs.Machine.Receives.{is_member_of}
 use Rattle.vt_spec.specs.Machine.Sealed.{all_named, change_layers, directed, holds_all_tasks, shares_no_events, share_events, is_lower_root, is_member_task, is_own_namespace, locations, members, no_outsider_on, no_outsider_on_mounts, no_such_task, outsiders, sealed, used_alone, used_directly, used_filesystems, wholly_locked}
 use Rattle.vt_spec.specs.Machine.World.{Filesystem, Layer, Namespace, Overlay, Task, World, filesystem_numbered, is_overlay, locations_of, mount_at, task_called}
@@ -30,8 +28,7 @@ module _ (one other : World ℕ) (same : Alike one (with_mounts_of one other)) w
   attached_from k [] [] each = refl
   attached_from k [] (b ∷ others) each = absurd each
   attached_from k (a ∷ ones) [] each = absurd each
-  attached_from k (a ∷ ones) (b ∷ others) each = λ i.
-      attached_in nat_eq one (k, each.0 i) ++ attached_from (k + 1) ones others each.1 i
+  attached_from k (a ∷ ones) (b ∷ others) each = grind (arith, common_steps, attached_from (k + 1) ones others each.1)
 
   -- the lines of peers, by the mounts that are attached
   abbrev places_among : List (ℕ × ℕ × Mount ℕ) → (Mount ℕ → Bool) → List (ℕ × ℕ)
@@ -63,11 +60,7 @@ no_overlays : (ones others : List (Filesystem ℕ)) → Each AlikeFilesystem one
 no_overlays [] [] each = (refl, refl)
 no_overlays [] (b ∷ others) each = absurd each
 no_overlays (a ∷ ones) [] each = absurd each
-no_overlays (a ∷ ones) (b ∷ others) each =
-    let rest = no_overlays ones others each.1 in (
-      (λ i. cond (is_some (each.0.plain i)) (a ∷ filter is_overlay ones) (filter is_overlay ones)) ∙ rest.0,
-      (λ i. cond (is_some (each.0.plain_too i)) (b ∷ filter is_overlay others) (filter is_overlay others)) ∙ rest.1,
-    )
+no_overlays (a ∷ ones) (b ∷ others) each = grind (arith, common_steps, no_overlays ones others each.1)
 
 -- Sealed tasks
 module _ (one other : World ℕ) (same : Alike one (with_mounts_of one other)) (names : List TaskName) where
@@ -194,15 +187,5 @@ missing_same one other same name = by (task_called one name) (task_called other 
 
 pub directed_alike : (one other : World ℕ) → Alike one other → (directive : Directive)
     → OutcomesAlike (directed nat_eq one directive) (directed nat_eq other directive)
-directed_alike one other same AskPeers =
-    record { answer = λ i. Ok (PeerList (peers_alike one other same i)); worlds = same }
-directed_alike one other same (AskSealed names) =
-    subst (λ missing. OutcomesAlike (directed nat_eq one (AskSealed names))
-    (judged other ((missing, S2) ∷ []) (granted (YesNo (sealed nat_eq other names)) other)))
-    (λ i. list_any (λ name. missing_same one other same name i) names) (by (list_any (no_such_task one) names))
-  where
-    by : (missing : Bool)
-        → OutcomesAlike (judged one ((missing, S2) ∷ []) (granted (YesNo (sealed nat_eq one names)) one))
-        (judged other ((missing, S2) ∷ []) (granted (YesNo (sealed nat_eq other names)) other))
-    by true = record { answer = refl; worlds = same }
-    by false = record { answer = λ i. Ok (YesNo (sealed_alike names one other same i)); worlds = same }
+directed_alike one other same AskPeers = grind (arith, common_steps, peers_alike)
+directed_alike one other same (AskSealed names) = grind (arith, common_steps, missing_same, sealed_alike)

@@ -1,8 +1,8 @@
 -- Worlds of plain filesystems that are the same but for change numbers and the order of numbers beside trees.
 use Rattle.std.proofs.lemmas.Grind.{common_steps}
-use Rattle.std.proofs.Common.{◌≡◌, refl, sym, ap, subst, ◌∙◌, ℕ, false, List, [], ◌∷◌, None, is_some, arith}
+use Rattle.std.proofs.Common.{◌≡◌, refl, sym, subst, ◌∙◌, ℕ, false, List, [], ◌∷◌, None, arith}
 use Rattle.std.specs.Prelude.{All}
-use Rattle.std.proofs.lemmas.List.Elements.{All-cons, All-head, All-tail}
+use Rattle.std.proofs.lemmas.List.Elements.{All-head, All-tail}
 use Rattle.std.proofs.lemmas.List.Sorted.{IsPermutation-refl, IsPermutation-sym, IsPermutation-trans}
 use Rattle.vt_laws_trees.proofs.runs.Each.{Each, each_back, each_onward, each_to_one, each_told}
 use Rattle.vt_laws_rules.proofs.judged.NumbersRaised.{bare_namespace, bare_task}
@@ -65,14 +65,8 @@ filesystems_back : (ones others : List (Filesystem ℕ)) → SameFilesystems one
 filesystems_back [] [] same = tt
 filesystems_back [] (other ∷ others) same = absurd same
 filesystems_back (one ∷ ones) [] same = absurd same
-filesystems_back (one ∷ ones) (other ∷ others) same = (
-  record {
-    number = sym same.0.number;
-    files = files_back one.files other.files same.0.files;
-    overlay = sym same.0.overlay;
-  },
-  filesystems_back ones others same.1,
-)
+filesystems_back (one ∷ ones) (other ∷ others) same =
+    grind (arith, common_steps, files_back, filesystems_back ones others same.1)
 
 filesystems_onward : (ones others lasts : List (Filesystem ℕ)) → SameFilesystems ones others
     → SameFilesystems others lasts → SameFilesystems ones lasts
@@ -110,17 +104,13 @@ alike_same : (ones others : List (Filesystem ℕ)) → Each AlikeFilesystem ones
 alike_same [] [] each = tt
 alike_same [] (other ∷ others) each = absurd each
 alike_same (one ∷ ones) [] each = absurd each
-alike_same (one ∷ ones) (other ∷ others) each = (
-  record { number = each.0.number; files = each.0.files; overlay = each.0.plain ∙ sym each.0.plain_too },
-  alike_same ones others each.1,
-)
+alike_same (one ∷ ones) (other ∷ others) each = grind (arith, common_steps, alike_same ones others each.1)
 
 alike_plain : (ones others : List (Filesystem ℕ)) → Each AlikeFilesystem ones others → All Plain ones
 alike_plain [] [] each = λ k d below. absurd (omega arith)
 alike_plain [] (other ∷ others) each = absurd each
 alike_plain (one ∷ ones) [] each = absurd each
-alike_plain (one ∷ ones) (other ∷ others) each =
-    All-cons Plain one ones (ap is_some each.0.plain) (alike_plain ones others each.1)
+alike_plain (one ∷ ones) (other ∷ others) each = grind (arith, common_steps, alike_plain ones others each.1)
 
 pub alike_from_same : (one other : World ℕ) → SameWorlds one other → IsPlain one → Alike one other
 alike_from_same one other same plain = record {

@@ -1,6 +1,6 @@
 -- Counts are a supply with room.
 use Rattle.std.proofs.lemmas.Grind.{common_steps}
-use Rattle.std.proofs.Common.{◌≡◌, refl, sym, ap, ◌∙◌, true≢false, ℕ, nat_le, nat_lt, ◌==◌, ◌+◌, ◌-◌, ◌*◌, ◌/◌, ◌%◌, ◌<◌, ◌≤◌, Bool, true, false, cond, not, ◌&&◌, ◌||◌, arith, ◌⊎◌, inl, inr, eq-eqb, ne_eqb, eqb-true, ltb-true}
+use Rattle.std.proofs.Common.{◌≡◌, refl, sym, ap, ◌∙◌, true≢false, ℕ, nat_le, nat_lt, ◌==◌, ◌+◌, ◌-◌, ◌*◌, ◌/◌, ◌%◌, ◌<◌, ◌≤◌, Bool, true, false, cond, not, ◌&&◌, ◌||◌, arith, ◌⊎◌, inl, eq-eqb, ne_eqb, eqb-true, ltb-true}
 use Rattle.std.proofs.lemmas.Bool.{and_parts, le-leb, leb-true, not-false}
 use Rattle.vt_laws_rules.proofs.numbers.NamedWorlds.{named_is_kept}
 use Rattle.vt_laws_rules.specs.Numbers.{Allotment, Lot, is_in_hand, is_kept, is_kept_lot}
@@ -73,8 +73,7 @@ module _ (next : ℕ) where
       → nat_lt (number / 4) next ≡ below → (even || (odd && below)) ≡ true
       → (number % 2 ≡ 0) ⊎ ((number % 4 ≡ 1) × (number / 4 < next))
   before_is number true odd below first second third e = inl (eqb-true (number % 2) 0 first)
-  before_is number false true true first second third e =
-      inr (eqb-true (number % 4) 1 second, ltb-true (number / 4) next third)
+  before_is number false true true first second third e = grind (arith, common_steps, eqb-true, ltb-true)
   before_is number false true false first second third e = absurd (true≢false (sym e))
   before_is number false false below first second third e = absurd (true≢false (sym e))
 

@@ -1,6 +1,6 @@
 -- Whatever leaves endless numbers over is renamed into the first row.
 use Rattle.std.proofs.lemmas.Grind.{common_steps}
-use Rattle.std.proofs.Common.{◌≡◌, ◌≢◌, refl, ap, ◌∙◌, ℕ, zero, suc, ◌==◌, ◌+◌, ◌*◌, ◌/◌, ◌%◌, ◌<◌, Bool, true, false, cond, arith, eq-eqb, ne_eqb, eqb-true}
+use Rattle.std.proofs.Common.{◌≡◌, ◌≢◌, ap, ◌∙◌, ℕ, zero, suc, ◌==◌, ◌+◌, ◌*◌, ◌/◌, ◌%◌, ◌<◌, Bool, true, false, cond, arith, eq-eqb, ne_eqb, eqb-true}
 use Rattle.std.proofs.lemmas.Bool.{eqb-false}
 use Rattle.vt_laws_rules.proofs.numbers.Cells.{cell, cell-number_in_row, number_in_row, number_in_row-cell}
 use Rattle.vt_laws_rules.proofs.numbers.Rows.{col, col-spread, row, row-spread, row_first, spread, spread-row}
@@ -50,8 +50,7 @@ unfolding seat_by seat_in_first
 odd_place b =
     let half : (2 * b + 1) / 2 ≡ b = omega arith in
     let rest : (2 * b + 1) % 2 ≡ 1 = omega arith in
-    (λ i. seat_in_first (ne_eqb ((2 * b + 1) % 2) 0 (λ e. absurd (omega arith)) i) (2 * b + 1))
-    ∙ ap (λ n. Elsewhere (number_in_row 0 n)) half
+    grind (arith, common_steps, ne_eqb, number_in_row)
 
 shifted_seat : (a b : ℕ) → seat (shifted a b) ≡ Elsewhere (number_in_row a b)
 unfolding shifted seat_by
@@ -65,17 +64,7 @@ seat_number (Elsewhere n) = shifted_seat (cell n).0 (cell n).1 ∙ ap Elsewhere 
 
 number_of_row : (a b : ℕ) → number_at (seat_by a b) ≡ spread a b
 unfolding number_at seat_by seat_in_first shifted
-number_of_row zero b = by (b % 2 == 0) refl
-  where
-    by : (even : Bool) → (b % 2 == 0) ≡ even → number_at (seat_in_first even b) ≡ spread 0 b
-    by true is =
-        let rest : b % 2 ≡ 0 = eqb-true (b % 2) 0 is in
-        let whole : 2 * (b / 2) ≡ b = omega arith in
-        ap (spread 0) whole
-    by false is =
-        let rest : b % 2 ≢ 0 = eqb-false (b % 2) 0 is in
-        let whole : 2 * (b / 2) + 1 ≡ b = omega arith in
-        ap (λ (c : ℕ × ℕ). shifted c.0 c.1) (cell-number_in_row 0 (b / 2)) ∙ ap (spread 0) whole
+number_of_row zero b = grind (arith, common_steps, spread, eqb-true, eqb-false, cell-number_in_row)
 number_of_row (suc a) b = ap (λ (c : ℕ × ℕ). shifted c.0 c.1) (cell-number_in_row (suc a) b)
 
 number_seat : (number : ℕ) → number_at (seat number) ≡ number

@@ -24,13 +24,7 @@ filtered : (stays : ℕ → Bool) (number : ℕ) (list : List (Filesystem ℕ)) 
     → numbered number (filter (λ f. stays f.number) list) ≡ numbered number list
 filtered stays number [] h = refl
 filtered stays number (filesystem ∷ list) h =
-    by (nat_eq number filesystem.number) refl (stays filesystem.number) refl (filtered stays number list h)
-  where
-    by : (b : Bool) → nat_eq number filesystem.number ≡ b → (c : Bool) → stays filesystem.number ≡ c
-        → numbered number (filter (λ f. stays f.number) list) ≡ numbered number list
-        → numbered number (cond c (filesystem ∷ filter (λ f. stays f.number) list) (filter (λ f. stays f.number) list))
-        ≡ unwrap_or (cond b (Some filesystem) (find (λ f. nat_eq number f.number) list)) (no_filesystem number)
-    by b e c d rest = grind (arith, common_steps, true≢false, eqb-true)
+    grind (arith, common_steps, numbered, true≢false, eqb-true, filtered stays number list h)
 
 -- a mount of a shorter list, where those of its number stay
 filtered_mount : (stays : Mount ℕ → Bool) (number : ℕ) (list : List (Mount ℕ))
@@ -38,13 +32,7 @@ filtered_mount : (stays : Mount ℕ → Bool) (number : ℕ) (list : List (Mount
     → mount_in nat_eq (filter stays list) number ≡ mount_in nat_eq list number
 filtered_mount stays number [] h = refl
 filtered_mount stays number (mount ∷ list) h =
-    by (nat_eq number mount.number) refl (stays mount) refl (filtered_mount stays number list h)
-  where
-    by : (b : Bool) → nat_eq number mount.number ≡ b → (c : Bool) → stays mount ≡ c
-        → mount_in nat_eq (filter stays list) number ≡ mount_in nat_eq list number
-        → mount_in nat_eq (cond c (mount ∷ filter stays list) (filter stays list)) number
-        ≡ unwrap_or (cond b (Some mount) (find (λ m. nat_eq number m.number) list)) (no_mount number)
-    by b e c d rest = grind (arith, common_steps, true≢false, eqb-true)
+    grind (arith, common_steps, true≢false, eqb-true, filtered_mount stays number list h)
 
 -- a filesystem of a list of which each was changed, but not its number
 mapped_node : (change : Filesystem ℕ → Filesystem ℕ) → ((f : Filesystem ℕ) → (change f).number ≡ f.number)

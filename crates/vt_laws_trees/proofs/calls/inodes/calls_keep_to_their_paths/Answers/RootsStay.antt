@@ -12,11 +12,11 @@ use Rattle.vt_spec.specs.Language.Changes.Change.{AddName, CopyUp, Make, Move, R
 use Rattle.vt_spec.specs.Lists.{Fresh, evens, odds}
 use Rattle.vt_spec.specs.Machine.Apply.{apply}
 use Rattle.vt_spec.specs.Machine.CopyUp.{Merge, Stack, copied_each, copied_up, copy_of, hides_directory, is_in_upper, line_to, merge_changed, merge_with_link, merge_with_moved, merge_with_new, merge_without_name, name_left, shown_in_lowers_at, upper_directory_named, upper_of, without_contents}
-use Rattle.vt_spec.specs.Machine.Detach.{deepest_first, without_replaced}
-use Rattle.vt_spec.specs.Machine.Filesystems.{filesystem_changed, filesystems_raised, merge_of, overlay_changed, raised, raised_if_changed, stack_of, with_change, with_files}
+use Rattle.vt_spec.specs.Machine.Detach.{without_replaced}
+use Rattle.vt_spec.specs.Machine.Filesystems.{filesystem_changed, merge_of, overlay_changed, raised, raised_if_changed, stack_of, with_change, with_files}
 use Rattle.vt_spec.specs.Machine.Judge.{Judgement, judge_in}
-use Rattle.vt_spec.specs.Machine.Mounts.{Location, mount_tree}
-use Rattle.vt_spec.specs.Machine.Namespaces.{namespace_entered, unshared}
+use Rattle.vt_spec.specs.Machine.Mounts.{Location}
+use Rattle.vt_spec.specs.Machine.Namespaces.{unshared}
 use Rattle.vt_spec.specs.Machine.Descriptors.{is_copied_up, pwritten, with_copy}
 use Rattle.vt_spec.specs.Machine.NewMounts.{plain_filesystem}
 use Rattle.vt_spec.specs.Machine.Outcomes.{Outcome, after, denied}
@@ -24,7 +24,7 @@ use Rattle.vt_spec.specs.Machine.Permits.{Permit}
 use Rattle.vt_spec.specs.Machine.Permits.Permit.{ToChange, ToEnterNamespace, ToExit, ToMake, ToMountOverlay, ToMountPlain, ToOpen, ToOpenNew, ToRemoveDirectory, ToRename, ToSetType, ToUnmount, ToUnmountLazily, ToUnshare, ToWritePart}
 use Rattle.vt_spec.specs.Machine.Policy.{filesystems_changed_by, finished, finished_by, only_looks}
 use Rattle.vt_spec.specs.Machine.Settled.{filesystem_lives, only_used, only_used_by, settled, used_in, without_dead_filesystems, without_dead_in, without_dead_mounts}
-use Rattle.vt_spec.specs.Machine.World.{Filesystem, Layer, Overlay, Task, World, filesystem_at, filesystem_numbered, is_overlay, mount_at, mount_numbered, no_filesystem, replaced_if_numbered, task_called, without_task}
+use Rattle.vt_spec.specs.Machine.World.{Filesystem, Layer, Overlay, Task, World, filesystem_at, filesystem_numbered, is_overlay, mount_at, no_filesystem, replaced_if_numbered, task_called, without_task}
 use Rattle.vt_spec.specs.Tree.{Node}
 use Rattle.vt_laws_trees.proofs.trees.TreesOfWorlds.{number_numbered, numbered}
 use Rattle.vt_laws_trees.proofs.trees.ChangesByOthers.{lazily_filesystems, typed_filesystems}
@@ -137,14 +137,7 @@ module _ (number : ℕ) where
   mapped : (change : Filesystem ℕ → Filesystem ℕ) → Keeps change → (list : List (Filesystem ℕ))
       → root_of (map change list) ≡ root_of list
   mapped change keeps [] = refl
-  mapped change keeps (first ∷ rest) =
-      ap (λ n. root_at (found (nat_eq number n) (change first) (map change rest))) (keeps first).0
-      ∙ by (nat_eq number first.number) (mapped change keeps rest)
-    where
-      by : (b : Bool) → root_of (map change rest) ≡ root_of rest
-          → root_at (found b (change first) (map change rest)) ≡ root_at (found b first rest)
-      by true later = ap Some (keeps first).1
-      by false later = later
+  mapped change keeps (first ∷ rest) = grind (arith, common_steps, mapped change keeps rest)
 
   module _ (root : ℕ) where
     abbrev Is : List (Filesystem ℕ) → Type 0
@@ -154,25 +147,12 @@ module _ (number : ℕ) where
     replaced_root : (new : Filesystem ℕ) → (number ≡ new.number → new.files.tree.root ≡ root)
         → (list : List (Filesystem ℕ)) → Is list → Is (map (replaced_if_numbered nat_eq new) list)
     replaced_root new here [] h = h
-    replaced_root new here (first ∷ rest) h =
-        by (nat_eq new.number first.number) refl (nat_eq number first.number) refl h (replaced_root new here rest)
-      where
-        others : List (Filesystem ℕ)
-        others = map (replaced_if_numbered nat_eq new) rest
-
-        by : (b : Bool) → nat_eq new.number first.number ≡ b → (c : Bool) → nat_eq number first.number ≡ c
-            → root_at (found c first rest) ≡ Some root → (Is rest → Is others) → Is (cond b new first ∷ others)
-        by b e c f h later = grind (arith, common_steps, eqb-true, eq-eqb)
+    replaced_root new here (first ∷ rest) h = grind (arith, common_steps, eqb-true, eq-eqb, replaced_root new here rest)
 
     -- one filesystem more
     added_root : (new : Filesystem ℕ) (list : List (Filesystem ℕ)) → Is list → Is (list ++ (new ∷ []))
     added_root new [] h = cc
-    added_root new (first ∷ rest) h = by (nat_eq number first.number) h (added_root new rest)
-      where
-        by : (b : Bool) → root_at (found b first rest) ≡ Some root → (Is rest → Is (rest ++ (new ∷ [])))
-            → root_at (found b first (rest ++ (new ∷ []))) ≡ Some root
-        by true h later = h
-        by false h later = later h
+    added_root new (first ∷ rest) h = grind (arith, common_steps, added_root new rest)
 
     -- the filesystem that is found has it
     root_found : (list : List (Filesystem ℕ)) → Is list → (numbered number list).files.tree.root ≡ root
@@ -252,13 +232,11 @@ module _ (number : ℕ) where
       root_left task (ToWritePart file offset bytes) = written_left file offset bytes
       root_left task ToExit = same_list _ (filesystems-taken_away (without_task world task.name) _)
       root_left task ToUnshare = same_list _ (filesystems-taken_away (unshared nat_eq world fresh task) _)
-      root_left task (ToEnterNamespace namespace) =
-          same_list _ (filesystems-taken_away (namespace_entered nat_eq world task namespace) _)
+      root_left task (ToEnterNamespace namespace) = grind (arith, common_steps, filesystems-taken_away)
       root_left task (ToMountPlain place flags) = added_root (plain_filesystem nat_eq fresh) world.filesystems h
       root_left task (ToMountOverlay place overlay flags) = added_root _ world.filesystems h
       root_left task (ToUnmount mount) = same_list _ (filesystems-taken_away world _)
-      root_left task (ToUnmountLazily mount) = same_list _ (lazily_filesystems
-          (deepest_first nat_eq world (mount_tree nat_eq world.mounts (mount_numbered nat_eq world mount))) world)
+      root_left task (ToUnmountLazily mount) = grind (arith, common_steps, lazily_filesystems)
       root_left task (ToSetType mount word recursive) = same_list _ (typed_filesystems fresh world mount word recursive)
       root_left task permit = h
 
@@ -291,15 +269,7 @@ module _ (number : ℕ) where
 
       stays : lives number ≡ true → (list : List (Filesystem ℕ)) → root_of (filter passing list) ≡ root_of list
       stays alive [] = refl
-      stays alive (first ∷ rest) = by (lives first.number) refl (nat_eq number first.number) refl (stays alive rest)
-        where
-          by : (b : Bool) → lives first.number ≡ b → (c : Bool) → nat_eq number first.number ≡ c
-              → root_of (filter passing rest) ≡ root_of rest
-              → root_of (cond b (first ∷ filter passing rest) (filter passing rest)) ≡ root_at (found c first rest)
-          by true e true f later = ap (λ c. root_at (found c first (filter passing rest))) f
-          by true e false f later = ap (λ c. root_at (found c first (filter passing rest))) f ∙ later
-          by false e true f later = absurd (true≢false (sym alive ∙ ap lives (eqb-true number first.number f) ∙ e))
-          by false e false f later = later
+      stays alive (first ∷ rest) = grind (arith, common_steps, true≢false, eqb-true, stays alive rest)
 
       goes : lives number ≡ false → (list : List (Filesystem ℕ)) → root_of (filter passing list) ≡ None
       goes dead [] = refl
@@ -346,19 +316,7 @@ roots_stay fresh world name call filesystem root is =
     finished_stays : (b : Bool) (changes : List ℕ) (outcome : Outcome ℕ)
         → root_in outcome.world filesystem ≡ Some root → Stays (finished_by nat_eq b world name changes outcome).world
     finished_stays true changes outcome h = inl h
-    finished_stays false changes outcome h = by (settled_root filesystem outcome.world)
-      where
-        raised_root : root_of filesystem (filesystems_raised nat_eq changes (settled nat_eq outcome.world)).filesystems
-            ≡ root_of filesystem (settled nat_eq outcome.world).filesystems
-        raised_root = mapped filesystem _ (raises filesystem changes) (settled nat_eq outcome.world).filesystems
-
-        left : Option ℕ
-        left = root_of filesystem (settled nat_eq outcome.world).filesystems
-
-        by : (left ≡ root_of filesystem outcome.world.filesystems) ⊎ (left ≡ None)
-            → Stays (filesystems_raised nat_eq changes (settled nat_eq outcome.world))
-        by (inl same) = inl (raised_root ∙ same ∙ h)
-        by (inr gone) = inr (raised_root ∙ gone)
+    finished_stays false changes outcome h = grind (arith, common_steps, settled_root, mapped, raises)
 
     by_permit : (changes : List ℕ) (task : Task ℕ) (judgement : Judgement ℕ)
         → Stays (finished nat_eq world name call changes (after world judgement (apply nat_eq fresh world task))).world
