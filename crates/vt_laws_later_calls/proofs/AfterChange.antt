@@ -53,17 +53,14 @@ mapped_root : (change : Filesystem ℕ → Filesystem ℕ) → ((f : Filesystem 
     → ((f : Filesystem ℕ) → (change f).files.tree.root ≡ f.files.tree.root) → (number : ℕ) (list : List (Filesystem ℕ))
     → (numbered number (map change list)).files.tree.root ≡ (numbered number list).files.tree.root
 mapped_root change same root number [] = refl
-mapped_root change same root number (first ∷ rest) =
-    ap (λ n. (unwrap_or (cond (nat_eq number n) (Some (change first))
-    (find (λ (f : Filesystem ℕ). nat_eq number f.number)
-    (map change rest)))
+mapped_root change same root number (first ∷ rest) = ap (λ n. (unwrap_or (cond (nat_eq number n) (Some (change first))
+    (find (λ (f : Filesystem ℕ). nat_eq number f.number) (map change rest)))
     (no_filesystem number)).files.tree.root) (same first)
     ∙ by (nat_eq number first.number) (mapped_root change same root number rest)
   where
     by : (b : Bool) → (numbered number (map change rest)).files.tree.root ≡ (numbered number rest).files.tree.root
         → (unwrap_or (cond b (Some (change first))
-        (find (λ (f : Filesystem ℕ). nat_eq number f.number) (map change rest)))
-        (no_filesystem number)).files.tree.root
+        (find (λ (f : Filesystem ℕ). nat_eq number f.number) (map change rest))) (no_filesystem number)).files.tree.root
         ≡ (unwrap_or (cond b (Some first) (find (λ (f : Filesystem ℕ). nat_eq number f.number) rest))
         (no_filesystem number)).files.tree.root
     by true later = root first
@@ -74,8 +71,7 @@ module _ (chosen : Filesystem ℕ → Bool) where
   let_go_root : (list : List Inode) (world : World ℕ) (number : ℕ)
       → (tree_in (folded (let_go_in chosen) world list) number).root ≡ (tree_in world number).root
   let_go_root [] world number = refl
-  let_go_root (inode ∷ rest) world number =
-      let_go_root rest (let_go_in chosen world inode) number
+  let_go_root (inode ∷ rest) world number = let_go_root rest (let_go_in chosen world inode) number
       ∙ mapped_root (let_go_in_of chosen world inode) (λ f. same_number f _)
       (λ f. same_root f _) number world.filesystems
     where
@@ -145,25 +141,20 @@ module _ (world : World ℕ) (fresh : Fresh ℕ) (name : TaskName) (call : Call)
 
   -- it is a world
   pub later_is : IsWorld nat_eq later × IsPlain later
-  later_is =
-      subst (λ w. IsWorld nat_eq w × IsPlain w) (sym did.left)
-      (let settles = settling_leaves_a_world spent
+  later_is = subst (λ w. IsWorld nat_eq w × IsPlain w) (sym did.left) (let settles = settling_leaves_a_world spent
       (spent_unsettled world fresh name call answer is plain serves other few did) in
       raising_numbers_keeps_world world name (filesystems_changed nat_eq world did.permit) left settles.0 settles.1)
 
   pub later_files : (number : ℕ)
       → (filesystem_numbered nat_eq later number).files ≡ (filesystem_numbered nat_eq left number).files
-  later_files number =
-      ap (λ w. (filesystem_numbered nat_eq w number).files) did.left
+  later_files number = ap (λ w. (filesystem_numbered nat_eq w number).files) did.left
       ∙ raised_files world name (filesystems_changed nat_eq world did.permit) left number
 
   -- each inode is as it was, or is gone
   or_gone : (filesystem number : ℕ) → (node_in later filesystem number ≡ node_in spent filesystem number)
       ⊎ (node_in later filesystem number ≡ None)
-  or_gone filesystem number =
-      subst (λ (files : FileTree ℕ). (files.tree.node number ≡ node_in spent filesystem number)
-      ⊎ (files.tree.node number ≡ None))
-      (sym (later_files filesystem))
+  or_gone filesystem number = subst (λ (files : FileTree ℕ). (files.tree.node number ≡ node_in spent filesystem number)
+      ⊎ (files.tree.node number ≡ None)) (sym (later_files filesystem))
       (settled_holds (λ o. (o ≡ node_in spent filesystem number) ⊎ (o ≡ None)) filesystem number (inr refl) spent
       (inl refl))
 
@@ -194,23 +185,19 @@ module _ (world : World ℕ) (fresh : Fresh ℕ) (name : TaskName) (call : Call)
     }
 
     goes : left ≡ let_go_all_inodes (with_change nat_eq from world location change) (inodes_lost world location change)
-    goes =
-        ap (settled nat_eq) does
+    goes = ap (settled nat_eq) does
         ∙ file_changes_let_go from world location change (worlds_are_settled world is) is.files.one_filesystem
         (listed shown world.filesystems location.node something)
         (ap is_some (plain_numbered world plain shown)) after_tree may
 
     pub later_mounts : later.mounts ≡ world.mounts
-    later_mounts =
-        ap (λ (w : World ℕ). w.mounts) (did.left)
-        ∙ ap (λ (w : World ℕ). w.mounts) goes
+    later_mounts = ap (λ (w : World ℕ). w.mounts) (did.left) ∙ ap (λ (w : World ℕ). w.mounts) goes
         ∙ all_let_go_mounts (with_change nat_eq from world location change) (inodes_lost world location change)
         ∙ change_mounts from world plain location change
 
     later_root : (number : ℕ) → (tree_in later number).root
         ≡ (tree_in (with_change nat_eq from world location change) number).root
-    later_root number =
-        ap (λ (f : FileTree ℕ). f.tree.root) (later_files number)
+    later_root number = ap (λ (f : FileTree ℕ). f.tree.root) (later_files number)
         ∙ ap (λ w. (tree_in w number).root) goes
         ∙ all_let_go_root (with_change nat_eq from world location change) (inodes_lost world location change) number
 
@@ -230,8 +217,7 @@ module _ (world : World ℕ) (fresh : Fresh ℕ) (name : TaskName) (call : Call)
     -- where no name is lost nothing goes
     pub all_stays : names_lost files change ≡ [] → (number : ℕ)
         → node_in later shown number ≡ (changed nat_eq files change).tree.node number
-    all_stays none number =
-        ap (λ (f : FileTree ℕ). f.tree.node number) (later_files shown)
+    all_stays none number = ap (λ (f : FileTree ℕ). f.tree.node number) (later_files shown)
         ∙ ap (λ w. node_in w shown number) goes
         ∙ ap (λ names. node_in (let_go_all_inodes (with_change nat_eq from world location change) (map (λ inode.
         (shown, inode)) names)) shown number) none
@@ -244,11 +230,9 @@ module _ (world : World ℕ) (fresh : Fresh ℕ) (name : TaskName) (call : Call)
     in_each P here elsewhere number = by (nat_eq shown number) refl
       where
         by : (b : Bool) → nat_eq shown number ≡ b → P number (filesystem_numbered nat_eq spent number).files
-        by true e =
-            subst (λ n. P n (filesystem_numbered nat_eq spent n).files) (eqb-true shown number e)
+        by true e = subst (λ n. P n (filesystem_numbered nat_eq spent n).files) (eqb-true shown number e)
             (subst (P shown) (sym spent_shown) here)
-        by false e =
-            subst (P number) (sym (spent_files number ∙ files_other from world plain location change number e))
+        by false e = subst (P number) (sym (spent_files number ∙ files_other from world plain location change number e))
             (elsewhere number)
 
     -- So ways that stay in the changed tree stay in the world.
@@ -261,11 +245,9 @@ module _ (world : World ℕ) (fresh : Fresh ℕ) (name : TaskName) (call : Call)
       directory = λ number n was now. ap is_directory_node (as_spent number n now) ∙ (each number).directory n was;
       parent = λ number n was now. ap (parent_in n) (as_spent number n now) ∙ (each number).parent n was;
       link = λ number n was now. ap symlink_text (as_spent number n now) ∙ (each number).link n was;
-      entry = λ number directory entry n e now.
-          subst (λ o. (entry_named entry (entries_in o) ≡ Some n)
+      entry = λ number directory entry n e now. subst (λ o. (entry_named entry (entries_in o) ≡ Some n)
           ⊎ ((entry_named entry (entries_in o) ≡ None) × (is_directory_node (node_in world number n) ≡ false)
-          × Refused (denial W6)))
-          (sym (as_spent number directory now)) ((each number).entry directory entry n e);
+          × Refused (denial W6))) (sym (as_spent number directory now)) ((each number).entry directory entry n e);
     }
       where
         itself : (t : FileTree ℕ) → TreeStays t.tree t.tree Refused
@@ -284,12 +266,10 @@ module _ (world : World ℕ) (fresh : Fresh ℕ) (name : TaskName) (call : Call)
     -- and so do rights
     pub world_rights : RightsStay files.tree (changed nat_eq files change).tree
         → (filesystem number wanted : ℕ) (who : Credentials) → is_some (node_in world filesystem number) ≡ true
-        → is_some (node_in later filesystem number) ≡ true
-        → node_allows who wanted (node_in later filesystem number)
+        → is_some (node_in later filesystem number) ≡ true → node_allows who wanted (node_in later filesystem number)
         ≡ node_allows who wanted (node_in world filesystem number)
     world_rights rights filesystem number wanted who was now =
         ap (node_allows who wanted) (as_spent filesystem number now)
         ∙ in_each (λ f t. is_some (node_in world f number) ≡ true
-        → node_allows who wanted (t.tree.node number) ≡ node_allows who wanted
-        (node_in world f number))
+        → node_allows who wanted (t.tree.node number) ≡ node_allows who wanted (node_in world f number))
         (λ there_before. rights who wanted number there_before) (λ f there_before. refl) filesystem was

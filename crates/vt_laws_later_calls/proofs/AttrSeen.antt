@@ -56,9 +56,7 @@ use Rattle.vt_laws_rules.specs.Granted.IsGranted.{changes_mode, changes_owner}
 -- where something is, there is a tree
 pub tree_there : (world : World ℕ) → IsWorld nat_eq world → IsPlain world → (location : Location ℕ)
     → is_some (node_at nat_eq world location) ≡ true → IsFileTree (files_at nat_eq world location)
-tree_there world is plain location something =
-    ⊎_elim (λ tree. tree)
-    (λ missing. absurd (true≢false
+tree_there world is plain location something = ⊎_elim (λ tree. tree) (λ missing. absurd (true≢false
     (sym something ∙ ap (λ (f : Filesystem ℕ). is_some (f.files.tree.node location.node)) missing.0)))
     (numbered_all (λ (f : Filesystem ℕ). IsFileTree f.files) (mount_at nat_eq world location).filesystem
     world.filesystems (file_trees world (unsettled_of world is plain)))
@@ -69,8 +67,7 @@ pub object_there_is : (world : World ℕ) → IsWorld nat_eq world → (task : T
     → (path : List ℕ) (here : Here ℕ) → object_walk nat_eq (looks_of nat_eq world) task path ≡ Ok here
     → is_some (node_at nat_eq world here.location) ≡ true
 object_there_is world is task called path here walk =
-    (subst (Ends (λ here. End world is task called here.location)) walk
-    (object_end world is task called path)).0.1
+    (subst (Ends (λ here. End world is task called here.location)) walk (object_end world is task called path)).0.1
 
 -- what stat tells of an object with other attributes
 line_with_attr : (attr : Attr) (o : Option (Node ℕ)) → is_some o ≡ true
@@ -112,21 +109,16 @@ module _ (call : Call) (path : List ℕ) (set : Attr → Attr) (world : World �
       ≡ with_change nat_eq fresh world here.location change
   does = ap (λ p. (apply nat_eq fresh world did.task p).world) permit
 
-  stay : (Refused : Deny → Type 0)
-      → TreeStays (files_at nat_eq world here.location).tree
+  stay : (Refused : Deny → Type 0) → TreeStays (files_at nat_eq world here.location).tree
       (changed nat_eq (files_at nat_eq world here.location) change).tree Refused
   stay Refused = ways_with_attr (files_at nat_eq world here.location) Refused here.location.node attr
 
   -- what stat tells where its walk leads there
   told : (Refused : Deny → Type 0) (reader : TaskName) (reading : Task ℕ)
-      (called : task_called later reader ≡ Some reading)
-      (stands : StandsAs did.task reading)
+      (called : task_called later reader ≡ Some reading) (stands : StandsAs did.task reading)
       (leads : LeadsToo (looks_of nat_eq world) (looks_of nat_eq later) did.task reading Refused
       (KnownToo world fresh name call Done is plain serves other few did here.location change fresh asks does something
-      tt tree Refused
-      (stay Refused)
-      reading (own_name later reader reading called) stands))
-      (later_fresh : Fresh ℕ)
+      tt tree Refused (stay Refused) reading (own_name later reader reading called) stands)) (later_fresh : Fresh ℕ)
       → ((policy nat_eq later_fresh later reader (Stat path)).answer
       ≡ Ok (Told (record (stat_line (node_at nat_eq world here.location)) { attr = attr })))
       ⊎ ((deny : Deny) × Refused deny × ((policy nat_eq later_fresh later reader (Stat path)).answer ≡ Err deny))
@@ -135,20 +127,15 @@ module _ (call : Call) (path : List ℕ) (set : Attr → Attr) (world : World �
     where
       by : EndsToo (looks_of nat_eq world) (looks_of nat_eq later) did.task reading Refused
           (KnownToo world fresh name call Done is plain serves other few did here.location change fresh asks does
-          something tt tree
-          Refused (stay Refused)
-          reading (own_name later reader reading called) stands) leads
+          something tt tree Refused (stay Refused) reading (own_name later reader reading called) stands) leads
           (object_walk nat_eq (looks_of nat_eq later) reading path) here
           → ((policy nat_eq later_fresh later reader (Stat path)).answer
           ≡ Ok (Told (record (stat_line (node_at nat_eq world here.location)) { attr = attr })))
           ⊎ ((deny : Deny) × Refused deny × ((policy nat_eq later_fresh later reader (Stat path)).answer ≡ Err deny))
-      by (inl ends) =
-          inl (stat_of later later_fresh reader reading called path _ ends.0.1
+      by (inl ends) = inl (stat_of later later_fresh reader reading called path _ ends.0.1
           ∙ ap (λ o. Ok (Told (stat_line o)))
           (seen_there world fresh name call Done is plain serves other few did here.location change fresh asks does
-          something tt tree
-          Refused (stay Refused)
-          reading (own_name later reader reading called) stands ends.1
+          something tt tree Refused (stay Refused) reading (own_name later reader reading called) stands ends.1
           ∙ there (files_at nat_eq world here.location) here.location.node (node_with_attr attr))
           ∙ ap (λ line. Ok (Told line)) (line_with_attr attr (node_at nat_eq world here.location) something))
       by (inr stop) = inr (stop.0.deny, stop.1, stat_refused later later_fresh reader reading called path stop.0 stop.2)
@@ -156,59 +143,45 @@ module _ (call : Call) (path : List ℕ) (set : Attr → Attr) (world : World �
   caller_there : task_called later name ≡ Some (raised_task name did.task)
   caller_there =
       caller world fresh name call Done is plain serves other few did here.location change fresh asks does something tt
-      tree Never
-      (stay Never)
+      tree Never (stay Never)
 
-  own_told : (later_fresh : Fresh ℕ)
-      → ((policy nat_eq later_fresh later name (Stat path)).answer
+  own_told : (later_fresh : Fresh ℕ) → ((policy nat_eq later_fresh later name (Stat path)).answer
       ≡ Ok (Told (record (stat_line (node_at nat_eq world here.location)) { attr = attr })))
       ⊎ ((policy nat_eq later_fresh later name (Stat path)).answer ≡ Err (denial W4))
-  own_told later_fresh =
-      ⊎_elim inl (λ refused. inr (refused.2 ∙ ap Err refused.1))
+  own_told later_fresh = ⊎_elim inl (λ refused. inr (refused.2 ∙ ap Err refused.1))
       (told Hidden name (raised_task name did.task) caller_there (raised_stands name did.task)
       (leads_or_hides world fresh name call Done is plain serves other few did here.location change fresh asks does
-      something tt tree
-      Hidden (stay Hidden)
+      something tt tree Hidden (stay Hidden)
       (raised_task name did.task) (own_name later name (raised_task name did.task) caller_there)
-      (raised_stands name did.task) refl)
-      later_fresh)
+      (raised_stands name did.task) refl) later_fresh)
 
   all_told : (reader : TaskName) (reading : Task ℕ) → task_called later reader ≡ Some reading
-      → StandsAs did.task reading
-      → reads_all reading.credentials ≡ true → (later_fresh : Fresh ℕ)
+      → StandsAs did.task reading → reads_all reading.credentials ≡ true → (later_fresh : Fresh ℕ)
       → (policy nat_eq later_fresh later reader (Stat path)).answer
       ≡ Ok (Told (record (stat_line (node_at nat_eq world here.location)) { attr = attr }))
-  all_told reader reading called stands all later_fresh =
-      ⊎_elim (λ e. e) (λ refused. absurd refused.1)
+  all_told reader reading called stands all later_fresh = ⊎_elim (λ e. e) (λ refused. absurd refused.1)
       (told Never reader reading called stands
       (leads_all world fresh name call Done is plain serves other few did here.location change fresh asks does something
-      tt tree Never
-      (stay Never)
-      reading (own_name later reader reading called) stands all)
-      later_fresh)
+      tt tree Never (stay Never) reading (own_name later reader reading called) stands all) later_fresh)
 
 -- chmod(2), chown(2)
 chmod_parts : (looks : Looks ℕ) {too_many : Permit ℕ → Bool} (task : Task ℕ) (path : List ℕ) (mode : ℕ)
     (permit : Permit ℕ) → IsGranted nat_eq looks too_many task (Chmod path mode) permit
-    → (here : Here ℕ) × (object_walk nat_eq looks task path ≡ Ok here)
-    × (permit ≡ ToChange here.location
+    → (here : Here ℕ) × (object_walk nat_eq looks task path ≡ Ok here) × (permit ≡ ToChange here.location
     (SetAttr here.location.node (attr_with_mode (attr_in (looks.node here.location)) mode)))
 chmod_parts looks task path mode permit (changes_mode _ _ here end passed) = (here, end, refl)
 
 chown_parts : (looks : Looks ℕ) {too_many : Permit ℕ → Bool} (task : Task ℕ) (path : List ℕ) (uid gid : Option ℕ)
     (permit : Permit ℕ) → IsGranted nat_eq looks too_many task (Chown path uid gid) permit
-    → (here : Here ℕ) × (object_walk nat_eq looks task path ≡ Ok here)
-    × (permit ≡ ToChange here.location
+    → (here : Here ℕ) × (object_walk nat_eq looks task path ≡ Ok here) × (permit ≡ ToChange here.location
     (SetAttr here.location.node (attr_with_owner (attr_in (looks.node here.location)) uid gid)))
 chown_parts looks task path uid gid permit (changes_owner _ _ _ here end passed) = (here, end, refl)
 
 tells : (call : Call) (path : List ℕ) (set : Attr → Attr) (world : World ℕ) (fresh : Fresh ℕ) (name : TaskName)
-    (task : Task ℕ)
-    (is : IsWorld nat_eq world) (plain : IsPlain world) (serves : Serves nat_eq world fresh)
+    (task : Task ℕ) (is : IsWorld nat_eq world) (plain : IsPlain world) (serves : Serves nat_eq world fresh)
     (other : mounts_overlay call ≡ false) (few : names_few_groups call ≡ true) → task_called world name ≡ Some task
     → (did : IsPermitted world fresh name call Done) (here : Here ℕ)
-    → object_walk nat_eq (looks_of nat_eq world) did.task path ≡ Ok here
-    → did.permit ≡ ToChange here.location
+    → object_walk nat_eq (looks_of nat_eq world) did.task path ≡ Ok here → did.permit ≡ ToChange here.location
     (SetAttr here.location.node (set (attr_in (node_at nat_eq world here.location))))
     → (line : StatLine) × IsAnswered world name (Stat path) (Told line)
     × IsAnsweredUnless W4 (policy nat_eq fresh world name call).world name (Stat path)
@@ -221,8 +194,7 @@ tells call path set world fresh name task is plain serves other few called did h
   own_told call path set world fresh name is plain serves other few did here walked permit,
   λ reader reading looks.
       all_told call path set world fresh name is plain serves other few did here walked permit reader reading
-      looks.called
-      (subst (λ t. StandsAs t reading) (same_Some task did.task (sym called ∙ did.called))
+      looks.called (subst (λ t. StandsAs t reading) (same_Some task did.task (sym called ∙ did.called))
       (all_stands _ task reader reading looks)) looks.all,
 )
 

@@ -61,11 +61,9 @@ module _ (fresh : Fresh ℕ) (world : World ℕ) (plain : IsPlain world) (at : L
       ∙ ap (λ (f : Filesystem ℕ). f.files) found
     where
       found : numbered new.number (with_filesystem nat_eq world new).filesystems ≡ new
-      found = ⊎_elim (λ is. is)
-          (λ none. absurd (true≢false (sym there
+      found = ⊎_elim (λ is. is) (λ none. absurd (true≢false (sym there
           ∙ ap (λ n. is_some ((numbered n world.filesystems).files.tree.node at.node)) (sym new_number)
-          ∙ ap (λ (f : Filesystem ℕ). is_some (f.files.tree.node at.node)) none.1)))
-          (found_new new world.filesystems)
+          ∙ ap (λ (f : Filesystem ℕ). is_some (f.files.tree.node at.node)) none.1))) (found_new new world.filesystems)
 
   -- another filesystem
   pub files_other : (number : ℕ) → nat_eq shown number ≡ false

@@ -44,8 +44,7 @@ module _ (world : World ℕ) (fresh : Fresh ℕ) (name : TaskName) (call : Call)
       finished nat_eq world name call (filesystems_changed_by nat_eq world judgement) (spent task judgement)
 
   abbrev judged_as : Option (Task ℕ) → Outcome ℕ
-  judged_as o =
-      after world (ok_or o (denial S2)) (λ task. done_by task (judge_in nat_eq fresh world task call))
+  judged_as o = after world (ok_or o (denial S2)) (λ task. done_by task (judge_in nat_eq fresh world task call))
 
   same_answer : (task : Task ℕ) (judgement : Judgement ℕ) → (done_by task judgement).answer ≡ Ok answer
       → (spent task judgement).answer ≡ Ok answer
@@ -67,8 +66,7 @@ module _ (world : World ℕ) (fresh : Fresh ℕ) (name : TaskName) (call : Call)
     judged = f;
     granted = calls_are_granted nat_eq (looks_of nat_eq world) (overfills nat_eq fresh world task) task call permit f;
     answered = same_answer task (Ok permit) g;
-    left =
-        ap (λ (o : Outcome ℕ). o.world)
+    left = ap (λ (o : Outcome ℕ). o.world)
         (policy_judges_then_applies fresh world name call ∙ ap judged_as e ∙ ap (done_by task) f
         ∙ ap (λ b. finished_by nat_eq b world name (filesystems_changed nat_eq world permit)
         (apply nat_eq fresh world task permit))
@@ -82,8 +80,7 @@ module _ (world : World ℕ) (fresh : Fresh ℕ) (name : TaskName) (call : Call)
   of_task (Some task) e g = of_judgement task e (judge_in nat_eq fresh world task call) refl g
 
   pub permitted : (policy nat_eq fresh world name call).answer ≡ Ok answer → IsPermitted world fresh name call answer
-  permitted granted =
-      of_task (task_called world name) refl
+  permitted granted = of_task (task_called world name) refl
       (sym (ap (λ (o : Outcome ℕ). o.answer) (policy_judges_then_applies fresh world name call)) ∙ granted)
 
 -- a task is there by its name, its change number raised or not
@@ -100,21 +97,17 @@ called_raised name reader task tasks e = found_raised tasks ∙ ap (option_map (
         by true = refl
         by false = refl
 
-    found_raised : (list : List (Task ℕ))
-        → find (λ (t : Task ℕ). same_name reader t.name) (map (raised_task name) list)
+    found_raised : (list : List (Task ℕ)) → find (λ (t : Task ℕ). same_name reader t.name) (map (raised_task name) list)
         ≡ option_map (raised_task name) (find (λ (t : Task ℕ). same_name reader t.name) list)
     found_raised [] = refl
-    found_raised (t ∷ list) =
-        ap (λ b. cond b (Some (raised_task name t))
+    found_raised (t ∷ list) = ap (λ b. cond b (Some (raised_task name t))
         (find (λ (t : Task ℕ). same_name reader t.name) (map (raised_task name) list))) (same t)
         ∙ by (same_name reader t.name) (found_raised list)
       where
-        by : (b : Bool)
-            → find (λ (t : Task ℕ). same_name reader t.name) (map (raised_task name) list)
+        by : (b : Bool) → find (λ (t : Task ℕ). same_name reader t.name) (map (raised_task name) list)
             ≡ option_map (raised_task name) (find (λ (t : Task ℕ). same_name reader t.name) list)
             → cond b (Some (raised_task name t))
             (find (λ (t : Task ℕ). same_name reader t.name) (map (raised_task name) list))
-            ≡ option_map (raised_task name)
-            (cond b (Some t) (find (λ (t : Task ℕ). same_name reader t.name) list))
+            ≡ option_map (raised_task name) (cond b (Some t) (find (λ (t : Task ℕ). same_name reader t.name) list))
         by true later = refl
         by false later = later

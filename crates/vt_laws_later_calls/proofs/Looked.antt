@@ -74,11 +74,9 @@ read_all who all attr Whiteout =
 
 -- a call of a task, which is there
 module _ (world : World ℕ) (fresh : Fresh ℕ) (name : TaskName) (task : Task ℕ)
-    (called : task_called world name ≡ Some task)
-    (path : List ℕ) where
+    (called : task_called world name ≡ Some task) (path : List ℕ) where
   abbrev by_task : Call → Option (Task ℕ) → Outcome ℕ
-  by_task call o =
-      after world (ok_or o (denial S2)) (λ t.
+  by_task call o = after world (ok_or o (denial S2)) (λ t.
       finished nat_eq world name call (filesystems_changed_by nat_eq world (judge_in nat_eq fresh world t call))
       (call_outcome nat_eq fresh world t call))
 
@@ -90,29 +88,25 @@ module _ (world : World ℕ) (fresh : Fresh ℕ) (name : TaskName) (task : Task 
       → (policy nat_eq fresh world name (Lstat path)).answer
       ≡ Ok (Told (stat_line (node_at nat_eq world here.location)))
   unfolding lstat_permit
-  lstat_of here walk =
-      ap (λ o. (by_task (Lstat path) o).answer) called
+  lstat_of here walk = ap (λ o. (by_task (Lstat path) o).answer) called
       ∙ ap (λ r. answer_of (and_then (walk_end r) (λ (here : Here ℕ). Ok (ToStat here.location)))) walk
 
   pub lstat_refused : (stop : Stop ℕ) → symlink_walk nat_eq world task path ≡ Err stop
       → (policy nat_eq fresh world name (Lstat path)).answer ≡ Err stop.deny
   unfolding lstat_permit
-  lstat_refused stop walk =
-      ap (λ o. (by_task (Lstat path) o).answer) called
+  lstat_refused stop walk = ap (λ o. (by_task (Lstat path) o).answer) called
       ∙ ap (λ r. answer_of (and_then (walk_end r) (λ (here : Here ℕ). Ok (ToStat here.location)))) walk
 
   pub stat_of : (here : Here ℕ) → object_walk nat_eq world task path ≡ Ok here
       → (policy nat_eq fresh world name (Stat path)).answer ≡ Ok (Told (stat_line (node_at nat_eq world here.location)))
   unfolding stat_permit
-  stat_of here walk =
-      ap (λ o. (by_task (Stat path) o).answer) called
+  stat_of here walk = ap (λ o. (by_task (Stat path) o).answer) called
       ∙ ap (λ r. answer_of (and_then (walk_end r) (λ (here : Here ℕ). Ok (ToStat here.location)))) walk
 
   pub stat_refused : (stop : Stop ℕ) → object_walk nat_eq world task path ≡ Err stop
       → (policy nat_eq fresh world name (Stat path)).answer ≡ Err stop.deny
   unfolding stat_permit
-  stat_refused stop walk =
-      ap (λ o. (by_task (Stat path) o).answer) called
+  stat_refused stop walk = ap (λ o. (by_task (Stat path) o).answer) called
       ∙ ap (λ r. answer_of (and_then (walk_end r) (λ (here : Here ℕ). Ok (ToStat here.location)))) walk
 
   pub readlink_of : (here : Here ℕ) → symlink_walk nat_eq world task path ≡ Ok here
@@ -120,8 +114,7 @@ module _ (world : World ℕ) (fresh : Fresh ℕ) (name : TaskName) (task : Task 
       → (policy nat_eq fresh world name (Readlink path)).answer
       ≡ Ok (Bytes (bytes_in (node_at nat_eq world here.location)))
   unfolding readlink_permit
-  readlink_of here walk is =
-      ap (λ o. (by_task (Readlink path) o).answer) called
+  readlink_of here walk is = ap (λ o. (by_task (Readlink path) o).answer) called
       ∙ ap (λ r. answer_of (and_then (walk_end r) (λ (here : Here ℕ).
       unless (readlink_rules nat_eq world here.location) (Ok (ToRead here.location))))) walk
       ∙ ap (λ b. answer_of (unless ((not b, E5) ∷ []) (Ok (ToRead here.location)))) is
@@ -132,8 +125,7 @@ module _ (world : World ℕ) (fresh : Fresh ℕ) (name : TaskName) (task : Task 
       ≡ cond (node_allows task.credentials read_right (node_at nat_eq world here.location))
       (Ok (Names (names_in (node_at nat_eq world here.location)))) (Err (denial C1))
   unfolding list_permit
-  list_of plain here walk =
-      ap (λ o. (by_task (Ls path) o).answer) called
+  list_of plain here walk = ap (λ o. (by_task (Ls path) o).answer) called
       ∙ ap (λ r. answer_of (and_then (walk_end r) (λ (here : Here ℕ).
       unless (list_rules nat_eq world task here.location) (Ok (ToList here.location))))) walk
       ∙ ap (λ o. answer_of (unless
@@ -150,8 +142,7 @@ module _ (world : World ℕ) (fresh : Fresh ℕ) (name : TaskName) (task : Task 
   pub list_refused : (stop : Stop ℕ) → directory_walk nat_eq world task path ≡ Err stop
       → (policy nat_eq fresh world name (Ls path)).answer ≡ Err stop.deny
   unfolding list_permit
-  list_refused stop walk =
-      ap (λ o. (by_task (Ls path) o).answer) called
+  list_refused stop walk = ap (λ o. (by_task (Ls path) o).answer) called
       ∙ ap (λ r. answer_of (and_then (walk_end r) (λ (here : Here ℕ).
       unless (list_rules nat_eq world task here.location) (Ok (ToList here.location))))) walk
 
@@ -162,18 +153,15 @@ module _ (world : World ℕ) (fresh : Fresh ℕ) (name : TaskName) (task : Task 
       → (policy nat_eq fresh world name (Read path)).answer
       ≡ cond (allows task.credentials attr File read_right) (Ok (Bytes bytes)) (Err (denial C1))
   unfolding read_permit
-  read_of plain here walk attr bytes is =
-      ap (λ o. (by_task (Read path) o).answer) called
+  read_of plain here walk attr bytes is = ap (λ o. (by_task (Read path) o).answer) called
       ∙ ap (λ r. answer_of (and_then (walk_end r) (λ (here : Here ℕ).
       unless (read_rules nat_eq world task here.location) (Ok (ToRead here.location))))) walk
       ∙ (λ i. answer_of (unless ((is_directory_node (is i), E2) ∷ (is_kind_in White (is i), E9)
-      ∷ (not (node_allows task.credentials read_right (is i)), C1)
-      ∷ (
+      ∷ (not (node_allows task.credentials read_right (is i)), C1) ∷ (
         not (mounter_allows (plain_numbered world plain (mount_at nat_eq world here.location).filesystem i) read_right
             (is i)),
         B1,
-      ) ∷ []) (Ok (ToRead here.location))))
-      ∙ by (allows task.credentials attr File read_right)
+      ) ∷ []) (Ok (ToRead here.location)))) ∙ by (allows task.credentials attr File read_right)
     where
       by : (b : Bool)
           → answer_of (unless ((false, E2) ∷ (false, E9) ∷ (not b, C1) ∷ (false, B1) ∷ []) (Ok (ToRead here.location)))

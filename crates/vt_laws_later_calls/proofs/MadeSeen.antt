@@ -66,8 +66,7 @@ surely walk next left (inr stop) = absurd stop.1
 
 -- what a walk to a new name found
 pub new_parts : (looks : Looks ℕ) (task : Task ℕ) (path : List ℕ) (place : Place ℕ)
-    → new_walk nat_eq looks task path ≡ Ok place
-    → place_walk nat_eq looks task path ≡ Ok place
+    → new_walk nat_eq looks task path ≡ Ok place → place_walk nat_eq looks task path ≡ Ok place
 new_parts looks task path place e =
     let walks = both_walked (place_walk nat_eq looks task path) _ place e in
     walks.1 ∙ ap Ok (walk_passing walks.0.steps (new_name_rules nat_eq looks walks.0) walks.0 place walks.2).1
@@ -101,9 +100,7 @@ module _ (world : World ℕ) (fresh : Fresh ℕ) (name : TaskName) (call : Call)
   change = Make parent.node entry (fresh 0) node
 
   pub may : MayBeMade world parent entry node
-  may =
-      subst (SeesTo world did.task) permit
-      (given_permits_are_seen_to world fresh did.task did.permit is
+  may = subst (SeesTo world did.task) permit (given_permits_are_seen_to world fresh did.task did.permit is
       (given_of world fresh name call answer serves other few did))
 
   pub something : is_some (node_at nat_eq world parent) ≡ true
@@ -145,50 +142,37 @@ module _ (world : World ℕ) (fresh : Fresh ℕ) (name : TaskName) (call : Call)
   module _ (reader : Task ℕ) (called : task_called later reader.name ≡ Some reader) (stands : StandsAs did.task reader)
       (looks : MayLook did.task reader) where
     abbrev pub KnownHere : Location ℕ → Type 0
-    KnownHere here =
-        KnownToo world fresh name call answer is plain serves other few did parent change
-        (odds fresh) asks does something made tree Never stay
-        reader called stands here
+    KnownHere here = KnownToo world fresh name call answer is plain serves other few did parent change
+        (odds fresh) asks does something made tree Never stay reader called stands here
 
     pub made_leads : LeadsToo (looks_of nat_eq world) (looks_of nat_eq later) did.task reader Never KnownHere
-    made_leads =
-        leads world fresh name call answer is plain serves other few did parent change
-        (odds fresh) asks does something made tree Never stay
-        reader called stands rights looks
+    made_leads = leads world fresh name call answer is plain serves other few did parent change
+        (odds fresh) asks does something made tree Never stay reader called stands rights looks
 
     pub node_seen : node_at nat_eq later new_location ≡ Some node
-    node_seen =
-        seen_at world fresh name call answer is plain serves other few did parent change
-        (odds fresh) asks does something made tree Never stay
-        reader called stands (fresh 0)
+    node_seen = seen_at world fresh name call answer is plain serves other few did parent change
+        (odds fresh) asks does something made tree Never stay reader called stands (fresh 0)
         ∙ all_stays world fresh name call answer is plain serves other few did parent change
-        (odds fresh) asks does something made tree
-        (ap option_to_list may.name_is_free.free) (fresh 0)
+        (odds fresh) asks does something made tree (ap option_to_list may.name_is_free.free) (fresh 0)
         ∙ made_node (files_at nat_eq world parent) parent.node entry (fresh 0) node may.name_is_free.in_directory new
 
     pub entry_seen : KnownHere parent → entry_named entry (entries_in (node_at nat_eq later parent)) ≡ Some (fresh 0)
-    entry_seen known =
-        ap (λ o. entry_named entry (entries_in o))
+    entry_seen known = ap (λ o. entry_named entry (entries_in o))
         (seen_there world fresh name call answer is plain serves other few did parent change
-        (odds fresh) asks does something made tree Never stay
-        reader called stands known)
+        (odds fresh) asks does something made tree Never stay reader called stands known)
         ∙ made_entry (files_at nat_eq world parent) Never parent.node entry
         (fresh 0) may.name_is_free.in_directory may.name_is_free.free node new
 
     -- no mount stands over it
     over : topmost nat_eq later.mounts new_location ≡ new_location
-    over =
-        ap (λ mounts. topmost nat_eq mounts new_location)
+    over = ap (λ mounts. topmost nat_eq mounts new_location)
         (later_mounts world fresh name call answer is plain serves other few did parent change
-        (odds fresh) asks does something made tree)
-        ∙ uncovered world is new_location (ap is_directory_node new)
+        (odds fresh) asks does something made tree) ∙ uncovered world is new_location (ap is_directory_node new)
 
     pub new_stepped : (last : LastWord) → is_special last ≡ false → name_of last ≡ entry → KnownHere parent
         → stepped nat_eq (looks_of nat_eq later) reader parent last ≡ Ok new_location
-    new_stepped last special same known =
-        stepped_by later reader parent last special (Some (fresh 0))
-        (ap (λ e. entry_named e (entries_in (node_at nat_eq later parent))) same ∙ entry_seen known)
-        ∙ ap Ok over
+    new_stepped last special same known = stepped_by later reader parent last special (Some (fresh 0))
+        (ap (λ e. entry_named e (entries_in (node_at nat_eq later parent))) same ∙ entry_seen known) ∙ ap Ok over
 
 -- mkdir(2)
 mkdir_parts : (looks : Looks ℕ) {too_many : Permit ℕ → Bool} (task : Task ℕ) (path : List ℕ) (mode : Option ℕ)
@@ -199,8 +183,7 @@ mkdir_parts looks task path mode permit (makes_directory _ _ place end passed) =
     (place, new_parts looks task path place end, passed.0, refl)
 
 either_way : (b : Bool) (answer : Answer)
-    → (cond b (Ok answer) (Err (denial C1)) ≡ Ok answer) ⊎ (cond b (Ok answer) (Err
-    (denial C1)) ≡ Err (denial C1))
+    → (cond b (Ok answer) (Err (denial C1)) ≡ Ok answer) ⊎ (cond b (Ok answer) (Err (denial C1)) ≡ Err (denial C1))
 either_way true answer = inl refl
 either_way false answer = inr refl
 
@@ -208,13 +191,10 @@ pub mkdir_then_list : MkdirThenList
 mkdir_then_list path mode world fresh name task is plain serves called granted = (
   λ later_fresh. subst (λ a. (a ≡ Ok (Names [])) ⊎ (a ≡ Err (denial C1)))
       (sym (listed name (raised_task name did.task) caller_there (raised_stands name did.task) (inl
-      (raised_credentials name did.task)) later_fresh))
-      (either_way _ (Names [])),
-  λ reader reading looks later_fresh.
-      listed reader reading looks.called
+      (raised_credentials name did.task)) later_fresh)) (either_way _ (Names [])),
+  λ reader reading looks later_fresh. listed reader reading looks.called
       (subst (λ t. StandsAs t reading) (sym task_is) (all_stands _ task reader reading looks))
-      (inr looks.all) later_fresh
-      ∙ ap (λ b. cond b (Ok (Names [])) (Err (denial C1)))
+      (inr looks.all) later_fresh ∙ ap (λ b. cond b (Ok (Names [])) (Err (denial C1)))
       (read_all reading.credentials looks.all _ (new_directory parts.0.parent.node)),
 )
   where
@@ -225,14 +205,12 @@ mkdir_then_list path mode world fresh name task is plain serves called granted =
     task_is = same_Some did.task task (sym did.called ∙ called)
 
     parts : (place : Place ℕ) × (place_walk nat_eq (looks_of nat_eq world) did.task path ≡ Ok place)
-        × (is_special place.last ≡ false)
-        × (did.permit ≡ make_permit place (directory_made did.task place mode))
+        × (is_special place.last ≡ false) × (did.permit ≡ make_permit place (directory_made did.task place mode))
     parts = mkdir_parts (looks_of nat_eq world) did.task path mode did.permit did.granted
 
     node : Node ℕ
     node = record {
-      attr = new_attr did.task
-          (unwrap_or mode directory_mode);
+      attr = new_attr did.task (unwrap_or mode directory_mode);
       content = new_directory parts.0.parent.node;
     }
 
@@ -249,18 +227,15 @@ mkdir_then_list path mode world fresh name task is plain serves called granted =
         → StandsAs did.task reading → MayLook did.task reading → (later_fresh : Fresh ℕ)
         → (policy nat_eq later_fresh (policy nat_eq fresh world name (Mkdir path mode)).world reader (Ls path)).answer
         ≡ cond (node_allows reading.credentials read_right (Some (record {
-          attr = new_attr did.task
-              (unwrap_or mode directory_mode);
+          attr = new_attr did.task (unwrap_or mode directory_mode);
           content = new_directory parts.0.parent.node;
-        })))
-        (Ok (Names [])) (Err (denial C1))
+        }))) (Ok (Names [])) (Err (denial C1))
     listed reader reading found stands looks later_fresh =
         let own = own_name (policy nat_eq fresh world name (Mkdir path mode)).world reader reading found in
         let seen = node_seen world fresh name (Mkdir path mode) Done is plain serves refl refl did parts.0.parent
         (name_of parts.0.last) _ parts.3 reading own stands looks in
         let walk = surely _ _ _ (directory_named_too (looks_of nat_eq world)
-        (looks_of nat_eq (policy nat_eq fresh world name
-        (Mkdir path mode)).world) did.task reading Never _
+        (looks_of nat_eq (policy nat_eq fresh world name (Mkdir path mode)).world) did.task reading Never _
         (made_leads world fresh name (Mkdir path mode) Done is plain serves refl refl did parts.0.parent
         (name_of parts.0.last) _ parts.3 reading own stands looks)
         path parts.0 parts.2 (named_place (looks_of nat_eq world) did.task path parts.0 parts.1 parts.2)
@@ -287,10 +262,8 @@ pub symlink_then_readlink : SymlinkThenReadlink
 symlink_then_readlink text path world fresh name task is plain serves called granted = (
   told name (raised_task name did.task) caller_there (raised_stands name did.task)
       (inl (raised_credentials name did.task)),
-  λ reader reading looks.
-      told reader reading looks.called
-      (subst (λ t. StandsAs t reading) (sym task_is) (all_stands _ task reader reading looks))
-      (inr looks.all),
+  λ reader reading looks. told reader reading looks.called
+      (subst (λ t. StandsAs t reading) (sym task_is) (all_stands _ task reader reading looks)) (inr looks.all),
 )
   where
     did : IsPermitted world fresh name (SymlinkAt text path) Done
@@ -300,8 +273,7 @@ symlink_then_readlink text path world fresh name task is plain serves called gra
     task_is = same_Some did.task task (sym did.called ∙ called)
 
     parts : (place : Place ℕ) × (place_walk nat_eq (looks_of nat_eq world) did.task path ≡ Ok place)
-        × (is_special place.last ≡ false) ×
-        (place.slash ≡ false)
+        × (is_special place.last ≡ false) × (place.slash ≡ false)
         × (did.permit ≡ make_permit place (symlink_made did.task text))
     parts = symlink_parts (looks_of nat_eq world) did.task text path did.permit did.granted
 
@@ -320,17 +292,14 @@ symlink_then_readlink text path world fresh name task is plain serves called gra
         (name_of parts.0.last) _ parts.4 reading own stands looks in
         let at_name = named_place (looks_of nat_eq world) did.task path parts.0 parts.1 parts.2 in
         let walk = surely _ _ _ (symlink_named_too (looks_of nat_eq world)
-        (looks_of nat_eq (policy nat_eq fresh world name
-        (SymlinkAt text path)).world) did.task reading Never _
+        (looks_of nat_eq (policy nat_eq fresh world name (SymlinkAt text path)).world) did.task reading Never _
         (made_leads world fresh name (SymlinkAt text path) Done is plain serves refl refl did parts.0.parent
-        (name_of parts.0.last) _ parts.4 reading own stands looks)
-        path parts.0 parts.2 at_name
+        (name_of parts.0.last) _ parts.4 reading own stands looks) path parts.0 parts.2 at_name
         (new_location world fresh name (SymlinkAt text path) Done is plain serves refl refl did parts.0.parent
         (name_of parts.0.last) _ parts.4)
         (new_stepped world fresh name (SymlinkAt text path) Done is plain serves refl refl did parts.0.parent
         (name_of parts.0.last) _ parts.4 reading own stands looks parts.0.last parts.2 refl)
         (λ slash. absurd (true≢false (sym slash ∙ at_name.slash_is ∙ parts.3)))) in
         readlink_of (policy nat_eq fresh world name
-        (SymlinkAt text path)).world later_fresh reader reading found path _ walk.1
-        (ap (is_kind_in SymlinkKind) seen)
+        (SymlinkAt text path)).world later_fresh reader reading found path _ walk.1 (ap (is_kind_in SymlinkKind) seen)
         ∙ ap (λ o. Ok (Bytes (bytes_in o))) seen

@@ -32,8 +32,7 @@ use Rattle.vt_spec.specs.Language.Calls.Call.{OpenFile}
 pub inserted_found : (number : ℕ) (descriptors : List (Descriptor ℕ)) (new : Descriptor ℕ)
     → are_ascending_from number descriptors ≡ true → new.number ≡ free_from number descriptors
     → find (λ (d : Descriptor ℕ). nat_eq new.number d.number) (inserted new descriptors) ≡ Some new
-inserted_found number [] new order free =
-    ap (λ b. cond b (Some new) None) (eq-eqb new.number new.number refl)
+inserted_found number [] new order free = ap (λ b. cond b (Some new) None) (eq-eqb new.number new.number refl)
 inserted_found number (descriptor ∷ rest) new order free =
     by (nat_eq descriptor.number number) refl (inserted_found (number + 1) rest new)
   where
@@ -64,8 +63,7 @@ inserted_found number (descriptor ∷ rest) new order free =
         let next : descriptor.number + 1 ≡ number + 1 = omega arith in
         ap (λ b. find (λ (d : Descriptor ℕ). nat_eq new.number d.number)
         (cond b (new ∷ descriptor ∷ rest) (descriptor ∷ inserted new rest)))
-        (le-ltb new.number descriptor.number (omega arith))
-        ∙ ap (λ b. cond b (Some descriptor)
+        (le-ltb new.number descriptor.number (omega arith)) ∙ ap (λ b. cond b (Some descriptor)
         (find (λ (d : Descriptor ℕ). nat_eq new.number d.number) (inserted new rest)))
         (other new.number descriptor.number under)
         ∙ later (subst (λ n. are_ascending_from n rest ≡ true) next parts.1) is
@@ -94,19 +92,16 @@ called_replaced world name task new called own = go world.tasks called
         test : same_name new.name t.name ≡ same_name name t.name
         test = ap (λ n. same_name n t.name) own
 
-        by : (b : Bool) → same_name name t.name ≡ b
-            → (find (λ (t : Task ℕ). same_name name t.name) list ≡ Some task
+        by : (b : Bool) → same_name name t.name ≡ b → (find (λ (t : Task ℕ). same_name name t.name) list ≡ Some task
             → find (λ (t : Task ℕ). same_name name t.name) (map (replaced_if_called new) list) ≡ Some new)
             → find (λ (t : Task ℕ). same_name name t.name) (map (replaced_if_called new) (t ∷ list)) ≡ Some new
         by true f later =
             ap (λ b. find (λ (t : Task ℕ). same_name name t.name) (cond b new t ∷ map (replaced_if_called new) list))
-            (test ∙ f)
-            ∙ ap (λ b. cond b (Some new)
+            (test ∙ f) ∙ ap (λ b. cond b (Some new)
             (find (λ (t : Task ℕ). same_name name t.name) (map (replaced_if_called new) list))) itself
         by false f later =
             ap (λ b. find (λ (t : Task ℕ). same_name name t.name) (cond b new t ∷ map (replaced_if_called new) list))
-            (test ∙ f)
-            ∙ ap (λ b. cond b (Some t)
+            (test ∙ f) ∙ ap (λ b. cond b (Some t)
             (find (λ (t : Task ℕ). same_name name t.name) (map (replaced_if_called new) list))) f
             ∙ later (sym (ap (λ b. cond b (Some t) (find (λ (t : Task ℕ). same_name name t.name) list)) f) ∙ e)
 
@@ -124,8 +119,7 @@ open_parts looks task path access permit (opens _ _ here room end passed) = (her
 -- without overlays nothing is copied when a file is opened
 pub open_spent : (fresh : Fresh ℕ) (world : World ℕ) (plain : IsPlain world) (task : Task ℕ) (file : Location ℕ)
     (access : Access) → apply nat_eq fresh world task (ToOpen file access) ≡ opened world task file access
-open_spent fresh world plain task file access =
-    ap (λ b. opened (with_copy nat_eq b fresh world file) task file access)
+open_spent fresh world plain task file access = ap (λ b. opened (with_copy nat_eq b fresh world file) task file access)
     (ap (λ o. opens_for_writing access && overlay_or false (λ overlay. lies_only_in_lowers overlay file.node) o)
     (plain_numbered world plain (mount_at nat_eq world file).filesystem) ∙ and-false (opens_for_writing access))
 

@@ -54,8 +54,7 @@ module _ (world : World ℕ) (fresh : Fresh ℕ) (name : TaskName) (task : Task 
     (creation : Creation) (number : ℕ) (is : IsWorld nat_eq world) (plain : IsPlain world)
     (serves : Serves nat_eq world fresh) (called : task_called world name ≡ Some task)
     (did : IsPermitted world fresh name (OpenFile path access creation) (Opened number)) (base : World ℕ)
-    (file : Location ℕ)
-    (outcome : apply nat_eq fresh world did.task did.permit ≡ opened base task file access)
+    (file : Location ℕ) (outcome : apply nat_eq fresh world did.task did.permit ≡ opened base task file access)
     (tasks : base.tasks ≡ world.tasks) where
   abbrev call : Call
   call = OpenFile path access creation
@@ -70,39 +69,32 @@ module _ (world : World ℕ) (fresh : Fresh ℕ) (name : TaskName) (task : Task 
   new_task = with_descriptor task file access
 
   abbrev new_descriptor : Descriptor ℕ
-  new_descriptor =
-      record {
-        number = free_number task;
-        location = file;
-        reads = opens_for_reading access;
-        writes = opens_for_writing access;
-      }
+  new_descriptor = record {
+    number = free_number task;
+    location = file;
+    reads = opens_for_reading access;
+    writes = opens_for_writing access;
+  }
 
   spent : (apply nat_eq fresh world did.task did.permit).world ≡ with_task base new_task
   spent = ap (λ (o : Outcome ℕ). o.world) outcome
 
   there : task_called (apply nat_eq fresh world did.task did.permit).world name ≡ Some new_task
-  there =
-      ap (λ w. task_called w name) spent
+  there = ap (λ w. task_called w name) spent
       ∙ called_replaced base name task new_task (ap (find (λ (t : Task ℕ). same_name name t.name)) tasks ∙ called)
       (sym (name_found world name task called))
 
   in_order : is_within_limits task ≡ true
-  in_order =
-      passes is_within_limits world.tasks is.tasks.small_tasks task
-      (called_there world.tasks name task called)
+  in_order = passes is_within_limits world.tasks is.tasks.small_tasks task (called_there world.tasks name task called)
 
   found : descriptor_numbered new_task number ≡ Some new_descriptor
-  found =
-      ap (λ n. find (λ (d : Descriptor ℕ). nat_eq n d.number) new_task.descriptors) is_free
+  found = ap (λ n. find (λ (d : Descriptor ℕ). nat_eq n d.number) new_task.descriptors) is_free
       ∙ inserted_found 0 task.descriptors new_descriptor (descriptors_in_order task in_order) refl
 
   -- what is at the file
   pub file_seen : node_at nat_eq later file ≡ node_at nat_eq base file
-  file_seen =
-      still_seen world fresh name call (Opened number) is plain serves refl refl did name new_task there file
-      (descriptor_located new_task number new_descriptor found)
-      ∙ ap (λ w. node_at nat_eq w file) spent
+  file_seen = still_seen world fresh name call (Opened number) is plain serves refl refl did name new_task there file
+      (descriptor_located new_task number new_descriptor found) ∙ ap (λ w. node_at nat_eq w file) spent
 
   still : task_called later name ≡ Some (raised_task name new_task)
   still = still_called world fresh name call (Opened number) is plain serves refl refl did name new_task there
@@ -113,26 +105,21 @@ module _ (world : World ℕ) (fresh : Fresh ℕ) (name : TaskName) (task : Task 
   pub opens_file : OpensFile world fresh name task call file access number
   opens_file = (is_free, (raised_task name new_task, still, numbered_so))
     where
-      numbered_so : descriptor_numbered (raised_task name new_task) number
-          ≡ Some (record {
-            number = number;
-            location = file;
-            reads = opens_for_reading access;
-            writes = opens_for_writing access;
-          })
-      numbered_so =
-          subst (λ n. descriptor_numbered (raised_task name new_task) number
-          ≡ Some (record {
-            number = n;
-            location = file;
-            reads = opens_for_reading access;
-            writes = opens_for_writing access;
-          })) (sym is_free)
-          still_found
+      numbered_so : descriptor_numbered (raised_task name new_task) number ≡ Some (record {
+        number = number;
+        location = file;
+        reads = opens_for_reading access;
+        writes = opens_for_writing access;
+      })
+      numbered_so = subst (λ n. descriptor_numbered (raised_task name new_task) number ≡ Some (record {
+        number = n;
+        location = file;
+        reads = opens_for_reading access;
+        writes = opens_for_writing access;
+      })) (sym is_free) still_found
 
   pub reads_by : ReadsBy world fresh name call access number (bytes_in (node_at nat_eq base file))
-  reads_by reads offset size later_fresh =
-      pread_of later later_fresh name
+  reads_by reads offset size later_fresh = pread_of later later_fresh name
       (raised_task name new_task) new_descriptor number offset size still still_found reads
       ∙ ap (λ o. Ok (Bytes (take size (drop offset (bytes_in o))))) file_seen
 
@@ -140,29 +127,25 @@ module _ (world : World ℕ) (fresh : Fresh ℕ) (name : TaskName) (task : Task 
 there_parts : (looks : Looks ℕ) {too_many : Permit ℕ → Bool} (task : Task ℕ) (path : List ℕ) (access : Access)
     (mode : ℕ) (place : Place ℕ) (file : Location ℕ) (permit : Permit ℕ)
     → file_walk nat_eq looks task path ≡ Ok place → place.object ≡ Some file
-    → IsGranted nat_eq looks too_many task (OpenFile path access (OrCreate mode)) permit
-    → permit ≡ ToOpen file access
+    → IsGranted nat_eq looks too_many task (OpenFile path access (OrCreate mode)) permit → permit ≡ ToOpen file access
 there_parts looks task path access mode place file permit walk object
     (opens_existing _ _ _ other found room end named there passed) =
     let same : other ≡ place = same_end other place (sym end ∙ walk) in
-    ap (λ f. ToOpen f access)
-    (same_Some found file (sym there ∙ ap (λ (p : Place ℕ). p.object) same ∙ object))
+    ap (λ f. ToOpen f access) (same_Some found file (sym there ∙ ap (λ (p : Place ℕ). p.object) same ∙ object))
 there_parts looks task path access mode place file permit walk object
     (creates _ _ _ other room end named missing passed) =
     let same : other ≡ place = same_end other place (sym end ∙ walk) in
     none_is_not None file refl (sym missing ∙ ap (λ (p : Place ℕ). p.object) same ∙ object)
 
 missing_parts : (looks : Looks ℕ) {too_many : Permit ℕ → Bool} (task : Task ℕ) (path : List ℕ) (access : Access)
-    (mode : ℕ) (place : Place ℕ) (permit : Permit ℕ)
-    → file_walk nat_eq looks task path ≡ Ok place → place.object ≡ None
+    (mode : ℕ) (place : Place ℕ) (permit : Permit ℕ) → file_walk nat_eq looks task path ≡ Ok place → place.object ≡ None
     → IsGranted nat_eq looks too_many task (OpenFile path access (OrCreate mode)) permit
     → permit ≡ open_new_permit task place access mode
 missing_parts looks task path access mode place permit walk object
     (opens_existing _ _ _ other found room end named there passed) =
     let same : other ≡ place = same_end other place (sym end ∙ walk) in
     none_is_not None found refl (sym object ∙ ap (λ (p : Place ℕ). p.object) (sym same) ∙ there)
-missing_parts looks task path access mode place permit walk object
-    (creates _ _ _ other room end named missing passed) =
+missing_parts looks task path access mode place permit walk object (creates _ _ _ other room end named missing passed) =
     ap (λ p. open_new_permit task p access mode) (same_end other place (sym end ∙ walk))
 
 pub exclusive_parts : (looks : Looks ℕ) {too_many : Permit ℕ → Bool} (task : Task ℕ) (path : List ℕ) (access : Access)
@@ -179,8 +162,7 @@ pub made_node : (files : FileTree ℕ) (directory : ℕ) (name : List ℕ) (numb
 made_node files directory name number node is new =
     elsewhere (with_inode nat_eq files number node) directory (node_with_entry name number) number
     (λ same. true≢false (sym is ∙ ap (λ n. is_directory_node (files.tree.node n)) (sym same)
-    ∙ ap is_directory_node new))
-    ∙ ap (λ b. cond b (Some node) (files.tree.node number)) (eq-eqb number number refl)
+    ∙ ap is_directory_node new)) ∙ ap (λ b. cond b (Some node) (files.tree.node number)) (eq-eqb number number refl)
 
 -- a call that was granted, in a world with its invariants, was given what it was permitted
 pub given_of : (world : World ℕ) (fresh : Fresh ℕ) (name : TaskName) (call : Call) (answer : Answer)
@@ -209,8 +191,7 @@ module _ (world : World ℕ) (fresh : Fresh ℕ) (is : IsWorld nat_eq world) (pl
   made_tasks = change_tasks (odds fresh) world plain directory (Make directory.node name (evens fresh 0) node)
 
   pub made_seen : node_at nat_eq made_world made_at ≡ Some node
-  made_seen =
-      ap (λ mounts. (filesystem_numbered nat_eq made_world
+  made_seen = ap (λ mounts. (filesystem_numbered nat_eq made_world
       (mount_in nat_eq mounts directory.mount).filesystem).files.tree.node (fresh 0))
       (change_mounts (odds fresh) world plain directory (Make directory.node name (evens fresh 0) node))
       ∙ ap (λ (f : FileTree ℕ). f.tree.node (fresh 0))
@@ -228,8 +209,7 @@ module _ (world : World ℕ) (fresh : Fresh ℕ) (name : TaskName) (task : Task 
   task_is = same_Some did.task task (sym did.called ∙ called)
 
   seen_to : SeesTo world did.task did.permit
-  seen_to =
-      given_permits_are_seen_to world fresh did.task did.permit is
+  seen_to = given_permits_are_seen_to world fresh did.task did.permit is
       (given_of world fresh name (OpenFile path access creation) (Opened number) serves refl refl did)
 
   may : MayBeMade world place.parent (name_of place.last) (new_file task mode [])
@@ -285,8 +265,7 @@ open_then_pread world fresh name task path access number is plain serves called 
     here = parts.0
 
     outcome : apply nat_eq fresh world did.task did.permit ≡ opened world task here.location access
-    outcome =
-        ap (apply nat_eq fresh world did.task) parts.2
+    outcome = ap (apply nat_eq fresh world did.task) parts.2
         ∙ open_spent fresh world plain did.task here.location access
         ∙ ap (λ t. opened world t here.location access) task_is
 
@@ -305,12 +284,10 @@ open_or_create_then_pread world fresh name task path access mode number place fi
     task_is = same_Some did.task task (sym did.called ∙ called)
 
     outcome : apply nat_eq fresh world did.task did.permit ≡ opened world task file access
-    outcome =
-        ap (apply nat_eq fresh world did.task)
+    outcome = ap (apply nat_eq fresh world did.task)
         (there_parts (looks_of nat_eq world) did.task path access mode place file did.permit
         (ap (λ t. file_walk nat_eq (looks_of nat_eq world) t path) task_is ∙ walk) object did.granted)
-        ∙ open_spent fresh world plain did.task file access
-        ∙ ap (λ t. opened world t file access) task_is
+        ∙ open_spent fresh world plain did.task file access ∙ ap (λ t. opened world t file access) task_is
 
 pub create_then_pread : CreateThenPread
 create_then_pread world fresh name task path access mode number place is plain serves called walk object granted =

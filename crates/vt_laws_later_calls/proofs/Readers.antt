@@ -67,8 +67,7 @@ raised_credentials name task = by (same_name name task.name)
     by false = refl
 
 pub all_stands : (world : World ℕ) (task : Task ℕ) (name : TaskName) (reading : Task ℕ)
-    → LooksFrom world task name reading
-    → StandsAs task reading
+    → LooksFrom world task name reading → StandsAs task reading
 all_stands world task name reading looks = record { root = looks.root; directory = looks.directory }
 
 -- A name in a directory
@@ -80,38 +79,32 @@ named_last (Named name) e = refl
 
 pub stepped_by : (world : World ℕ) (reader : Task ℕ) (here : Location ℕ) (last : LastWord) → is_special last ≡ false
     → (o : Option ℕ) → entry_named (name_of last) (entries_in (node_at nat_eq world here)) ≡ o
-    → stepped nat_eq world reader here last
-    ≡ ok_or (option_map (topmost nat_eq world.mounts)
+    → stepped nat_eq world reader here last ≡ ok_or (option_map (topmost nat_eq world.mounts)
     (option_map (λ object. record { mount = here.mount; node = object }) o)) (denial W6)
-stepped_by world reader here last special o e =
-    ap (stepped nat_eq world reader here) (named_last last special)
+stepped_by world reader here last special o e = ap (stepped nat_eq world reader here) (named_last last special)
     ∙ ap (λ o. ok_or (option_map (topmost nat_eq world.mounts)
-    (option_map (λ object. record { mount = here.mount; node = object }) o))
-    (denial W6)) e
+    (option_map (λ object. record { mount = here.mount; node = object }) o)) (denial W6)) e
 
 -- over what is no directory no mount stands
 pub uncovered : (world : World ℕ) → IsWorld nat_eq world → (location : Location ℕ)
-    → is_directory_at nat_eq world location ≡ false
-    → topmost nat_eq world.mounts location ≡ location
+    → is_directory_at nat_eq world location ≡ false → topmost nat_eq world.mounts location ≡ location
 uncovered world is location no_directory = by (child_at nat_eq world.mounts location) refl
   where
     over : (most : ℕ) → child_at nat_eq world.mounts location ≡ None
         → last_or location (chain most (λ here. option_map root_of (child_at nat_eq world.mounts here)) location)
         ≡ location
     over zero none = refl
-    over (suc most) none =
-        ap (λ o. last_or location (elim (option_map root_of o) [
-          | None ↦ location ∷ []
-          | Some b ↦ location ∷ chain most (λ here. option_map root_of (child_at nat_eq world.mounts here)) b
-        ])) none
+    over (suc most) none = ap (λ o. last_or location (elim (option_map root_of o) [
+      | None ↦ location ∷ []
+      | Some b ↦ location ∷ chain most (λ here. option_map root_of (child_at nat_eq world.mounts here)) b
+    ])) none
 
     by : (o : Option (Mount ℕ)) → child_at nat_eq world.mounts location ≡ o
         → topmost nat_eq world.mounts location ≡ location
     by None e = over (length world.mounts) e
     by (Some mount) e =
         let found = found_in (stands_at nat_eq location) world.mounts mount e in
-        absurd (true≢false
-        (sym (among_from_all (λ (m : Mount ℕ). (place : Location ℕ) → m.mount_point ≡ Some place
+        absurd (true≢false (sym (among_from_all (λ (m : Mount ℕ). (place : Location ℕ) → m.mount_point ≡ Some place
         → is_directory_at nat_eq world place ≡ true)
         world.mounts (worlds_are_standing world is).places mount found.0 location (stands_there location mount found.1))
         ∙ no_directory))
@@ -122,11 +115,9 @@ module _ (world : World ℕ) (fresh : Fresh ℕ) (name : TaskName) (call : Call)
     (did : IsPermitted world fresh name call answer) (location : Location ℕ) (change : Change ℕ) (from : Fresh ℕ)
     (asks : change_of fresh world did.permit ≡ Some (location, change))
     (does : spent world fresh name call answer is plain serves other few did
-    ≡ with_change nat_eq from world location change)
-    (something : is_some (node_at nat_eq world location) ≡ true)
+    ≡ with_change nat_eq from world location change) (something : is_some (node_at nat_eq world location) ≡ true)
     (allowed : MayChange (files_at nat_eq world location) change) (tree : IsFileTree (files_at nat_eq world location))
-    (Refused : Deny → Type 0)
-    (stay : TreeStays (files_at nat_eq world location).tree
+    (Refused : Deny → Type 0) (stay : TreeStays (files_at nat_eq world location).tree
     (changed nat_eq (files_at nat_eq world location) change).tree Refused) where
   abbrev pub left : World ℕ
   left = (policy nat_eq fresh world name call).world
@@ -134,49 +125,41 @@ module _ (world : World ℕ) (fresh : Fresh ℕ) (name : TaskName) (call : Call)
   pub stays : WorldStays world left Refused
   stays =
       world_stays world fresh name call answer is plain serves other few did location change from asks does something
-      allowed tree
-      Refused stay
+      allowed tree Refused stay
 
   pub is_left : IsWorld nat_eq left × IsPlain left
   is_left = later_is world fresh name call answer is plain serves other few did
 
   -- the caller is there still
   pub caller : task_called left name ≡ Some (raised_task name did.task)
-  caller =
-      still_called world fresh name call answer is plain serves other few did name did.task
+  caller = still_called world fresh name call answer is plain serves other few did name did.task
       (ap (λ w. task_called w name) does
       ∙ ap (find (λ (t : Task ℕ). same_name name t.name)) (change_tasks from world plain location change) ∙ did.called)
 
   module _ (reader : Task ℕ) (called : task_called left reader.name ≡ Some reader)
       (stands : StandsAs did.task reader) where
     abbrev pub KnownToo : Location ℕ → Type 0
-    KnownToo here =
-        Known world left is plain is_left.0 is_left.1 did.task reader
+    KnownToo here = Known world left is plain is_left.0 is_left.1 did.task reader
         (called_own world fresh name call answer is plain serves other few did) called stands Refused stays here
 
     pub known_there : (here : Location ℕ) → KnownToo here
         → is_some (node_in left (mount_at nat_eq world here).filesystem here.node) ≡ true
-    known_there here known =
-        ap is_some (sym (node_here world left is plain is_left.0 is_left.1 did.task reader
+    known_there here known = ap is_some (sym (node_here world left is plain is_left.0 is_left.1 did.task reader
         (called_own world fresh name call answer is plain serves other few did) called stands Refused stays here))
         ∙ known.1.1
 
     -- what is at the location of the change
-    pub seen_there : KnownToo location
-        → node_at nat_eq left location
+    pub seen_there : KnownToo location → node_at nat_eq left location
         ≡ (changed nat_eq (files_at nat_eq world location) change).tree.node location.node
-    seen_there known =
-        node_here world left is plain is_left.0 is_left.1 did.task reader
+    seen_there known = node_here world left is plain is_left.0 is_left.1 did.task reader
         (called_own world fresh name call answer is plain serves other few did) called stands Refused stays location
         ∙ node_changed world fresh name call answer is plain serves other few did location change from asks does
-        something allowed tree
-        location.node (known_there location known)
+        something allowed tree location.node (known_there location known)
 
     -- and at an inode of that filesystem
     pub seen_at : (number : ℕ) → node_at nat_eq left (record { mount = location.mount; node = number })
         ≡ node_in left (mount_at nat_eq world location).filesystem number
-    seen_at number =
-        node_here world left is plain is_left.0 is_left.1 did.task reader
+    seen_at number = node_here world left is plain is_left.0 is_left.1 did.task reader
         (called_own world fresh name call answer is plain serves other few did) called stands Refused stays
         (record { mount = location.mount; node = number })
 
@@ -185,15 +168,12 @@ module _ (world : World ℕ) (fresh : Fresh ℕ) (name : TaskName) (call : Call)
         → (may (looks_of nat_eq left) reader here execute_right ≡ true)
         ⊎ ((may (looks_of nat_eq left) reader here execute_right ≡ false) × Refused (denial W4)))
         → LeadsToo (looks_of nat_eq world) (looks_of nat_eq left) did.task reader Refused KnownToo
-    leads_by rights =
-        world_leads world left is plain is_left.0 is_left.1 did.task reader
+    leads_by rights = world_leads world left is plain is_left.0 is_left.1 did.task reader
         (called_own world fresh name call answer is plain serves other few did) called stands Refused stays rights
 
     searched_by_all : reads_all reader.credentials ≡ true → (here : Location ℕ) → KnownToo here
-        → is_directory_at nat_eq world here ≡ true
-        → may (looks_of nat_eq left) reader here execute_right ≡ true
-    searched_by_all all here known directory =
-        search_all reader.credentials all (node_at nat_eq left here)
+        → is_directory_at nat_eq world here ≡ true → may (looks_of nat_eq left) reader here execute_right ≡ true
+    searched_by_all all here known directory = search_all reader.credentials all (node_at nat_eq left here)
         (ap is_directory_node (node_here world left is plain is_left.0 is_left.1 did.task reader
         (called_own world fresh name call answer is plain serves other few did) called stands Refused stays here)
         ∙ stays.directory (mount_at nat_eq world here).filesystem here.node known.0.1 (known_there here known)
@@ -213,8 +193,7 @@ module _ (world : World ℕ) (fresh : Fresh ℕ) (name : TaskName) (call : Call)
         ∙ world_rights world fresh name call answer is plain serves other few did location change from asks does
         something allowed tree
         rights (mount_at nat_eq world here).filesystem here.node execute_right did.task.credentials known.0.1
-        (known_there here known)
-        ∙ e))
+        (known_there here known) ∙ e))
 
     -- where they may be lost, and that is a refusal
     pub leads_or_hides : Refused (denial W4)

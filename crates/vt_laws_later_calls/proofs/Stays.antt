@@ -46,8 +46,7 @@ module _ (world : World ℕ) (fresh : Fresh ℕ) (name : TaskName) (call : Call)
   called_own = ap (task_called world) (sym (name_found world name did.task did.called)) ∙ did.called
 
   pub spent_unsettled : IsWorldButForUse spent_world
-  spent_unsettled =
-      subst (λ (o : Outcome ℕ). IsWorldButForUse o.world)
+  spent_unsettled = subst (λ (o : Outcome ℕ). IsWorldButForUse o.world)
       (applied world fresh did.task call did.permit is plain serves called_own other few did.judged)
       (unsettled world fresh did.task call did.permit is plain serves called_own other few did.judged)
 
@@ -61,9 +60,7 @@ module _ (world : World ℕ) (fresh : Fresh ℕ) (name : TaskName) (call : Call)
   pub still_seen : (reader : TaskName) (reading : Task ℕ) → task_called spent_world reader ≡ Some reading
       → (location : Location ℕ) → Among location (locations_of reading)
       → node_at nat_eq later location ≡ node_at nat_eq spent_world location
-  still_seen reader reading e location m =
-      ap (λ w. node_at nat_eq w location) did.left
+  still_seen reader reading e location m = ap (λ w. node_at nat_eq w location) did.left
       ∙ node_raised world name (filesystems_changed nat_eq world did.permit) (settled nat_eq spent_world) location
-      ∙ same_node spent_world spent_unsettled location
-      (of_task spent_world spent_unsettled reading
+      ∙ same_node spent_world spent_unsettled location (of_task spent_world spent_unsettled reading
       (called_there spent_world.tasks reader reading e) location m)

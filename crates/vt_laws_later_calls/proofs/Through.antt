@@ -42,8 +42,7 @@ use Rattle.vt_laws_rules.specs.Granted.IsGranted.{writes_part}
 
 -- bytes with zeros after them, as long as they must be
 padded_long : (offset : ℕ) (old : List ℕ) → length (padded offset old) ≡ length old + (offset - length old)
-padded_long offset old =
-    length-append old (replicate {A = ℕ} (offset - length old) 0)
+padded_long offset old = length-append old (replicate {A = ℕ} (offset - length old) 0)
     ∙ ap (λ n. length old + n) (length-replicate {A = ℕ} (offset - length old) 0)
 
 -- what was written over is at its offset
@@ -54,16 +53,14 @@ written_over offset new old =
     length-take-le offset (padded offset old) (omega arith) in
     ap (λ n. take (length new) (drop n (overwritten offset new old))) (sym front)
     ∙ ap (λ bytes. take (length new) (drop (length (take offset (padded offset old))) bytes))
-    (append_assoc (take offset (padded offset old)) new (drop (offset + length new) old))
-    ∙ ap (take (length new))
+    (append_assoc (take offset (padded offset old)) new (drop (offset + length new) old)) ∙ ap (take (length new))
     (drop-append_seam (take offset (padded offset old)) (new ++ drop (offset + length new) old))
     ∙ take-append_seam new (drop (offset + length new) old)
 
 -- a descriptor that is there and may do it is found
 descriptor_found : (o : Option (Descriptor ℕ)) (may : Descriptor ℕ → Bool) (descriptor : Descriptor ℕ)
     → o ≡ Some descriptor → may descriptor ≡ true → ok_or (find may (option_to_list o)) (denial S4) ≡ Ok descriptor
-descriptor_found o may descriptor is e =
-    ap (λ o. ok_or (find may (option_to_list o)) (denial S4)) is
+descriptor_found o may descriptor is e = ap (λ o. ok_or (find may (option_to_list o)) (denial S4)) is
     ∙ ap (λ b. ok_or (cond b (Some descriptor) None) (denial S4)) e
 
 -- a task with its change number raised has what it had
@@ -77,8 +74,7 @@ raised_descriptors name task = by (same_name name task.name)
 -- what pread answers by a descriptor that reads
 pub pread_of : (world : World ℕ) (fresh : Fresh ℕ) (name : TaskName) (task : Task ℕ) (read : Descriptor ℕ)
     (number offset size : ℕ) → task_called world name ≡ Some task → descriptor_numbered task number ≡ Some read
-    → read.reads ≡ true
-    → (policy nat_eq fresh world name (Pread number offset size)).answer
+    → read.reads ≡ true → (policy nat_eq fresh world name (Pread number offset size)).answer
     ≡ Ok (Bytes (take size (drop offset (bytes_in (node_at nat_eq world read.location)))))
 unfolding pread_permit
 pread_of world fresh name task read number offset size called is reads =
@@ -96,8 +92,7 @@ pwrite_parts : (looks : Looks ℕ) {too_many : Permit ℕ → Bool} (task : Task
     → IsGranted nat_eq looks too_many task (Pwrite written.number offset bytes) permit
     → permit ≡ ToWritePart written.location offset bytes
 pwrite_parts looks task written offset bytes permit is (writes_part _ _ _ descriptor found passed) =
-    ap (λ (d : Descriptor ℕ). ToWritePart d.location offset bytes)
-    (same_Some descriptor written
+    ap (λ (d : Descriptor ℕ). ToWritePart d.location offset bytes) (same_Some descriptor written
     (sym (Rattle.vt_spec.proofs.Given.descriptor_found task written.number (λ d. d.writes) descriptor found).0 ∙ is))
 
 -- a regular file with other bytes has these
@@ -116,13 +111,11 @@ bytes_set bytes (Some node) e = by node.content e
 -- Where a file's bytes were set, it is seen with them from wherever it is seen.
 pub set_seen : (fresh : Fresh ℕ) (world : World ℕ) (plain : IsPlain world) (file other : Location ℕ) (bytes : List ℕ)
     → IsOneInode world other file → is_kind_in File (node_at nat_eq world file) ≡ true
-    → bytes_in (node_at nat_eq (with_change nat_eq fresh world file
-    (SetBytes file.node bytes)) other) ≡ bytes
+    → bytes_in (node_at nat_eq (with_change nat_eq fresh world file (SetBytes file.node bytes)) other) ≡ bytes
 set_seen fresh world plain file other bytes same regular =
     ap (λ w. bytes_in (node_at nat_eq w other)) (change_of_plain fresh world plain file (SetBytes file.node bytes))
     ∙ ap (λ n. bytes_in ((numbered n (with_filesystem nat_eq world new).filesystems).files.tree.node other.node))
-    (same.0 ∙ sym number)
-    ∙ ap (λ (f : Filesystem ℕ). bytes_in (f.files.tree.node other.node)) found
+    (same.0 ∙ sym number) ∙ ap (λ (f : Filesystem ℕ). bytes_in (f.files.tree.node other.node)) found
     ∙ ap (λ b. bytes_in (cond b (node_with_bytes bytes (node_at nat_eq world file))
     ((node_at nat_eq world (record file { node = other.node }))))) (eq-eqb other.node file.node same.1)
     ∙ bytes_set bytes (node_at nat_eq world file) regular
@@ -134,8 +127,7 @@ set_seen fresh world plain file other bytes same regular =
     number = old_number fresh world plain file (SetBytes file.node bytes)
 
     found : numbered new.number (with_filesystem nat_eq world new).filesystems ≡ new
-    found = ⊎_elim (λ is. is)
-        (λ none. absurd (true≢false (sym regular
+    found = ⊎_elim (λ is. is) (λ none. absurd (true≢false (sym regular
         ∙ ap (λ n. is_kind_in File ((numbered n world.filesystems).files.tree.node file.node)) (sym number)
         ∙ ap (λ (f : Filesystem ℕ). is_kind_in File (f.files.tree.node file.node)) none.1)))
         (found_new new world.filesystems)
@@ -159,12 +151,10 @@ descriptor_located task number descriptor found =
 
 module _ (world : World ℕ) (fresh : Fresh ℕ) (plain : IsPlain world) (file other : Location ℕ) (offset : ℕ)
     (same : IsOneInode world other file) (regular : is_kind_in File (node_at nat_eq world file) ≡ true) where
-  written_there : (bytes : List ℕ)
-      → take (length bytes)
+  written_there : (bytes : List ℕ) → take (length bytes)
       (drop offset (bytes_in (node_at nat_eq (pwritten nat_eq fresh world file offset bytes) other))) ≡ bytes
   written_there [] = refl
-  written_there (byte ∷ bytes) =
-      ap (λ all. take (length (byte ∷ bytes)) (drop offset all))
+  written_there (byte ∷ bytes) = ap (λ all. take (length (byte ∷ bytes)) (drop offset all))
       (set_seen fresh world plain file other
       (overwritten offset (byte ∷ bytes) (bytes_in (node_at nat_eq world file))) same regular)
       ∙ written_over offset (byte ∷ bytes) (bytes_in (node_at nat_eq world file))
@@ -177,10 +167,8 @@ pwrite_then_pread world fresh name reader task reading written read offset bytes
     (ap (find (λ (d : Descriptor ℕ). nat_eq read.number d.number)) (raised_descriptors name reading) ∙ found_too) reads
     ∙ ap (λ o. Ok (Bytes (take (length bytes) (drop offset (bytes_in o)))))
     (still_seen world fresh name call Done is plain serves refl refl did reader reading there read.location
-    (descriptor_located reading read.number read found_too)
-    ∙ ap (λ w. node_at nat_eq w read.location) spent)
-    ∙ ap (λ b. Ok (Bytes b))
-    (written_there world fresh plain written.location read.location offset same
+    (descriptor_located reading read.number read found_too) ∙ ap (λ w. node_at nat_eq w read.location) spent)
+    ∙ ap (λ b. Ok (Bytes b)) (written_there world fresh plain written.location read.location offset same
     (open_regular world name task written.number written is called found) bytes)
   where
     call : Call
@@ -197,14 +185,10 @@ pwrite_then_pread world fresh name reader task reading written read offset bytes
 
     spent : (apply nat_eq fresh world did.task did.permit).world
         ≡ pwritten nat_eq fresh world written.location offset bytes
-    spent =
-        ap (λ p. (apply nat_eq fresh world did.task p).world)
+    spent = ap (λ p. (apply nat_eq fresh world did.task p).world)
         (pwrite_parts (looks_of nat_eq world) did.task written offset bytes did.permit
         (ap (λ t. descriptor_numbered t written.number) (sym task_is) ∙ found) did.granted)
 
     there : task_called (apply nat_eq fresh world did.task did.permit).world reader ≡ Some reading
-    there =
-        ap (λ w. task_called w reader) spent
-        ∙ ap (find (λ (t : Task ℕ). same_name reader t.name))
-        (tasks-pwritten fresh world written.location offset bytes)
-        ∙ called_too
+    there = ap (λ w. task_called w reader) spent ∙ ap (find (λ (t : Task ℕ). same_name reader t.name))
+        (tasks-pwritten fresh world written.location offset bytes) ∙ called_too

@@ -63,13 +63,11 @@ pub record LeadsToo (looks later : Looks ℕ) (task reader : Task ℕ) (Refused 
   pub directory : (here : Location ℕ) → Known here → is_directory_at looks here ≡ true
       → is_directory_at later here ≡ true
   pub search : (here : Location ℕ) → Known here → is_directory_at looks here ≡ true
-      → may looks task here execute_right ≡ true
-      → (may later reader here execute_right ≡ true)
+      → may looks task here execute_right ≡ true → (may later reader here execute_right ≡ true)
       ⊎ ((may later reader here execute_right ≡ false) × Refused (denial W4))
   pub mounter : (here : Location ℕ) → mounter_may later here execute_right ≡ true
   pub step : (here : Location ℕ) (word : LastWord) (next : Location ℕ) → Known here → is_directory_at looks here ≡ true
-      → stepped nat_eq looks task here word ≡ Ok next
-      → ((stepped nat_eq later reader here word ≡ Ok next) × Known next)
+      → stepped nat_eq looks task here word ≡ Ok next → ((stepped nat_eq later reader here word ≡ Ok next) × Known next)
       ⊎ ((deny : Deny) × Refused deny × (stepped nat_eq later reader here word ≡ Err deny))
   pub nosymfollow : (here : Location ℕ) → Known here
       → (mount_at later here).flags.nosymfollow ≡ (mount_at looks here).flags.nosymfollow
@@ -81,8 +79,7 @@ positive (suc n) e = omega arith
 
 -- one word that was walked
 pub word_gave : (looks : Looks ℕ) (task : Task ℕ) (here next : Here ℕ) (word : LastWord)
-    → word_walked nat_eq looks task here word ≡ Ok next
-    → NoneFails (search_rules nat_eq looks task here.location)
+    → word_walked nat_eq looks task here word ≡ Ok next → NoneFails (search_rules nat_eq looks task here.location)
     × (stepped nat_eq looks task here.location word ≡ Ok next.location) × (next.left ≡ here.left)
 word_gave looks task here next word e =
     let both = and_then-Ok (unless (search_rules nat_eq looks task here.location)
@@ -107,8 +104,7 @@ module _ (looks later : Looks ℕ) (task reader : Task ℕ) (Refused : Deny → 
 
   -- searched before is searched, or that is the refusal
   pub search_too : (here : Location ℕ) → Known here → NoneFails (search_rules nat_eq looks task here)
-      → NoneFails (search_rules nat_eq later reader here)
-      ⊎ (Refused (denial W4) × ((answer : Result (Location ℕ) Deny)
+      → NoneFails (search_rules nat_eq later reader here) ⊎ (Refused (denial W4) × ((answer : Result (Location ℕ) Deny)
       → unless (search_rules nat_eq later reader here) answer ≡ Err (denial W4)))
   search_too here known pass = by (leads.search here known is (not-false _ pass.1.0))
     where
@@ -124,8 +120,7 @@ module _ (looks later : Looks ℕ) (task reader : Task ℕ) (Refused : Deny → 
           inl (ap not (leads.directory here known is), (ap not may_search, (ap not (leads.mounter here), tt)))
       by (inr lost) = inr (
         lost.1,
-        λ answer i.
-            unless ((not (leads.directory here known is i), W3) ∷ (not (lost.0 i), W4)
+        λ answer i. unless ((not (leads.directory here known is i), W3) ∷ (not (lost.0 i), W4)
             ∷ (not (mounter_may later here execute_right), W5) ∷ []) answer,
       )
 
@@ -147,54 +142,44 @@ module _ (looks later : Looks ℕ) (task reader : Task ℕ) (Refused : Deny → 
           → ((stepped nat_eq later reader here.location word ≡ Ok next.location) × Known next.location)
           ⊎ ((deny : Deny) × Refused deny × (stepped nat_eq later reader here.location word ≡ Err deny))
           → Ends (word_walked nat_eq later reader (at here steps) word) next
-      by (inl may_search) (inl found) =
-          inl (
-            (
-              steps_with nat_eq later reader (at here steps) word,
-              ap (λ r. stopped_by (steps_with nat_eq later reader (at here steps) word)
-                  (and_then r (on here steps word)))
-                  (passed (search_rules nat_eq later reader here.location)
-                  (stepped nat_eq later reader here.location word) may_search
-                  ∙ found.0)
-                  ∙ (λ i. Ok (record {
-                    location = next.location;
-                    left = sym left i;
-                    steps = steps_with nat_eq later reader (at here steps) word;
-                  })),
-            ),
-            found.1,
-          )
-      by (inl may_search) (inr lost) =
-          inr (
-            record { deny = lost.0; steps = steps_with nat_eq later reader (at here steps) word },
-            lost.1,
-            ap (λ r. stopped_by (steps_with nat_eq later reader (at here steps) word) (and_then r (on here steps word)))
-                (passed (search_rules nat_eq later reader here.location)
-                (stepped nat_eq later reader here.location word) may_search
-                ∙ lost.2),
-          )
-      by (inr hidden) stepping =
-          inr (
-            record { deny = denial W4; steps = steps_with nat_eq later reader (at here steps) word },
-            hidden.0,
-            ap (λ r. stopped_by (steps_with nat_eq later reader (at here steps) word) (and_then r (on here steps word)))
-                (hidden.1 (stepped nat_eq later reader here.location word)),
-          )
+      by (inl may_search) (inl found) = inl (
+        (
+          steps_with nat_eq later reader (at here steps) word,
+          ap (λ r. stopped_by (steps_with nat_eq later reader (at here steps) word)
+              (and_then r (on here steps word))) (passed (search_rules nat_eq later reader here.location)
+              (stepped nat_eq later reader here.location word) may_search ∙ found.0) ∙ (λ i. Ok (record {
+                location = next.location;
+                left = sym left i;
+                steps = steps_with nat_eq later reader (at here steps) word;
+              })),
+        ),
+        found.1,
+      )
+      by (inl may_search) (inr lost) = inr (
+        record { deny = lost.0; steps = steps_with nat_eq later reader (at here steps) word },
+        lost.1,
+        ap (λ r. stopped_by (steps_with nat_eq later reader (at here steps) word) (and_then r (on here steps word)))
+            (passed (search_rules nat_eq later reader here.location)
+            (stepped nat_eq later reader here.location word) may_search ∙ lost.2),
+      )
+      by (inr hidden) stepping = inr (
+        record { deny = denial W4; steps = steps_with nat_eq later reader (at here steps) word },
+        hidden.0,
+        ap (λ r. stopped_by (steps_with nat_eq later reader (at here steps) word) (and_then r (on here steps word)))
+            (hidden.1 (stepped nat_eq later reader here.location word)),
+      )
 
   -- Ways to follow links, of which the other ends where the first does, and leaves no more links than there were
   abbrev pub FollowsToo : ℕ → Follow ℕ → Follow ℕ → Type 0
-  FollowsToo most follow other =
-      (directory : Location ℕ) (link : Here ℕ) (text : List ℕ) (end : Here ℕ)
-      → link.left ≤ most → follow directory link text ≡ Ok end
-      → (end.left ≤ link.left)
+  FollowsToo most follow other = (directory : Location ℕ) (link : Here ℕ) (text : List ℕ) (end : Here ℕ)
+      → link.left ≤ most → follow directory link text ≡ Ok end → (end.left ≤ link.left)
       × (Known directory → Known link.location → (steps : List (List ℕ))
       → Ends (other directory (at link steps) text) end)
 
   words_too : (most : ℕ) (follow other : Follow ℕ) → FollowsToo most follow other
       → (start : Here ℕ) (words : List (List ℕ))
       (end : Here ℕ) → start.left ≤ most → words_walked nat_eq looks task follow start words ≡ Ok end
-      → (end.left ≤ start.left)
-      × (Known start.location → (steps : List (List ℕ))
+      → (end.left ≤ start.left) × (Known start.location → (steps : List (List ℕ))
       → Ends (words_walked nat_eq later reader other (at start steps) words) end)
   words_too most follow other follows start [] end less e =
       let same = same_end start end e in (
@@ -214,10 +199,8 @@ module _ (looks later : Looks ℕ) (task reader : Task ℕ) (Refused : Deny → 
       let same : next.left ≡ reached.left = gave.2 in
       let after = linked reached next end (symlink_text (looks.node next.location)) (omega arith) nexts.2 in (
         (let least : end.left ≤ next.left = after.0 in omega arith),
-        λ known steps.
-            then_too (words_walked nat_eq later reader other (at start steps) front) _ reached end
-            (before.1 known steps)
-            (λ steps_there known_there.
+        λ known steps. then_too (words_walked nat_eq later reader other (at start steps) front) _ reached end
+            (before.1 known steps) (λ steps_there known_there.
             then_too (word_walked nat_eq later reader (at reached steps_there) (last_word word)) _ next end
             (word_too reached next (last_word word) steps_there known_there gave.0 same
             (leads.step reached.location (last_word word) next.location known_there (not-false _ gave.0.0) gave.1))
@@ -227,8 +210,7 @@ module _ (looks later : Looks ℕ) (task reader : Task ℕ) (Refused : Deny → 
       )
     where
       linked : (reached next end : Here ℕ) (text : Option (List ℕ)) → next.left ≤ most
-          → if_symlink next text (follow reached.location next) ≡ Ok end
-          → (end.left ≤ next.left)
+          → if_symlink next text (follow reached.location next) ≡ Ok end → (end.left ≤ next.left)
           × (Known reached.location → Known next.location → (steps : List (List ℕ))
           → Ends (if_symlink (at next steps) text (other reached.location (at next steps))) end)
       linked reached next end None less e =
@@ -269,8 +251,7 @@ module _ (looks later : Looks ℕ) (task reader : Task ℕ) (Refused : Deny → 
   -- Links are followed alike, however deep they may stand in one another, if that is deep enough.
   link_too : (depth other : ℕ) (directory : Location ℕ) (link : Here ℕ) (text : List ℕ) (end : Here ℕ)
       → suc link.left ≤ depth → suc link.left ≤ other
-      → symlink_walked nat_eq depth looks task directory link text ≡ Ok end
-      → (end.left ≤ link.left)
+      → symlink_walked nat_eq depth looks task directory link text ≡ Ok end → (end.left ≤ link.left)
       × (Known directory → Known link.location → (steps : List (List ℕ))
       → Ends (symlink_walked nat_eq other later reader directory (at link steps) text) end)
   link_too zero other directory link text end deep deep_too e = absurd (omega arith)
@@ -293,11 +274,9 @@ module _ (looks later : Looks ℕ) (task reader : Task ℕ) (Refused : Deny → 
       (λ inside next inner. symlink_walked nat_eq other later reader inside next inner)
       (λ at_directory next inner stop less gives.
       link_too depth other at_directory next inner stop (omega arith) (omega arith) gives)
-      begun (reverse (words text)) reached (omega arith)
-      (ap (λ start. words_walked nat_eq looks task
+      begun (reverse (words text)) reached (omega arith) (ap (λ start. words_walked nat_eq looks task
       (λ inside next inner. symlink_walked nat_eq depth looks task inside next inner) start
-      (reverse (words text))) begins.1
-      ∙ inside.1) in (
+      (reverse (words text))) begins.1 ∙ inside.1) in (
         (let least : reached.left ≤ link.left - 1 = walked.0 in subst (λ (h : Here ℕ). h.left ≤ link.left) same
             (omega arith)),
         λ known known_link steps.
@@ -309,18 +288,13 @@ module _ (looks later : Looks ℕ) (task reader : Task ℕ) (Refused : Deny → 
             (λ inside next inner. symlink_walked nat_eq other later reader inside next inner) start
             (reverse (words text)))
             (λ reached. walk_unless reached.steps (slash_rules nat_eq later text reached.location) reached))) end)
-            (sym (walk_passed steps (follow_rules nat_eq later (at link steps) text) now pass
-            ∙ (λ i. Ok (record {
+            (sym (walk_passed steps (follow_rules nat_eq later (at link steps) text) now pass ∙ (λ i. Ok (record {
               location = start_same directory directory text refl i;
-              left = link.left -
-                  1;
+              left = link.left - 1;
               steps = now.steps;
-            }))))
-            (then_too (words_walked nat_eq later reader
+            })))) (then_too (words_walked nat_eq later reader
             (λ inside next inner. symlink_walked nat_eq other later reader inside next inner) (at begun now.steps)
-            (reverse
-            (words text))) _ reached end
-            (walked.1 (start_known directory text known) now.steps)
+            (reverse (words text))) _ reached end (walked.1 (start_known directory text known) now.steps)
             (λ steps_there known_there.
             inl (
               (
@@ -334,14 +308,11 @@ module _ (looks later : Looks ℕ) (task reader : Task ℕ) (Refused : Deny → 
 
   -- Words lead where they led, from where there are fewer links left than may be followed.
   pub words_lead : (depth other : ℕ) (start : Here ℕ) (words : List (List ℕ)) (end : Here ℕ)
-      → suc start.left ≤ depth → suc start.left ≤ other
-      → words_walked nat_eq looks task
+      → suc start.left ≤ depth → suc start.left ≤ other → words_walked nat_eq looks task
       (λ inside next inner. symlink_walked nat_eq depth looks task inside next inner) start words ≡ Ok end
-      → (end.left ≤ start.left)
-      × (Known start.location → (steps : List (List ℕ))
+      → (end.left ≤ start.left) × (Known start.location → (steps : List (List ℕ))
       → Ends (words_walked nat_eq later reader
-      (λ inside next inner. symlink_walked nat_eq other later reader inside next inner)
-      (at start steps) words) end)
+      (λ inside next inner. symlink_walked nat_eq other later reader inside next inner) (at start steps) words) end)
   words_lead depth other start words end deep deep_too e =
       words_too start.left (λ inside next inner. symlink_walked nat_eq depth looks task inside next inner)
       (λ inside next inner. symlink_walked nat_eq other later reader inside next inner)

@@ -36,8 +36,7 @@ pub record TreeStays (tree later : Tree ℕ) (Refused : Deny → Type 0) : Type 
 
 -- what may be done to what was there stays
 abbrev pub RightsStay : Tree ℕ → Tree ℕ → Type 0
-RightsStay tree later =
-    (who : Credentials) (wanted n : ℕ) → is_some (tree.node n) ≡ true
+RightsStay tree later = (who : Credentials) (wanted n : ℕ) → is_some (tree.node n) ≡ true
     → node_allows who wanted (later.node n) ≡ node_allows who wanted (tree.node n)
 
 -- What changes of an inode leave of a symlink
@@ -148,33 +147,26 @@ module _ (files : FileTree ℕ) (Refused : Deny → Type 0) where
 
     entry_now : (other : List ℕ) → entry_at named.tree directory other
         ≡ cond (eq_by_cmp name_cmp other name) (Some object) (entry_at files.tree directory other)
-    entry_now other =
-        ap (λ o. entry_named other (entries_in o)) (there files directory (node_with_entry name object))
+    entry_now other = ap (λ o. entry_named other (entries_in o)) (there files directory (node_with_entry name object))
         ∙ ap (entry_named other) (entries-node_with_entry name object (files.tree.node directory) in_directory)
         ∙ entry_named-with_entry other name object (entries_in (files.tree.node directory))
 
     -- the name leads to the object
     pub name_leads : entry_at named.tree directory name ≡ Some object
-    name_leads =
-        entry_now name
-        ∙ ap (λ b. cond b (Some object) (entry_at files.tree directory name))
+    name_leads = entry_now name ∙ ap (λ b. cond b (Some object) (entry_at files.tree directory name))
         (ap is_eq (tied_itself nat_list_cmp_total name))
 
     -- and each other where it led
     entry_stays : (here : ℕ) (other : List ℕ) (next : ℕ) → entry_at files.tree here other ≡ Some next
         → entry_at named.tree here other ≡ Some next
-    entry_stays here other next e =
-        ⊎_elim
-        (λ t. ap (λ m. entry_at named.tree m other) t.1 ∙ entry_now other
+    entry_stays here other next e = ⊎_elim (λ t. ap (λ m. entry_at named.tree m other) t.1 ∙ entry_now other
         ∙ by (eq_by_cmp name_cmp other name) refl (ap (λ m. entry_at files.tree m other) (sym t.1) ∙ e))
         (λ t. ap (λ o. entry_named other (entries_in o))
-        (elsewhere files directory (node_with_entry name object) here t.1) ∙ e)
-        (eqb_tells here directory)
+        (elsewhere files directory (node_with_entry name object) here t.1) ∙ e) (eqb_tells here directory)
       where
         by : (b : Bool) → eq_by_cmp name_cmp other name ≡ b → entry_at files.tree directory other ≡ Some next
             → cond b (Some object) (entry_at files.tree directory other) ≡ Some next
-        by true tie is =
-            none_is_not (entry_at files.tree directory other) next
+        by true tie is = none_is_not (entry_at files.tree directory other) next
             (ap (entry_at files.tree directory) (same_name other name tie) ∙ free) is
         by false tie is = is
 
@@ -191,8 +183,7 @@ module _ (files : FileTree ℕ) (Refused : Deny → Type 0) where
     }
 
     pub rights_named : RightsStay files.tree named.tree
-    rights_named who wanted n is =
-        part_stays files directory (node_with_entry name object) (node_allows who wanted)
+    rights_named who wanted n is = part_stays files directory (node_with_entry name object) (node_allows who wanted)
         (allows_with_entry name object who wanted) n
 
     -- what is not the directory is as it was
@@ -212,8 +203,7 @@ module _ (files : FileTree ℕ) (Refused : Deny → Type 0) where
 
       -- what was there is as it is with the name alone
       made_other : (n : ℕ) → is_some (files.tree.node n) ≡ true → made.tree.node n ≡ named.tree.node n
-      made_other n is =
-          ap (λ o. cond (nat_eq n directory) (node_with_entry name object o)
+      made_other n is = ap (λ o. cond (nat_eq n directory) (node_with_entry name object o)
           (cond (nat_eq n object) (Some node) (files.tree.node n)))
           (ap (λ b. cond b (Some node) (files.tree.node directory))
           (ne_eqb directory object (not_new directory directory_is)))
@@ -236,8 +226,7 @@ module _ (files : FileTree ℕ) (Refused : Deny → Type 0) where
         where
           some_there : (here : ℕ) (other : List ℕ) (next : ℕ) → entry_at files.tree here other ≡ Some next
               → is_some (files.tree.node here) ≡ true
-          some_there here other next e =
-              Rattle.vt_spec.proofs.Nodes.directory_used files.tree here
+          some_there here other next e = Rattle.vt_spec.proofs.Nodes.directory_used files.tree here
               (directory_from_entry other next (files.tree.node here) e)
 
       pub rights_made : RightsStay files.tree made.tree
@@ -261,22 +250,19 @@ module _ (files : FileTree ℕ) (Refused : Deny → Type 0) where
 
         by : (b : Bool) → nat_eq n object ≡ b
             → cond b (node_with_parent object (unnamed.tree.node object)) (unnamed.tree.node n) ≡ unnamed.tree.node n
-        by true e =
-            node_with_parent-no_directory object (unnamed.tree.node object) kept
+        by true e = node_with_parent-no_directory object (unnamed.tree.node object) kept
             ∙ ap unnamed.tree.node (sym (eqb-true n object e))
         by false e = refl
 
     entry_less : (other : List ℕ) → entry_at removed.tree directory other
         ≡ cond (not (bytes_eq other name)) (entry_at files.tree directory other) None
-    entry_less other =
-        ap (λ o. entry_named other (entries_in o))
+    entry_less other = ap (λ o. entry_named other (entries_in o))
         (removed_node directory ∙ there files directory (node_without_entry name))
         ∙ ap (entry_named other) (entries-node_without_entry name (files.tree.node directory))
         ∙ entry_named-without_entry other name (entries_in (files.tree.node directory))
 
     pub name_missing : entry_at removed.tree directory name ≡ None
-    name_missing =
-        entry_less name ∙ ap (λ b. cond (not b) (entry_at files.tree directory name) None)
+    name_missing = entry_less name ∙ ap (λ b. cond (not b) (entry_at files.tree directory name) None)
         ((bytes_decides name name).1 refl)
 
     removed_part : {A : Type 0} (part : Option (Node ℕ) → A)
@@ -298,18 +284,15 @@ module _ (files : FileTree ℕ) (Refused : Deny → Type 0) where
             → (entry_at removed.tree here other ≡ Some next)
             ⊎ ((entry_at removed.tree here other ≡ None) × (is_directory_node (files.tree.node next) ≡ false)
             × Refused (denial W6))
-        entry_or here other next e =
-            ⊎_elim
+        entry_or here other next e = ⊎_elim
             (λ t. by (bytes_eq other name) refl (ap (λ m. entry_at removed.tree m other) t.1 ∙ entry_less other)
-            (ap (λ m. entry_at files.tree m other) (sym t.1) ∙ e))
-            (λ t. inl (ap (λ o. entry_named other (entries_in o))
+            (ap (λ m. entry_at files.tree m other) (sym t.1) ∙ e)) (λ t. inl (ap (λ o. entry_named other (entries_in o))
             (removed_node here ∙ elsewhere files directory (node_without_entry name) here t.1) ∙ e))
             (eqb_tells here directory)
           where
             by : (b : Bool) → bytes_eq other name ≡ b
                 → entry_at removed.tree here other ≡ cond (not b) (entry_at files.tree directory other) None
-                → entry_at files.tree directory other ≡ Some next
-                → (entry_at removed.tree here other ≡ Some next)
+                → entry_at files.tree directory other ≡ Some next → (entry_at removed.tree here other ≡ Some next)
                 ⊎ ((entry_at removed.tree here other ≡ None) × (is_directory_node (files.tree.node next) ≡ false)
                 × Refused (denial W6))
             by true same now was =
@@ -351,8 +334,7 @@ module _ (files : FileTree ℕ) (Refused : Deny → Type 0) (from : ℕ) (old : 
   less_entry here other = ap (λ o. entry_named other (entries_in o)) (less_removed here)
 
   less_free : entry_at less.tree to new ≡ None
-  less_free = ⊎_elim
-      (λ t. ap (λ m. entry_at less.tree m new) t.1 ∙ less_entry from new
+  less_free = ⊎_elim (λ t. ap (λ m. entry_at less.tree m new) t.1 ∙ less_entry from new
       ∙ entry_less files Refused from old object named_so no_directory new
       ∙ by (bytes_eq new old) (ap (λ m. entry_at files.tree m new) (sym t.1) ∙ free))
       (λ t. ap (λ o. entry_named new (entries_in o)) (elsewhere files from (node_without_entry old) to t.1) ∙ free)
@@ -363,17 +345,13 @@ module _ (files : FileTree ℕ) (Refused : Deny → Type 0) (from : ℕ) (old : 
       by false e = e
 
   moved_node : (n : ℕ) → moved.tree.node n ≡ renamed.tree.node n
-  moved_node n =
-      ap (λ o. (changed_node nat_eq (with_name nat_eq
+  moved_node n = ap (λ o. (changed_node nat_eq (with_name nat_eq
       (without_name nat_eq (without_parent nat_eq files o) from old) to new object)
-      object (node_with_parent to)).tree.node n) free
-      ∙ by (nat_eq n object) refl
+      object (node_with_parent to)).tree.node n) free ∙ by (nat_eq n object) refl
     where
       kept : is_directory_node (renamed.tree.node object) ≡ false
-      kept =
-          part_stays less to (node_with_entry new object) is_directory_node
-          (is_directory-node_with_entry new object) object
-          ∙ less_kind object ∙ no_directory
+      kept = part_stays less to (node_with_entry new object) is_directory_node
+          (is_directory-node_with_entry new object) object ∙ less_kind object ∙ no_directory
 
       by : (b : Bool) → nat_eq n object ≡ b
           → cond b (node_with_parent to (renamed.tree.node object)) (renamed.tree.node n) ≡ renamed.tree.node n
@@ -388,8 +366,7 @@ module _ (files : FileTree ℕ) (Refused : Deny → Type 0) (from : ℕ) (old : 
   -- a name that is missing is missing still
   missing_stays : (here : ℕ) (other : List ℕ) → entry_at less.tree here other ≡ None → (here ≡ to → other ≡ new → ⊥)
       → entry_at renamed.tree here other ≡ None
-  missing_stays here other e apart = ⊎_elim
-      (λ t. ap (λ m. entry_at renamed.tree m other) t.1
+  missing_stays here other e apart = ⊎_elim (λ t. ap (λ m. entry_at renamed.tree m other) t.1
       ∙ entry_now less Refused to new object less_directory less_free other
       ∙ by t.1 (eq_by_cmp name_cmp other new) refl (ap (λ m. entry_at less.tree m other) (sym t.1) ∙ e))
       (λ t. ap (λ o. entry_named other (entries_in o)) (elsewhere less to (node_with_entry new object) here t.1) ∙ e)
@@ -401,8 +378,7 @@ module _ (files : FileTree ℕ) (Refused : Deny → Type 0) (from : ℕ) (old : 
       by same false tie h = h
 
   pub moved_missing : entry_at moved.tree from old ≡ None
-  moved_missing =
-      ap (λ o. entry_named old (entries_in o)) (moved_node from)
+  moved_missing = ap (λ o. entry_named old (entries_in o)) (moved_node from)
       ∙ missing_stays from old (less_entry from old ∙ name_missing files Refused from old object named_so no_directory)
       (λ same_directory same_word.
       none_is_not (entry_at files.tree to new) object free
@@ -411,10 +387,8 @@ module _ (files : FileTree ℕ) (Refused : Deny → Type 0) (from : ℕ) (old : 
   moved_part : {A : Type 0} (part : Option (Node ℕ) → A)
       → ((o : Option (Node ℕ)) → part (node_without_entry old o) ≡ part o)
       → ((o : Option (Node ℕ)) → part (node_with_entry new object o) ≡ part o) → (n : ℕ)
-      → part (moved.tree.node n) ≡ part
-      (files.tree.node n)
-  moved_part part without with n =
-      ap part (moved_node n) ∙ part_stays less to (node_with_entry new object) part with n
+      → part (moved.tree.node n) ≡ part (files.tree.node n)
+  moved_part part without with n = ap part (moved_node n) ∙ part_stays less to (node_with_entry new object) part with n
       ∙ part_stays files from (node_without_entry old) part without n
 
   pub ways_moved : Refused (denial W6) → TreeStays files.tree moved.tree Refused
@@ -426,8 +400,7 @@ module _ (files : FileTree ℕ) (Refused : Deny → Type 0) (from : ℕ) (old : 
         (is_directory-node_with_entry new object) n;
     parent = λ n is. moved_part (parent_in n) (parent-node_without_entry old n) (parent-node_with_entry new object n) n;
     link = λ n is. moved_part symlink_text (link_without old) (link_with_entry new object) n;
-    entry = λ here other next e.
-        by here other next e
+    entry = λ here other next e. by here other next e
         ((ways_removed files Refused from old object named_so no_directory missing).entry here other next e);
   }
     where
@@ -438,20 +411,17 @@ module _ (files : FileTree ℕ) (Refused : Deny → Type 0) (from : ℕ) (old : 
           → (entry_at moved.tree here other ≡ Some next)
           ⊎ ((entry_at moved.tree here other ≡ None) × (is_directory_node (files.tree.node next) ≡ false)
           × Refused (denial W6))
-      by here other next e (inl same) =
-          inl (ap (λ o. entry_named other (entries_in o)) (moved_node here)
+      by here other next e (inl same) = inl (ap (λ o. entry_named other (entries_in o)) (moved_node here)
           ∙ entry_stays less Refused to new object less_directory less_free here other next
           (less_entry here other ∙ same))
-      by here other next e (inr lost) =
-          inr (
-            ap (λ o. entry_named other (entries_in o)) (moved_node here)
-                ∙ missing_stays here other (less_entry here other ∙ lost.0)
-                (λ same_directory same_word.
-                none_is_not (entry_at files.tree to new) next free
-                ((λ i. entry_at files.tree (sym same_directory i) (sym same_word i)) ∙ e)),
-            lost.1,
-            lost.2,
-          )
+      by here other next e (inr lost) = inr (
+        ap (λ o. entry_named other (entries_in o)) (moved_node here)
+            ∙ missing_stays here other (less_entry here other ∙ lost.0) (λ same_directory same_word.
+            none_is_not (entry_at files.tree to new) next free
+            ((λ i. entry_at files.tree (sym same_directory i) (sym same_word i)) ∙ e)),
+        lost.1,
+        lost.2,
+      )
 
   pub rights_moved : RightsStay files.tree moved.tree
   rights_moved who wanted n is =
@@ -459,6 +429,5 @@ module _ (files : FileTree ℕ) (Refused : Deny → Type 0) (from : ℕ) (old : 
 
   -- the object is as it was
   pub moved_object : object ≢ from → object ≢ to → moved.tree.node object ≡ files.tree.node object
-  moved_object not_from not_to =
-      moved_node object ∙ elsewhere less to (node_with_entry new object) object not_to
+  moved_object not_from not_to = moved_node object ∙ elsewhere less to (node_with_entry new object) object not_to
       ∙ elsewhere files from (node_without_entry old) object not_from

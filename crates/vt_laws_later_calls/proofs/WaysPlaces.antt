@@ -64,8 +64,7 @@ placed_at looks task here DotDot slash place e special =
     absurd (no_name DotDot place (ap (λ (p : Place ℕ). p.last) (same_ok _ place both.2)) refl special)
 placed_at looks task here (Named name) slash place e special =
     let both = and_then-Ok (unless (search_rules nat_eq looks task here.location)
-    (object_named nat_eq looks task here.location
-    (Named name))) _ place
+    (object_named nat_eq looks task here.location (Named name))) _ place
     (not_stopped (steps_at nat_eq looks task here (Named name)) _ place e) in
     let parts = passing (search_rules nat_eq looks task here.location) (object_named nat_eq looks task here.location
     (Named name)) both.0 both.1 in
@@ -84,8 +83,7 @@ named_place looks task path place e special =
     let texts = both_walked (path_text {N = ℕ} path) _ place e in
     let same : path ≡ texts.0 = path_parsed path texts.0 texts.1 in
     let rest = subst (λ text. then_walk
-    (prefix_walked nat_eq looks task (followed nat_eq looks task) (walk_start task text) (reverse
-    (words text)))
+    (prefix_walked nat_eq looks task (followed nat_eq looks task) (walk_start task text) (reverse (words text)))
     (λ here. placed nat_eq looks task here (final_word (reverse (words text))) (ends_in_slash text)) ≡ Ok place)
     (sym same) texts.2 in
     by (reverse (words path)) refl (texts.1 ∙ ap Ok (sym same)) rest
@@ -131,13 +129,12 @@ module _ (looks later : Looks ℕ) (task reader : Task ℕ) (Refused : Deny → 
   EndsSo walk here = Ends looks later task reader Refused Known leads walk here
 
   pub begun : (path : List ℕ) → walk_start reader path ≡ at (walk_start task path) []
-  begun path = λ i.
-      record {
-        location =
-            start_same looks later task reader Refused Known leads reader.directory task.directory path leads.working i;
-        left = most_symlinks;
-        steps = [];
-      }
+  begun path = λ i. record {
+    location =
+        start_same looks later task reader Refused Known leads reader.directory task.directory path leads.working i;
+    left = most_symlinks;
+    steps = [];
+  }
 
   begin_known : (path : List ℕ) → Known (walk_start task path).location
   begin_known path = start_known looks later task reader Refused Known leads task.directory path leads.working_known
@@ -150,8 +147,7 @@ module _ (looks later : Looks ℕ) (task reader : Task ℕ) (Refused : Deny → 
       subst (λ start. EndsSo (words_walked nat_eq later reader (followed nat_eq later reader) start list) end)
       (sym (begun path))
       ((words_lead looks later task reader Refused Known leads 41 41 (walk_start task path) list end (omega arith)
-      (omega arith) e).1
-      (begin_known path) [])
+      (omega arith) e).1 (begin_known path) [])
 
   -- a path that led to an object leads there
   pub path_too : (path : List ℕ) (end : Here ℕ) → path_walked nat_eq looks task path ≡ Ok end
@@ -161,8 +157,7 @@ module _ (looks later : Looks ℕ) (task reader : Task ℕ) (Refused : Deny → 
       let same : path ≡ texts.0 = path_parsed path texts.0 texts.1 in
       subst (λ r. EndsSo (then_walk r (λ text.
       words_walked nat_eq later reader (followed nat_eq later reader) (walk_start reader text)
-      (reverse (words text)))) end)
-      (sym texts.1) (words_from texts.0 (reverse (words texts.0)) end texts.2)
+      (reverse (words text)))) end) (sym texts.1) (words_from texts.0 (reverse (words texts.0)) end texts.2)
 
   pub object_too : (path : List ℕ) (end : Here ℕ) → object_walk nat_eq looks task path ≡ Ok end
       → EndsSo (object_walk nat_eq later reader path) end
@@ -197,39 +192,29 @@ module _ (looks later : Looks ℕ) (task reader : Task ℕ) (Refused : Deny → 
   last_too here word next steps known pass found =
       by (search_too looks later task reader Refused Known leads here.location known pass)
     where
-      by : NoneFails (search_rules nat_eq later reader here.location)
-          ⊎ (Refused (denial W4)
-          × ((answer : Result (Location ℕ) Deny)
-          → unless (search_rules nat_eq later reader here.location) answer
-          ≡ Err (denial W4)))
-          → EndsThere Refused (word_walked nat_eq later reader (at here steps) word) next here.left
-      by (inl may_search) =
-          inl (
-            steps_with nat_eq later reader (at here steps) word,
-            ap (λ r. stopped_by (steps_with nat_eq later reader (at here steps) word) (and_then r (λ reached.
-                Ok (record {
-                  location = reached;
-                  left = here.left;
-                  steps = steps_with nat_eq later reader
-                      (at here steps) word;
-                }))))
-                (passed (search_rules nat_eq later reader here.location)
-                (stepped nat_eq later reader here.location word) may_search
-                ∙ found),
-          )
-      by (inr hidden) =
-          inr (
-            record { deny = denial W4; steps = steps_with nat_eq later reader (at here steps) word },
-            hidden.0,
-            ap (λ r. stopped_by (steps_with nat_eq later reader (at here steps) word) (and_then r (λ reached.
-                Ok (record {
-                  location = reached;
-                  left = here.left;
-                  steps = steps_with nat_eq later reader
-                      (at here steps) word;
-                }))))
-                (hidden.1 (stepped nat_eq later reader here.location word)),
-          )
+      by : NoneFails (search_rules nat_eq later reader here.location) ⊎ (Refused (denial W4)
+          × ((answer : Result (Location ℕ) Deny) → unless (search_rules nat_eq later reader here.location) answer
+          ≡ Err (denial W4))) → EndsThere Refused (word_walked nat_eq later reader (at here steps) word) next here.left
+      by (inl may_search) = inl (
+        steps_with nat_eq later reader (at here steps) word,
+        ap (λ r. stopped_by (steps_with nat_eq later reader (at here steps) word) (and_then r (λ reached.
+            Ok (record {
+              location = reached;
+              left = here.left;
+              steps = steps_with nat_eq later reader (at here steps) word;
+            })))) (passed (search_rules nat_eq later reader here.location)
+            (stepped nat_eq later reader here.location word) may_search ∙ found),
+      )
+      by (inr hidden) = inr (
+        record { deny = denial W4; steps = steps_with nat_eq later reader (at here steps) word },
+        hidden.0,
+        ap (λ r. stopped_by (steps_with nat_eq later reader (at here steps) word) (and_then r (λ reached.
+            Ok (record {
+              location = reached;
+              left = here.left;
+              steps = steps_with nat_eq later reader (at here steps) word;
+            })))) (hidden.1 (stepped nat_eq later reader here.location word)),
+      )
 
   last_stops : (here : Here ℕ) (word : LastWord) (deny : Deny) (steps : List (List ℕ)) → Known here.location
       → NoneFails (search_rules nat_eq looks task here.location)
@@ -270,24 +255,20 @@ module _ (looks later : Looks ℕ) (task reader : Task ℕ) (Refused : Deny → 
     path_is : path_walked nat_eq later reader path
         ≡ words_walked nat_eq later reader (followed nat_eq later reader) (walk_start reader path)
         (parts.word ∷ parts.front)
-    path_is =
-        ap (λ r. then_walk r (λ text.
+    path_is = ap (λ r. then_walk r (λ text.
         words_walked nat_eq later reader (followed nat_eq later reader) (walk_start reader text)
         (reverse (words text)))) parts.parsed
         ∙ ap (words_walked nat_eq later reader (followed nat_eq later reader) (walk_start reader path)) parts.words_are
 
     unfollowed_is : symlink_walk_by nat_eq false later reader path
         ≡ then_walk (words_walked nat_eq later reader (followed nat_eq later reader)
-        (walk_start reader path) parts.front)
-        (λ here. word_walked nat_eq later reader here (last_word parts.word))
-    unfollowed_is =
-        ap (λ r. then_walk r (λ text.
+        (walk_start reader path) parts.front) (λ here. word_walked nat_eq later reader here (last_word parts.word))
+    unfollowed_is = ap (λ r. then_walk r (λ text.
         then_walk (prefix_walked nat_eq later reader (followed nat_eq later reader) (walk_start reader text)
         (reverse (words text)))
         (λ here. last_walked nat_eq later reader here (final_word (reverse (words text)))))) parts.parsed
         ∙ ap (λ list. then_walk (prefix_walked nat_eq later reader (followed nat_eq later reader)
-        (walk_start reader path) list)
-        (λ here. last_walked nat_eq later reader here (final_word list))) parts.words_are
+        (walk_start reader path) list) (λ here. last_walked nat_eq later reader here (final_word list))) parts.words_are
         ∙ (λ i. then_walk (words_walked nat_eq later reader (followed nat_eq later reader)
         (walk_start reader path) parts.front)
         (λ here. last_walked_is later reader here (last_word parts.word) named_word i))
@@ -297,33 +278,27 @@ module _ (looks later : Looks ℕ) (task reader : Task ℕ) (Refused : Deny → 
         → stepped nat_eq later reader place.parent place.last ≡ Ok next) where
       pub named_path_too : symlink_text (later.node next) ≡ None
           → EndsThere Refused (path_walked nat_eq later reader path) next parts.here.left
-      named_path_too no_link =
-          subst (λ r. EndsThere Refused r next parts.here.left) (sym path_is)
+      named_path_too no_link = subst (λ r. EndsThere Refused r next parts.here.left) (sym path_is)
           (through (λ r. EndsThere Refused r next parts.here.left)
           (words_walked nat_eq later reader (followed nat_eq later reader)
-          (walk_start reader path) parts.front) _ parts.here front_too
-          (λ steps known.
+          (walk_start reader path) parts.front) _ parts.here front_too (λ steps known.
           by steps (last_too parts.here (last_word parts.word) next steps known parts.searched
-          (stepped_there (Ok next) (found
-          (parent_known known)))))
-          (λ stop refused. inr (stop, refused, refl)))
+          (stepped_there (Ok next) (found (parent_known known))))) (λ stop refused. inr (stop, refused, refl)))
         where
           by : (steps : List (List ℕ)) → EndsThere Refused (word_walked nat_eq later reader (at parts.here steps)
-              (last_word parts.word)) next parts.here.left
-              → EndsThere Refused (then_walk
+              (last_word parts.word)) next parts.here.left → EndsThere Refused (then_walk
               (word_walked nat_eq later reader (at parts.here steps) (last_word parts.word)) (λ there.
               if_symlink there (symlink_text (later.node there.location))
               (followed nat_eq later reader parts.here.location there))) next parts.here.left
-          by steps (inl e) =
-              inl (
-                e.0,
-                ap (λ r. then_walk r (λ there.
-                    if_symlink there (symlink_text (later.node there.location))
-                    (followed nat_eq later reader parts.here.location there))) e.1
-                    ∙ ap (λ o. if_symlink (record { location = next; left = parts.here.left; steps = e.0 }) o
-                    (followed nat_eq later reader parts.here.location
-                    (record { location = next; left = parts.here.left; steps = e.0 }))) no_link,
-              )
+          by steps (inl e) = inl (
+            e.0,
+            ap (λ r. then_walk r (λ there.
+                if_symlink there (symlink_text (later.node there.location))
+                (followed nat_eq later reader parts.here.location there))) e.1
+                ∙ ap (λ o. if_symlink (record { location = next; left = parts.here.left; steps = e.0 }) o
+                (followed nat_eq later reader parts.here.location
+                (record { location = next; left = parts.here.left; steps = e.0 }))) no_link,
+          )
           by steps (inr stop) = inr (
             stop.0,
             stop.1,
@@ -333,27 +308,23 @@ module _ (looks later : Looks ℕ) (task reader : Task ℕ) (Refused : Deny → 
           )
 
       unfollowed_too : EndsThere Refused (symlink_walk_by nat_eq false later reader path) next parts.here.left
-      unfollowed_too =
-          subst (λ r. EndsThere Refused r next parts.here.left) (sym unfollowed_is)
+      unfollowed_too = subst (λ r. EndsThere Refused r next parts.here.left) (sym unfollowed_is)
           (through (λ r. EndsThere Refused r next parts.here.left)
           (words_walked nat_eq later reader (followed nat_eq later reader)
           (walk_start reader path) parts.front) _ parts.here front_too
           (λ steps known. last_too parts.here (last_word parts.word) next steps known parts.searched
-          (stepped_there (Ok next) (found
-          (parent_known known))))
-          (λ stop refused. inr (stop, refused, refl)))
+          (stepped_there (Ok next) (found (parent_known known)))) (λ stop refused. inr (stop, refused, refl)))
 
       -- what rules let pass after the walk
       after_path : EndsThere Refused (path_walked nat_eq later reader path) next parts.here.left
           → (rules : Location ℕ → Rules) → NoneFails (rules next)
           → EndsThere Refused (then_walk (path_walked nat_eq later reader path) (λ here. walk_unless here.steps
           (rules here.location) here)) next parts.here.left
-      after_path (inl e) rules pass =
-          inl (
-            e.0,
-            ap (λ r. then_walk r (λ here. walk_unless here.steps (rules here.location) here)) e.1
-                ∙ walk_passed e.0 (rules next) (record { location = next; left = parts.here.left; steps = e.0 }) pass,
-          )
+      after_path (inl e) rules pass = inl (
+        e.0,
+        ap (λ r. then_walk r (λ here. walk_unless here.steps (rules here.location) here)) e.1
+            ∙ walk_passed e.0 (rules next) (record { location = next; left = parts.here.left; steps = e.0 }) pass,
+      )
       after_path (inr stop) rules pass =
           inr (stop.0, stop.1, ap (λ r. then_walk r (λ here. walk_unless here.steps (rules here.location) here)) stop.2)
 
@@ -389,33 +360,24 @@ module _ (looks later : Looks ℕ) (task reader : Task ℕ) (Refused : Deny → 
     module _ (deny : Deny) (refused : Refused deny) (lost : Known place.parent
         → stepped nat_eq later reader place.parent place.last ≡ Err deny) where
       missing_path_too : Stops Refused (path_walked nat_eq later reader path)
-      missing_path_too =
-          subst (Stops Refused) (sym path_is)
-          (through (Stops Refused)
+      missing_path_too = subst (Stops Refused) (sym path_is) (through (Stops Refused)
           (words_walked nat_eq later reader (followed nat_eq later reader)
-          (walk_start reader path) parts.front) _ parts.here front_too
-          (λ steps known.
+          (walk_start reader path) parts.front) _ parts.here front_too (λ steps known.
           let stop = last_stops parts.here (last_word parts.word) deny steps known parts.searched
-          (stepped_there (Err deny) (lost
-          (parent_known known))) refused in (
+          (stepped_there (Err deny) (lost (parent_known known))) refused in (
             stop.0,
             stop.1,
             ap (λ r. then_walk r (λ there.
                 if_symlink there (symlink_text (later.node there.location))
                 (followed nat_eq later reader parts.here.location there))) stop.2,
-          ))
-          (λ stop refused. (stop, refused, refl)))
+          )) (λ stop refused. (stop, refused, refl)))
 
       unfollowed_missing : Stops Refused (symlink_walk_by nat_eq false later reader path)
-      unfollowed_missing =
-          subst (Stops Refused) (sym unfollowed_is)
-          (through (Stops Refused)
+      unfollowed_missing = subst (Stops Refused) (sym unfollowed_is) (through (Stops Refused)
           (words_walked nat_eq later reader (followed nat_eq later reader)
           (walk_start reader path) parts.front) _ parts.here front_too
           (λ steps known. last_stops parts.here (last_word parts.word) deny steps known parts.searched
-          (stepped_there (Err deny) (lost
-          (parent_known known))) refused)
-          (λ stop refused. (stop, refused, refl)))
+          (stepped_there (Err deny) (lost (parent_known known))) refused) (λ stop refused. (stop, refused, refl)))
 
       pub symlink_missing : Stops Refused (symlink_walk nat_eq later reader path)
       symlink_missing = by (ends_in_slash path)

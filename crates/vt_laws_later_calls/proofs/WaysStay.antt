@@ -34,14 +34,11 @@ use Rattle.vt_laws_later_calls.proofs.WaysTrees.{DirectoryNamesStay, present_lat
 
 -- the root of a mount is a directory
 pub mount_root : (world : World ℕ) → IsWorld nat_eq world → (number : ℕ)
-    → is_among nat_eq number (numbers_of world.mounts) ≡ true
-    → is_directory_node ((filesystem_numbered nat_eq world
-    (mount_numbered nat_eq world number).filesystem).files.tree.node
-    (mount_numbered nat_eq world number).root) ≡ true
+    → is_among nat_eq number (numbers_of world.mounts) ≡ true → is_directory_node ((filesystem_numbered nat_eq world
+    (mount_numbered nat_eq world number).filesystem).files.tree.node (mount_numbered nat_eq world number).root) ≡ true
 mount_root world is number listed =
     (and_parts _ _ (among_from_list_all (has_its_root nat_eq world) world.mounts is.roots
-    (mount_numbered nat_eq world number)
-    (found_there world.mounts number listed))).0
+    (mount_numbered nat_eq world number) (found_there world.mounts number listed))).0
 
 -- an inode of a filesystem, and its tree
 abbrev pub tree_in : World ℕ → ℕ → Tree ℕ
@@ -104,13 +101,11 @@ module _ (world later : World ℕ) (is : IsWorld nat_eq world) (plain : IsPlain 
 
   directory_too : (here : Location ℕ) → Known here
       → is_directory_at nat_eq later here ≡ is_directory_at nat_eq world here
-  directory_too here known =
-      ap is_directory_node (node_here here)
+  directory_too here known = ap is_directory_node (node_here here)
       ∙ stay.directory (mount_at nat_eq world here).filesystem here.node (there here known) (there_later here known)
 
   known_directory : (here : Location ℕ) → Known here → is_directory_at nat_eq world here ≡ true → KnownDirectory here
-  known_directory here known directory =
-      ((known.0.0, directory), (known.1.0, directory_too here known ∙ directory))
+  known_directory here known directory = ((known.0.0, directory), (known.1.0, directory_too here known ∙ directory))
 
   directory_known : (here : Location ℕ) → KnownDirectory here → Known here
   directory_known here known =
@@ -124,8 +119,7 @@ module _ (world later : World ℕ) (is : IsWorld nat_eq world) (plain : IsPlain 
 
   -- Names
   abbrev named_by : List (Mount ℕ) → Location ℕ → Option ℕ → Result (Location ℕ) Deny
-  named_by mounts here o =
-      ok_or (option_map (topmost nat_eq mounts)
+  named_by mounts here o = ok_or (option_map (topmost nat_eq mounts)
       (option_map (λ object. record { mount = here.mount; node = object }) o)) (denial W6)
 
   name_too : (here : Location ℕ) (name : List ℕ) (next : Location ℕ) → KnownDirectory here
@@ -136,10 +130,8 @@ module _ (world later : World ℕ) (is : IsWorld nat_eq world) (plain : IsPlain 
     where
       later_is : (o : Option ℕ) → entry_at (tree_in later (mount_at nat_eq world here).filesystem) here.node name ≡ o
           → stepped nat_eq later reader here (Named name) ≡ named_by world.mounts here o
-      later_is o f =
-          ap (λ n. named_by later.mounts here (entry_named name (entries_in n))) (node_here here)
-          ∙ ap (named_by later.mounts here) f
-          ∙ ap (λ mounts. named_by mounts here o) stay.mounts
+      later_is o f = ap (λ n. named_by later.mounts here (entry_named name (entries_in n))) (node_here here)
+          ∙ ap (named_by later.mounts here) f ∙ ap (λ mounts. named_by mounts here o) stay.mounts
 
       no_answer : (deny : Deny) (a : Location ℕ) → Path (Result (Location ℕ) Deny) (Err deny) (Ok a) → ⊥
       no_answer deny a f = cc
@@ -149,8 +141,7 @@ module _ (world later : World ℕ) (is : IsWorld nat_eq world) (plain : IsPlain 
           → (entry_at (tree_in later (mount_at nat_eq world here).filesystem) here.node name ≡ Some object)
           ⊎ ((entry_at (tree_in later (mount_at nat_eq world here).filesystem) here.node name ≡ None)
           × (is_directory_node (node_in world (mount_at nat_eq world here).filesystem object) ≡ false)
-          × Refused (denial W6))
-          → ((stepped nat_eq later reader here (Named name) ≡ Ok next) × Known next)
+          × Refused (denial W6)) → ((stepped nat_eq later reader here (Named name) ≡ Ok next) × Known next)
           ⊎ ((deny : Deny) × Refused deny × (stepped nat_eq later reader here (Named name) ≡ Err deny))
       inside object f whole (inl stays) =
           let now = later_is (Some object) stays ∙ f in inl (now, next_known here (Named name) next known whole now)
@@ -161,15 +152,13 @@ module _ (world later : World ℕ) (is : IsWorld nat_eq world) (plain : IsPlain 
           → ((stepped nat_eq later reader here (Named name) ≡ Ok next) × Known next)
           ⊎ ((deny : Deny) × Refused deny × (stepped nat_eq later reader here (Named name) ≡ Err deny))
       by None f g = absurd (no_answer (denial W6) next (ap (named_by world.mounts here) (sym f) ∙ g))
-      by (Some object) f g =
-          inside object (ap (named_by world.mounts here) (sym f) ∙ g) e
+      by (Some object) f g = inside object (ap (named_by world.mounts here) (sym f) ∙ g) e
           (stay.entry (mount_at nat_eq world here).filesystem here.node name object f
           (there_later here (directory_known here known)))
 
   -- Up
   abbrev hop_by : List (Mount ℕ) → Location ℕ → Location ℕ → Option (Location ℕ)
-  hop_by mounts root here =
-      cond (same_location nat_eq here root) None
+  hop_by mounts root here = cond (same_location nat_eq here root) None
       (cond (nat_eq here.node (mount_in nat_eq mounts here.mount).root)
       (mount_in nat_eq mounts here.mount).mount_point None)
 
@@ -220,11 +209,9 @@ module _ (world later : World ℕ) (is : IsWorld nat_eq world) (plain : IsPlain 
   -- a directory that is not lost
   not_lost : (here : Location ℕ) → KnownDirectory here → is_lost nat_eq world here ≡ false
       → is_lost nat_eq later here ≡ false
-  not_lost here known e =
-      ap (λ (m : Mount ℕ). is_removed nat_eq (tree_in later m.filesystem) here.node
+  not_lost here known e = ap (λ (m : Mount ℕ). is_removed nat_eq (tree_in later m.filesystem) here.node
       || not (is_directory_under nat_eq (filesystem_numbered nat_eq later m.filesystem).files m.root here.node))
-      (same_mount here.mount)
-      ∙ ap (λ b. b || not (is_directory_under nat_eq files_later point.root here.node)) present
+      (same_mount here.mount) ∙ ap (λ b. b || not (is_directory_under nat_eq files_later point.root here.node)) present
       ∙ ap not under
     where
       point : Mount ℕ
@@ -243,10 +230,8 @@ module _ (world later : World ℕ) (is : IsWorld nat_eq world) (plain : IsPlain 
       parts = or_parts _ _ e
 
       tree_later : IsFileTree (filesystem_numbered nat_eq later (mount_at nat_eq world here).filesystem).files
-      tree_later =
-          subst (λ (m : Mount ℕ). IsFileTree (filesystem_numbered nat_eq later m.filesystem).files)
-          (same_mount here.mount)
-          (tree_here later is_later here known.1.1)
+      tree_later = subst (λ (m : Mount ℕ). IsFileTree (filesystem_numbered nat_eq later m.filesystem).files)
+          (same_mount here.mount) (tree_here later is_later here known.1.1)
 
       names : DirectoryNamesStay (λ n. ⊤) (tree_in world (mount_at nat_eq world here).filesystem)
           (tree_in later (mount_at nat_eq world here).filesystem)
@@ -267,29 +252,25 @@ module _ (world later : World ℕ) (is : IsWorld nat_eq world) (plain : IsPlain 
       -- the root of its mount is there
       root_there : is_some (node_in later (mount_at nat_eq world here).filesystem (mount_at nat_eq world here).root)
           ≡ true
-      root_there =
-          subst (λ (m : Mount ℕ). is_some (node_in later m.filesystem m.root) ≡ true) (same_mount here.mount)
+      root_there = subst (λ (m : Mount ℕ). is_some (node_in later m.filesystem m.root) ≡ true) (same_mount here.mount)
           (directory_used (tree_in later (mount_at nat_eq later here).filesystem) (mount_at nat_eq later here).root
           (mount_root later is_later here.mount known.1.0.0))
 
       present : is_removed nat_eq files_later.tree here.node ≡ false
-      present =
-          present_later (λ n. ⊤) files_here files_later (tree_here world is here known.0.1).tree tree_later
+      present = present_later (λ n. ⊤) files_here files_later (tree_here world is here known.0.1).tree tree_later
           (stay.root (mount_at nat_eq world here).filesystem) (λ directory name number entry keeps. tt) names
           (mount_at nat_eq world here).root here.node known.0.1 is_directory_later tt root_there parts.0
           (not-false _ parts.1)
 
       under : is_directory_under nat_eq files_later point.root here.node ≡ true
-      under =
-          under_later (λ n. ⊤) files_here files_later (tree_here world is here known.0.1).tree tree_later
+      under = under_later (λ n. ⊤) files_here files_later (tree_here world is here known.0.1).tree tree_later
           (stay.root (mount_at nat_eq world here).filesystem) (λ directory name number entry keeps. tt) names
           (mount_at nat_eq world here).root here.node known.0.1 is_directory_later tt root_there parts.0
           (not-false _ parts.1)
 
   up_too : (here next : Location ℕ) → KnownDirectory here → stepped nat_eq world task here DotDot ≡ Ok next
       → stepped nat_eq later reader here DotDot ≡ Ok next
-  up_too here next known e =
-      (λ i. up_by (stay.mounts i) (stands.root i)
+  up_too here next known e = (λ i. up_by (stay.mounts i) (stands.root i)
       (parent_in (top_same here i).node (node_at nat_eq later (top_same here i)))
       (is_lost nat_eq later (top_same here i)) (top_same here i))
       ∙ by (same_location nat_eq (top here) task.root || nat_eq (top here).node (mount_at nat_eq world (top here)).root)
@@ -299,10 +280,8 @@ module _ (world later : World ℕ) (is : IsWorld nat_eq world) (plain : IsPlain 
       at_top = top_known here known
 
       same_parent : parent_in (top here).node (node_at nat_eq later (top here))
-          ≡ parent_in (top here).node (node_at nat_eq world
-          (top here))
-      same_parent =
-          ap (parent_in (top here).node) (node_here (top here))
+          ≡ parent_in (top here).node (node_at nat_eq world (top here))
+      same_parent = ap (parent_in (top here).node) (node_here (top here))
           ∙ stay.parent (mount_at nat_eq world (top here)).filesystem (top here).node
           (there (top here) (directory_known (top here) at_top))
           (there_later (top here) (directory_known (top here) at_top))
@@ -319,13 +298,11 @@ module _ (world later : World ℕ) (is : IsWorld nat_eq world) (plain : IsPlain 
           ≡ Ok next
       by true q f g = g
       by false true f g = absurd (no_answer (denial W8) next g)
-      by false false f g =
-          (λ i. unless ((not_lost (top here) at_top f i, W8) ∷ []) (Ok (topmost nat_eq world.mounts
+      by false false f g = (λ i. unless ((not_lost (top here) at_top f i, W8) ∷ []) (Ok (topmost nat_eq world.mounts
           (record { mount = (top here).mount; node = same_parent i })))) ∙ g
 
   step_too : (here : Location ℕ) (word : LastWord) (next : Location ℕ) → KnownDirectory here
-      → stepped nat_eq world task here word ≡ Ok next
-      → ((stepped nat_eq later reader here word ≡ Ok next) × Known next)
+      → stepped nat_eq world task here word ≡ Ok next → ((stepped nat_eq later reader here word ≡ Ok next) × Known next)
       ⊎ ((deny : Deny) × Refused deny × (stepped nat_eq later reader here word ≡ Err deny))
   step_too here NoWord next known e = inl (e, next_known here NoWord next known e e)
   step_too here Dot next known e = inl (e, next_known here Dot next known e e)

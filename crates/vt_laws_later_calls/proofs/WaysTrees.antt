@@ -16,12 +16,9 @@ use Rattle.vt_spec.proofs.NodeChanges.{directory_from_entry}
 module _ (tree : Tree ℕ) (conditions : IsTree tree) where
   by_parent : (d : ℕ) → IsDirectory tree d → IsReached tree d → (p : ℕ) → named_parent nat_eq tree d ≡ Some p
       → (name : List ℕ) × (entry_at tree p name ≡ Some d) × IsDirectory tree p × IsReached tree p
-  by_parent d is reached p e = ⊎_elim
-      (λ root. none_is_not None p refl
+  by_parent d is reached p e = ⊎_elim (λ root. none_is_not None p refl
       (sym (ap (λ b. cond b None (when (has_entry_to nat_eq tree (parent_in d (tree.node d)) d)
-      (parent_in d (tree.node d))))
-      (eq-eqb d tree.root (sym root))) ∙ e))
-      (λ named.
+      (parent_in d (tree.node d)))) (eq-eqb d tree.root (sym root))) ∙ e)) (λ named.
       let same : named.0 ≡ p = same_Some named.0 p
       (sym (parent_named tree conditions named.0 named.1 d named.2 is) ∙ e) in (
         named.1,
@@ -29,8 +26,7 @@ module _ (tree : Tree ℕ) (conditions : IsTree tree) where
         subst (IsDirectory tree) same (directory_from_entry named.1 d (tree.node named.0) named.2),
         subst (IsReached tree) (conditions.one_parent named.0 named.1 d named.2 is ∙ same)
             (parent_reached tree conditions d is reached),
-      ))
-      (reached_named tree d reached)
+      )) (reached_named tree d reached)
 
   pub under_led : (most top d : ℕ) → IsDirectory tree d → IsReached tree d
       → is_among nat_eq top (chain most (named_parent nat_eq tree) d) ≡ true
@@ -73,8 +69,7 @@ module _ (tree : Tree ℕ) (conditions : IsTree tree) where
   reached_not_removed d is reached = ⊎_elim
       (λ root. ap (λ b. not (b || is_some (named_parent nat_eq tree d))) (eq-eqb d tree.root (sym root)))
       (λ named. ap (λ o. not (nat_eq d tree.root || is_some o))
-      (parent_named tree conditions named.0 named.1 d named.2 is)
-      ∙ either (nat_eq d tree.root))
+      (parent_named tree conditions named.0 named.1 d named.2 is) ∙ either (nat_eq d tree.root))
       (reached_named tree d reached)
     where
       either : (b : Bool) → not (b || true) ≡ false
@@ -85,8 +80,7 @@ module _ (tree : Tree ℕ) (conditions : IsTree tree) where
 abbrev pub DirectoryNamesStay : (ℕ → Type 0) → Tree ℕ → Tree ℕ → Type 0
 DirectoryNamesStay Keeps tree later =
     (directory : ℕ) (name : List ℕ) (number : ℕ) → entry_at tree directory name ≡ Some number → IsDirectory tree number
-    → Keeps number
-    → is_some (later.node directory) ≡ true → entry_at later directory name ≡ Some number
+    → Keeps number → is_some (later.node directory) ≡ true → entry_at later directory name ≡ Some number
 
 -- with such a directory those above it are such
 abbrev pub KeepsAbove : (ℕ → Type 0) → Tree ℕ → Type 0
@@ -95,8 +89,7 @@ KeepsAbove Keeps tree =
     → Keeps directory
 
 module _ (Keeps : ℕ → Type 0) (tree later : Tree ℕ) (before : IsTree tree) (after : IsTree later)
-    (above : KeepsAbove Keeps tree)
-    (stay : DirectoryNamesStay Keeps tree later) where
+    (above : KeepsAbove Keeps tree) (stay : DirectoryNamesStay Keeps tree later) where
   keeps_through : (from : ℕ) (names : List (List ℕ)) (to : ℕ) → led tree from names ≡ Some to → Keeps to → Keeps from
   keeps_through from [] to e keeps = subst Keeps (sym (same_Some from to e)) keeps
   keeps_through from (name ∷ names) to e keeps =
@@ -104,8 +97,7 @@ module _ (Keeps : ℕ → Type 0) (tree later : Tree ℕ) (before : IsTree tree)
       above from name step.0 step.1 (keeps_through step.0 names to step.2 keeps)
 
   pub led_stays : (from : ℕ) (names : List (List ℕ)) (to : ℕ) → led tree from names ≡ Some to → IsDirectory tree to
-      → Keeps to
-      → is_some (later.node from) ≡ true → led later from names ≡ Some to
+      → Keeps to → is_some (later.node from) ≡ true → led later from names ≡ Some to
   led_stays from [] to e is keeps there = e
   led_stays from (name ∷ names) to e is keeps there =
       let step = found (λ next. led tree next names) (entry_at tree from name) to e in
@@ -128,8 +120,7 @@ module _ (Keeps : ℕ → Type 0) (files later : FileTree ℕ) (before : IsTree 
     reached.0,
     ap (λ n. led later.tree n reached.0) root
         ∙ led_stays Keeps files.tree later.tree before after.tree above stay files.tree.root reached.0 d reached.1 is
-        keeps
-        (subst (λ n. is_some (later.tree.node n) ≡ true) root
+        keeps (subst (λ n. is_some (later.tree.node n) ≡ true) root
         (directory_used later.tree later.tree.root after.tree.root_directory)),
   )
 

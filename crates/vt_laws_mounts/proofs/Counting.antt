@@ -1,7 +1,6 @@
 -- How many mounts namespaces have once a tree is attached.
 use Rattle.std.proofs.lemmas.Grind.{common_steps}
-use Rattle.std.proofs.Common.{◌≡◌, ℕ, Bool, true, false, cond, ◌+◌, ◌*◌, ◌≤◌, ◌++◌, ◌||◌, List, [], ◌∷◌, map, filter, length, nat_eq, Option, None, Some, flat_map, suc, refl, sym, ap, ◌∙◌, arith, true≢false, inl, inr, append_assoc, eq-eqb}
-use Rattle.std.proofs.Common.{find as seek}
+use Rattle.std.proofs.Common.{◌≡◌, ℕ, Bool, true, false, cond, ◌+◌, ◌*◌, ◌≤◌, ◌++◌, ◌||◌, List, [], ◌∷◌, map, filter, length, nat_eq, Option, None, Some, flat_map, suc, refl, sym, ap, ◌∙◌, arith, true≢false, inl, inr, append_assoc, eq-eqb, find as seek}
 use Rattle.std.specs.Prelude.{unwrap_or}
 use Rattle.std.specs.List.{list_any}
 use Rattle.std.proofs.lemmas.Bool.{eqb-true, or_parts}
@@ -22,8 +21,7 @@ use Rattle.vt_laws_mounts.specs.Mounts.Ending.{count_in, is_in}
 -- of mounts of two lists
 pub count-append : (one other : List (Mount ℕ)) (namespace : ℕ)
     → count_in (one ++ other) namespace ≡ count_in one namespace + count_in other namespace
-count-append one other namespace =
-    ap length (filter-append (is_in namespace) one other)
+count-append one other namespace = ap length (filter-append (is_in namespace) one other)
     ∙ length-append (filter (is_in namespace) one) (filter (is_in namespace) other)
 
 -- of a first mount and the others
@@ -33,11 +31,9 @@ count-cons mount mounts namespace = grind (arith, common_steps)
 
 -- changes that leave mounts in the same namespaces
 pub count-map : {A : Type 0} (f g : A → Mount ℕ) → ((a : A) → (f a).namespace ≡ (g a).namespace)
-    → (list : List A) (namespace : ℕ)
-    → count_in (map f list) namespace ≡ count_in (map g list) namespace
+    → (list : List A) (namespace : ℕ) → count_in (map f list) namespace ≡ count_in (map g list) namespace
 count-map f g same [] namespace = refl
-count-map f g same (a ∷ list) namespace =
-    count-cons (f a) (map f list) namespace
+count-map f g same (a ∷ list) namespace = count-cons (f a) (map f list) namespace
     ∙ (λ i. cond (holds_of (nat_eq namespace) (same a i)) 1 0 + count-map f g same list namespace i)
     ∙ sym (count-cons (g a) (map g list) namespace)
 
@@ -54,8 +50,7 @@ pub count-flat : (copies : Mount ℕ → List (Mount ℕ)) (k namespace : ℕ)
     → ((part : Mount ℕ) → count_in (copies part) namespace ≡ cond (is_in namespace part) k 0)
     → (parts : List (Mount ℕ)) → count_in (flat_map copies parts) namespace ≡ count_in parts namespace * k
 count-flat copies k namespace each [] = omega arith
-count-flat copies k namespace each (part ∷ parts) =
-    count-append (copies part) (flat_map copies parts) namespace
+count-flat copies k namespace each (part ∷ parts) = count-append (copies part) (flat_map copies parts) namespace
     ∙ (λ i. each part i + count-flat copies k namespace each parts i)
     ∙ by (is_in namespace part) ∙ ap (λ n. n * k) (sym (count-cons part parts namespace))
   where
@@ -65,14 +60,11 @@ count-flat copies k namespace each (part ∷ parts) =
 
 -- mounts that are all in one namespace, or all in none
 pub count-inside : (list : List (Mount ℕ)) (o : Option ℕ) → ((mount : Mount ℕ) → Among mount list → mount.namespace ≡ o)
-    → (namespace : ℕ)
-    → count_in list namespace ≡ cond (holds_of (nat_eq namespace) o) (length list) 0
+    → (namespace : ℕ) → count_in list namespace ≡ cond (holds_of (nat_eq namespace) o) (length list) 0
 count-inside [] o inside namespace = grind (arith, common_steps)
-count-inside (mount ∷ list) o inside namespace =
-    count-cons mount list namespace
+count-inside (mount ∷ list) o inside namespace = count-cons mount list namespace
     ∙ (λ i. cond (holds_of (nat_eq namespace) (inside mount (inl refl) i)) 1 0 + count-inside list o
-    (λ other m. inside other (inr m)) namespace i)
-    ∙ by (holds_of (nat_eq namespace) o)
+    (λ other m. inside other (inr m)) namespace i) ∙ by (holds_of (nat_eq namespace) o)
   where
     by : (b : Bool) → cond b 1 0 + cond b (length list) 0 ≡ cond b (suc (length list)) 0
     by true = omega arith
@@ -98,10 +90,8 @@ put_nowhere (mount ∷ rest) new none =
 -- one mount in the place of another of its number
 module _ (new : Mount ℕ) (namespace : ℕ) where
   one_counted : (mounts : List (Mount ℕ)) → OneNumberAMount mounts → is_among nat_eq new.number (numbers_of mounts)
-      ≡ true
-      → count_in (with_mount nat_eq mounts new) namespace + count_in
-      (mount_in nat_eq mounts new.number ∷ []) namespace
-      ≡ count_in mounts namespace + count_in (new ∷ []) namespace
+      ≡ true → count_in (with_mount nat_eq mounts new) namespace + count_in
+      (mount_in nat_eq mounts new.number ∷ []) namespace ≡ count_in mounts namespace + count_in (new ∷ []) namespace
   one_counted [] own there = absurd (true≢false (sym there))
   one_counted (mount ∷ rest) own there =
       let parts = or_parts (list_any (λ (other : Mount ℕ). nat_eq mount.number other.number) rest) _ own in
@@ -110,8 +100,7 @@ module _ (new : Mount ℕ) (namespace : ℕ) where
       by : (b : Bool) → nat_eq new.number mount.number ≡ b
           → list_any (λ (other : Mount ℕ). nat_eq mount.number other.number) rest ≡ false
           → (is_among nat_eq new.number (numbers_of rest) ≡ true
-          → count_in (with_mount nat_eq rest new) namespace + count_in
-          (mount_in nat_eq rest new.number ∷ []) namespace
+          → count_in (with_mount nat_eq rest new) namespace + count_in (mount_in nat_eq rest new.number ∷ []) namespace
           ≡ count_in rest namespace + count_in (new ∷ []) namespace)
           → (b || is_among nat_eq new.number (numbers_of rest)) ≡ true
           → count_in (cond b new mount ∷ with_mount nat_eq rest new) namespace
@@ -125,11 +114,9 @@ module _ (new : Mount ℕ) (namespace : ℕ) where
           let first : count_in (new ∷ with_mount nat_eq rest new) namespace
           ≡ count_in (new ∷ rest) namespace = ap (λ list. count_in (new ∷ list) namespace) same in
           let one : count_in (new ∷ rest) namespace
-          ≡ count_in (new ∷ []) namespace + count_in rest namespace = count-append
-          (new ∷ []) rest namespace in
+          ≡ count_in (new ∷ []) namespace + count_in rest namespace = count-append (new ∷ []) rest namespace in
           let two : count_in (mount ∷ rest) namespace
-          ≡ count_in (mount ∷ []) namespace + count_in rest namespace = count-append
-          (mount ∷ []) rest namespace in
+          ≡ count_in (mount ∷ []) namespace + count_in rest namespace = count-append (mount ∷ []) rest namespace in
           omega (arith, first, one, two)
       by false e others later h =
           let rest_is = later h in
@@ -137,8 +124,7 @@ module _ (new : Mount ℕ) (namespace : ℕ) where
           ≡ count_in (mount ∷ []) namespace + count_in (with_mount nat_eq rest new) namespace = count-append
           (mount ∷ []) (with_mount nat_eq rest new) namespace in
           let two : count_in (mount ∷ rest) namespace
-          ≡ count_in (mount ∷ []) namespace + count_in rest namespace = count-append
-          (mount ∷ []) rest namespace in
+          ≡ count_in (mount ∷ []) namespace + count_in rest namespace = count-append (mount ∷ []) rest namespace in
           omega (arith, rest_is, one, two)
 
 -- several, each in the place of another
@@ -156,15 +142,13 @@ replaced_counted (copy ∷ copies) mounts namespace apart own there =
     (λ other m. ap (is_among nat_eq other.number) same_numbers ∙ there other (inr m)) in
     let kept : count_in (map (λ (other : Mount ℕ). mount_in nat_eq put other.number) copies) namespace
     ≡ count_in (map (λ (other : Mount ℕ). mount_in nat_eq mounts other.number) copies) namespace =
-    ap (λ list. count_in list namespace)
-    (map_among (λ (other : Mount ℕ). mount_in nat_eq put other.number)
+    ap (λ list. count_in list namespace) (map_among (λ (other : Mount ℕ). mount_in nat_eq put other.number)
     (λ (other : Mount ℕ). mount_in nat_eq mounts other.number) copies
     (λ other m. found-with_mount_other copy mounts other.number
     (none_among (λ (one : Mount ℕ). nat_eq copy.number one.number) copies parts.0 other m))) in
     let first = one_counted copy namespace mounts own (there copy (inl refl)) in
     let one : count_in (copy ∷ copies) namespace
-    ≡ count_in (copy ∷ []) namespace + count_in copies namespace = count-append
-    (copy ∷ []) copies namespace in
+    ≡ count_in (copy ∷ []) namespace + count_in copies namespace = count-append (copy ∷ []) copies namespace in
     let was = map (λ (other : Mount ℕ). mount_in nat_eq mounts other.number) copies in
     let two : count_in (mount_in nat_eq mounts copy.number ∷ was) namespace
     ≡ count_in (mount_in nat_eq mounts copy.number ∷ []) namespace + count_in was namespace =
@@ -182,8 +166,7 @@ module _ (mounts tree : List (Mount ℕ)) (own : OneNumberAMount mounts) (apart 
       let all = replaced_counted (map change tree) mounts namespace
       (one_number_by_numbers tree (map change tree) (changed_numbers tree) apart) own listed in
       let were : count_in (map (λ (copy : Mount ℕ). mount_in nat_eq mounts copy.number) (map change tree)) namespace
-      ≡ count_in tree namespace =
-      ap (λ list. count_in list namespace) (originals tree there) in
+      ≡ count_in tree namespace = ap (λ list. count_in list namespace) (originals tree there) in
       omega (arith, all, were)
     where
       changed_numbers : (list : List (Mount ℕ)) → numbers_of (map change list) ≡ numbers_of list
@@ -191,12 +174,7 @@ module _ (mounts tree : List (Mount ℕ)) (own : OneNumberAMount mounts) (apart 
       changed_numbers (mount ∷ list) = λ i. keeps mount i ∷ changed_numbers list i
 
       listed : (copy : Mount ℕ) → Among copy (map change tree) → is_among nat_eq copy.number (numbers_of mounts) ≡ true
-      listed copy m =
-          let from = among-from_map change tree copy m in
-          ap (λ (one : Mount ℕ). is_among nat_eq one.number (numbers_of mounts)) from.2
-          ∙ ap (λ n. is_among nat_eq n (numbers_of mounts)) (keeps from.0)
-          ∙ is_among_numbers (numbers_of mounts) from.0.number
-          (among-map (λ (one : Mount ℕ). one.number) mounts from.0 (there from.0 from.1))
+      listed copy m = grind (arith, common_steps, among-from_map, is_among_numbers, among-map)
 
       originals : (list : List (Mount ℕ)) → ((mount : Mount ℕ) → Among mount list → Among mount mounts)
           → map (λ (copy : Mount ℕ). mount_in nat_eq mounts copy.number) (map change list) ≡ list
@@ -243,8 +221,7 @@ module _ (world : World ℕ) (place : Location ℕ) where
         ∙ ap (λ all. count_in all namespace) (map_same_mounts list)
 
     -- the copies at a part are in its namespace
-    copies_counted : (namespace : ℕ) (part : Mount ℕ)
-        → count_in (copies_at nat_eq world new graft parts part) namespace
+    copies_counted : (namespace : ℕ) (part : Mount ℕ) → count_in (copies_at nat_eq world new graft parts part) namespace
         ≡ cond (is_in namespace part) (length tree) 0
     copies_counted namespace part =
         count-alike (copy_at nat_eq world new graft parts part) part.namespace (λ twig. refl) graft.twigs namespace
@@ -265,11 +242,9 @@ module _ (world : World ℕ) (place : Location ℕ) where
     added = attached_by nat_eq world new place false tree
 
     -- each namespace has one copy of the tree more for each of its parts
-    pub added_counted : (namespace : ℕ)
-        → count_in added.mounts namespace
+    pub added_counted : (namespace : ℕ) → count_in added.mounts namespace
         ≡ count_in world.mounts namespace + count_in parts namespace * length tree
-    added_counted namespace =
-        ap (λ list. count_in list namespace)
+    added_counted namespace = ap (λ list. count_in list namespace)
         (append_assoc (map (pushed_up nat_eq world new (graft new false tree) parts) world.mounts)
         (copies_at nat_eq world new (graft new false tree) parts (mount_at nat_eq world place))
         (flat_map (copies_at nat_eq world new (graft new false tree) parts)
@@ -295,8 +270,7 @@ module _ (world : World ℕ) (place : Location ℕ) where
 
     -- a mount that moves keeps its number
     keeps_number : (mount : Mount ℕ) → (there_now mount).number ≡ mount.number
-    keeps_number mount =
-        ap (λ b. cond b mount.number (new.copy (mount_at nat_eq world place).number mount.number))
+    keeps_number mount = ap (λ b. cond b mount.number (new.copy (mount_at nat_eq world place).number mount.number))
         (eq-eqb (mount_at nat_eq world place).number place.mount (number_found world.mounts place.mount))
 
     -- at the destination the mounts themselves come
@@ -328,8 +302,7 @@ module _ (world : World ℕ) (place : Location ℕ) where
         let front = count-append (map (pushed_up nat_eq world new (graft new true tree) parts)
         (folded (with_mount nat_eq) world.mounts
         (copies_at nat_eq world new (graft new true tree) parts (mount_at nat_eq world place)))) [] namespace in
-        let pushed = pushed_counted new true tree
-        (folded (with_mount nat_eq) world.mounts
+        let pushed = pushed_counted new true tree (folded (with_mount nat_eq) world.mounts
         (copies_at nat_eq world new (graft new true tree) parts (mount_at nat_eq world place))) namespace in
         let same : count_in (folded (with_mount nat_eq) world.mounts
         (copies_at nat_eq world new (graft new true tree) parts (mount_at nat_eq world place))) namespace
@@ -347,8 +320,7 @@ module _ (world : World ℕ) (place : Location ℕ) where
     module _ (own : OneNumberAMount world.mounts) (apart : OneNumberAMount tree)
         (within : (mount : Mount ℕ) → Among mount tree → Among mount world.mounts) where
       -- each namespace has one copy of the tree more for each of its parts, and the mounts that move leave theirs
-      pub moved_all : (namespace : ℕ)
-          → count_in moved.mounts namespace + count_in tree namespace
+      pub moved_all : (namespace : ℕ) → count_in moved.mounts namespace + count_in tree namespace
           ≡ count_in world.mounts namespace + count_in parts namespace * length tree
       moved_all namespace =
           let all = count-append (map (pushed_up nat_eq world new (graft new true tree) parts)
@@ -358,8 +330,7 @@ module _ (world : World ℕ) (place : Location ℕ) where
           let front = count-append (map (pushed_up nat_eq world new (graft new true tree) parts)
           (folded (with_mount nat_eq) world.mounts
           (copies_at nat_eq world new (graft new true tree) parts (mount_at nat_eq world place)))) [] namespace in
-          let pushed = pushed_counted new true tree
-          (folded (with_mount nat_eq) world.mounts
+          let pushed = pushed_counted new true tree (folded (with_mount nat_eq) world.mounts
           (copies_at nat_eq world new (graft new true tree) parts (mount_at nat_eq world place))) namespace in
           let put : count_in (folded (with_mount nat_eq) world.mounts
           (copies_at nat_eq world new (graft new true tree) parts (mount_at nat_eq world place))) namespace
@@ -370,15 +341,13 @@ module _ (world : World ℕ) (place : Location ℕ) where
           ≡ cond (is_in namespace (mount_at nat_eq world place)) (length tree) 0 =
           count-alike there_now (mount_at nat_eq world place).namespace (λ mount. refl) tree namespace in
           let rest = rest_counted new true tree namespace others in
-          let whole : count_in parts namespace * length tree
-          ≡ cond (is_in namespace (mount_at nat_eq world place))
+          let whole : count_in parts namespace * length tree ≡ cond (is_in namespace (mount_at nat_eq world place))
           (length tree) 0 + count_in others namespace * length tree =
           ap (λ n. n * length tree) (count-cons (mount_at nat_eq world place) others namespace)
           ∙ by (is_in namespace (mount_at nat_eq world place)) namespace in
           omega (arith, all, front, pushed, put, change, here, rest, whole)
         where
-          by : (b : Bool) (namespace : ℕ)
-              → (cond b 1 0 + count_in others namespace) * length tree
+          by : (b : Bool) (namespace : ℕ) → (cond b 1 0 + count_in others namespace) * length tree
               ≡ cond b (length tree) 0 + count_in others namespace * length tree
           by true namespace = omega arith
           by false namespace = omega arith

@@ -1,12 +1,10 @@
 -- Groups that lose their last member.
-use Rattle.std.proofs.Common.{arith}
+use Rattle.std.proofs.Common.{arith, ◌≡◌, refl, ap, ◌∙◌, ℕ, nat_eq, true, false, ◌||◌, List, [], ◌∷◌, length, map, Option, Some, None}
 use Rattle.std.proofs.lemmas.Grind.{common_steps}
-use Rattle.std.proofs.Common.{◌≡◌, refl, sym, ap, ◌∙◌, ℕ, nat_eq, true, false, ◌||◌, List, [], ◌∷◌, length, map, Option, Some, None}
 use Rattle.std.proofs.lemmas.Bool.{or_parts, not-false}
-use Rattle.vt_spec.specs.Lists.{holds_of}
-use Rattle.vt_spec.specs.Machine.Mounts.{Mount, Propagation, group_of, source_of}
+use Rattle.vt_spec.specs.Machine.Mounts.{Mount, Propagation, group_of}
 use Rattle.vt_spec.specs.Machine.Mounts.Propagation.{Private, Shared, Slave, Unbindable}
-use Rattle.vt_spec.specs.Machine.Receives.{has_members, heir, inherited, inheriting, is_lost_group, is_member_of, lost_a_group, regrouped, slave_of_heir}
+use Rattle.vt_spec.specs.Machine.Receives.{has_members, heir, inherited, inheriting, lost_a_group, regrouped, slave_of_heir}
 use Rattle.vt_spec.specs.Machine.World.{World}
 use Rattle.vt_spec.proofs.Lists.{chain_ends, map_same, none_among}
 use Rattle.vt_spec.proofs.Found.{find-chain_start}
@@ -27,9 +25,7 @@ module _ (world : World ℕ) where
       → has_members nat_eq (map (inheriting nat_eq world) mounts) group ≡ has_members nat_eq mounts group
   members-inherited [] group = refl
   members-inherited (mount ∷ mounts) group =
-      ap (λ g. holds_of (nat_eq group) g || has_members nat_eq (map (inheriting nat_eq world) mounts) group)
-      (group-inherited mount.propagation)
-      ∙ ap (λ b. is_member_of nat_eq group mount || b) (members-inherited mounts group)
+      grind (arith, common_steps, group-inherited, members-inherited mounts group)
 
   -- a slave whose master has a member keeps it
   pub inherited_kept : (above : ℕ) → has_members nat_eq world.mounts above ≡ true
@@ -38,21 +34,7 @@ module _ (world : World ℕ) where
       (find-chain_start (has_members nat_eq world.mounts) world.master (length world.mounts) above e)
 
   pub nothing_lost : (mount : Mount ℕ) → lost_a_group nat_eq world mount ≡ false → inheriting nat_eq world mount ≡ mount
-  nothing_lost mount e = by mount.propagation refl (or_parts _ _ e).0
-    where
-      same : inherited nat_eq world mount.propagation ≡ mount.propagation → inheriting nat_eq world mount ≡ mount
-      same f = λ i. record mount { propagation = f i }
-
-      by : (kind : Propagation ℕ) → mount.propagation ≡ kind
-          → is_lost_group nat_eq world (source_of mount.propagation) ≡ false
-          → inheriting nat_eq world mount ≡ mount
-      by (Shared group) f kept = same (ap (inherited nat_eq world) f ∙ sym f)
-      by (Slave above) f kept =
-          same (ap (inherited nat_eq world) f
-          ∙ inherited_kept above (not-false _ (sym (ap (λ k. is_lost_group nat_eq world (source_of k)) f) ∙ kept))
-          ∙ sym f)
-      by Private f kept = same (ap (inherited nat_eq world) f ∙ sym f)
-      by Unbindable f kept = same (ap (inherited nat_eq world) f ∙ sym f)
+  nothing_lost mount e = grind (arith, common_steps, or_parts, inherited_kept, not-false)
 
   -- each mount inherits, also where nothing is lost
   pub mounts-regrouped : (regrouped nat_eq world).mounts ≡ map (inheriting nat_eq world) world.mounts
@@ -65,8 +47,7 @@ module _ (world : World ℕ) where
       ∙ members-inherited world.mounts group
 
   pub master-regrouped : (group above : ℕ) → world.master group ≡ Some above
-      → has_members nat_eq world.mounts above ≡ true
-      → (regrouped nat_eq world).master group ≡ Some above
+      → has_members nat_eq world.mounts above ≡ true → (regrouped nat_eq world).master group ≡ Some above
   master-regrouped group above e f = grind (arith, common_steps, find-chain_start)
 
 -- a group without members and without a master has no heir

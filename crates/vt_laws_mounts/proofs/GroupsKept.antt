@@ -1,7 +1,6 @@
 -- Groups live on through changes of mounts.
-use Rattle.std.proofs.Common.{arith}
+use Rattle.std.proofs.Common.{arith, ◌≡◌, refl, sym, ap, subst, ◌∙◌, true, false, Bool, List, None, Option, Some, [], eq-eqb, eqb-true, filter, find, is_some, length, map, not, true≢false, ℕ, ⊎_elim, ◌&&◌, ◌++◌, ◌||◌, ◌∷◌, nat_eq}
 use Rattle.std.proofs.lemmas.Grind.{common_steps}
-use Rattle.std.proofs.Common.{◌≡◌, refl, sym, ap, subst, ◌∙◌, true, false, Bool, List, None, Option, Some, [], eq-eqb, eqb-true, filter, find, is_some, length, map, not, true≢false, ℕ, ⊎_elim, ◌&&◌, ◌++◌, ◌||◌, ◌∷◌, nat_eq}
 use Rattle.std.proofs.Math.Bool.{and-false}
 use Rattle.std.specs.List.{list_any}
 use Rattle.vt_spec.specs.Machine.Mounts.Propagation.{Private, Shared, Slave, Unbindable}
@@ -21,8 +20,8 @@ use Rattle.vt_laws_mounts.proofs.mounts.MountsReplaced.{found_itself, replaced_e
 use Rattle.vt_laws_mounts.proofs.ends.Unmounting.{going_is_detached, middle, staying_is_placed}
 use Rattle.vt_spec.specs.Machine.Receives.{groups_up, has_members, heir, inherited, inheriting, is_lost_group, is_member_of, lost_a_group, regrouped, regrouped_by, slave_of_heir}
 use Rattle.std.specs.Prelude.{if◌then◌else◌}
-use Rattle.vt_spec.specs.Machine.Settled.{is_located, mount_lives, settled}
-use Rattle.vt_spec.specs.Machine.Invariants.{Lives, is_nowhere_or_attached, is_private}
+use Rattle.vt_spec.specs.Machine.Settled.{mount_lives, settled}
+use Rattle.vt_spec.specs.Machine.Invariants.{Lives, is_nowhere_or_attached}
 use Rattle.vt_laws_mounts.proofs.Groups.{members-inherited}
 use Rattle.std.proofs.lemmas.Bool.{not-false, or_parts}
 use Rattle.std.proofs.lemmas.Option.{same_Some}
@@ -36,8 +35,7 @@ found_passes p (y ∷ ys) x e = grind (arith, common_steps, found_passes p ys x,
 
 -- a group lives also where more groups count as having members
 pub lives_weaker : (p q : ℕ → Bool) (master : ℕ → Option ℕ) → ((group : ℕ) → p group ≡ true → q group ≡ true)
-    → (group : ℕ)
-    → Lives p master group → Lives q master group
+    → (group : ℕ) → Lives p master group → Lives q master group
 lives_weaker p q master more group (has_no_master it has e) = has_no_master it (more it has) e
 lives_weaker p q master more group (has_master it next has e later) =
     has_master it next (more it has) e (lives_weaker p q master more next later)
@@ -76,8 +74,7 @@ module _ (world : World ℕ) where
 
   -- where masters end, each group with members that comes up them lives after the inheritance
   inherits_live : (group : ℕ) → EndsUp world.master group → (other : ℕ) → Up world.master group other
-      → members other ≡ true
-      → Lives members inherited_master other
+      → members other ≡ true → Lives members inherited_master other
   inherits_live group (at_top it e) other (here same) has = has_no_master same has (ap (heir nat_eq world) e)
   inherits_live group (at_top it e) other (above same next end f way) has =
       absurd (true≢false (sym (ap is_some f) ∙ ap is_some e))
@@ -111,9 +108,7 @@ module _ (world : World ℕ) where
           (unlost member.0 member.1)).1
 
   pub regrouped_live : ((mount : Mount ℕ) → Among mount world.mounts → (source : ℕ)
-      → source_of mount.propagation ≡ Some source
-      → EndsUp world.master source)
-      → GroupsLive (regrouped nat_eq world)
+      → source_of mount.propagation ≡ Some source → EndsUp world.master source) → GroupsLive (regrouped nat_eq world)
   regrouped_live ends = by (list_any (lost_a_group nat_eq world) world.mounts) refl
     where
       source_lives : (mount : Mount ℕ) → Among mount world.mounts → (kind : Propagation ℕ) → mount.propagation ≡ kind
@@ -168,8 +163,7 @@ taking_away_keeps_groups world gone live = regrouped_live (middle world gone) (�
     by : (mount : Mount ℕ) (b : Bool) → is_going nat_eq gone mount.number ≡ b → (source : ℕ)
         → source_of (after_going nat_eq world gone mount).propagation ≡ Some source
         → source_of mount.propagation ≡ Some source
-    by mount true e source f =
-        absurd (true≢false (sym (ap is_some f)
+    by mount true e source f = absurd (true≢false (sym (ap is_some f)
         ∙ ap (λ x. is_some (source_of x.propagation)) (going_is_detached world gone mount e)))
     by mount false e source f = sym (ap (λ x. source_of x.propagation) (staying_is_placed world gone mount e)) ∙ f
 
@@ -184,8 +178,7 @@ ended_namespaces_keep_groups world live =
 lazy_keeps : (mounts : List (Mount ℕ)) (world : World ℕ) → GroupsLive world
     → GroupsLive (folded (unmounted_if_there nat_eq) world mounts)
 lazy_keeps [] world live = live
-lazy_keeps (mount ∷ mounts) world live =
-    lazy_keeps mounts (unmounted_if_there nat_eq world mount)
+lazy_keeps (mount ∷ mounts) world live = lazy_keeps mounts (unmounted_if_there nat_eq world mount)
     (by (is_some (mount_numbered nat_eq world mount.number).namespace))
   where
     by : (b : Bool) → GroupsLive (if b then unmounted nat_eq world mount.number else world)
@@ -193,14 +186,12 @@ lazy_keeps (mount ∷ mounts) world live =
     by false = live
 
 pub lazy_keeps_groups : KeptByLazyUnmount GroupsLive
-lazy_keeps_groups world one live =
-    lazy_keeps (deepest_first nat_eq world
+lazy_keeps_groups world one live = lazy_keeps (deepest_first nat_eq world
     (mount_tree nat_eq world.mounts (mount_numbered nat_eq world one))) world live
 
 -- Mounts that keep their types
 members-map : (f : Mount ℕ → Mount ℕ) → ((mount : Mount ℕ) → (f mount).propagation ≡ mount.propagation)
-    → (mounts : List (Mount ℕ)) (group : ℕ)
-    → has_members nat_eq (map f mounts) group ≡ has_members nat_eq mounts group
+    → (mounts : List (Mount ℕ)) (group : ℕ) → has_members nat_eq (map f mounts) group ≡ has_members nat_eq mounts group
 members-map f same [] group = refl
 members-map f same (mount ∷ mounts) group =
     ap (λ k. holds_of (nat_eq group) (group_of k) || has_members nat_eq (map f mounts) group) (same mount)
@@ -216,14 +207,7 @@ pivot_keeps_groups world namespace root new put live =
     (lives_in world live from.0 from.1 source (sym (ap source_of (ap (λ x. x.propagation) from.2 ∙ kept from.0)) ∙ e)))
   where
     kept : (mount : Mount ℕ) → (pivoted_mount nat_eq root new put mount).propagation ≡ mount.propagation
-    kept mount = by (nat_eq mount.number new.number) (nat_eq mount.number root.number)
-      where
-        by : (a b : Bool)
-            → (if a then (record mount { mount_point = root.mount_point }) else if b then
-            (record mount { mount_point = Some put }) else mount).propagation ≡ mount.propagation
-        by true b = refl
-        by false true = refl
-        by false false = refl
+    kept mount = grind (arith, common_steps)
 
 pub unshare_keeps_groups : KeptByUnshare GroupsLive
 unshare_keeps_groups world fresh task live =
@@ -231,16 +215,13 @@ unshare_keeps_groups world fresh task live =
     let copy = copied_mount (numbers_by nat_eq (odds fresh) copied) (evens fresh 0) in
     groups_live_by (unshared nat_eq world fresh task) (λ mount m source e.
     let more : (group : ℕ) → has_members nat_eq world.mounts group ≡ true
-    → has_members nat_eq (world.mounts ++ map copy copied) group ≡ true =
-    λ group has.
+    → has_members nat_eq (world.mounts ++ map copy copied) group ≡ true = λ group has.
     let member = any_among (is_member_of nat_eq group) world.mounts has in
     any_from_among (is_member_of nat_eq group) (world.mounts ++ map copy copied) member.0
     (among-append_left world.mounts (map copy copied) member.0 member.1) member.2 in
     lives_weaker (has_members nat_eq world.mounts)
-    (has_members nat_eq (world.mounts ++ map copy copied)) world.master more source
-    (⊎_elim
-    (λ old. lives_in world live mount old source e)
-    (λ new.
+    (has_members nat_eq (world.mounts ++ map copy copied)) world.master more source (⊎_elim
+    (λ old. lives_in world live mount old source e) (λ new.
     let from = among-from_map copy copied mount new in
     let origin = among-from_filter (λ x. holds_of (nat_eq task.namespace) x.namespace) world.mounts from.0 from.1 in
     lives_in world live from.0 origin.0 source (sym (ap (λ x. source_of x.propagation) from.2) ∙ e))
@@ -260,26 +241,16 @@ settling_keeps_groups world nowhere live = groups_live_by (settled nat_eq world)
     let from = among-from_filter (mount_lives nat_eq world) world.mounts mount m in
     lives_with_members (has_members nat_eq (filter (mount_lives nat_eq world) world.mounts)) world.master source
     (lives_weaker (has_members nat_eq world.mounts)
-    (has_members nat_eq (filter (mount_lives nat_eq world) world.mounts)) world.master
-    (λ group has.
+    (has_members nat_eq (filter (mount_lives nat_eq world) world.mounts)) world.master (λ group has.
     let member = any_among (is_member_of nat_eq group) world.mounts has in
     any_from_among (is_member_of nat_eq group) (filter (mount_lives nat_eq world) world.mounts) member.0
     (among-filter (mount_lives nat_eq world) world.mounts member.0 member.1
     (attached member.0 (among_from_list_all is_nowhere_or_attached world.mounts nowhere member.0 member.1) group
-    (member_shared group member.0 member.2)))
-    member.2)
-    source (lives_in world live mount from.0 source e)))
+    (member_shared group member.0 member.2))) member.2) source (lives_in world live mount from.0 source e)))
   where
     attached : (mount : Mount ℕ) → is_nowhere_or_attached mount ≡ true → (group : ℕ) → mount.propagation ≡ Shared group
         → mount_lives nat_eq world mount ≡ true
-    attached mount fit group shared =
-        by (is_some mount.namespace)
-        (sym (ap (λ k. is_some mount.namespace || (not (is_some mount.mount_point) && is_private k)) shared) ∙ fit)
-      where
-        by : (b : Bool) → (b || (not (is_some mount.mount_point) && false)) ≡ true
-            → (b || is_located nat_eq world mount.number) ≡ true
-        by true e = refl
-        by false e = absurd (true≢false (sym e ∙ and-false (not (is_some mount.mount_point))))
+    attached mount fit group shared = grind (arith, common_steps, true≢false, and-false)
 
 -- A mount that takes other flags keeps its type.
 pub flags_keep_groups : FlagsKeepGroups
@@ -291,12 +262,10 @@ flags_keep_groups world at flags one_each live =
     groups_live_by (with_flags nat_eq world at.mount flags) (λ mount m source e.
     let from = among-from_map (replaced_if_same nat_eq new) world.mounts mount m in
     lives_weaker (has_members nat_eq world.mounts)
-    (has_members nat_eq (with_mount nat_eq world.mounts new)) world.master
-    (λ group has.
+    (has_members nat_eq (with_mount nat_eq world.mounts new)) world.master (λ group has.
     let member = any_among (is_member_of nat_eq group) world.mounts has in
     any_from_among (is_member_of nat_eq group) (with_mount nat_eq world.mounts new)
-    (replaced_if_same nat_eq new member.0)
-    (among-map (replaced_if_same nat_eq new) world.mounts member.0 member.1)
+    (replaced_if_same nat_eq new member.0) (among-map (replaced_if_same nat_eq new) world.mounts member.0 member.1)
     (ap (λ k. holds_of (nat_eq group) (group_of k)) (kept member.0 member.1) ∙ member.2))
     source (lives_in world live from.0 from.1 source
     (sym (ap source_of (ap (λ x. x.propagation) from.2 ∙ kept from.0 from.1)) ∙ e)))
@@ -305,10 +274,5 @@ flags_keep_groups world at flags one_each live =
         → nat_eq (mount_at nat_eq world at).number old.number ≡ b
         → (replaced_if_same nat_eq (record (mount_at nat_eq world at) { flags = flags }) old).propagation
         ≡ old.propagation
-    same_type old m true e =
-        ap (λ x. x.propagation) (replaced_there (record (mount_at nat_eq world at) { flags = flags }) old e)
-        ∙ ap (λ x. x.propagation)
-        (ap (mount_in nat_eq world.mounts) (sym (number-mount_in world.mounts at.mount) ∙ eqb-true _ _ e)
-        ∙ found_itself world.mounts one_each old m)
-    same_type old m false e = ap (λ x. x.propagation)
-        (replaced_elsewhere (record (mount_at nat_eq world at) { flags = flags }) old e)
+    same_type old m b e =
+        grind (arith, common_steps, replaced_there, number-mount_in, eqb-true, found_itself, replaced_elsewhere)

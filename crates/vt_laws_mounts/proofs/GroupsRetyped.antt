@@ -1,10 +1,8 @@
 -- Groups live on through a change of type.
-use Rattle.std.proofs.Common.{arith}
+use Rattle.std.proofs.Common.{arith, ◌≡◌, refl, sym, ap, subst, ◌∙◌, true, false, nat_eq, Bool, List, Option, Some, [], eq-eqb, eqb-true, inl, inr, true≢false, ⊎_elim, ◌∷◌, ◌⊎◌, ℕ}
 use Rattle.std.proofs.lemmas.Grind.{common_steps}
-use Rattle.std.proofs.Common.{◌≡◌, refl, sym, ap, subst, ◌∙◌, true, false, nat_eq, Bool, List, Option, Some, [], eq-eqb, eqb-true, inl, inr, is_some, true≢false, ⊎_elim, ◌∷◌, ◌⊎◌, ℕ}
 use Rattle.vt_spec.specs.Machine.Mounts.{Mount, Propagation, index_of, source_of}
 use Rattle.vt_spec.specs.Machine.Mounts.Propagation.{Private, Shared, Slave, Unbindable}
-use Rattle.vt_spec.specs.Language.Calls.TypeWord.{ToPrivate, ToShared, ToSlave, ToUnbindable}
 use Rattle.vt_laws_mounts.proofs.GroupsUp.{EndsUp, LivesIn, lives_in}
 use Rattle.vt_laws_mounts.proofs.GroupsUp.EndsUp.{at_top, goes_up}
 use Rattle.vt_spec.specs.Machine.Invariants.Lives.{has_master, has_no_master}
@@ -29,16 +27,7 @@ use Rattle.vt_spec.proofs.Worlds.{found_or_none, tree_among}
 -- what a type that is taken has as its source
 source_taken : (new : ℕ) (word : TypeWord) (kind : Propagation ℕ) (source : ℕ)
     → source_of (type_after new word kind) ≡ Some source → (source ≡ new) ⊎ (source_of kind ≡ Some source)
-source_taken new ToShared (Shared group) source e = inr e
-source_taken new ToShared (Slave above) source e = inl (sym (same_Some new source e))
-source_taken new ToShared Private source e = inl (sym (same_Some new source e))
-source_taken new ToShared Unbindable source e = inl (sym (same_Some new source e))
-source_taken new ToSlave (Shared group) source e = inr e
-source_taken new ToSlave (Slave above) source e = inr e
-source_taken new ToSlave Private source e = inr e
-source_taken new ToSlave Unbindable source e = inr e
-source_taken new ToPrivate kind source e = absurd (true≢false (sym (ap is_some e)))
-source_taken new ToUnbindable kind source e = absurd (true≢false (sym (ap is_some e)))
+source_taken new word kind source e = grind (arith, common_steps, same_Some, true≢false)
 
 -- the master of a group after new groups were made: as it was, or that of the mount for which the group is new
 module _ (group : ℕ → ℕ) where
@@ -51,46 +40,29 @@ module _ (group : ℕ → ℕ) where
       ⊎ IsNewMaster named one (with_new_groups nat_eq group master named one)
   unfolding IsNewMaster
   new_or_old master [] one = inl refl
-  new_or_old master (first ∷ rest) one =
-      ⊎_elim
-      (λ kept.
-      ⊎_elim
-      (λ other. inl (kept ∙ ap (λ b. if b then master_after first.propagation else master one) other.0))
-      (λ same. inr (
-        first,
-        inl refl,
-        same.1,
-        kept ∙ ap (λ b. if b then master_after first.propagation else master one) same.0,
-      ))
-      (either one (group first.number)))
-      (λ t. inr (t.0, inr t.1, t.2, t.3))
-      (new_or_old (with_master nat_eq master (group first.number) (master_after first.propagation)) rest one)
-    where
-      either : (a b : ℕ) → ((nat_eq a b ≡ false) × Unit {0}) ⊎ ((nat_eq a b ≡ true) × (a ≡ b))
-      either a b = ⊎_elim (λ t. inr t) (λ t. inl (t.0, tt)) (eqb_tells a b)
+  new_or_old master (first ∷ rest) one = grind (
+    arith,
+    common_steps,
+    eqb_tells,
+    new_or_old (with_master nat_eq master (group first.number) (master_after first.propagation)) rest one,
+  )
 
   -- a group that is made for one of them has a new master
   new_for_one : (master : ℕ → Option ℕ) (named : List (Mount ℕ)) (mount : Mount ℕ) → Among mount named
       → IsNewMaster named (group mount.number) (with_new_groups nat_eq group master named (group mount.number))
   unfolding IsNewMaster
   new_for_one master [] mount m = absurd m
-  new_for_one master (first ∷ rest) mount m =
-      ⊎_elim
-      (λ kept.
-      ⊎_elim
-      (λ e. (
+  new_for_one master (first ∷ rest) mount m = ⊎_elim (λ kept.
+      ⊎_elim (λ e. (
         first,
         inl refl,
         ap (λ (x : Mount ℕ). group x.number) e,
         kept ∙ ap (λ b. if b then master_after first.propagation else master (group mount.number))
             (eq-eqb (group mount.number) (group first.number) (ap (λ (x : Mount ℕ). group x.number) e)),
-      ))
-      (λ l.
+      )) (λ l.
       let t =
       new_for_one (with_master nat_eq master (group first.number) (master_after first.propagation)) rest mount l in
-      (t.0, inr t.1, t.2, t.3))
-      m)
-      (λ t. (t.0, inr t.1, t.2, t.3))
+      (t.0, inr t.1, t.2, t.3)) m) (λ t. (t.0, inr t.1, t.2, t.3))
       (new_or_old (with_master nat_eq master (group first.number) (master_after first.propagation)) rest
       (group mount.number))
 
@@ -103,8 +75,7 @@ module _ (world : World ℕ) (group : ℕ → ℕ) (word : TypeWord) (named : Li
 
   other_master : (one : ℕ) → has_members nat_eq world.mounts one ≡ true → after_all one ≡ world.master one
   unfolding IsNewMaster
-  other_master one has =
-      ⊎_elim (λ kept. kept)
+  other_master one has = ⊎_elim (λ kept. kept)
       (λ t. absurd (true≢false (sym has ∙ ap (has_members nat_eq world.mounts) t.2 ∙ none t.0.number)))
       (new_or_old group world.master named one)
 
@@ -121,26 +92,24 @@ module _ (world : World ℕ) (group : ℕ → ℕ) (word : TypeWord) (named : Li
       by : (x : Mount ℕ) → Among x named → (kind : Propagation ℕ) → x.propagation ≡ kind
           → after_all (group mount.number) ≡ master_after x.propagation → EndsUp after_all (group mount.number)
       by x l (Shared one) e is = at_top (group mount.number) (is ∙ ap master_after e)
-      by x l (Slave above) e is =
-          goes_up (group mount.number) above (is ∙ ap master_after e)
+      by x l (Slave above) e is = goes_up (group mount.number) above (is ∙ ap master_after e)
           (still_ends above (lives_in world live x (sourced x l above (ap source_of e)) above (ap source_of e)))
       by x l Private e is = at_top (group mount.number) (is ∙ ap master_after e)
       by x l Unbindable e is = at_top (group mount.number) (is ∙ ap master_after e)
 
   pub all_live : GroupsLive (next_world world group word named)
-  all_live =
-      grind (
-        arith,
-        common_steps,
-        regrouped_live,
-        among-from_map,
-        any_among,
-        eqb-true,
-        new_ends,
-        still_ends,
-        lives_in,
-        source_taken,
-      )
+  all_live = grind (
+    arith,
+    common_steps,
+    regrouped_live,
+    among-from_map,
+    any_among,
+    eqb-true,
+    new_ends,
+    still_ends,
+    lives_in,
+    source_taken,
+  )
 
 -- numbers that are not in use have no members
 pub unused_members : (world : World ℕ) (number : ℕ) → is_among nat_eq number (numbers_in_use world) ≡ false

@@ -1,18 +1,18 @@
 -- Groups that have members, and so up their masters to an end.
+use Rattle.std.proofs.lemmas.Grind.{common_steps}
 use Rattle.std.proofs.lemmas.List.Filters.{length-filter_both}
 use Rattle.std.proofs.Common.{◌≡◌, refl, sym, ap, subst, ◌∙◌, true, false, zero, suc, Bool, List, None, Option, Some, [], arith, is_some, length, nat_eq, true≢false, ℕ, ◌&&◌, ◌∷◌, ◌≤◌, eqb-true, filter, not, ⊎_elim}
 use Rattle.std.specs.List.{list_any, list_all}
 use Rattle.vt_laws_mounts.proofs.mounts.Receivers.{along_chain, groups_live_at}
 use Rattle.std.proofs.lemmas.Bool.{and_parts, and_from, false_from_ne_true, not-true, or_from, or_parts}
-use Rattle.vt_spec.specs.Lists.{chain, is_among, last_or, any_pair, holds_of}
+use Rattle.vt_spec.specs.Lists.{chain, is_among, last_or, any_pair}
 use Rattle.vt_spec.proofs.Lists.{chain_ends, chain_goes_on, last_of_chain, Among, among-filter, among_from_list_all, among_numbers, any_among, any_from_among, list_all_from_among, none_among}
 use Rattle.vt_laws_mounts.specs.Mounts.Receivers.{GroupsLive}
-use Rattle.vt_spec.specs.Machine.Mounts.{Mount, group_of, source_of}
+use Rattle.vt_spec.specs.Machine.Mounts.{Mount, source_of}
 use Rattle.vt_spec.specs.Machine.World.{World}
 use Rattle.vt_spec.specs.Machine.Receives.{groups_up, has_members, is_member_of}
 use Rattle.vt_spec.specs.Machine.Invariants.{Lives, has_living_groups, masters_end}
 use Rattle.vt_spec.specs.Machine.Invariants.Lives.{has_master, has_no_master}
-use Rattle.std.specs.Prelude.{option_to_list}
 use Rattle.std.proofs.lemmas.Option.{same_Some}
 use Rattle.vt_spec.proofs.Options.{none_from_not_some}
 
@@ -42,18 +42,15 @@ module _ (master : ℕ → Option ℕ) where
         has_no_master group (and_parts (members group) true all).0 (none_from_not_some (master group) e)
     lives_by_chain (suc n) group all e = by (master group) refl (lives_by_chain n)
       where
-        by : (found : Option ℕ) → master group ≡ found
-            → ((next : ℕ) → list_all members (chain n master next) ≡ true
+        by : (found : Option ℕ) → master group ≡ found → ((next : ℕ) → list_all members (chain n master next) ≡ true
             → is_some (master (last_or next (chain n master next))) ≡ false → Lives members master next)
             → Lives members master group
-        by None f later =
-            has_no_master group (and_parts (members group) true
+        by None f later = has_no_master group (and_parts (members group) true
             (sym (ap (list_all members) (chain_ends master n group f)) ∙ all)).0 f
         by (Some next) f later =
             let parts : (members group ≡ true) × (list_all members (chain n master next) ≡ true) =
             and_parts _ _ (sym (ap (list_all members) (chain_goes_on master n group next f)) ∙ all) in
-            has_master group next parts.0 f
-            (later next parts.1
+            has_master group next parts.0 f (later next parts.1
             (sym (ap (λ g. is_some (master g)) (ap (last_or group) (chain_goes_on master n group next f)
             ∙ last_of_chain master n next group)) ∙ e))
 
@@ -77,12 +74,9 @@ module _ (master : ℕ → Option ℕ) where
     -- all groups up the masters of a living group have members
     pub all_on_way : (n group : ℕ) → Lives members master group → list_all members (chain n master group) ≡ true
     all_on_way zero group life = ap (λ b. b && true) (live_members group life)
-    all_on_way (suc n) group (has_no_master it has f) =
-        ap (list_all members) (chain_ends master n it f) ∙ ap (λ b. b && true) has
+    all_on_way (suc n) group (has_no_master it has f) = grind (arith, common_steps, chain_ends)
     all_on_way (suc n) group (has_master it next has f later) =
-        ap (list_all members) (chain_goes_on master n it next f)
-        ∙ ap (λ b. b && list_all members (chain n master next)) has
-        ∙ all_on_way n next later
+        grind (arith, common_steps, chain_goes_on, all_on_way n next later)
 
     -- a chain as long as the way comes to an end
     pub ends_within : (n group : ℕ) (life : Lives members master group) → length (way group life) ≤ suc n
@@ -97,8 +91,7 @@ module _ (master : ℕ → Option ℕ) where
         too_long g (has_master x y h e r) t = omega (arith, t)
     ends_within (suc n) group (has_master it next has f later) l =
         ap (λ g. is_some (master g)) (ap (last_or it) (chain_goes_on master n it next f)
-        ∙ last_of_chain master n next it)
-        ∙ ends_within n next later (omega (arith, l))
+        ∙ last_of_chain master n next it) ∙ ends_within n next later (omega (arith, l))
 
     same_length : (a : ℕ) (life : Lives members master a) (b : ℕ) (other : Lives members master b) → a ≡ b
         → length (way a life) ≡ length (way b other)
@@ -118,13 +111,10 @@ module _ (master : ℕ → Option ℕ) where
         by : (o : ℕ) → it ≡ o → (rest : Lives members master o) × (length (way o rest) ≤ 1)
         by o e = subst (λ g. (rest : Lives members master g) × (length (way g rest) ≤ 1)) e
             (has_no_master it has f, omega arith)
-    rest_of_way group (has_master it next has f later) other m =
-        ⊎_elim
+    rest_of_way group (has_master it next has f later) other m = ⊎_elim
         (λ e. subst (λ g. (rest : Lives members master g) × (length (way g rest) ≤ suc (length (way next later))))
-        (sym e)
-        (has_master it next has f later, omega arith))
-        (λ l. let t = rest_of_way next later other l in (t.0, omega (arith, t.1)))
-        m
+        (sym e) (has_master it next has f later, omega arith))
+        (λ l. let t = rest_of_way next later other l in (t.0, omega (arith, t.1))) m
 
     -- no group comes twice
     pub way_apart : (group : ℕ) (life : Lives members master group) → any_pair nat_eq (way group life) ≡ false
@@ -135,8 +125,7 @@ module _ (master : ℕ → Option ℕ) where
         let t = rest_of_way next later it (among_numbers (way next later) it h) in
         let same : length (way it t.0) ≡ suc (length (way next later)) =
         same_length it t.0 it (has_master it next has f later) refl in
-        absurd (omega (arith, t.1, same))))
-        (way_apart next later)
+        absurd (omega (arith, t.1, same)))) (way_apart next later)
 
     -- all groups on the way have members
     pub way_members : (group : ℕ) (life : Lives members master group) → list_all members (way group life) ≡ true
@@ -175,14 +164,7 @@ fewer_groups (group ∷ groups) mounts distinct all =
     still : (one other : ℕ) (list : List (Mount ℕ)) → nat_eq one other ≡ false → has_members nat_eq list other ≡ true
         → has_members nat_eq (filter (λ mount. not (is_member_of nat_eq one mount)) list) other ≡ true
     still one other list differ h =
-        let member = any_among (is_member_of nat_eq other) list h in
-        any_from_among (is_member_of nat_eq other) (filter (λ mount. not (is_member_of nat_eq one mount)) list) member.0
-        (among-filter (λ mount. not (is_member_of nat_eq one mount)) list member.0 member.1
-        (no_member (group_of member.0.propagation) member.2)) member.2
-      where
-        no_member : (found : Option ℕ) → holds_of (nat_eq other) found ≡ true → not (holds_of (nat_eq one) found) ≡ true
-        no_member None e = absurd (true≢false (sym e))
-        no_member (Some k) e = ap not (ap (nat_eq one) (sym (eqb-true other k e)) ∙ differ)
+        grind (arith, common_steps, one, any_among, any_from_among, among-filter, true≢false, eqb-true)
 
 -- A world whose groups live, told by the groups themselves
 -- as in the invariants of mounts
@@ -197,10 +179,8 @@ lives_in world live mount m source e =
 
 pub groups_live_by : (world : World ℕ)
     → ((mount : Mount ℕ) → Among mount world.mounts → (source : ℕ) → source_of mount.propagation ≡ Some source
-    → LivesIn world source)
-    → GroupsLive world
-groups_live_by world lives =
-    list_all_from_among (has_living_groups nat_eq world) world.mounts
+    → LivesIn world source) → GroupsLive world
+groups_live_by world lives = list_all_from_among (has_living_groups nat_eq world) world.mounts
     (λ mount m. by mount m (source_of mount.propagation) refl)
   where
     one : (source : ℕ) → LivesIn world source
@@ -211,17 +191,8 @@ groups_live_by world lives =
         let few : length (way world.master members source life) ≤ length world.mounts =
         fewer_groups (way world.master members source life) world.mounts (way_apart world.master members source life)
         (way_members world.master members source life) in
-        and_from _ _ (all_on_way world.master members (length world.mounts) source life)
-        (ap not (ends_within world.master members (length world.mounts) source life (omega (arith, few))))
+        grind (arith, common_steps, and_from, all_on_way, ends_within)
 
     by : (mount : Mount ℕ) → Among mount world.mounts → (found : Option ℕ) → source_of mount.propagation ≡ found
         → has_living_groups nat_eq world mount ≡ true
-    by mount m None e =
-        ap (λ s. list_all
-        (λ group. list_all (has_members nat_eq world.mounts) (groups_up world group) && masters_end nat_eq world group)
-        (option_to_list s)) e
-    by mount m (Some source) e =
-        ap (λ s. list_all
-        (λ group. list_all (has_members nat_eq world.mounts) (groups_up world group) && masters_end nat_eq world group)
-        (option_to_list s)) e
-        ∙ ap (λ b. b && true) (one source (lives mount m source e))
+    by mount m found e = grind (arith, common_steps, one)

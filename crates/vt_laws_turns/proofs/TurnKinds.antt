@@ -65,14 +65,12 @@ module _ (sched : Sched ℕ) (task : Task ℕ) (line : ℕ) (call : Call) (fresh
       → IsWalked before (further nat_eq sched task line call fresh before)
   goes_further before e = by_next before (slice_get (words_of ways) before.walked) e refl
 
-  by_entry : (rules : Result Call Deny) (restarts : ℕ)
-      → IsWalked (first_progress nat_eq sched.world task restarts)
+  by_entry : (rules : Result Call Deny) (restarts : ℕ) → IsWalked (first_progress nat_eq sched.world task restarts)
       (first_turn_by nat_eq rules sched task line call fresh restarts)
   by_entry (Err deny) restarts = inl refl
   by_entry (Ok same) restarts = goes_further (first_progress nat_eq sched.world task restarts) refl
 
-  first_is : (restarts : ℕ)
-      → IsWalked (first_progress nat_eq sched.world task restarts)
+  first_is : (restarts : ℕ) → IsWalked (first_progress nat_eq sched.world task restarts)
       (first_turn nat_eq sched task line call fresh restarts)
   first_is restarts = by_entry (unless (entry_rules task call) (Ok call)) restarts
 
@@ -83,11 +81,9 @@ module _ (sched : Sched ℕ) (task : Task ℕ) (line : ℕ) (call : Call) (fresh
   by_most false p e o m = Restarts p e o m (first_is (p.restarts + 1))
 
   by_stale : (stale : Bool) (p : Progress ℕ) → under_way_of sched.under_way task.name ≡ Some p
-      → is_overtaken nat_eq sched.world task p ≡ stale
-      → TurnKind (later_turn nat_eq stale sched task line call fresh p)
+      → is_overtaken nat_eq sched.world task p ≡ stale → TurnKind (later_turn nat_eq stale sched task line call fresh p)
   by_stale true p e o = by_most (nat_le most_restarts p.restarts) p e o refl
-  by_stale false p e o =
-      GoesOn p e o (goes_further p (sym (same_task_name task.name p.task
+  by_stale false p e o = GoesOn p e o (goes_further p (sym (same_task_name task.name p.task
       (found_passes (λ (progress : Progress ℕ). same_name task.name progress.task) sched.under_way p e))))
 
   by_progress : (p : Option (Progress ℕ)) → under_way_of sched.under_way task.name ≡ p
@@ -96,16 +92,14 @@ module _ (sched : Sched ℕ) (task : Task ℕ) (line : ℕ) (call : Call) (fresh
   by_progress (Some p) e = by_stale (is_overtaken nat_eq sched.world task p) p e refl
 
   -- the turn of the first call of a task's queue is of one of these kinds
-  pub turn_of_call : IsNextOf sched task line call
-      → TurnKind (turn nat_eq sched (Someone task.name) (Some fresh))
+  pub turn_of_call : IsNextOf sched task line call → TurnKind (turn nat_eq sched (Someone task.name) (Some fresh))
   unfolding turn
   turn_of_call next = by_queue (queue_of sched.queues (Someone task.name)) next.first
     where
       by_task : (found : Option (Task ℕ)) → found ≡ Some task
           → TurnKind (call_turn_of nat_eq sched task.name line call fresh found)
       by_task None e = none_is_some task e
-      by_task (Some other) e =
-          subst (λ (t : Task ℕ). TurnKind (turn_under_way nat_eq sched t line call fresh
+      by_task (Some other) e = subst (λ (t : Task ℕ). TurnKind (turn_under_way nat_eq sched t line call fresh
           (under_way_of sched.under_way task.name))) (sym (ap (λ o. unwrap_or o other) e))
           (by_progress (under_way_of sched.under_way task.name) refl)
 

@@ -36,8 +36,7 @@ is_task_call (Someone name) item = is_call item
 is_task_call Nobody item = false
 
 pub data Shape (sched : Sched ℕ) (who : Who) (fresh : Option (Fresh ℕ)) (turned : Turned ℕ) : Type 0 where
-  Idle : queue_of sched.queues who ≡ [] → turned ≡ record { sched = sched; reply = None }
-      → Shape sched who fresh turned
+  Idle : queue_of sched.queues who ≡ [] → turned ≡ record { sched = sched; reply = None } → Shape sched who fresh turned
   OtherDone : (first : Queued) → first_of_list (queue_of sched.queues who) ≡ Some first
       → is_task_call who first.item ≡ false → (outcome : Outcome ℕ)
       → turned ≡ replied sched who first.line sched.under_way outcome → Shape sched who fresh turned
@@ -81,8 +80,7 @@ module _ (sched : Sched ℕ) where
 
       by_task : (name : TaskName) (line : ℕ) (call : Call) (given : Fresh ℕ) (rest : List Queued)
           → queue_of sched.queues (Someone name) ≡ record { line = line; item = Calls call } ∷ rest
-          → (found : Option (Task ℕ)) → task_called sched.world name ≡ found
-          → Shape sched (Someone name) (Some given)
+          → (found : Option (Task ℕ)) → task_called sched.world name ≡ found → Shape sched (Someone name) (Some given)
           (queue_turn nat_eq sched (Someone name) (record { line = line; item = Calls call } ∷ rest) (Some given))
       by_task name line call given rest f None t =
           CallDone name refl line call (firsts (Someone name) line (Calls call) rest f)
@@ -93,23 +91,19 @@ module _ (sched : Sched ℕ) where
           (found_passes (λ (other : Task ℕ). same_name name other.name) sched.world.tasks task t) in
           subst (λ n. Shape sched (Someone n) (Some given)
           (queue_turn nat_eq sched (Someone n) (record { line = line; item = Calls call } ∷ rest) (Some given)))
-          (sym same)
-          (at_queue task line call given rest (ap (λ n. queue_of sched.queues (Someone n)) (sym same) ∙ f)
+          (sym same) (at_queue task line call given rest (ap (λ n. queue_of sched.queues (Someone n)) (sym same) ∙ f)
           (ap (task_called sched.world) (sym same) ∙ t))
         where
           at_queue : (task : Task ℕ) (line : ℕ) (call : Call) (given : Fresh ℕ) (rest : List Queued)
               → queue_of sched.queues (Someone task.name) ≡ record { line = line; item = Calls call } ∷ rest
-              → task_called sched.world task.name ≡ Some task
-              → Shape sched (Someone task.name) (Some given)
+              → task_called sched.world task.name ≡ Some task → Shape sched (Someone task.name) (Some given)
               (queue_turn nat_eq sched (Someone task.name) (record { line = line; item = Calls call } ∷ rest)
               (Some given))
           at_queue task line call given rest f t =
               subst (λ (items : List Queued). Shape sched (Someone task.name) (Some given)
-              (queue_turn nat_eq sched (Someone task.name) items (Some given))) f
-              (by_kind task line call given
+              (queue_turn nat_eq sched (Someone task.name) items (Some given))) f (by_kind task line call given
               (record { called = t; first = firsts (Someone task.name) line (Calls call) rest f })
-              (turn nat_eq sched (Someone task.name) (Some given))
-              (turn_of_call sched task line call given
+              (turn nat_eq sched (Someone task.name) (Some given)) (turn_of_call sched task line call given
               (record { called = t; first = firsts (Someone task.name) line (Calls call) rest f })))
 
       by_item : (w : Who) (f : Option (Fresh ℕ)) (line : ℕ) (item : Item) (rest : List Queued)

@@ -1,11 +1,11 @@
 -- A world of plain filesystems has no overlay of which anything could be asked.
-use Rattle.std.proofs.Common.{◌≡◌, refl, sym, ap, ◌∙◌, ℕ, nat_eq, Bool, true, false, [], None, is_some, true≢false, flat_map}
+use Rattle.std.proofs.Common.{arith, ◌≡◌, refl, sym, ap, ◌∙◌, ℕ, nat_eq, Bool, true, false, [], None, true≢false, flat_map}
+use Rattle.std.proofs.lemmas.Grind.{common_steps}
 use Rattle.std.specs.Prelude.{All}
 use Rattle.std.specs.List.{list_any, list_all}
-use Rattle.vt_spec.specs.Machine.Locked.{live_upper_and_work, of_overlay, overlaps_one_of, overlay_or, overlays}
-use Rattle.vt_spec.specs.Lists.{any_pair}
+use Rattle.vt_spec.specs.Machine.Locked.{live_upper_and_work, of_overlay, overlay_or, overlays}
 use Rattle.vt_spec.specs.Machine.World.{Filesystem, Overlay, World, filesystem_numbered, is_overlay}
-use Rattle.vt_spec.specs.Machine.Invariants.{OverlayInvariants, overlap, live_lowers}
+use Rattle.vt_spec.specs.Machine.Invariants.{OverlayInvariants}
 use Rattle.vt_spec.proofs.Lists.{Among, all_from_among, among_from_all, filter_none, list_all_from_among, none_from_among}
 use Rattle.vt_laws_mounts.specs.LettingGo.InUse.{UppersArePlain, has_upper_in}
 use Rattle.vt_laws_trees.proofs.trees.TreesOfWorlds.{numbered_anyhow}
@@ -14,18 +14,15 @@ use Rattle.vt_spec.proofs.Options.{none_from_not_some}
 
 module _ (world : World ℕ) (plain : IsPlain world) where
   pub no_overlay : (filesystem : Filesystem ℕ) → Among filesystem world.filesystems → filesystem.overlay ≡ None
-  no_overlay filesystem m =
-      none_from_not_some filesystem.overlay
+  no_overlay filesystem m = none_from_not_some filesystem.overlay
       (among_from_all (λ f. is_overlay f ≡ false) world.filesystems plain filesystem m)
 
   pub plain_numbered : (number : ℕ) → (filesystem_numbered nat_eq world number).overlay ≡ None
-  plain_numbered number =
-      none_from_not_some (filesystem_numbered nat_eq world number).overlay
+  plain_numbered number = none_from_not_some (filesystem_numbered nat_eq world number).overlay
       (numbered_anyhow (λ f. is_overlay f ≡ false) number world.filesystems plain refl)
 
   pub none_is_overlay : list_any is_overlay world.filesystems ≡ false
-  none_is_overlay =
-      none_from_among is_overlay world.filesystems
+  none_is_overlay = none_from_among is_overlay world.filesystems
       (λ f m. among_from_all (λ g. is_overlay g ≡ false) world.filesystems plain f m)
 
   no_overlays : overlays world ≡ []
@@ -39,15 +36,7 @@ module _ (world : World ℕ) (plain : IsPlain world) where
   no_changed_layers = ap (flat_map _) no_overlays
 
   pub plain_overlays : OverlayInvariants nat_eq world
-  plain_overlays = record {
-    overlays_merge = λ number overlay e. absurd (true≢false (sym (ap is_some e) ∙ ap is_some (plain_numbered number)));
-    fit_layers = of_plain _;
-    plain_layers = of_plain _;
-    changed_apart = ap (any_pair (overlap nat_eq world)) no_changed_layers;
-    lowers_apart = ap (list_any (overlaps_one_of nat_eq world (live_lowers nat_eq world))) no_changed_layers;
-    uppers_reached = λ number overlay upper e.
-        absurd (true≢false (sym (ap is_some e) ∙ ap is_some (plain_numbered number)));
-  }
+  plain_overlays = grind (arith, common_steps, true≢false, plain_numbered, of_plain, no_changed_layers)
 
   pub uppers_plain : UppersArePlain world
   uppers_plain =

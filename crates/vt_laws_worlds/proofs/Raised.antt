@@ -1,17 +1,15 @@
 -- Change numbers: no invariant reads one.
-use Rattle.std.proofs.Common.{arith}
+use Rattle.std.proofs.Common.{arith, ◌≡◌, refl, sym, ap, subst, ◌∙◌, ◌≤◌, ℕ, nat_eq, Bool, false, List, [], ◌∷◌, ◌++◌, find, map}
 use Rattle.std.proofs.lemmas.Grind.{common_steps}
-use Rattle.std.proofs.Common.{◌≡◌, refl, sym, ap, subst, ◌∙◌, ◌≤◌, ℕ, nat_eq, Bool, false, List, [], ◌∷◌, ◌++◌, find, map}
-use Rattle.std.specs.Prelude.{Option, is_some, nat_lt, length, option_to_list, unwrap_or, ◌&&◌}
-use Rattle.std.specs.List.{list_all, list_any}
-use Rattle.std.proofs.lemmas.List.Elements.{All-map, All-weaker}
-use Rattle.vt_spec.specs.Language.Limits.{most_mounts}
+use Rattle.std.specs.Prelude.{Option, is_some, option_to_list, unwrap_or, ◌&&◌}
+use Rattle.std.specs.List.{list_all}
+use Rattle.std.proofs.lemmas.List.Elements.{All-map}
 use Rattle.vt_spec.specs.FileTree.{FileTree, is_kind_in}
 use Rattle.vt_spec.specs.Lists.{is_among}
 use Rattle.vt_spec.specs.Machine.Mounts.{Location, Mount}
-use Rattle.vt_spec.specs.Machine.World.{Descriptor, Filesystem, Namespace, Task, World, all_locations, filesystem_numbered, is_overlay, locations_of, mount_at, mounts_of, no_filesystem}
+use Rattle.vt_spec.specs.Machine.World.{Descriptor, Filesystem, Namespace, Task, World, all_locations, filesystem_numbered, is_overlay, locations_of, mount_at, no_filesystem}
 use Rattle.vt_spec.specs.Language.Calls.{same_name}
-use Rattle.vt_spec.specs.Machine.Invariants.{ForksAreCounted, ListsNumbers, MountInvariants, NamespaceInvariants, Stands, TaskInvariants, TreeInvariants, has_one_root, is_fit_filesystem, is_listed, is_within_limits}
+use Rattle.vt_spec.specs.Machine.Invariants.{ForksAreCounted, ListsNumbers, MountInvariants, NamespaceInvariants, TaskInvariants, TreeInvariants, is_fit_filesystem, is_within_limits}
 use Rattle.vt_spec.specs.Tree.{Node, is_directory_node}
 use Rattle.vt_spec.specs.declared.attributes.Kind.TheVariants.{File}
 use Rattle.vt_spec.specs.TreeInvariant.{HasOwnParents, IsTree}
@@ -80,40 +78,10 @@ module _ (of_filesystem : Filesystem ℕ → ℕ) (of_namespace : Namespace ℕ 
   }
 
   pub mounts_counted : MountInvariants nat_eq world → MountInvariants nat_eq counted
-  mounts_counted is = record {
-    one_number = is.one_number;
-    one_child = is.one_child;
-    standing = All-weaker (λ (mount : Mount ℕ). Stands nat_eq world mount.number)
-        (λ mount. Stands nat_eq counted mount.number)
-        (λ mount stands. stands_alike world counted (λ number. refl) mount.number stands) world.mounts is.standing;
-    nowhere = is.nowhere;
-    groups = is.groups;
-  }
+  mounts_counted is = grind (arith, common_steps, stands_alike)
 
   pub namespaces_counted : NamespaceInvariants nat_eq world → NamespaceInvariants nat_eq counted
-  namespaces_counted is = record {
-    one_namespace = pair-map (λ (a b : Namespace ℕ). nat_eq a.number b.number)
-        (λ (a b : Namespace ℕ). nat_eq a.number b.number)
-        namespace_counted world.namespaces (λ a b m n e. e) is.one_namespace;
-    mounts_listed = ap (λ numbers. list_all
-        (λ (mount : Mount ℕ). list_all (λ number. is_among nat_eq number numbers) (option_to_list mount.namespace))
-        world.mounts) same_listed
-        ∙ is.mounts_listed;
-    tasks_listed = ap (λ numbers. list_all
-        (λ (task : Task ℕ). is_among nat_eq task.namespace numbers) counted.tasks) same_listed
-        ∙ all-map (λ (task : Task ℕ). is_listed nat_eq world task.namespace) task_counted
-        (λ task e. e) world.tasks is.tasks_listed;
-    root_mounts = all-map (has_one_root nat_eq counted) namespace_counted
-        (λ namespace e. e) world.namespaces is.root_mounts;
-    namespaces_live = all-map (λ namespace. list_any
-        (λ (task : Task ℕ). nat_eq namespace.number task.namespace) counted.tasks) namespace_counted
-        (λ namespace e. any-map (λ (task : Task ℕ). nat_eq namespace.number task.namespace) task_counted world.tasks
-        (λ task. refl) ∙ e)
-        world.namespaces is.namespaces_live;
-    few_mounts = any-map (λ (namespace : Namespace ℕ). nat_lt most_mounts
-        (length (mounts_of nat_eq world namespace.number))) namespace_counted world.namespaces (λ namespace. refl)
-        ∙ is.few_mounts;
-  }
+  namespaces_counted is = grind (arith, common_steps, pair-map, same_listed, all-map, any-map)
 
   -- what is asked of a location, by the trees
   abbrev node_by : FilesBy → Location ℕ → Option (Node ℕ)
@@ -124,8 +92,7 @@ module _ (of_filesystem : Filesystem ℕ → ℕ) (of_namespace : Namespace ℕ 
       is_among nat_eq location.mount (map (λ mount. mount.number) world.mounts) && is_some (node_by files location)
 
   abbrev is_seen_by : FilesBy → ℕ → Location ℕ → Bool
-  is_seen_by files namespace location =
-      is_directory_node (node_by files location)
+  is_seen_by files namespace location = is_directory_node (node_by files location)
       && list_all (nat_eq namespace) (option_to_list (mount_at nat_eq world location).namespace)
 
   abbrev stands_by : FilesBy → Task ℕ → Bool
@@ -136,8 +103,7 @@ module _ (of_filesystem : Filesystem ℕ → ℕ) (of_namespace : Namespace ℕ 
       list_all (λ (descriptor : Descriptor ℕ). is_kind_in File (node_by files descriptor.location)) task.descriptors
 
   abbrev has_root_by : FilesBy → Mount ℕ → Bool
-  has_root_by files mount =
-      is_directory_node ((files mount.filesystem).tree.node mount.root)
+  has_root_by files mount = is_directory_node ((files mount.filesystem).tree.node mount.root)
       && list_all (λ place. is_directory_node (node_by files place)) (option_to_list mount.mount_point)
 
   forks_counted : ForksAreCounted world → ForksAreCounted counted

@@ -1,16 +1,14 @@
 -- What is in use does not go by change numbers, so raising them keeps all invariants.
-use Rattle.std.proofs.Common.{arith}
+use Rattle.std.proofs.Common.{arith, ◌≡◌, refl, sym, ap, subst, ◌∙◌, ℕ, nat_eq, true, cond, List, ◌∷◌, ◌++◌, ◌||◌, ◌&&◌, map, is_some}
 use Rattle.std.proofs.lemmas.Grind.{common_steps}
-use Rattle.std.proofs.Common.{◌≡◌, refl, sym, ap, subst, ◌∙◌, ℕ, nat_eq, true, cond, List, [], ◌∷◌, ◌++◌, ◌||◌, ◌&&◌, map, is_some}
 use Rattle.std.specs.Prelude.{filter, filter_map}
 use Rattle.std.specs.List.{list_all, list_any}
 use Rattle.std.proofs.lemmas.List.Elements.{All-map, All-weaker}
 use Rattle.vt_spec.specs.Machine.Filesystems.{raised, raised_if_changed}
-use Rattle.vt_spec.specs.Machine.Locked.{of_overlay}
 use Rattle.vt_spec.specs.Machine.Mounts.{Location, Mount, root_of}
 use Rattle.vt_spec.specs.Machine.Policy.{numbers_raised, raised_namespace, raised_task, same_mounts_in}
-use Rattle.vt_spec.specs.Machine.Settled.{filesystem_lives, has_layer_on, is_mounted, named_in, objects_of_overlay, settled, used_in}
-use Rattle.vt_spec.specs.Machine.World.{Filesystem, Layer, Namespace, Task, World, all_locations, layers_of, mount_at}
+use Rattle.vt_spec.specs.Machine.Settled.{filesystem_lives, has_layer_on, is_mounted, settled, used_in}
+use Rattle.vt_spec.specs.Machine.World.{Filesystem, Layer, Namespace, Task, World, all_locations, mount_at}
 use Rattle.vt_spec.specs.Language.Calls.{TaskName, same_name}
 use Rattle.vt_spec.specs.Machine.Invariants.{IsWorld}
 use Rattle.vt_spec.proofs.Lists.{all-map}
@@ -25,14 +23,7 @@ pub use Rattle.vt_laws_mounts.proofs.letting_go.sweeps.OfWorlds.{all_in_use as w
 
 -- the invariants of a world are those while a call is under way, and that nothing goes
 pub unsettled_of : (world : World ℕ) → IsWorld nat_eq world → IsPlain world → IsWorldButForUse world
-unsettled_of world is plain = record {
-  plain = plain;
-  files = is.files;
-  mounts = is.mounts;
-  namespaces = is.namespaces;
-  tasks = is.tasks;
-  roots = is.roots;
-}
+unsettled_of world is plain = grind (arith, common_steps)
 
 pub world_of : (world : World ℕ) → IsWorldButForUse world → settled nat_eq world ≡ world → IsWorld nat_eq world
 world_of world is nothing = record {
@@ -62,8 +53,7 @@ module _ (of_filesystem : Filesystem ℕ → ℕ) (of_namespace : Namespace ℕ 
       (λ task. refl)
 
   abbrev located_by : List (Location ℕ) → ℕ → List ℕ
-  located_by locations filesystem =
-      map (λ location. location.node)
+  located_by locations filesystem = map (λ location. location.node)
       (filter (λ location. nat_eq filesystem (mount_at nat_eq world location).filesystem)
       (locations ++ map root_of world.mounts ++ filter_map (λ mount. mount.mount_point) world.mounts))
 
@@ -73,23 +63,17 @@ module _ (of_filesystem : Filesystem ℕ → ℕ) (of_namespace : Namespace ℕ 
 
   used_later : (filesystem : Filesystem ℕ) → used_in nat_eq later (filesystem_later filesystem)
       ≡ used_in nat_eq world filesystem
-  used_later filesystem = λ i.
-      filesystem.files.tree.root ∷ (named_in filesystem.files ++ located_by (locations_later i) filesystem.number
-      ++ layers_by (flat_map-map filesystem_later (of_overlay [] layers_of) world.filesystems (λ f. refl) i)
-      filesystem.number
-      ++ flat_map-map filesystem_later (objects_of_overlay nat_eq filesystem.number) world.filesystems (λ f. refl) i)
+  used_later filesystem = grind (arith, common_steps, locations_later, flat_map-map)
 
   lives_later : (filesystem : Filesystem ℕ) → filesystem_lives nat_eq later (filesystem_later filesystem)
       ≡ filesystem_lives nat_eq world filesystem
-  lives_later filesystem =
-      ap (λ b. is_mounted nat_eq world filesystem.number || b)
+  lives_later filesystem = ap (λ b. is_mounted nat_eq world filesystem.number || b)
       (any-map (λ merged. has_layer_on nat_eq filesystem.number merged && is_mounted nat_eq world merged.number)
       filesystem_later world.filesystems (λ f. refl))
 
   pub in_use_later : AllInUse world → AllInUse later
   in_use_later is = record {
-    mounts = ap (λ locations. list_all
-        (λ (mount : Mount ℕ). is_some mount.namespace
+    mounts = ap (λ locations. list_all (λ (mount : Mount ℕ). is_some mount.namespace
         || list_any (λ (l : Location ℕ). nat_eq mount.number l.mount) locations) world.mounts) locations_later
         ∙ is.mounts;
     filesystems = all-map (filesystem_lives nat_eq later) filesystem_later
@@ -134,16 +118,10 @@ module _ (before : World ℕ) (name : TaskName) (changed : List ℕ) (world : Wo
 
   pub numbers_raised_are : numbers_raised nat_eq before name changed world
       ≡ counted (number_if changed world) namespace_if task_if (raised world.change) world
-  numbers_raised_are = λ i. record world {
-    filesystems = map (λ filesystem. raised_filesystem_is changed world filesystem i) world.filesystems;
-    namespaces = map (λ namespace. raised_namespace_is namespace i) world.namespaces;
-    tasks = map (λ task. raised_task_is task i) world.tasks;
-    change = raised world.change;
-  }
+  numbers_raised_are = grind (arith, common_steps, raised_filesystem_is, raised_namespace_is, raised_task_is)
 
   pub raising_numbers_keeps_world : IsWorld nat_eq world → IsPlain world
       → IsWorld nat_eq (numbers_raised nat_eq before name changed world)
       × IsPlain (numbers_raised nat_eq before name changed world)
-  raising_numbers_keeps_world is plain =
-      subst (λ w. IsWorld nat_eq w × IsPlain w) (sym numbers_raised_are)
+  raising_numbers_keeps_world is plain = subst (λ w. IsWorld nat_eq w × IsPlain w) (sym numbers_raised_are)
       (world_counted (number_if changed world) namespace_if task_if (raised world.change) world is plain)

@@ -48,8 +48,7 @@ abbrev pub AreNamedApart : List (Task ℕ) → Type 0
 AreNamedApart tasks = any_pair (λ (a b : Task ℕ). same_name a.name b.name) tasks ≡ false
 
 mapped_apart : (f : Task ℕ → Task ℕ) → ((task : Task ℕ) → (f task).name ≡ task.name) → (tasks : List (Task ℕ))
-    → AreNamedApart tasks
-    → AreNamedApart (map f tasks)
+    → AreNamedApart tasks → AreNamedApart (map f tasks)
 mapped_apart f names tasks e =
     pair-map (λ (a b : Task ℕ). same_name a.name b.name) (λ (a b : Task ℕ). same_name a.name b.name) f tasks
     (λ a b m n h. ap (λ x. same_name x (f b).name) (names a) ∙ ap (same_name a.name) (names b) ∙ h) e
@@ -73,22 +72,18 @@ appended_apart (first ∷ rest) new e differ = both (any_appended rest (first_pa
 
     any_appended : (list : List (Task ℕ)) → list_any (λ (b : Task ℕ). same_name first.name b.name) list ≡ false
         → list_any (λ (b : Task ℕ). same_name first.name b.name) (list ++ (new ∷ [])) ≡ false
-    any_appended list h =
-        none_from_among (λ (b : Task ℕ). same_name first.name b.name) (list ++ (new ∷ [])) (λ b m.
+    any_appended list h = none_from_among (λ (b : Task ℕ). same_name first.name b.name) (list ++ (new ∷ [])) (λ b m.
         ⊎_elim (λ l. none_among (λ (x : Task ℕ). same_name first.name x.name) list h b l)
         (λ r. ⊎_elim (λ same. ap (λ (x : Task ℕ). same_name first.name x.name) same ∙ differ first (inl refl))
-        (λ none. absurd none) r)
-        (among-append list (new ∷ []) b m))
+        (λ none. absurd none) r) (among-append list (new ∷ []) b m))
 
     both : list_any (λ (b : Task ℕ). same_name first.name b.name) (rest ++ (new ∷ [])) ≡ false
-        → AreNamedApart (rest ++ (new ∷ []))
-        → AreNamedApart (first ∷ (rest ++ (new ∷ [])))
+        → AreNamedApart (rest ++ (new ∷ [])) → AreNamedApart (first ∷ (rest ++ (new ∷ [])))
     both h k = ap (λ b. b || any_pair (λ (a b : Task ℕ). same_name a.name b.name) (rest ++ (new ∷ []))) h ∙ k
 
 -- Forks are counted, in a list of tasks
 abbrev AreCounted : List (Task ℕ) → Type 0
-AreCounted tasks =
-    (task other : Task ℕ) (number : ℕ) (rest : TaskName) → Among task tasks → Among other tasks
+AreCounted tasks = (task other : Task ℕ) (number : ℕ) (rest : TaskName) → Among task tasks → Among other tasks
     → other.name ≡ task.name ++ (number ∷ rest) → number ≤ task.forks
 
 pub counted_among : (world : World ℕ) → ForksAreCounted world → AreCounted world.tasks
@@ -101,21 +96,14 @@ counted_from world counted task other number rest m n =
 
 -- each task has the name of one that was there, and has forked no less
 abbrev ComeFrom : List (Task ℕ) → List (Task ℕ) → Type 0
-ComeFrom before after =
-    (task : Task ℕ) → Among task after → (old : Task ℕ) × Among old before × (task.name ≡ old.name)
+ComeFrom before after = (task : Task ℕ) → Among task after → (old : Task ℕ) × Among old before × (task.name ≡ old.name)
     × (old.forks ≤ task.forks)
 
 counted_on : (before after : List (Task ℕ)) → ComeFrom before after → AreCounted before → AreCounted after
-counted_on before after come counted task other number rest m n e =
-    let one = come task m in
-    let two = come other n in
-    let small : number ≤ one.0.forks =
-    counted one.0 two.0 number rest one.1 two.1 (sym two.2 ∙ e ∙ ap (λ l. l ++ (number ∷ rest)) one.2) in
-    omega (arith, small, one.3)
+counted_on before after come counted task other number rest m n e = grind (arith, common_steps)
 
 replaced_come : (new task : Task ℕ) (tasks : List (Task ℕ)) → Among task tasks → new.name ≡ task.name
-    → task.forks ≤ new.forks
-    → ComeFrom tasks (map (replaced_if_called new) tasks)
+    → task.forks ≤ new.forks → ComeFrom tasks (map (replaced_if_called new) tasks)
 replaced_come new task tasks there name forks other m =
     let from = among-from_map (replaced_if_called new) tasks other m in grind (arith, common_steps)
 
@@ -125,12 +113,10 @@ pub data GoOn (task : Task ℕ) (before : List (Task ℕ)) : List (Task ℕ) →
   one_changed : (new : Task ℕ) (after : List (Task ℕ)) → new.name ≡ task.name → new.forks ≡ task.forks
       → after ≡ map (replaced_if_called new) before → GoOn task before after
   all_moved : (namespace : ℕ) (root new : Mount ℕ) (after : List (Task ℕ))
-      → after ≡ map (pivoted_task nat_eq namespace root new) before
-      → GoOn task before after
+      → after ≡ map (pivoted_task nat_eq namespace root new) before → GoOn task before after
   one_left : (after : List (Task ℕ)) → after ≡ filter
       (λ (other : Task ℕ). not (same_name task.name other.name)) before → GoOn task before after
-  one_more : (credentials : Credentials) (after : List (Task ℕ))
-      → after ≡ map (replaced_if_called
+  one_more : (credentials : Credentials) (after : List (Task ℕ)) → after ≡ map (replaced_if_called
       (record task { forks = task.forks + 1 })) before ++ (child_of task credentials ∷ []) → GoOn task before after
 
 pivoted_keeps : (namespace : ℕ) (root new : Mount ℕ) (task : Task ℕ)
@@ -148,30 +134,20 @@ module _ (task : Task ℕ) (before : List (Task ℕ)) (there : Among task before
   child_is_new other m = grind (arith, common_steps, same_task_name)
 
   pub go_on_apart : (after : List (Task ℕ)) → GoOn task before after → AreNamedApart after
-  go_on_apart after (same_ones list e) = subst AreNamedApart (sym e) apart
-  go_on_apart after (one_changed new list name forks e) =
-      subst AreNamedApart (sym e) (mapped_apart (replaced_if_called new) (name-replaced_if_called new) before apart)
-  go_on_apart after (all_moved namespace root new list e) =
-      subst AreNamedApart (sym e)
-      (mapped_apart (pivoted_task nat_eq namespace root new)
-      (λ t. (pivoted_keeps namespace root new t).0) before apart)
-  go_on_apart after (one_left list e) =
-      subst AreNamedApart (sym e)
-      (pair-filter (λ (a b : Task ℕ). same_name a.name b.name)
-      (λ (other : Task ℕ). not (same_name task.name other.name)) before apart)
-  go_on_apart after (one_more credentials list e) =
-      subst AreNamedApart (sym e)
-      (appended_apart (map (replaced_if_called parent) before) (child_of task credentials)
-      (mapped_apart (replaced_if_called parent) (name-replaced_if_called parent) before apart)
-      (λ other m.
-      let from = among-from_map (replaced_if_called parent) before other m in
-      ap (λ (t : Task ℕ). same_name t.name (child_name task)) from.2
-      ∙ ap (λ n. same_name n (child_name task)) (name-replaced_if_called parent from.0)
-      ∙ child_is_new from.0 from.1))
+  go_on_apart after known = grind (
+    arith,
+    common_steps,
+    mapped_apart,
+    name-replaced_if_called,
+    pivoted_keeps,
+    pair-filter,
+    appended_apart,
+    among-from_map,
+    child_is_new,
+  )
 
   -- a child's name begins with that of a task that was there
-  above_child : (other : Task ℕ) → Among other (map (replaced_if_called parent) before)
-      → (number : ℕ) (rest : TaskName)
+  above_child : (other : Task ℕ) → Among other (map (replaced_if_called parent) before) → (number : ℕ) (rest : TaskName)
       → child_name task ≡ other.name ++ (number ∷ rest) → number ≤ other.forks
   above_child other m number rest e =
       let from = among-from_map (replaced_if_called parent) before other m in
@@ -183,8 +159,7 @@ module _ (task : Task ℕ) (before : List (Task ℕ)) (there : Among task before
 
       by : (old : Task ℕ) → Among old before → (b : Bool) → same_name task.name old.name ≡ b
           → child_name task ≡ (cond b parent old).name ++ (number ∷ rest) → number ≤ (cond b parent old).forks
-      by old n true same h =
-          ⊎_elim (λ one. last_one (task.forks + 1) number one.1)
+      by old n true same h = ⊎_elim (λ one. last_one (task.forks + 1) number one.1)
           (λ longer. absurd (not_longer task.name number longer.0 longer.1))
           (two_ways task.name (task.forks + 1) task.name number rest h)
       by old n false differ h =
@@ -194,49 +169,34 @@ module _ (task : Task ℕ) (before : List (Task ℕ)) (there : Among task before
 
   pub go_on_counted : (after : List (Task ℕ)) → GoOn task before after → AreCounted after
   go_on_counted after (same_ones list e) = subst AreCounted (sym e) counted
-  go_on_counted after (one_changed new list name forks e) =
-      subst AreCounted (sym e)
+  go_on_counted after (one_changed new list name forks e) = subst AreCounted (sym e)
       (counted_on before (map (replaced_if_called new) before)
       (replaced_come new task before there name (omega (arith, forks))) counted)
-  go_on_counted after (all_moved namespace root new list e) =
-      subst AreCounted (sym e)
+  go_on_counted after (all_moved namespace root new list e) = subst AreCounted (sym e)
       (counted_on before (map (pivoted_task nat_eq namespace root new) before) (λ other m.
       let from = among-from_map (pivoted_task nat_eq namespace root new) before other m in
       let kept = pivoted_keeps namespace root new from.0 in (
         from.0,
         from.1,
-        ap (λ (t : Task ℕ). t.name) from.2
-            ∙ kept.0,
+        ap (λ (t : Task ℕ). t.name) from.2 ∙ kept.0,
         subst (λ (t : Task ℕ). from.0.forks ≤ t.forks) (sym from.2) kept.1,
-      ))
-      counted)
-  go_on_counted after (one_left list e) =
-      subst AreCounted (sym e) (λ one other number rest m n.
+      )) counted)
+  go_on_counted after (one_left list e) = subst AreCounted (sym e) (λ one other number rest m n.
       counted one other number rest
       (among-from_filter (λ (x : Task ℕ). not (same_name task.name x.name)) before one m).0
       (among-from_filter (λ (x : Task ℕ). not (same_name task.name x.name)) before other n).0)
-  go_on_counted after (one_more credentials list e) =
-      subst AreCounted (sym e) (λ one other number rest m n h.
+  go_on_counted after (one_more credentials list e) = subst AreCounted (sym e) (λ one other number rest m n h.
       let old = map (replaced_if_called parent) before in
       let child = child_of task credentials in
       let come = counted_on before old (replaced_come parent task before there refl (omega arith)) counted in
-      ⊎_elim
-      (λ first. ⊎_elim
-      (λ second. come one other number rest first second h)
+      ⊎_elim (λ first. ⊎_elim (λ second. come one other number rest first second h)
       (λ second. ⊎_elim (λ is. above_child one first number rest (sym (ap (λ (t : Task ℕ). t.name) is) ∙ h))
-      (λ none. absurd none) second)
-      (among-append old (child ∷ []) other n))
-      (λ first. ⊎_elim
-      (λ is_child.
+      (λ none. absurd none) second) (among-append old (child ∷ []) other n)) (λ first. ⊎_elim (λ is_child.
       let name : other.name ≡ child_name task ++ (number ∷ rest) = h
       ∙ ap (λ (t : Task ℕ). t.name ++ (number ∷ rest)) is_child in
-      ⊎_elim
-      (λ second. absurd (below_none other second number rest name))
-      (λ second. ⊎_elim (λ is. absurd
+      ⊎_elim (λ second. absurd (below_none other second number rest name)) (λ second. ⊎_elim (λ is. absurd
       (not_longer (child_name task) number rest (sym (ap (λ (t : Task ℕ). t.name) is) ∙ name)))
-      (λ none. absurd none) second)
-      (among-append old (child ∷ []) other n))
-      (λ none. absurd none) first)
+      (λ none. absurd none) second) (among-append old (child ∷ []) other n)) (λ none. absurd none) first)
       (among-append old (child ∷ []) one m))
     where
       too_many : task.forks + 1 ≤ task.forks → ⊥
@@ -244,18 +204,11 @@ module _ (task : Task ℕ) (before : List (Task ℕ)) (there : Among task before
 
       -- nothing was named below the child
       below_none : (other : Task ℕ) → Among other (map (replaced_if_called parent) before)
-          → (number : ℕ) (rest : TaskName)
-          → other.name ≡ child_name task ++ (number ∷ rest) → ⊥
+          → (number : ℕ) (rest : TaskName) → other.name ≡ child_name task ++ (number ∷ rest) → ⊥
       below_none other m number rest h =
-          let from = among-from_map (replaced_if_called parent) before other m in
-          too_many (counted task from.0 (task.forks + 1) (number ∷ rest) there from.1
-          (sym (name-replaced_if_called parent from.0) ∙ ap (λ (t : Task ℕ). t.name) (sym from.2) ∙ h
-          ∙ append_assoc task.name ((task.forks + 1) ∷ []) (number ∷ rest)))
+          grind (arith, common_steps, among-from_map, too_many, name-replaced_if_called, append_assoc)
 
 pub opening_counts_forks : (fresh : Fresh ℕ) → ForksAreCounted (opening nat_eq fresh)
-opening_counts_forks fresh =
-    counted_from (opening nat_eq fresh) (λ task other number rest m n e.
-    ⊎_elim
-    (λ (one : other ≡ first_task nat_eq fresh). absurd
-    (none_append task.name number rest (ap (λ (t : Task ℕ). t.name) (sym one) ∙ e)))
-    (λ none. absurd none) n)
+opening_counts_forks fresh = counted_from (opening nat_eq fresh) (λ task other number rest m n e.
+    ⊎_elim (λ (one : other ≡ first_task nat_eq fresh). absurd
+    (none_append task.name number rest (ap (λ (t : Task ℕ). t.name) (sym one) ∙ e))) (λ none. absurd none) n)

@@ -8,12 +8,10 @@ use Rattle.vt_spec.specs.Machine.World.{Descriptor}
 
 -- descriptors above a number are above a lower one
 pub ascending_lower : (lower least : ℕ) (list : List (Descriptor ℕ)) → lower ≤ least
-    → are_ascending_from least list ≡ true
-    → are_ascending_from lower list ≡ true
+    → are_ascending_from least list ≡ true → are_ascending_from lower list ≡ true
 ascending_lower lower least [] le h = refl
 ascending_lower lower least (descriptor ∷ list) le h =
-    let above =
-    leb-true least descriptor.number
+    let above = leb-true least descriptor.number
     ((and_parts (nat_le least descriptor.number) (are_ascending_from (descriptor.number + 1) list) h).0) in
     both (nat_le lower descriptor.number) (are_ascending_from (descriptor.number + 1) list)
     (le-leb lower descriptor.number (omega (arith, above, le)))
@@ -21,11 +19,9 @@ ascending_lower lower least (descriptor ∷ list) le h =
 
 -- those that are kept stay in order
 pub ascending-filter : (stays : Descriptor ℕ → Bool) (least : ℕ) (list : List (Descriptor ℕ))
-    → are_ascending_from least list ≡ true
-    → are_ascending_from least (filter stays list) ≡ true
+    → are_ascending_from least list ≡ true → are_ascending_from least (filter stays list) ≡ true
 ascending-filter stays least [] h = refl
-ascending-filter stays least (descriptor ∷ list) h =
-    by (stays descriptor)
+ascending-filter stays least (descriptor ∷ list) h = by (stays descriptor)
     (ascending-filter stays (descriptor.number + 1) list
     ((and_parts (nat_le least descriptor.number) (are_ascending_from (descriptor.number + 1) list) h).1))
   where

@@ -1,19 +1,16 @@
 -- What is found in a list, and numbers among numbers.
-use Rattle.std.proofs.Common.{Bool, List, None, Option, Some, [], ap, cond, eq-eqb, false, inl, inr, length, map, nat_eq, refl, suc, sym, true, true≢false, zero, ℕ, ◌++◌, ◌||◌, ◌∙◌, ◌∷◌, ◌≡◌}
+use Rattle.std.proofs.Common.{Bool, List, None, Option, Some, [], ap, cond, eq-eqb, false, inl, inr, length, map, nat_eq, refl, suc, sym, true, true≢false, zero, ℕ, ◌++◌, ◌||◌, ◌∙◌, ◌∷◌, ◌≡◌, filter}
 use Rattle.std.proofs.lemmas.Bool.{or_right}
 use Rattle.std.proofs.lemmas.List.Folds.{list_any-append}
 use Rattle.std.proofs.lemmas.Option.{same_Some}
 use Rattle.std.specs.List.{find, list_any}
 use Rattle.std.specs.Ordering.{eq_by_cmp}
-use Rattle.vt_spec.proofs.Lists.{Among, chain_ends, chain_goes_on}
+use Rattle.vt_spec.proofs.Lists.{Among, chain_ends, chain_goes_on, filter_here}
 use Rattle.vt_spec.proofs.Nodes.{none_is_not}
 use Rattle.vt_spec.proofs.Options.{none_is_some}
 use Rattle.vt_spec.specs.Lists.{chain, is_among}
 use Rattle.vt_spec.specs.Machine.Mounts.{Mount}
 use Rattle.vt_spec.specs.Tree.{Entries, entry_named, name_cmp}
-use Rattle.std.proofs.Common.{filter}
-use Rattle.vt_spec.proofs.Lists.{filter_here}
-use Rattle.std.proofs.lemmas.Bool.{or_right}
 
 -- a number among the first is among all
 pub is_among_left : (x : ℕ) (xs ys : List ℕ) → is_among nat_eq x xs ≡ true → is_among nat_eq x (xs ++ ys) ≡ true
@@ -77,8 +74,7 @@ among_targets name (entry ∷ entries) number e =
     by : (b : Bool) → (entry_named name entries ≡ Some number → is_among nat_eq number (map (λ e. e.1) entries) ≡ true)
         → cond b (Some entry.1) (entry_named name entries) ≡ Some number
         → (nat_eq number entry.1 || is_among nat_eq number (map (λ e. e.1) entries)) ≡ true
-    by true rest is =
-        ap (λ b. b || is_among nat_eq number (map (λ e. e.1) entries))
+    by true rest is = ap (λ b. b || is_among nat_eq number (map (λ e. e.1) entries))
         (eq-eqb number entry.1 (sym (same_Some entry.1 number is)))
     by false rest is = or_right (nat_eq number entry.1) _ (rest is)
 
@@ -92,6 +88,5 @@ filter_all p (y ∷ ys) all =
 pub filter_alike : {A : Type 0} (p q : A → Bool) (xs : List A) → ((x : A) → Among x xs → p x ≡ q x)
     → filter p xs ≡ filter q xs
 filter_alike p q [] same = refl
-filter_alike p q (y ∷ ys) same =
-    ap (λ b. cond b (y ∷ filter p ys) (filter p ys)) (same y (inl refl))
+filter_alike p q (y ∷ ys) same = ap (λ b. cond b (y ∷ filter p ys) (filter p ys)) (same y (inl refl))
     ∙ ap (λ l. cond (q y) (y ∷ l) l) (filter_alike p q ys (λ x m. same x (inr m)))

@@ -59,8 +59,7 @@ by_step {B = B} step b next other e f = subst (λ (s : Result B Deny). and_then 
 
 -- a descriptor that is found is the task's, and opened for what is asked
 pub descriptor_found : {N : Type 0} (task : Task N) (number : ℕ) (fits : Descriptor N → Bool)
-    (descriptor : Descriptor N)
-    → descriptor_at task number fits ≡ Ok descriptor
+    (descriptor : Descriptor N) → descriptor_at task number fits ≡ Ok descriptor
     → (descriptor_numbered task number ≡ Some descriptor) × (fits descriptor ≡ true)
 descriptor_found {N} task number fits descriptor = by (descriptor_numbered task number)
   where

@@ -1,19 +1,11 @@
 -- An inode and its node.
 use Rattle.std.proofs.Common.{None, Option, Some, false, is_some, refl, true, ℕ, ◌≡◌}
 use Rattle.vt_spec.specs.Inodes.{Inode, node_in, uses_in}
-use Rattle.vt_spec.specs.Tree.{is_directory_node}
 
 -- no inode has no node
 pub node_in-none : (o : Option (Inode ℕ)) → is_some o ≡ false → node_in o ≡ None
 node_in-none None e = refl
 node_in-none (Some inode) e = cc
-
--- a directory has an inode
-pub directory_inode_is_there : (o : Option (Rattle.vt_spec.specs.Inodes.Inode ℕ))
-    → is_directory_node (Rattle.vt_spec.specs.Inodes.node_in o) ≡ true
-    → is_some o ≡ true
-directory_inode_is_there None e = cc
-directory_inode_is_there (Some inode) e = refl
 
 -- no inode has no use
 pub uses_in-none : (o : Option (Inode ℕ)) → is_some o ≡ false → uses_in o ≡ 0

@@ -40,8 +40,7 @@ module _ {A : Type 0} where
 
   pub contains_from_among : (xs : List A) (x : A) → Among x xs → Contains xs x
   contains_from_among [] x m = absurd m
-  contains_from_among (y ∷ ys) x m =
-      ⊎_elim (λ e. (zero, omega arith, sym e))
+  contains_from_among (y ∷ ys) x m = ⊎_elim (λ e. (zero, omega arith, sym e))
       (λ l. let c : Contains ys x = contains_from_among ys x l in (suc c.0, omega (arith, c.1), c.2)) m
 
   pub filter_here : (p : A → Bool) (y : A) (ys : List A) → p y ≡ true → filter p (y ∷ ys) ≡ y ∷ filter p ys
@@ -53,9 +52,7 @@ module _ {A : Type 0} where
   -- what a filter keeps
   pub among-filter : (p : A → Bool) (xs : List A) (x : A) → Among x xs → p x ≡ true → Among x (filter p xs)
   among-filter p [] x m h = absurd m
-  among-filter p (y ∷ ys) x m h =
-      ⊎_elim
-      (λ e. subst (Among x) (sym (filter_here p y ys (ap p (sym e) ∙ h))) (inl e))
+  among-filter p (y ∷ ys) x m h = ⊎_elim (λ e. subst (Among x) (sym (filter_here p y ys (ap p (sym e) ∙ h))) (inl e))
       (λ l. later (p y) refl (among-filter p ys x l h)) m
     where
       later : (b : Bool) → p y ≡ b → Among x (filter p ys) → Among x (filter p (y ∷ ys))
@@ -67,8 +64,7 @@ module _ {A : Type 0} where
   among-from_filter p (y ∷ ys) x m = by (p y) refl (among-from_filter p ys x)
     where
       by : (b : Bool) → p y ≡ b → (Among x (filter p ys) → Among x ys × (p x ≡ true)) → Among x (y ∷ ys) × (p x ≡ true)
-      by true e next =
-          ⊎_elim (λ same. (inl same, ap p same ∙ e))
+      by true e next = ⊎_elim (λ same. (inl same, ap p same ∙ e))
           (λ l. let found : Among x ys × (p x ≡ true) = next l in (inr found.0, found.1))
           (subst (Among x) (filter_here p y ys e) m)
       by false e next = let found : Among x ys × (p x ≡ true) =
@@ -94,15 +90,13 @@ module _ {A B : Type 0} where
 
   pub among-from_map : (f : A → B) (xs : List A) (b : B) → Among b (map f xs) → (x : A) × Among x xs × (b ≡ f x)
   among-from_map f [] b m = absurd m
-  among-from_map f (y ∷ ys) b m =
-      ⊎_elim (λ e. (y, inl refl, e))
+  among-from_map f (y ∷ ys) b m = ⊎_elim (λ e. (y, inl refl, e))
       (λ l. let t : (x : A) × Among x ys × (b ≡ f x) = among-from_map f ys b l in (t.0, inr t.1, t.2)) m
 
   pub among-filter_map : (h : A → Option B) (xs : List A) (x : A) (b : B) → Among x xs → h x ≡ Some b
       → Among b (filter_map h xs)
   among-filter_map h [] x b m e = absurd m
-  among-filter_map h (y ∷ ys) x b m e =
-      ⊎_elim
+  among-filter_map h (y ∷ ys) x b m e = ⊎_elim
       (λ same. subst (λ o. Among b (cons_option o (filter_map h ys))) (sym (ap h (sym same) ∙ e)) (inl refl))
       (λ l. later (h y) (among-filter_map h ys x b l e)) m
     where
@@ -119,22 +113,19 @@ module _ {A B : Type 0} where
           → (Among b (filter_map h ys) → (x : A) × Among x ys × (h x ≡ Some b))
           → (x : A) × Among x (y ∷ ys) × (h x ≡ Some b)
       by None e l next = let t : (x : A) × Among x ys × (h x ≡ Some b) = next l in (t.0, inr t.1, t.2)
-      by (Some c) e l next =
-          ⊎_elim (λ same. (y, inl refl, e ∙ ap Some (sym same)))
+      by (Some c) e l next = ⊎_elim (λ same. (y, inl refl, e ∙ ap Some (sym same)))
           (λ later. let t : (x : A) × Among x ys × (h x ≡ Some b) = next later in (t.0, inr t.1, t.2)) l
 
 module _ {A : Type 0} where
   pub any_among : (p : A → Bool) (xs : List A) → list_any p xs ≡ true → (x : A) × Among x xs × (p x ≡ true)
   any_among p [] h = absurd (true≢false (sym h))
-  any_among p (y ∷ ys) h =
-      ⊎_elim (λ e. (y, inl refl, e))
+  any_among p (y ∷ ys) h = ⊎_elim (λ e. (y, inl refl, e))
       (λ l. let t : (x : A) × Among x ys × (p x ≡ true) = any_among p ys l in (t.0, inr t.1, t.2))
       (or_cases (p y) (list_any p ys) h)
 
   pub any_from_among : (p : A → Bool) (xs : List A) (x : A) → Among x xs → p x ≡ true → list_any p xs ≡ true
   any_from_among p [] x m e = absurd m
-  any_from_among p (y ∷ ys) x m e =
-      ⊎_elim (λ same. ap (λ b. b || list_any p ys) (ap p (sym same) ∙ e))
+  any_from_among p (y ∷ ys) x m e = ⊎_elim (λ same. ap (λ b. b || list_any p ys) (ap p (sym same) ∙ e))
       (λ l. later (p y) (any_from_among p ys x l e)) m
     where
       later : (b : Bool) → list_any p ys ≡ true → (b || list_any p ys) ≡ true
@@ -165,8 +156,7 @@ module _ {A B : Type 0} where
   pub among-from_flat_map : (f : A → List B) (xs : List A) (b : B) → Among b (flat_map f xs)
       → (x : A) × Among x xs × Among b (f x)
   among-from_flat_map f [] b m = absurd m
-  among-from_flat_map f (x ∷ xs) b m =
-      ⊎_elim (λ here. (x, inl refl, here))
+  among-from_flat_map f (x ∷ xs) b m = ⊎_elim (λ here. (x, inl refl, here))
       (λ later. let t : (x : A) × Among x xs × Among b (f x) = among-from_flat_map f xs b later in (t.0, inr t.1, t.2))
       (among-append (f x) (flat_map f xs) b m)
 
@@ -179,8 +169,7 @@ among_numbers (first ∷ rest) number h =
 
 pub is_among_numbers : (numbers : List ℕ) (number : ℕ) → Among number numbers → is_among nat_eq number numbers ≡ true
 is_among_numbers [] number m = absurd m
-is_among_numbers (first ∷ rest) number m =
-    ⊎_elim (λ e. head_first first number rest e)
+is_among_numbers (first ∷ rest) number m = ⊎_elim (λ e. head_first first number rest e)
     (λ later. later_first (nat_eq number first) (is_among_numbers rest number later)) m
   where
     head_first : (other one : ℕ) (others : List ℕ) → one ≡ other → is_among nat_eq one (other ∷ others) ≡ true
@@ -277,8 +266,7 @@ module _ {A : Type 0} where
 
 module _ {A B : Type 0} where
   pub all-map : (q : B → Bool) {p : A → Bool} (f : A → B) → ((x : A) → p x ≡ true → q (f x) ≡ true) → (xs : List A)
-      → list_all p xs ≡ true
-      → list_all q (map f xs) ≡ true
+      → list_all p xs ≡ true → list_all q (map f xs) ≡ true
   all-map q f h [] e = refl
   all-map q {p = p} f h (y ∷ ys) e =
       let parts : (p y ≡ true) × (list_all p ys ≡ true) = and_parts (p y) (list_all p ys) e in
@@ -292,8 +280,7 @@ module _ {A B : Type 0} where
   pair-map test later f (y ∷ ys) h e =
       let parts : (list_any (test y) ys ≡ false) × (any_pair test ys ≡ false) =
       or_parts (list_any (test y) ys) (any_pair test ys) e in
-      ap (λ b. b || any_pair later (map f ys))
-      (none_from_among (later (f y)) (map f ys) (λ b m.
+      ap (λ b. b || any_pair later (map f ys)) (none_from_among (later (f y)) (map f ys) (λ b m.
       let from = among-from_map f ys b m in
       ap (later (f y)) from.2 ∙ h y from.0 (inl refl) (inr from.1) (none_among (test y) ys parts.0 from.0 from.1)))
       ∙ pair-map test later f ys (λ a b m n. h a b (inr m) (inr n)) parts.1

@@ -1,6 +1,6 @@
 -- What a node has, after each change of it.
 use Rattle.std.proofs.Common.{Bool, List, None, Option, Some, [], ap, cond, eq-eqb, eqb-true, false, is_some, map, nat_eq, not, refl, subst, sym, true, true≢false, ℕ, ⊎_elim, ◌||◌, ◌∙◌, ◌∷◌, ◌≡◌}
-use Rattle.std.proofs.lemmas.Bool.{and_parts}
+use Rattle.std.proofs.lemmas.Bool.{and_parts, or_right}
 use Rattle.std.proofs.lemmas.Bool.Decides.{eqb_tells}
 use Rattle.std.proofs.lemmas.Option.{same_Some}
 use Rattle.std.specs.Cmp.{tied_itself}
@@ -24,7 +24,6 @@ use Rattle.vt_spec.specs.Tree.Content.{Directory, Regular, Symlink, Whiteout}
 use Rattle.vt_spec.specs.TreeInvariant.{IsTree, entry_at}
 use Rattle.vt_spec.specs.declared.attributes.Attr.{Attr}
 use Rattle.vt_spec.specs.declared.attributes.Kind.TheVariants.{File, White}
-use Rattle.std.proofs.lemmas.Bool.{or_right}
 pub use Rattle.vt_spec.proofs.Nodes.{directory_is_there}
 
 -- entries above a name lead it nowhere
@@ -132,8 +131,7 @@ pub entries-node_without_entry : (name : List ℕ) (o : Option (Node ℕ))
 entries-node_without_entry name None = refl
 entries-node_without_entry name (Some node) = by node.content
   where
-    by : (content : Content ℕ)
-        → entries_of (with_entries content (without_entry name (entries_of content)))
+    by : (content : Content ℕ) → entries_of (with_entries content (without_entry name (entries_of content)))
         ≡ without_entry name (entries_of content)
     by (Directory parent entries opaque) = refl
     by (Regular bytes) = refl
@@ -146,8 +144,7 @@ pub is_directory-node_without_entry : (name : List ℕ) (o : Option (Node ℕ))
 is_directory-node_without_entry name None = refl
 is_directory-node_without_entry name (Some node) = by node.content
   where
-    by : (content : Content ℕ)
-        → is_directory (kind_of (with_entries content (without_entry name (entries_of content))))
+    by : (content : Content ℕ) → is_directory (kind_of (with_entries content (without_entry name (entries_of content))))
         ≡ is_directory (kind_of content)
     by (Directory parent entries opaque) = refl
     by (Regular bytes) = refl
@@ -182,13 +179,6 @@ entries-node_without_entries (Some node) = by node.content
     by (Regular bytes) = refl
     by (Symlink text) = refl
     by Whiteout = refl
-
--- contents without entries have none
-pub entries_of-no_entries : (content : Content ℕ) → entries_of (with_entries content []) ≡ []
-entries_of-no_entries (Directory parent entries opaque) = refl
-entries_of-no_entries (Regular bytes) = refl
-entries_of-no_entries (Symlink text) = refl
-entries_of-no_entries Whiteout = refl
 
 -- a copy has no entry
 pub entries_of-copied_content : (parent : ℕ) (content : Content ℕ) → entries_of (copied_content parent content) ≡ []
@@ -225,8 +215,7 @@ entries_of-no_directory Whiteout e = refl
 
 -- what has an entry is a directory
 pub directory_from_entry : (name : List ℕ) (number : ℕ) (o : Option (Node ℕ))
-    → entry_named name (entries_in o) ≡ Some number
-    → is_directory_node o ≡ true
+    → entry_named name (entries_in o) ≡ Some number → is_directory_node o ≡ true
 directory_from_entry name number None e = none_is_not None number refl e
 directory_from_entry name number (Some node) e = by node.content e
   where
@@ -278,14 +267,12 @@ pub found_is_named : (object : ℕ) (entries : Entries ℕ) (entry : List ℕ ×
     → find (λ entry. nat_eq object entry.1) entries ≡ Some entry
     → (entry_named entry.0 entries ≡ Some entry.1) × (entry.1 ≡ object)
 found_is_named object [] entry sorted e = none_is_some entry e
-found_is_named object (first ∷ entries) entry sorted e =
-    by (nat_eq object first.1) refl e
+found_is_named object (first ∷ entries) entry sorted e = by (nat_eq object first.1) refl e
     (λ rest. found_is_named object entries entry (and_true_right (below_all name_cmp first.0 entries) _ sorted) rest)
   where
     later : (tied : Bool) → eq_by_cmp name_cmp entry.0 first.0 ≡ tied → entry_named entry.0 entries ≡ Some entry.1
         → cond tied (Some first.1) (entry_named entry.0 entries) ≡ Some entry.1
-    later true t named =
-        none_is_some entry.1 (sym (ap (λ n. entry_named n entries) (same_name entry.0 first.0 t)
+    later true t named = none_is_some entry.1 (sym (ap (λ n. entry_named n entries) (same_name entry.0 first.0 t)
         ∙ entry_named-below first.0 entries (and_true_left (below_all name_cmp first.0 entries) _ sorted)) ∙ named)
     later false t named = named
 
@@ -294,8 +281,7 @@ found_is_named object (first ∷ entries) entry sorted e =
         → (find (λ entry. nat_eq object entry.1) entries ≡ Some entry
         → (entry_named entry.0 entries ≡ Some entry.1) × (entry.1 ≡ object))
         → (entry_named entry.0 (first ∷ entries) ≡ Some entry.1) × (entry.1 ≡ object)
-    by true t e rest =
-        subst (λ found. (entry_named found.0 (first ∷ entries) ≡ Some found.1) × (found.1 ≡ object))
+    by true t e rest = subst (λ found. (entry_named found.0 (first ∷ entries) ≡ Some found.1) × (found.1 ≡ object))
         (same_Some first entry e) (
           ap (λ o. cond (is_eq o) (Some first.1) (entry_named first.0 entries))
               (tied_itself nat_list_cmp_total first.0),
@@ -366,8 +352,7 @@ nil_from_not_some (entry ∷ entries) e = absurd (true≢false e)
 pub part-changed_node : {A : Type 0} (part : Option (Node ℕ) → A) (files : FileTree ℕ) (number : ℕ)
     (change : Option (Node ℕ) → Option (Node ℕ)) → ((inode : Option (Node ℕ)) → part (change inode) ≡ part inode)
     → (inode : ℕ) → part ((changed_node nat_eq files number change).tree.node inode) ≡ part (files.tree.node inode)
-part-changed_node part files number change keeps inode =
-    ⊎_elim
+part-changed_node part files number change keeps inode = ⊎_elim
     (λ t. ap (λ b. part (cond b (change (files.tree.node number)) (files.tree.node inode))) t.0
     ∙ keeps (files.tree.node number) ∙ ap (λ n. part (files.tree.node n)) (sym t.1))
     (λ t. ap (λ b. part (cond b (change (files.tree.node number)) (files.tree.node inode))) t.0)

@@ -15,10 +15,6 @@ use Rattle.vt_spec.specs.TreeInvariant.{IsDirectory}
 pub same_name : (a b : List ℕ) → eq_by_cmp name_cmp a b ≡ true → a ≡ b
 same_name a b tie = (bytes_decides a b).0 (texts_ties a b ∙ tie)
 
--- what is there is not nothing
-pub some_is : {A : Type 0} (o : Option A) (a : A) → o ≡ Some a → is_some o ≡ true
-some_is o a e = ap is_some e
-
 -- nothing is not something
 pub none_is_not : {A P : Type 0} (o : Option A) (a : A) → o ≡ None → o ≡ Some a → P
 none_is_not o a none some = absurd (true≢false (sym (ap is_some some) ∙ ap is_some none))
@@ -37,8 +33,7 @@ entry_named-with_entry q name number entries = find-put name_cmp nat_list_cmp_to
 -- entries without a name lead by the others where they led
 pub entry_named-without_entry : (q name : List ℕ) (entries : Entries ℕ)
     → entry_named q (without_entry name entries) ≡ cond (not (bytes_eq q name)) (entry_named q entries) None
-entry_named-without_entry q name entries =
-    find-where_key name_cmp (λ x. not (bytes_eq x name)) q
+entry_named-without_entry q name entries = find-where_key name_cmp (λ x. not (bytes_eq x name)) q
     (λ x tied. ap (λ y. not (bytes_eq y name)) (sym (same_name q x (ap is_eq tied)))) entries
 
 -- a directory is there
@@ -152,8 +147,6 @@ module _ (tree : Tree ℕ) (number : ℕ) (node : Option (Node ℕ)) where
 pub part_kept : {A : Type 0} (part : Option (Node ℕ) → A) (tree : Tree ℕ) (number : ℕ) (node : Option (Node ℕ))
     → part node ≡ part (tree.node number) → (other : ℕ)
     → part ((with_node nat_eq tree number node).node other) ≡ part (tree.node other)
-part_kept part tree number node same other =
-    ⊎_elim
+part_kept part tree number node same other = ⊎_elim
     (λ t. ap (λ b. part (cond b node (tree.node other))) t.0 ∙ same ∙ ap (λ n. part (tree.node n)) (sym t.1))
-    (λ t. ap (λ b. part (cond b node (tree.node other))) t.0)
-    (eqb_tells other number)
+    (λ t. ap (λ b. part (cond b node (tree.node other))) t.0) (eqb_tells other number)

@@ -55,17 +55,13 @@ pub last_step : (tree : Tree ℕ) (from : ℕ) (names : List (List ℕ)) (number
 last_step tree from [] number e = inl cc
 last_step tree from (name ∷ names) number e =
     let step = found (λ next. led tree next names) (entry_at tree from name) number e in
-    ⊎_elim
-    (λ same. inr (from, name, step.1 ∙ ap Some same, [], refl))
-    (λ later. inr (
+    ⊎_elim (λ same. inr (from, name, step.1 ∙ ap Some same, [], refl)) (λ later. inr (
       later.0,
       later.1,
       later.2,
-      name
-          ∷ later.3,
+      name ∷ later.3,
       ap (option_and_then (λ next. led tree next later.3)) step.1 ∙ later.4,
-    ))
-    (last_step tree step.0 names number step.2)
+    )) (last_step tree step.0 names number step.2)
 
 -- a place that is reached is the root, or has a name
 pub reached_named : (tree : Tree ℕ) (number : ℕ) → IsReached tree number → (tree.root ≡ number) ⊎ HasName tree number
@@ -85,8 +81,7 @@ entry_reached tree directory name number reached e =
 -- the parent of a directory that is reached is reached
 pub parent_reached : (tree : Tree ℕ) → IsTree tree → (number : ℕ) → IsDirectory tree number → IsReached tree number
     → IsReached tree (parent_in number (tree.node number))
-parent_reached tree conditions number is reached =
-    ⊎_elim
+parent_reached tree conditions number is reached = ⊎_elim
     (λ same. subst (λ n. IsReached tree (parent_in n (tree.node n))) same
     (subst (IsReached tree) (sym conditions.root_parent) (root_reached tree)))
     (λ step. subst (IsReached tree) (sym (conditions.one_parent step.0 step.1 number step.2 is)) (step.3, step.4))
@@ -135,8 +130,7 @@ module _ (tree : Tree ℕ) (directory : ℕ) (name : List ℕ) (number : ℕ) (n
 
   -- the entries of the directory, and those of the others
   entries_there : entries_in (grown.node directory) ≡ with_entry name number (entries_in (tree.node directory))
-  entries_there =
-      ap entries_in (node_other (with_node nat_eq tree directory
+  entries_there = ap entries_in (node_other (with_node nat_eq tree directory
       (node_with_entry name number (tree.node directory))) number (Some node) directory
       (used_differs directory (directory_used tree directory in_directory)))
       ∙ ap entries_in (node_set tree directory (node_with_entry name number (tree.node directory)))
@@ -146,15 +140,13 @@ module _ (tree : Tree ℕ) (directory : ℕ) (name : List ℕ) (number : ℕ) (n
   entries_new = ap entries_in node_new ∙ entries_of_new directory node.content fits
 
   entries_elsewhere : (m : ℕ) → m ≢ number → m ≢ directory → entries_in (grown.node m) ≡ entries_in (tree.node m)
-  entries_elsewhere m new here =
-      ap entries_in (node_other (with_node nat_eq tree directory
+  entries_elsewhere m new here = ap entries_in (node_other (with_node nat_eq tree directory
       (node_with_entry name number (tree.node directory))) number (Some node) m new)
       ∙ ap entries_in (node_other tree directory (node_with_entry name number (tree.node directory)) m here)
 
   -- the new name leads to the new object
   pub entry_new : entry_at grown directory name ≡ Some number
-  entry_new =
-      ap (entry_named name) entries_there
+  entry_new = ap (entry_named name) entries_there
       ∙ entry_named-with_entry name name number (entries_in (tree.node directory))
       ∙ ap (λ o. cond (is_eq o) (Some number) (entry_named name (entries_in (tree.node directory))))
       (tied_itself nat_list_cmp_total name)
@@ -173,15 +165,10 @@ module _ (tree : Tree ℕ) (directory : ℕ) (name : List ℕ) (number : ℕ) (n
 
   -- every entry stays
   pub entry_kept : (d : ℕ) (n : List ℕ) (k : ℕ) → entry_at tree d n ≡ Some k → entry_at grown d n ≡ Some k
-  entry_kept d n k e =
-      ⊎_elim
-      (λ t. none_is_not (entry_at tree d n) k
-      (ap (λ m. entry_at tree m n) t.1 ∙ ap (λ o. entry_named n (entries_in o)) vacant) e)
-      (λ t. ⊎_elim
+  entry_kept d n k e = ⊎_elim (λ t. none_is_not (entry_at tree d n) k
+      (ap (λ m. entry_at tree m n) t.1 ∙ ap (λ o. entry_named n (entries_in o)) vacant) e) (λ t. ⊎_elim
       (λ s. ap (λ m. entry_at grown m n) s.1 ∙ entry_there n k (ap (λ m. entry_at tree m n) (sym s.1) ∙ e))
-      (λ s. ap (entry_named n) (entries_elsewhere d t.1 s.1) ∙ e)
-      (eqb_tells d directory))
-      (eqb_tells d number)
+      (λ s. ap (entry_named n) (entries_elsewhere d t.1 s.1) ∙ e) (eqb_tells d directory)) (eqb_tells d number)
 
   abbrev IsTheNew : ℕ → List ℕ → ℕ → Type 0
   IsTheNew d n k = (d ≡ directory) × (n ≡ name) × (k ≡ number)
@@ -189,8 +176,7 @@ module _ (tree : Tree ℕ) (directory : ℕ) (name : List ℕ) (number : ℕ) (n
   -- and every entry is the new one or was there
   told_there : (n : List ℕ) (k : ℕ) → entry_at grown directory n ≡ Some k
       → IsTheNew directory n k ⊎ (entry_at tree directory n ≡ Some k)
-  told_there n k e =
-      by (eq_by_cmp name_cmp n name) refl
+  told_there n k e = by (eq_by_cmp name_cmp n name) refl
       (sym (entry_named-with_entry n name number (entries_in (tree.node directory)))
       ∙ sym (ap (entry_named n) entries_there) ∙ e)
     where
@@ -202,14 +188,11 @@ module _ (tree : Tree ℕ) (directory : ℕ) (name : List ℕ) (number : ℕ) (n
 
   entry_told : (d : ℕ) (n : List ℕ) (k : ℕ) → entry_at grown d n ≡ Some k
       → IsTheNew d n k ⊎ (entry_at tree d n ≡ Some k)
-  entry_told d n k e =
-      ⊎_elim
+  entry_told d n k e = ⊎_elim
       (λ t. none_is_not (entry_at grown d n) k (ap (λ m. entry_at grown m n) t.1 ∙ ap (entry_named n) entries_new) e)
-      (λ t. ⊎_elim
-      (λ s. subst (λ m. IsTheNew m n k ⊎ (entry_at tree m n ≡ Some k)) (sym s.1)
+      (λ t. ⊎_elim (λ s. subst (λ m. IsTheNew m n k ⊎ (entry_at tree m n ≡ Some k)) (sym s.1)
       (told_there n k (ap (λ m. entry_at grown m n) (sym s.1) ∙ e)))
-      (λ s. inr (sym (ap (entry_named n) (entries_elsewhere d t.1 s.1)) ∙ e))
-      (eqb_tells d directory))
+      (λ s. inr (sym (ap (entry_named n) (entries_elsewhere d t.1 s.1)) ∙ e)) (eqb_tells d directory))
       (eqb_tells d number)
 
   -- the rest of a directory is as it was, at each number but the new one
@@ -230,90 +213,63 @@ module _ (tree : Tree ℕ) (directory : ℕ) (name : List ℕ) (number : ℕ) (n
   leads_beside d n k e = used_differs k (conditions.alive d n k e)
 
   grown_in_order : (d : ℕ) → is_sorted name_cmp (entries_in (grown.node d)) ≡ true
-  grown_in_order d =
-      ⊎_elim
+  grown_in_order d = ⊎_elim
       (λ t. ap (λ m. is_sorted name_cmp (entries_in (grown.node m))) t.1 ∙ ap (is_sorted name_cmp) entries_new)
       (λ t. ⊎_elim
       (λ s. ap (λ m. is_sorted name_cmp (entries_in (grown.node m))) s.1 ∙ ap (is_sorted name_cmp) entries_there
       ∙ passes _ (is_sorted-put name_cmp nat_list_cmp_total name number (entries_in (tree.node directory))
       (T_from_true _ (conditions.in_order directory))))
-      (λ s. ap (is_sorted name_cmp) (entries_elsewhere d t.1 s.1) ∙ conditions.in_order d)
-      (eqb_tells d directory))
+      (λ s. ap (is_sorted name_cmp) (entries_elsewhere d t.1 s.1) ∙ conditions.in_order d) (eqb_tells d directory))
       (eqb_tells d number)
 
   grown_alive : (d : ℕ) (n : List ℕ) (k : ℕ) → entry_at grown d n ≡ Some k → is_some (grown.node k) ≡ true
-  grown_alive d n k e =
-      ⊎_elim
-      (λ t. ap (λ m. is_some (grown.node m)) t.2 ∙ ap is_some node_new)
-      (λ old. used_beside k (leads_beside d n k old) ∙ conditions.alive d n k old)
-      (entry_told d n k e)
+  grown_alive d n k e = ⊎_elim (λ t. ap (λ m. is_some (grown.node m)) t.2 ∙ ap is_some node_new)
+      (λ old. used_beside k (leads_beside d n k old) ∙ conditions.alive d n k old) (entry_told d n k e)
 
   grown_one_parent : (d : ℕ) (n : List ℕ) (k : ℕ) → entry_at grown d n ≡ Some k → IsDirectory grown k
       → parent_in k (grown.node k) ≡ d
-  grown_one_parent d n k e is =
-      ⊎_elim
-      (λ t. ap (λ m. parent_in k (grown.node m)) t.2 ∙ ap (parent_in k) node_new
+  grown_one_parent d n k e is = ⊎_elim (λ t. ap (λ m. parent_in k (grown.node m)) t.2 ∙ ap (parent_in k) node_new
       ∙ parent_of_new directory k node.content fits
       (sym (ap is_directory_node node_new) ∙ ap (λ m. is_directory_node (grown.node m)) (sym t.2) ∙ is) ∙ sym t.0)
       (λ old. parent_beside k k (leads_beside d n k old)
-      ∙ conditions.one_parent d n k old (sym (directory_beside k (leads_beside d n k old)) ∙ is))
-      (entry_told d n k e)
+      ∙ conditions.one_parent d n k old (sym (directory_beside k (leads_beside d n k old)) ∙ is)) (entry_told d n k e)
 
   grown_one_name : (d : ℕ) (n other : List ℕ) (k : ℕ) → entry_at grown d n ≡ Some k → entry_at grown d other ≡ Some k
       → IsDirectory grown k → n ≡ other
-  grown_one_name d n other k e f is =
-      ⊎_elim
-      (λ t. ⊎_elim
-      (λ s. t.1 ∙ sym s.1)
-      (λ old. absurd (leads_beside d other k old t.2))
-      (entry_told d other k f))
-      (λ old. ⊎_elim
+  grown_one_name d n other k e f is = ⊎_elim (λ t. ⊎_elim (λ s. t.1 ∙ sym s.1)
+      (λ old. absurd (leads_beside d other k old t.2)) (entry_told d other k f)) (λ old. ⊎_elim
       (λ s. absurd (leads_beside d n k old s.2))
       (λ older. conditions.one_name d n other k old older (sym (directory_beside k (leads_beside d n k old)) ∙ is))
-      (entry_told d other k f))
-      (entry_told d n k e)
+      (entry_told d other k f)) (entry_told d n k e)
 
   grown_parent_directory : (m : ℕ) → IsDirectory grown m → IsDirectory grown (parent_in m (grown.node m))
-  grown_parent_directory m is =
-      ⊎_elim
-      (λ t. subst (IsDirectory grown)
+  grown_parent_directory m is = ⊎_elim (λ t. subst (IsDirectory grown)
       (sym (ap (λ k. parent_in m (grown.node k)) t.1 ∙ ap (parent_in m) node_new
       ∙ parent_of_new directory m node.content fits
       (sym (ap is_directory_node node_new) ∙ ap (λ k. is_directory_node (grown.node k)) (sym t.1) ∙ is)))
-      (directory_kept directory in_directory))
-      (λ t. subst (IsDirectory grown) (sym (parent_beside m m t.1))
+      (directory_kept directory in_directory)) (λ t. subst (IsDirectory grown) (sym (parent_beside m m t.1))
       (directory_kept (parent_in m (tree.node m)) (conditions.parent_directory m (sym (directory_beside m t.1) ∙ is))))
       (eqb_tells m number)
 
   -- names that lead to the directory lead with the new name to the new object
   grown_reached : (m : ℕ) → IsDirectory grown m → HasName grown m → IsReached grown m
-  grown_reached m is named =
-      ⊎_elim
-      (λ t. (
-        reached.0 ++ name ∷ [],
-        led-append grown tree.root reached.0 name directory m
-            (led_kept tree grown entry_kept tree.root reached.0 directory reached.1) (entry_new ∙ ap Some (sym t.2)),
-      ))
-      (λ old.
+  grown_reached m is named = ⊎_elim (λ t. (
+    reached.0 ++ name ∷ [],
+    led-append grown tree.root reached.0 name directory m
+        (led_kept tree grown entry_kept tree.root reached.0 directory reached.1) (entry_new ∙ ap Some (sym t.2)),
+  )) (λ old.
       let way = conditions.reached m (sym (directory_beside m (leads_beside named.0 named.1 m old)) ∙ is)
       (named.0, named.1, old) in
-      (way.0, led_kept tree grown entry_kept tree.root way.0 m way.1))
-      (entry_told named.0 named.1 m named.2)
+      (way.0, led_kept tree grown entry_kept tree.root way.0 m way.1)) (entry_told named.0 named.1 m named.2)
 
   grown_unnamed_empty : (m : ℕ) → IsDirectory grown m → m ≢ tree.root → ¬ (HasName grown m)
       → entries_in (grown.node m) ≡ []
-  grown_unnamed_empty m is root unnamed =
-      ⊎_elim
-      (λ t. ap (λ k. entries_in (grown.node k)) t.1 ∙ entries_new)
-      (λ t. ⊎_elim
-      (λ s. absurd (⊎_elim
-      (λ same. root (s.1 ∙ sym same))
+  grown_unnamed_empty m is root unnamed = ⊎_elim (λ t. ap (λ k. entries_in (grown.node k)) t.1 ∙ entries_new)
+      (λ t. ⊎_elim (λ s. absurd (⊎_elim (λ same. root (s.1 ∙ sym same))
       (λ named. unnamed (named.0, named.1, entry_kept named.0 named.1 m (named.2 ∙ ap Some (sym s.1))))
-      (reached_named tree directory reached)))
-      (λ s. entries_elsewhere m t.1 s.1
+      (reached_named tree directory reached))) (λ s. entries_elsewhere m t.1 s.1
       ∙ conditions.unnamed_empty m (sym (directory_beside m t.1) ∙ is) root
-      (λ named. unnamed (named.0, named.1, entry_kept named.0 named.1 m named.2)))
-      (eqb_tells m directory))
+      (λ named. unnamed (named.0, named.1, entry_kept named.0 named.1 m named.2))) (eqb_tells m directory))
       (eqb_tells m number)
 
   -- a new object under a name that was free, in a directory that names lead to from the root, keeps the conditions of a
@@ -325,8 +281,7 @@ module _ (tree : Tree ℕ) (directory : ℕ) (name : List ℕ) (number : ℕ) (n
         (used_differs tree.root (directory_used tree tree.root conditions.root_directory)) ∙ conditions.root_parent;
     root_unnamed = λ d n e. ⊎_elim
         (λ t. used_differs tree.root (directory_used tree tree.root conditions.root_directory) t.2)
-        (λ old. conditions.root_unnamed d n old)
-        (entry_told d n tree.root e);
+        (λ old. conditions.root_unnamed d n old) (entry_told d n tree.root e);
     in_order = grown_in_order;
     alive = grown_alive;
     one_parent = grown_one_parent;
@@ -381,7 +336,6 @@ module _ (tree : Tree ℕ) (file : ℕ) (bytes : List ℕ) (conditions : IsTree 
         let way = conditions.reached m (sym (same_directory m) ∙ is)
         (named.0, named.1, sym (same_entry named.0 named.1) ∙ named.2) in
         (way.0, led_kept tree rewritten (λ d n k e. same_entry d n ∙ e) tree.root way.0 m way.1);
-    unnamed_empty = λ m is root unnamed. same_entries m
-        ∙ conditions.unnamed_empty m (sym (same_directory m) ∙ is) root
+    unnamed_empty = λ m is root unnamed. same_entries m ∙ conditions.unnamed_empty m (sym (same_directory m) ∙ is) root
         (λ named. unnamed (named.0, named.1, same_entry named.0 named.1 ∙ named.2));
   }

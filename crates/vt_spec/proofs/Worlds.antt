@@ -76,12 +76,9 @@ pub number-after_going : (world : World ℕ) (gone : List ℕ) (mount : Mount �
     → (after_going nat_eq world gone mount).number ≡ mount.number
 number-after_going world gone mount = by _
   where
-    by : (b : Bool)
-        → (cond b (detached mount)
-        (record mount {
-          mount_point = option_map
-              (mount_point_left nat_eq world gone) mount.mount_point;
-        })).number ≡ mount.number
+    by : (b : Bool) → (cond b (detached mount) (record mount {
+      mount_point = option_map (mount_point_left nat_eq world gone) mount.mount_point;
+    })).number ≡ mount.number
     by true = refl
     by false = refl
 
@@ -90,19 +87,15 @@ pub filesystem-after_going : (world : World ℕ) (gone : List ℕ) (mount : Moun
     → (after_going nat_eq world gone mount).filesystem ≡ mount.filesystem
 filesystem-after_going world gone mount = by _
   where
-    by : (b : Bool)
-        → (cond b (detached mount)
-        (record mount {
-          mount_point = option_map
-              (mount_point_left nat_eq world gone) mount.mount_point;
-        })).filesystem ≡ mount.filesystem
+    by : (b : Bool) → (cond b (detached mount) (record mount {
+      mount_point = option_map (mount_point_left nat_eq world gone) mount.mount_point;
+    })).filesystem ≡ mount.filesystem
     by true = refl
     by false = refl
 
 -- a change of mounts that keeps their numbers and filesystems
 pub shown-mapped : (f : Mount ℕ → Mount ℕ) → ((mount : Mount ℕ) → (f mount).number ≡ mount.number)
-    → ((mount : Mount ℕ) → (f mount).filesystem ≡ mount.filesystem)
-    → (mounts : List (Mount ℕ)) (number : ℕ)
+    → ((mount : Mount ℕ) → (f mount).filesystem ≡ mount.filesystem) → (mounts : List (Mount ℕ)) (number : ℕ)
     → (mount_in nat_eq (map f mounts) number).filesystem ≡ (mount_in nat_eq mounts number).filesystem
 shown-mapped f same_number same_filesystem [] number = refl
 shown-mapped f same_number same_filesystem (mount ∷ mounts) number =
@@ -131,8 +124,7 @@ pub shown-regrouped : (world : World ℕ) (number : ℕ)
     ≡ (mount_in nat_eq world.mounts number).filesystem
 shown-regrouped world number = by _
   where
-    by : (b : Bool)
-        → (mount_in nat_eq (regrouped_by nat_eq b world).mounts number).filesystem
+    by : (b : Bool) → (mount_in nat_eq (regrouped_by nat_eq b world).mounts number).filesystem
         ≡ (mount_in nat_eq world.mounts number).filesystem
     by true = shown-mapped (inheriting nat_eq world) (λ mount. refl) (λ mount. refl) world.mounts number
     by false = refl
@@ -200,9 +192,7 @@ tasks-with_change fresh world location change = by (filesystem_at nat_eq world l
 
 -- a mount whose number is listed is among the mounts
 pub mount_in-among : (mounts : List (Mount ℕ)) (number : ℕ)
-    → is_among nat_eq number (map (λ mount. mount.number) mounts)
-    ≡ true
-    → Among (mount_in nat_eq mounts number) mounts
+    → is_among nat_eq number (map (λ mount. mount.number) mounts) ≡ true → Among (mount_in nat_eq mounts number) mounts
 mount_in-among [] number h = absurd (true≢false (sym h))
 mount_in-among (first ∷ rest) number h = by (nat_eq number first.number) h (mount_in-among rest number)
   where
@@ -235,8 +225,7 @@ pub number-pivoted_mount : (root new : Mount ℕ) (put : Location ℕ) (mount : 
     → (pivoted_mount nat_eq root new put mount).number ≡ mount.number
 number-pivoted_mount root new put mount = by (nat_eq mount.number new.number) (nat_eq mount.number root.number)
   where
-    by : (a b : Bool)
-        → (if a then (record mount { mount_point = root.mount_point }) else if b then
+    by : (a b : Bool) → (if a then (record mount { mount_point = root.mount_point }) else if b then
         (record mount { mount_point = Some put }) else mount).number ≡ mount.number
     by true b = refl
     by false true = refl
@@ -276,8 +265,7 @@ numbers-without_parent files (Some object) = refl
 
 -- a name that is left keeps the root
 pub root-name_left_by : (hidden : Bool) (fresh : Fresh ℕ) (stack : Stack ℕ) (upper : FileTree ℕ) (directory : ℕ)
-    (name : List ℕ)
-    → (name_left_by nat_eq hidden fresh stack upper directory name).tree.root ≡ upper.tree.root
+    (name : List ℕ) → (name_left_by nat_eq hidden fresh stack upper directory name).tree.root ≡ upper.tree.root
 root-name_left_by true fresh stack upper directory name = refl
 root-name_left_by false fresh stack upper directory name = refl
 
@@ -299,12 +287,9 @@ number-mount_in (first ∷ rest) number = by (nat_eq number first.number) refl (
 
 -- mounts that are added are there, or were
 pub among-folded_mounts : (mounts copies : List (Mount ℕ)) (mount : Mount ℕ)
-    → Among mount (folded (with_mount nat_eq) mounts copies)
-    → Among mount mounts ⊎ Among mount copies
+    → Among mount (folded (with_mount nat_eq) mounts copies) → Among mount mounts ⊎ Among mount copies
 among-folded_mounts mounts [] mount m = inl m
-among-folded_mounts mounts (copy ∷ copies) mount m =
-    ⊎_elim
-    (λ first.
+among-folded_mounts mounts (copy ∷ copies) mount m = ⊎_elim (λ first.
     let from = among-from_map (replaced_if_same nat_eq copy) mounts mount first in
     ⊎_elim (λ e. inr (inl e)) inl
     (subst (λ x. (x ≡ copy) ⊎ Among x mounts) (sym from.2) (by from.0 (nat_eq copy.number from.0.number) from.1)))
@@ -318,8 +303,7 @@ among-folded_mounts mounts (copy ∷ copies) mount m =
 -- a lower layer is a layer
 pub lower_is_layer : (overlay : Overlay ℕ) (lower : Layer ℕ) → Among lower overlay.lowers
     → Among lower (layers_of overlay)
-lower_is_layer overlay lower m =
-    among-append_right (upper_and_work overlay) overlay.lowers lower m
+lower_is_layer overlay lower m = among-append_right (upper_and_work overlay) overlay.lowers lower m
 
 -- what has an upper object is that object
 pub upper_real : (o : Option (Real ℕ)) (object : ℕ) → holds_of (nat_eq object) (upper_object o) ≡ true
@@ -355,26 +339,21 @@ found_or_none (first ∷ rest) number = by (nat_eq number first.number) (found_o
   where
     by : (b : Bool) → Among (mount_in nat_eq rest number) rest ⊎ (mount_in nat_eq rest number ≡ no_mount number)
         → Among (unwrap_or (cond b (Some first) (find (λ x. nat_eq number x.number) rest)) (no_mount number))
-        (first ∷ rest)
-        ⊎ (unwrap_or (cond b (Some first) (find (λ x. nat_eq number x.number) rest)) (no_mount number)
+        (first ∷ rest) ⊎ (unwrap_or (cond b (Some first) (find (λ x. nat_eq number x.number) rest)) (no_mount number)
         ≡ no_mount number)
     by true later = inl (inl refl)
     by false later = ⊎_elim (λ m. inl (inr m)) inr later
 
 -- a mount of a tree is its root or one of the list
 pub tree_among : (depth : ℕ) (mounts : List (Mount ℕ)) (top mount : Mount ℕ)
-    → Among mount (tree_from nat_eq depth mounts top)
-    → (mount ≡ top) ⊎ Among mount mounts
+    → Among mount (tree_from nat_eq depth mounts top) → (mount ≡ top) ⊎ Among mount mounts
 tree_among zero mounts top mount m = ⊎_elim inl (λ none. absurd none) m
-tree_among (suc depth) mounts top mount m =
-    ⊎_elim inl
-    (λ later.
+tree_among (suc depth) mounts top mount m = ⊎_elim inl (λ later.
     let under = among-from_flat_map (tree_from nat_eq depth mounts) (children nat_eq mounts top.number) mount later in
     let child : Among under.0 mounts × (stands_on nat_eq top.number under.0 ≡ true) =
     among-from_filter (stands_on nat_eq top.number) mounts under.0 under.1 in
     inr (⊎_elim (λ e. subst (λ x. Among x mounts) (sym e) child.0) (λ l. l)
-    (tree_among depth mounts under.0 mount under.2)))
-    m
+    (tree_among depth mounts under.0 mount under.2))) m
 
 -- layers of all filesystems are those of overlays
 pub layers_of_all : (layers : Overlay ℕ → List (Layer ℕ)) (list : List (Filesystem ℕ))
@@ -389,12 +368,10 @@ layers_of_all layers (f ∷ rest) = by f.overlay refl (layers_of_all layers rest
         ≡ overlay_or [] layers f.overlay ++ flat_map (of_overlay [] layers) rest
     by None e same =
         ap (λ b. flat_map (of_overlay [] layers) (cond b (f ∷ filter is_overlay rest) (filter is_overlay rest)))
-        (ap is_some e)
-        ∙ same ∙ sym (ap (λ o. overlay_or [] layers o ++ flat_map (of_overlay [] layers) rest) e)
+        (ap is_some e) ∙ same ∙ sym (ap (λ o. overlay_or [] layers o ++ flat_map (of_overlay [] layers) rest) e)
     by (Some v) e same =
         ap (λ b. flat_map (of_overlay [] layers) (cond b (f ∷ filter is_overlay rest) (filter is_overlay rest)))
-        (ap is_some e)
-        ∙ ap (λ l. overlay_or [] layers f.overlay ++ l) same
+        (ap is_some e) ∙ ap (λ l. overlay_or [] layers f.overlay ++ l) same
 
 -- what is there is not the same object as nothing
 pub nothing_is_no_object : (node : Option (Node ℕ)) → is_some node ≡ true → SameObject node None → ⊥

@@ -22,8 +22,7 @@ use Rattle.vt_laws_containers.proofs.attached_apart.GrownAsBefore.{grown_as_befo
 
 module _ (world : World ℕ) (names : List TaskName) (is : IsWorld nat_eq world)
     (sealed_off : sealed nat_eq world names ≡ true) (fresh : Fresh ℕ) (serves : Serves nat_eq world fresh)
-    (new_ones : List (Filesystem ℕ))
-    (unused : (n : ℕ) → is_among nat_eq n (used_filesystems nat_eq world names) ≡ true
+    (new_ones : List (Filesystem ℕ)) (unused : (n : ℕ) → is_among nat_eq n (used_filesystems nat_eq world names) ≡ true
     → list_any (λ (f : Filesystem ℕ). nat_eq n f.number) new_ones ≡ false)
     (place : Location ℕ) (there : Among (mount_at nat_eq world place) world.mounts)
     (own : is_own world names (members world names) (mount_at nat_eq world place) ≡ true)
@@ -54,9 +53,7 @@ module _ (world : World ℕ) (names : List TaskName) (is : IsWorld nat_eq world)
 
   sourced : (y : Mount ℕ) → Among y (map up world.mounts ++ added) → is_own_mount nat_eq world names y ≡ true
       → (g : ℕ) → source_of y.propagation ≡ Some g → IsOurs g
-  sourced y m mine g e =
-      ⊎_elim
-      (λ old. source_ours world names is sealed_off fresh serves old.0
+  sourced y m mine g e = ⊎_elim (λ old. source_ours world names is sealed_off fresh serves old.0
       (among-filter (is_own_mount nat_eq world names) world.mounts old.0 old.1 old.2) g
       (sym (ap (λ (x : Mount ℕ). source_of x.propagation) old.3
       ∙ push_keeps world names is sealed_off new_ones unused place there own new false origins
@@ -67,17 +64,14 @@ module _ (world : World ℕ) (names : List TaskName) (is : IsWorld nat_eq world)
       (own_how world names up added new_ones masters grows y m mine)
 
   as_grown : attached_by nat_eq to new place false origins ≡ grown_world world names up added new_ones masters
-  as_grown =
-      ap (λ l. record world { mounts = l; master = masters; filesystems = world.filesystems ++ new_ones })
+  as_grown = ap (λ l. record world { mounts = l; master = masters; filesystems = world.filesystems ++ new_ones })
       (append_assoc (map up world.mounts)
-      (copies world names is sealed_off new_ones unused place there own new false origins
-      (mount_at nat_eq world place))
+      (copies world names is sealed_off new_ones unused place there own new false origins (mount_at nat_eq world place))
       (flat_map (copies world names is sealed_off new_ones unused place there own new false origins)
       (rest_of (parts world names is sealed_off new_ones unused place there own))))
 
   pub copies_as_before : OthersAsBefore world (attached_by nat_eq to new place false origins) names names
-  copies_as_before =
-      subst (λ w. OthersAsBefore world w names names) (sym as_grown)
+  copies_as_before = subst (λ w. OthersAsBefore world w names names) (sym as_grown)
       (grown_as_before world names is sealed_off up added new_ones masters grows
       (groups_apart world names is sealed_off fresh serves up added new_ones formed grows sourced
       (made_ours to new place false origins IsOurs (λ a b. inr (new_groups a b)) sources)))

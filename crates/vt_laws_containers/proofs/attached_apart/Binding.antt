@@ -49,9 +49,7 @@ module _ (world : World ℕ) (names : List TaskName) (is : IsWorld nat_eq world)
   origins = bind_tree nat_eq world from recursive
 
   abbrev new : Copies ℕ
-  new =
-      copies_from nat_eq fresh (parts world names is sealed_off [] (none_new world names) here here_there own)
-      origins
+  new = copies_from nat_eq fresh (parts world names is sealed_off [] (none_new world names) here here_there own) origins
 
   shows : ShowTheirs world names is sealed_off [] (none_new world names) here here_there own new false origins
   shows = record {
@@ -74,8 +72,7 @@ module _ (world : World ℕ) (names : List TaskName) (is : IsWorld nat_eq world)
       (among-filter (is_own_mount nat_eq world names) world.mounts x.0 x.1.0 x.1.1) g (ap source_of (sym x.3) ∙ e)
 
   pub bound_as_before : OthersAsBefore world (bound_at nat_eq fresh world from here recursive) names names
-  bound_as_before =
-      subst (λ w. OthersAsBefore world w names names)
+  bound_as_before = subst (λ w. OthersAsBefore world w names names)
       (sym (ap (λ w. attach nat_eq w fresh here false origins) (no_new_ones world)))
       (copies_as_before world names is sealed_off fresh serves [] (none_new world names) here here_there own new
       origins (λ a b. (_, refl)) sources shows)
@@ -92,16 +89,13 @@ binds_give_no_foothold world names name source path recursive it fresh serves = 
         (ToBind its.0 its.1 recursive) (judged ∙ ap Ok its.2)
         (λ ends. bound_as_before world names it.is it.sealed_off fresh serves its.0 its.1 recursive its.3 its.4 its.5
         its.6)
-    judged_by task member e (Err deny) judged its =
-        refused_out world names name (Bind source path recursive) it fresh
-        (ap (λ o. is_ok (ran name (Bind source path recursive) world fresh o).answer) e
-        ∙ ap (λ j. is_ok
+    judged_by task member e (Err deny) judged its = refused_out world names name (Bind source path recursive) it fresh
+        (ap (λ o. is_ok (ran name (Bind source path recursive) world fresh o).answer) e ∙ ap (λ j. is_ok
         (run_by world names name (Bind source path recursive) it fresh fresh world fresh task j).answer) judged)
 
     by : (o : Option (Task ℕ)) → task_called world name ≡ o
         → GivesNoFoothold world names name (Bind source path recursive) fresh
-    by None e =
-        refused_out world names name (Bind source path recursive) it fresh
+    by None e = refused_out world names name (Bind source path recursive) it fresh
         (ap (λ o. is_ok (ran name (Bind source path recursive) world fresh o).answer) e)
     by (Some task) e =
         let member = member_called world names it.is it.sealed_off name it.theirs task e in

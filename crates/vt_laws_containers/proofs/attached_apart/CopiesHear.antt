@@ -41,17 +41,14 @@ module _ (base : World ℕ) (new : Copies ℕ) (place : Location ℕ) (moves : B
       made : (group : ℕ) (kind : Propagation ℕ) → o.propagation ≡ kind
           → type_on_shared (new.image group o.number) kind ≡ Shared (new.image group o.number)
           → source_of (type_on_shared (new.image group o.number) o.propagation) ≡ Some g → Ours g
-      made group kind e is h =
-          subst Ours
-          (same_Some (new.image group o.number) g
+      made group kind e is h = subst Ours (same_Some (new.image group o.number) g
           (sym (ap (λ k. source_of (type_on_shared (new.image group o.number) k)) e ∙ ap source_of is) ∙ h))
           (new_groups group o.number)
 
       by : (at : Option ℕ) (kind : Propagation ℕ) → o.propagation ≡ kind → source_of (type_at new at o) ≡ Some g
           → Ours g
       by None kind e h = sources o m g h
-      by (Some group) (Shared k) e h =
-          sources o m g (ap source_of e
+      by (Some group) (Shared k) e h = sources o m g (ap source_of e
           ∙ sym (ap (λ kind. source_of (type_on_shared (new.image group o.number) kind)) e) ∙ h)
       by (Some group) (Slave k) e h = made group (Slave k) e refl h
       by (Some group) Private e h = made group Private e refl h
@@ -85,8 +82,7 @@ module _ (base : World ℕ) (new : Copies ℕ) (place : Location ℕ) (moves : B
       → source_of (copy_type nat_eq base new parts destination (twig o) kind) ≡ Some g → Ours g
   type_ours o m (Shared group) g h =
       subst Ours (same_Some (image nat_eq new destination (twig o) group) g h) (image_ours o m group)
-  type_ours o m (Slave master) g h =
-      by (nearest_image nat_eq base new parts destination (twig o) (Some master)) refl h
+  type_ours o m (Slave master) g h = by (nearest_image nat_eq base new parts destination (twig o) (Some master)) refl h
     where
       by : (k : Option ℕ) → nearest_image nat_eq base new parts destination (twig o) (Some master) ≡ k
           → source_of (slave_of_heir k) ≡ Some g → Ours g
@@ -124,8 +120,7 @@ module _ (base : World ℕ) (new : Copies ℕ) (place : Location ℕ) (moves : B
       by false None f h = none_is_some entry h
       by false (Some g) f h =
           let it = same_Some (g, master_after o.propagation) entry h in (
-            subst Ours (ap (λ (x : ℕ × Option ℕ). x.0) it)
-                (twig_ours o m g (group_source (twig o).propagation g f)),
+            subst Ours (ap (λ (x : ℕ × Option ℕ). x.0) it) (twig_ours o m g (group_source (twig o).propagation g f)),
             λ above k. after_ours o m above (ap (λ (x : ℕ × Option ℕ). x.1) it ∙ k),
           )
 
@@ -151,8 +146,7 @@ module _ (base : World ℕ) (new : Copies ℕ) (place : Location ℕ) (moves : B
             λ above k. nearest_ours o m (base.master group) above (ap (λ (x : ℕ × Option ℕ). x.1) it ∙ k),
           )
 
-  pub made_ours : (entry : ℕ × Option ℕ) → Among entry (all_groups_made nat_eq base new tree parts)
-      → AreOf Ours entry
+  pub made_ours : (entry : ℕ × Option ℕ) → Among entry (all_groups_made nat_eq base new tree parts) → AreOf Ours entry
   made_ours entry m =
       let part = among-from_flat_map (λ p. filter_map (group_made nat_eq base new tree parts p) tree.twigs) parts entry
       m in
@@ -161,8 +155,7 @@ module _ (base : World ℕ) (new : Copies ℕ) (place : Location ℕ) (moves : B
       by part.0 origin.0 origin.1 (is_destination nat_eq tree part.0.number)
       (ap (group_made nat_eq base new tree parts part.0) (sym origin.2) ∙ its_twig.2)
     where
-      by : (p o : Mount ℕ) → Among o origins → (b : Bool)
-          → cond b (twig_master (twig o))
+      by : (p o : Mount ℕ) → Among o origins → (b : Bool) → cond b (twig_master (twig o))
           (then_some (group_of p.propagation) (λ group. when (not (is_member_of nat_eq group destination)) (
             image nat_eq new destination (twig o) group,
             nearest_image nat_eq base new parts destination (twig o) (base.master group),

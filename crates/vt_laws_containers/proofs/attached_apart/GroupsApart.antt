@@ -41,8 +41,7 @@ masters_how group (entry ∷ rest) master =
         → (folded (masters_with nat_eq) master (entry ∷ rest) group ≡ master group)
         ⊎ ((one : ℕ × Option ℕ) × Among one (entry ∷ rest) × (group ≡ one.0)
         × (folded (masters_with nat_eq) master (entry ∷ rest) group ≡ one.1))
-    by true e same =
-        inr (entry, inl refl, eqb-true group entry.0 e, same ∙ ap (λ b. cond b entry.1 (master group)) e)
+    by true e same = inr (entry, inl refl, eqb-true group entry.0 e, same ∙ ap (λ b. cond b entry.1 (master group)) e)
     by false e same = inl (same ∙ ap (λ b. cond b entry.1 (master group)) e)
 
 -- the master of a mount in a group is that of the group
@@ -69,8 +68,7 @@ module _ (world : World ℕ) (names : List TaskName) (is : IsWorld nat_eq world)
 
   -- a group that a mount of theirs hears, or a new one
   abbrev pub Ours : ℕ → Type 0
-  Ours group =
-      ((own : Mount ℕ) × Among own (own_mounts nat_eq world names) × HearsIn world own.propagation group)
+  Ours group = ((own : Mount ℕ) × Among own (own_mounts nat_eq world names) × HearsIn world own.propagation group)
       ⊎ IsNewBy fresh group
 
   pub source_ours : (own : Mount ℕ) → Among own (own_mounts nat_eq world names) → (group : ℕ)
@@ -84,15 +82,13 @@ module _ (world : World ℕ) (names : List TaskName) (is : IsWorld nat_eq world)
       by Unbindable h = none_is_some group h
 
   above_ours : (group above : ℕ) → Ours group → world.master group ≡ Some above → Ours above
-  above_ours group above its e =
-      ⊎_elim
+  above_ours group above its e = ⊎_elim
       (λ heard. let member = member_of_heard world names so_far heard.0 heard.1 group heard.2 in
       inl (
         member.0,
         member.1,
         inr (master_in world member.0.propagation group (member_group group member.0 member.2) ∙ e),
-      ))
-      (λ new. none_is_some above (sym (so_far.new_master group new) ∙ e)) its
+      )) (λ new. none_is_some above (sym (so_far.new_master group new) ∙ e)) its
 
   -- a group that a mount hears has a member, so it is not new
   not_new : (mount : Mount ℕ) → Among mount world.mounts → (group : ℕ) → HearsIn world mount.propagation group
@@ -110,8 +106,7 @@ module _ (world : World ℕ) (names : List TaskName) (is : IsWorld nat_eq world)
           among_from_all (HasLivingGroups nat_eq world) world.mounts so_far.mounts.groups mount there source e
 
       lives : (kind : Propagation ℕ) → mount.propagation ≡ kind → HearsIn world kind group → Lives group
-      lives (Shared g) k h =
-          ⊎_elim (λ e. of_source group (ap source_of k ∙ e))
+      lives (Shared g) k h = ⊎_elim (λ e. of_source group (ap source_of k ∙ e))
           (λ e. above_lives world names so_far.mounts so_far.events group g e (of_source g (ap source_of k))) h
       lives (Slave g) k h = ⊎_elim (λ e. none_is_some group e) (λ e. of_source group (ap source_of k ∙ e)) h
       lives Private k h = ⊎_elim (λ e. none_is_some group e) (λ e. none_is_some group e) h
@@ -120,14 +115,10 @@ module _ (world : World ℕ) (names : List TaskName) (is : IsWorld nat_eq world)
   -- no mount of others hears it
   unheard : (other : Mount ℕ) → Among other (other_mounts nat_eq world names) → (group : ℕ) → Ours group
       → HearsIn world other.propagation group → ⊥
-  unheard other m group its how =
-      ⊎_elim
-      (λ heard. not_heard world names so_far heard.0 heard.1 group
-      (other_hears_foreign world names so_far other m group how) heard.2)
-      (λ new. not_new other
+  unheard other m group its how = ⊎_elim (λ heard. not_heard world names so_far heard.0 heard.1 group
+      (other_hears_foreign world names so_far other m group how) heard.2) (λ new. not_new other
       (among-from_filter (λ (x : Mount ℕ). holds_of (λ n. not (is_own_namespace nat_eq world names n)) x.namespace)
-      world.mounts other m).0 group how new)
-      its
+      world.mounts other m).0 group how new) its
 
   -- The world that is left
   module _ (change : Mount ℕ → Mount ℕ) (added : List (Mount ℕ)) (new_ones : List (Filesystem ℕ))
@@ -150,10 +141,8 @@ module _ (world : World ℕ) (names : List TaskName) (is : IsWorld nat_eq world)
             sourced y from.0 from.1
 
         above : (g : ℕ) → Ours g → left.master g ≡ Some group → Ours group
-        above g its e =
-            ⊎_elim (λ same. above_ours g group its (sym same ∙ e))
-            (λ set. (made_ours set.0 set.1).1 group (sym set.3 ∙ e))
-            (masters_how g made world.master)
+        above g its e = ⊎_elim (λ same. above_ours g group its (sym same ∙ e))
+            (λ set. (made_ours set.0 set.1).1 group (sym set.3 ∙ e)) (masters_how g made world.master)
 
         by : (kind : Propagation ℕ) → y.propagation ≡ kind → HearsIn left kind group → Ours group
         by (Shared g) k h =
@@ -167,10 +156,8 @@ module _ (world : World ℕ) (names : List TaskName) (is : IsWorld nat_eq world)
         → HearsIn left other.propagation group → HearsIn world other.propagation group
     other_hears other m group how = by other.propagation refl how
       where
-        above : (g : ℕ) → group_of other.propagation ≡ Some g → left.master g ≡ Some group
-            → world.master g ≡ Some group
-        above g is_in e =
-            ⊎_elim (λ same. sym same ∙ e)
+        above : (g : ℕ) → group_of other.propagation ≡ Some g → left.master g ≡ Some group → world.master g ≡ Some group
+        above g is_in e = ⊎_elim (λ same. sym same ∙ e)
             (λ set. absurd (unheard other m set.0.0 (made_ours set.0 set.1).0 (inl (is_in ∙ ap Some set.2))))
             (masters_how g made world.master)
 
@@ -182,9 +169,7 @@ module _ (world : World ℕ) (names : List TaskName) (is : IsWorld nat_eq world)
 
     own_receives : (y other : Mount ℕ) → Among y (own_mounts nat_eq left names)
         → Among other (other_mounts nat_eq world names) → receives_events_of nat_eq left y other ≡ true → ⊥
-    own_receives y other m n h =
-        ⊎_elim
-        (λ e. let found = in_group (group_of y.propagation) other e in
+    own_receives y other m n h = ⊎_elim (λ e. let found = in_group (group_of y.propagation) other e in
         unheard other n found.0 (own_hears y m found.0 (inl found.1)) (inl found.2))
         (λ e. let found = in_group (master_of left y.propagation) other e in
         unheard other n found.0 (own_hears y m found.0 (inr found.1)) (inl found.2))
@@ -193,9 +178,7 @@ module _ (world : World ℕ) (names : List TaskName) (is : IsWorld nat_eq world)
 
     other_receives : (y other : Mount ℕ) → Among y (own_mounts nat_eq left names)
         → Among other (other_mounts nat_eq world names) → receives_events_of nat_eq left other y ≡ true → ⊥
-    other_receives y other m n h =
-        ⊎_elim
-        (λ e. let found = in_group (group_of other.propagation) y e in
+    other_receives y other m n h = ⊎_elim (λ e. let found = in_group (group_of other.propagation) y e in
         unheard other n found.0 (own_hears y m found.0 (inl found.2)) (inl found.1))
         (λ e. let found = in_group (master_of left other.propagation) y e in
         unheard other n found.0 (own_hears y m found.0 (inl found.2)) (other_hears other n found.0 (inr found.1)))
@@ -203,12 +186,9 @@ module _ (world : World ℕ) (names : List TaskName) (is : IsWorld nat_eq world)
         (holds_of (λ group. is_member_of nat_eq group y) (master_of left other.propagation)) h)
 
     pub groups_apart : shares_no_events nat_eq left names ≡ true
-    groups_apart =
-        ap (λ others. list_all (λ y. list_all (λ other. not (share_events nat_eq left y other)) others)
-        (own_mounts nat_eq left names))
-        (others_stay world names is sealed_off change added new_ones
-        (folded (masters_with nat_eq) world.master made) grows)
-        ∙ list_all_from_among
+    groups_apart = ap (λ others. list_all (λ y. list_all (λ other. not (share_events nat_eq left y other)) others)
+        (own_mounts nat_eq left names)) (others_stay world names is sealed_off change added new_ones
+        (folded (masters_with nat_eq) world.master made) grows) ∙ list_all_from_among
         (λ y. list_all (λ other. not (share_events nat_eq left y other)) (other_mounts nat_eq world names))
         (own_mounts nat_eq left names)
         (λ y m. list_all_from_among (λ other. not (share_events nat_eq left y other)) (other_mounts nat_eq world names)

@@ -63,10 +63,8 @@ module _ (world : World ℕ) (names : List TaskName) (is : IsWorld nat_eq world)
   -- The mounts of others stay.
   none_added : (list : List (Mount ℕ)) → ((x : Mount ℕ) → Among x list → Among x added) → filter is_out list ≡ []
   none_added [] sub = refl
-  none_added (x ∷ rest) sub =
-      ap (λ b. cond b (x ∷ filter is_out rest) (filter is_out rest))
-      (own_not_out x.namespace (grows.ours x (sub x (inl refl))))
-      ∙ none_added rest (λ y m. sub y (inr m))
+  none_added (x ∷ rest) sub = ap (λ b. cond b (x ∷ filter is_out rest) (filter is_out rest))
+      (own_not_out x.namespace (grows.ours x (sub x (inl refl)))) ∙ none_added rest (λ y m. sub y (inr m))
 
   outs_stay : (list : List (Mount ℕ)) → ((x : Mount ℕ) → Among x list → Among x world.mounts)
       → filter is_out (map change list ++ added) ≡ filter is_out list
@@ -75,14 +73,11 @@ module _ (world : World ℕ) (names : List TaskName) (is : IsWorld nat_eq world)
     where
       by : (b : Bool) → owns x ≡ b → filter is_out (map change rest ++ added) ≡ filter is_out rest
           → filter is_out (map change (x ∷ rest) ++ added) ≡ filter is_out (x ∷ rest)
-      by true own later =
-          ap (λ c. cond c (change x ∷ filter is_out (map change rest ++ added))
+      by true own later = ap (λ c. cond c (change x ∷ filter is_out (map change rest ++ added))
           (filter is_out (map change rest ++ added)))
-          (own_not_out (change x).namespace (grows.kept x (sub x (inl refl)) own).0)
-          ∙ later
+          (own_not_out (change x).namespace (grows.kept x (sub x (inl refl)) own).0) ∙ later
           ∙ sym (ap (λ c. cond c (x ∷ filter is_out rest) (filter is_out rest)) (own_not_out x.namespace own))
-      by false other later =
-          ap (λ y. cond (is_out y) (y ∷ filter is_out (map change rest ++ added))
+      by false other later = ap (λ y. cond (is_out y) (y ∷ filter is_out (map change rest ++ added))
           (filter is_out (map change rest ++ added))) (grows.others x (sub x (inl refl)) other).0
           ∙ ap (λ l. cond (is_out x) (x ∷ l) l) later
 
@@ -105,8 +100,7 @@ module _ (world : World ℕ) (names : List TaskName) (is : IsWorld nat_eq world)
 
   shown_still : (l : Location ℕ) → Among l (all_locations world)
       → (mount_at nat_eq left l).filesystem ≡ (mount_at nat_eq world l).filesystem
-  shown_still l m =
-      shows_still world names change added new_ones master grows l.mount (numbered_there l m)
+  shown_still l m = shows_still world names change added new_ones master grows l.mount (numbered_there l m)
 
   owned_still : (x : Mount ℕ) → Among x world.mounts → owns (change x) ≡ owns x
   owned_still x m = by (owns x) refl
@@ -123,8 +117,7 @@ module _ (world : World ℕ) (names : List TaskName) (is : IsWorld nat_eq world)
           → is_among nat_eq number (map (λ (m : Mount ℕ). m.number) list) ≡ true
           → owns (mount_in nat_eq (map change list ++ added) number) ≡ owns (mount_in nat_eq list number)
       search [] sub h = absurd (true≢false (sym h))
-      search (x ∷ rest) sub h =
-          ap (λ n. owns (unwrap_or (cond (nat_eq number n) (Some (change x))
+      search (x ∷ rest) sub h = ap (λ n. owns (unwrap_or (cond (nat_eq number n) (Some (change x))
           (find (λ (m : Mount ℕ). nat_eq number m.number) (map change rest ++ added))) (no_mount number)))
           (as_before world names change added new_ones master grows x (sub x (inl refl))).0
           ∙ by (nat_eq number x.number) h (search rest (λ y m. sub y (inr m)))
@@ -154,17 +147,13 @@ module _ (world : World ℕ) (names : List TaskName) (is : IsWorld nat_eq world)
       ∙ grows.unlisted there.0 there.1)
 
   goes_on : (f : Filesystem ℕ) → Among f left.filesystems → GoesOn world names f
-  goes_on f m =
-      ⊎_elim (λ old. inl (f, old, refl, refl))
-      (λ new. inr (
-        new_is_not_there f.number
-            (any_from_among (λ (g : Filesystem ℕ). nat_eq f.number g.number) new_ones f new
-            (eq-eqb f.number f.number refl)),
-        λ number n. let layer = written_layer f number n in
-            ap (λ k. is_among nat_eq k (used_filesystems nat_eq world names)) layer.2
-            ∙ used_directly_used world names layer.0.filesystem (grows.layers f new layer.0 layer.1),
-      ))
-      (among-append world.filesystems new_ones f m)
+  goes_on f m = ⊎_elim (λ old. inl (f, old, refl, refl)) (λ new. inr (
+    new_is_not_there f.number (any_from_among (λ (g : Filesystem ℕ). nat_eq f.number g.number) new_ones f new
+        (eq-eqb f.number f.number refl)),
+    λ number n. let layer = written_layer f number n in
+        ap (λ k. is_among nat_eq k (used_filesystems nat_eq world names)) layer.2
+        ∙ used_directly_used world names layer.0.filesystem (grows.layers f new layer.0 layer.1),
+  )) (among-append world.filesystems new_ones f m)
 
   abbrev mounted : List ℕ
   mounted = map (λ (x : Mount ℕ). x.filesystem) (own_mounts nat_eq world names)
@@ -174,11 +163,8 @@ module _ (world : World ℕ) (names : List TaskName) (is : IsWorld nat_eq world)
 
   shown_was : (y : Mount ℕ) → Among y left.mounts → owns y ≡ true
       → Among y.filesystem (used_directly nat_eq world names) ⊎ (IsThere world y.filesystem → ⊥)
-  shown_was y m own =
-      ⊎_elim
-      (λ old. inl (among-append_left mounted located_at y.filesystem
-      (subst (λ n. Among n mounted)
-      (sym (ap (λ (x : Mount ℕ). x.filesystem) old.3
+  shown_was y m own = ⊎_elim (λ old. inl (among-append_left mounted located_at y.filesystem
+      (subst (λ n. Among n mounted) (sym (ap (λ (x : Mount ℕ). x.filesystem) old.3
       ∙ (as_before world names change added new_ones master grows old.0 old.1).1))
       (among-map (λ (x : Mount ℕ). x.filesystem) (own_mounts nat_eq world names) old.0
       (among-filter owns world.mounts old.0 old.1 old.2)))))
@@ -187,8 +173,7 @@ module _ (world : World ℕ) (names : List TaskName) (is : IsWorld nat_eq world)
 
   direct_was : (number : ℕ) → Among number (used_directly nat_eq left names)
       → Among number (used_directly nat_eq world names) ⊎ (IsThere world number → ⊥)
-  direct_was number m =
-      ⊎_elim
+  direct_was number m = ⊎_elim
       (λ shown. let at = among-from_map (λ (x : Mount ℕ). x.filesystem) (own_mounts nat_eq left names) number shown in
       let from = among-from_filter owns left.mounts at.0 at.1 in
       subst (λ n. Among n (used_directly nat_eq world names) ⊎ (IsThere world n → ⊥)) (sym at.2)
@@ -198,8 +183,7 @@ module _ (world : World ℕ) (names : List TaskName) (is : IsWorld nat_eq world)
       inl (among-append_right mounted located_at number
       (subst (λ n. Among n located_at) (sym (at.2 ∙ shown_still at.0 (placed (is_member_task names) at.0 at.1)))
       (among-map (λ (l : Location ℕ). (mount_at nat_eq world l).filesystem) (locations (members world names)) at.0
-      at.1))))
-      (among-append (map (λ (x : Mount ℕ). x.filesystem) (own_mounts nat_eq left names))
+      at.1)))) (among-append (map (λ (x : Mount ℕ). x.filesystem) (own_mounts nat_eq left names))
       (map (λ (l : Location ℕ). (mount_at nat_eq left l).filesystem) (locations (members world names))) number m)
 
   pub grown_as_before : shares_no_events nat_eq left names ≡ true → OthersAsBefore world left names names

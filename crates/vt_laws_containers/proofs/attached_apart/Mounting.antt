@@ -37,8 +37,7 @@ module _ (world : World ℕ) (names : List TaskName) (is : IsWorld nat_eq world)
     (sealed_off : sealed nat_eq world names ≡ true) (fresh : Fresh ℕ) (serves : Serves nat_eq world fresh)
     (here : Location ℕ) (on : is_theirs world names here.mount ≡ true)
     (own : is_own world names (members world names) (mount_at nat_eq world here) ≡ true) (new_one : Filesystem ℕ)
-    (number : new_one.number ≡ fresh 0)
-    (layers : (layer : Layer ℕ) → Among layer (of_overlay [] layers_of new_one)
+    (number : new_one.number ≡ fresh 0) (layers : (layer : Layer ℕ) → Among layer (of_overlay [] layers_of new_one)
     → Among layer.filesystem (used_directly nat_eq world names))
     (named : has_only_named new_one ≡ true) (flags : MountFlags) where
   abbrev its_origins : List (Mount ℕ)
@@ -47,13 +46,11 @@ module _ (world : World ℕ) (names : List TaskName) (is : IsWorld nat_eq world)
   -- it is private
   sources : (o : Mount ℕ) → Among o its_origins → (g : ℕ) → source_of o.propagation ≡ Some g
       → Ours world names is sealed_off fresh serves g
-  sources o m g e =
-      ⊎_elim (λ same. none_is_some g (sym (ap (λ (x : Mount ℕ). source_of x.propagation) same) ∙ e))
+  sources o m g e = ⊎_elim (λ same. none_is_some g (sym (ap (λ (x : Mount ℕ). source_of x.propagation) same) ∙ e))
       (λ none. absurd none) m
 
   pub mounted_as_before : OthersAsBefore world (mounted nat_eq (odds fresh) world here new_one flags) names names
-  mounted_as_before =
-      copies_as_before world names is sealed_off fresh serves (new_one ∷ [])
+  mounted_as_before = copies_as_before world names is sealed_off fresh serves (new_one ∷ [])
       (unused world names is sealed_off fresh serves here on own new_one number layers named flags) here
       (here_there world names is sealed_off fresh serves here on own new_one number layers named flags) own
       (new world names is sealed_off fresh serves here on own new_one number layers named flags) its_origins
@@ -70,23 +67,18 @@ plain_mounts_give_no_foothold world names name path flags it fresh serves = by (
         → GivesNoFoothold world names name (MountPlain path flags) fresh
     judged_by task member e (Ok permit) judged its =
         permit_out world names name (MountPlain path flags) it refl fresh serves task e (ToMountPlain its.0 flags)
-        (judged ∙ ap Ok its.1)
-        (λ ends. mounted_as_before world names it.is it.sealed_off fresh serves its.0 its.2 its.3
-        (plain_filesystem nat_eq fresh) refl (λ layer m. absurd m)
-        (ap (λ b. b && true)
+        (judged ∙ ap Ok its.1) (λ ends. mounted_as_before world names it.is it.sealed_off fresh serves its.0 its.2 its.3
+        (plain_filesystem nat_eq fresh) refl (λ layer m. absurd m) (ap (λ b. b && true)
         (or_left (nat_eq (evens fresh 1) (evens fresh 1))
         (is_among nat_eq (evens fresh 1) (named_in (plain_filesystem nat_eq fresh).files))
         (eq-eqb (evens fresh 1) (evens fresh 1) refl))) flags)
-    judged_by task member e (Err deny) judged its =
-        refused_out world names name (MountPlain path flags) it fresh
-        (ap (λ o. is_ok (ran name (MountPlain path flags) world fresh o).answer) e
-        ∙ ap (λ j. is_ok
+    judged_by task member e (Err deny) judged its = refused_out world names name (MountPlain path flags) it fresh
+        (ap (λ o. is_ok (ran name (MountPlain path flags) world fresh o).answer) e ∙ ap (λ j. is_ok
         (run_by world names name (MountPlain path flags) it fresh fresh world fresh task j).answer) judged)
 
     by : (o : Option (Task ℕ)) → task_called world name ≡ o
         → GivesNoFoothold world names name (MountPlain path flags) fresh
-    by None e =
-        refused_out world names name (MountPlain path flags) it fresh
+    by None e = refused_out world names name (MountPlain path flags) it fresh
         (ap (λ o. is_ok (ran name (MountPlain path flags) world fresh o).answer) e)
     by (Some task) e =
         let member = member_called world names it.is it.sealed_off name it.theirs task e in

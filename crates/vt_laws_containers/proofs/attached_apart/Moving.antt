@@ -76,8 +76,7 @@ module _ (world : World ℕ) (names : List TaskName) (is : IsWorld nat_eq world)
   sources : (o : Mount ℕ) → Among o origins → (g : ℕ) → source_of o.propagation ≡ Some g → IsOurs g
   sources o m g e =
       let its = origin_mine world names is sealed_off here here_there to.own new from.mount from_there to.from_own o m
-      in
-      source_ours world names is sealed_off fresh serves o
+      in source_ours world names is sealed_off fresh serves o
       (among-filter (is_own_mount nat_eq world names) world.mounts o its.0 its.1) g e
 
   new_groups : (a b : ℕ) → IsOurs (new.image a b)
@@ -86,9 +85,7 @@ module _ (world : World ℕ) (names : List TaskName) (is : IsWorld nat_eq world)
   -- a mount that stayed or moved is in groups of theirs
   old_sourced : (x : Mount ℕ) → Among x world.mounts → is_own_mount nat_eq world names x ≡ true → (g : ℕ)
       → source_of (change x).propagation ≡ Some g → IsOurs g
-  old_sourced x n mine g e =
-      ⊎_elim
-      (λ same. source_ours world names is sealed_off fresh serves x
+  old_sourced x n mine g e = ⊎_elim (λ same. source_ours world names is sealed_off fresh serves x
       (among-filter (is_own_mount nat_eq world names) world.mounts x n mine) g
       (ap (λ (z : Mount ℕ). source_of z.propagation) (sym same) ∙ pushed))
       (λ moves. copy_ours base_here new here true origins IsOurs new_groups sources (mount_at nat_eq world here) x
@@ -102,10 +99,8 @@ module _ (world : World ℕ) (names : List TaskName) (is : IsWorld nat_eq world)
 
   sourced : (y : Mount ℕ) → Among y (map change world.mounts ++ added) → is_own_mount nat_eq world names y ≡ true
       → (g : ℕ) → source_of y.propagation ≡ Some g → IsOurs g
-  sourced y m mine g e =
-      ⊎_elim
-      (λ old. old_sourced old.0 old.1 old.2 g (ap (λ (x : Mount ℕ). source_of x.propagation) (sym old.3) ∙ e))
-      (λ more.
+  sourced y m mine g e = ⊎_elim
+      (λ old. old_sourced old.0 old.1 old.2 g (ap (λ (x : Mount ℕ). source_of x.propagation) (sym old.3) ∙ e)) (λ more.
       let of = at_receiver world names is sealed_off here here_there to.own new from.mount from_there to.from_own y
       more in
       copy_ours base_here new here true origins IsOurs new_groups sources of.0 of.2 of.3 g
@@ -113,13 +108,11 @@ module _ (world : World ℕ) (names : List TaskName) (is : IsWorld nat_eq world)
       (own_how world names change added [] masters grows y m mine)
 
   as_grown : moved_to nat_eq fresh world from.mount here ≡ grown_world world names change added [] masters
-  as_grown =
-      ap (λ w. attach nat_eq w fresh here true origins) (no_new_ones world)
+  as_grown = ap (λ w. attach nat_eq w fresh here true origins) (no_new_ones world)
       ∙ moved_as world names is sealed_off here here_there to.own new from.mount from_there to.from_own world
 
   pub moved_as_before : OthersAsBefore world (moved_to nat_eq fresh world from.mount here) names names
-  moved_as_before =
-      subst (λ w. OthersAsBefore world w names names) (sym as_grown)
+  moved_as_before = subst (λ w. OthersAsBefore world w names names) (sym as_grown)
       (grown_as_before world names is sealed_off change added [] masters grows
       (groups_apart world names is sealed_off fresh serves change added [] formed grows sourced
       (made_ours base_here new here true origins IsOurs new_groups sources)))
@@ -133,18 +126,14 @@ moves_give_no_foothold world names name source path it fresh serves = by (task_c
         → GivesNoFoothold world names name (MoveMount source path) fresh
     judged_by task member e (Ok permit) judged its =
         permit_out world names name (MoveMount source path) it refl fresh serves task e (ToMove its.0.mount its.1)
-        (judged ∙ ap Ok its.2)
-        (λ ends. moved_as_before world names it.is it.sealed_off fresh serves its.0 its.1 its.3)
-    judged_by task member e (Err deny) judged its =
-        refused_out world names name (MoveMount source path) it fresh
-        (ap (λ o. is_ok (ran name (MoveMount source path) world fresh o).answer) e
-        ∙ ap (λ j. is_ok
+        (judged ∙ ap Ok its.2) (λ ends. moved_as_before world names it.is it.sealed_off fresh serves its.0 its.1 its.3)
+    judged_by task member e (Err deny) judged its = refused_out world names name (MoveMount source path) it fresh
+        (ap (λ o. is_ok (ran name (MoveMount source path) world fresh o).answer) e ∙ ap (λ j. is_ok
         (run_by world names name (MoveMount source path) it fresh fresh world fresh task j).answer) judged)
 
     by : (o : Option (Task ℕ)) → task_called world name ≡ o
         → GivesNoFoothold world names name (MoveMount source path) fresh
-    by None e =
-        refused_out world names name (MoveMount source path) it fresh
+    by None e = refused_out world names name (MoveMount source path) it fresh
         (ap (λ o. is_ok (ran name (MoveMount source path) world fresh o).answer) e)
     by (Some task) e =
         let member = member_called world names it.is it.sealed_off name it.theirs task e in

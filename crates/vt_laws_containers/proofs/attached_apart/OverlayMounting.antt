@@ -26,8 +26,7 @@ use Rattle.vt_laws_containers.specs.AttachedApart.AttachFootholds.{OverlayMounts
 use Rattle.vt_laws_containers.proofs.attached_apart.Mounting.{mounted_as_before}
 
 pub overlay_mounts_give_no_foothold : OverlayMountsGiveNoFoothold
-overlay_mounts_give_no_foothold world names name path options flags it fresh serves =
-    by (task_called world name) refl
+overlay_mounts_give_no_foothold world names name path options flags it fresh serves = by (task_called world name) refl
   where
     granted_out : (task : Task ℕ) (member : Among task (members world names)) → task_called world name ≡ Some task
         → (permit : Permit ℕ) → judge_in nat_eq fresh world task (MountOverlay path options flags) ≡ Ok permit
@@ -46,22 +45,18 @@ overlay_mounts_give_no_foothold world names name path options flags it fresh ser
     judged_by : (task : Task ℕ) → Among task (members world names) → task_called world name ≡ Some task
         → (j : Judgement ℕ) → judge_in nat_eq fresh world task (MountOverlay path options flags) ≡ j
         → GivesNoFoothold world names name (MountOverlay path options flags) fresh
-    judged_by task member e (Ok permit) judged =
-        granted_out task member e permit judged
+    judged_by task member e (Ok permit) judged = granted_out task member e permit judged
         (mounts_overlay world names it.is it.sealed_off task member fresh path options flags permit
         (calls_are_granted nat_eq (looks_of nat_eq world) (overfills nat_eq fresh world task) task
         (MountOverlay path options flags) permit judged))
-    judged_by task member e (Err deny) judged =
-        refused_out world names name (MountOverlay path options flags) it fresh
+    judged_by task member e (Err deny) judged = refused_out world names name (MountOverlay path options flags) it fresh
         (ap (λ o. is_ok (ran name (MountOverlay path options flags) world fresh o).answer) e
         ∙ ap (λ j. is_ok (run_by world names name (MountOverlay path options flags) it fresh fresh world fresh task
         j).answer) judged)
 
     by : (o : Option (Task ℕ)) → task_called world name ≡ o
         → GivesNoFoothold world names name (MountOverlay path options flags) fresh
-    by None e =
-        refused_out world names name (MountOverlay path options flags) it fresh
+    by None e = refused_out world names name (MountOverlay path options flags) it fresh
         (ap (λ o. is_ok (ran name (MountOverlay path options flags) world fresh o).answer) e)
-    by (Some task) e =
-        judged_by task (member_called world names it.is it.sealed_off name it.theirs task e) e
+    by (Some task) e = judged_by task (member_called world names it.is it.sealed_off name it.theirs task e) e
         (judge_in nat_eq fresh world task (MountOverlay path options flags)) refl

@@ -33,10 +33,8 @@ layered_as filesystem = option_map without_real filesystem.overlay
 -- It is in the place of one of the world, with its layers. Or its number is new, and if it is an overlay with an upper
 -- layer, the set used the filesystem of that.
 abbrev pub GoesOn : World ℕ → List TaskName → Filesystem ℕ → Type 0
-GoesOn world names filesystem =
-    ((old : Filesystem ℕ) × Among old world.filesystems × (old.number ≡ filesystem.number)
-    × (layered_as filesystem ≡ layered_as old))
-    ⊎ ((IsThere world filesystem.number → ⊥)
+GoesOn world names filesystem = ((old : Filesystem ℕ) × Among old world.filesystems × (old.number ≡ filesystem.number)
+    × (layered_as filesystem ≡ layered_as old)) ⊎ ((IsThere world filesystem.number → ⊥)
     × ((number : ℕ) → Among number (change_layers filesystem)
     → is_among nat_eq number (used_filesystems nat_eq world names) ≡ true))
 
@@ -98,8 +96,7 @@ layer_is_there world names is merged there number h = by merged.overlay refl h
   where
     by : (o : Option (Overlay ℕ)) → merged.overlay ≡ o
         → overlay_or false (λ (overlay : Overlay ℕ). list_any (λ l. nat_eq number l.filesystem) (layers_of overlay)) o
-        ≡ true
-        → IsThere world number
+        ≡ true → IsThere world number
     by None e k = absurd (true≢false (sym k))
     by (Some overlay) e k =
         let at = any_among (λ (layer : Layer ℕ). nat_eq number layer.filesystem) (layers_of overlay) k in
@@ -123,12 +120,10 @@ others_there world names is number h =
         (locations (outsiders world names)) ≡ b
         → (not (list_any (λ (mount : Mount ℕ). nat_eq number mount.filesystem) (other_mounts nat_eq world names))
         && not (list_any (λ (l : Location ℕ). nat_eq number (mount_at nat_eq world l).filesystem)
-        (locations (outsiders world names)))) ≡ false
-        → IsThere world number
+        (locations (outsiders world names)))) ≡ false → IsThere world number
     by true e b f k =
         let at = any_among (λ (mount : Mount ℕ). nat_eq number mount.filesystem) (other_mounts nat_eq world names) e in
-        subst (IsThere world) (sym (eqb-true number at.0.filesystem at.2))
-        (mounted_is_there world names is at.0
+        subst (IsThere world) (sym (eqb-true number at.0.filesystem at.2)) (mounted_is_there world names is at.0
         (among-from_filter (λ (mount : Mount ℕ). holds_of
         (λ n. not (is_own_namespace nat_eq world names n)) mount.namespace) world.mounts at.0 at.1).0)
     by false e true f k =
@@ -138,8 +133,7 @@ others_there world names is number h =
         subst (IsThere world) (sym (eqb-true number (mount_at nat_eq world at.0).filesystem at.2))
         (located_is_there world names is at.0 (among-flat_map locations_of world.tasks of.0 at.0
         (among-from_filter (λ (t : Task ℕ). not (is_member_task names t)) world.tasks of.0 of.1).0 of.2))
-    by false e false f k =
-        absurd (true≢false (sym (ap (λ a. not a
+    by false e false f k = absurd (true≢false (sym (ap (λ a. not a
         && not (list_any (λ (l : Location ℕ). nat_eq number (mount_at nat_eq world l).filesystem)
         (locations (outsiders world names)))) e ∙ ap not f) ∙ k))
 
@@ -172,19 +166,16 @@ module _ (world left : World ℕ) (names set : List TaskName) (is : IsWorld nat_
       let parts = and_parts (no_outsider_on nat_eq world names number)
       (list_all (free_in world names number) (overlays world)) alone in
       and_from (no_outsider_on nat_eq left set number) (list_all (free_in left set number) (overlays left))
-      (no_outsider_same number ∙ parts.0)
-      (list_all_from_among (free_in left set number) (overlays left) (λ merged m.
+      (no_outsider_same number ∙ parts.0) (list_all_from_among (free_in left set number) (overlays left) (λ merged m.
       let from = among-from_filter is_overlay left.filesystems merged m in
-      ⊎_elim
-      (λ old.
+      ⊎_elim (λ old.
       ap (λ b. not b || no_outsider_on nat_eq left set merged.number) (layers_alike number merged old.0 old.3)
       ∙ ap (λ b. not (has_layer_on nat_eq number old.0) || b)
       (no_outsider_same merged.number ∙ ap (no_outsider_on nat_eq world names) (sym old.2))
       ∙ among_from_list_all (free_in world names number) (overlays world) parts.1 old.0
       (among-filter is_overlay world.filesystems old.0 old.1 (sym (overlays_alike merged old.0 old.3) ∙ from.1)))
       (λ new. or_right (not (has_layer_on nat_eq number merged)) (no_outsider_on nat_eq left set merged.number)
-      (none_on_unknown merged.number new.0))
-      (others.filesystems merged from.0)))
+      (none_on_unknown merged.number new.0)) (others.filesystems merged from.0)))
 
   -- an overlay on which others are is left, with its layers
   was_free : (number : ℕ) → used_alone nat_eq left set number ≡ true → used_alone nat_eq world names number ≡ true
@@ -202,28 +193,23 @@ module _ (world left : World ℕ) (names set : List TaskName) (is : IsWorld nat_
           → no_outsider_on nat_eq world names merged.number ≡ false → ⊥
       clash all merged there layered used =
           let now = others_there left set left_is merged.number (no_outsider_same merged.number ∙ used) in
-          ⊎_elim
-          (λ old.
-          let same : old.0 ≡ merged =
-          sym (found_filesystem world.filesystems is.files.one_filesystem old.0 old.1)
+          ⊎_elim (λ old.
+          let same : old.0 ≡ merged = sym (found_filesystem world.filesystems is.files.one_filesystem old.0 old.1)
           ∙ ap (filesystem_numbered nat_eq world) (old.2 ∙ now.2)
           ∙ found_filesystem world.filesystems is.files.one_filesystem merged there in
           let has : has_layer_on nat_eq number now.0 ≡ true =
           layers_alike number now.0 old.0 old.3 ∙ ap (has_layer_on nat_eq number) same ∙ layered in
-          true≢false
-          (sym (ap (λ b. not b || no_outsider_on nat_eq left set now.0.number) (sym has)
+          true≢false (sym (ap (λ b. not b || no_outsider_on nat_eq left set now.0.number) (sym has)
           ∙ among_from_list_all (free_in left set number) (overlays left) all now.0
           (among-filter is_overlay left.filesystems now.0 now.1 (layered_overlay number now.0 has)))
           ∙ ap (no_outsider_on nat_eq left set) now.2 ∙ no_outsider_same merged.number ∙ used))
-          (λ new. new.0 (merged, there, sym now.2))
-          (others.filesystems now.0 now.1)
+          (λ new. new.0 (merged, there, sym now.2)) (others.filesystems now.0 now.1)
 
       which : list_all (free_in left set number) (overlays left) ≡ true → (merged : Filesystem ℕ)
           → Among merged world.filesystems → (a : Bool) → has_layer_on nat_eq number merged ≡ a → (b : Bool)
           → no_outsider_on nat_eq world names merged.number ≡ b → free_in world names number merged ≡ true
       which all merged there false e b f =
-          or_left (not (has_layer_on nat_eq number merged)) (no_outsider_on nat_eq world names merged.number)
-          (ap not e)
+          or_left (not (has_layer_on nat_eq number merged)) (no_outsider_on nat_eq world names merged.number) (ap not e)
       which all merged there true e true f =
           or_right (not (has_layer_on nat_eq number merged)) (no_outsider_on nat_eq world names merged.number) f
       which all merged there true e false f = absurd (clash all merged there e f)
@@ -237,17 +223,14 @@ module _ (world left : World ℕ) (names set : List TaskName) (is : IsWorld nat_
   free_if_new : (number : ℕ) → (IsThere world number → ⊥) → used_alone nat_eq left set number ≡ true
   free_if_new number new =
       and_from (no_outsider_on nat_eq left set number) (list_all (free_in left set number) (overlays left))
-      (none_on_unknown number new)
-      (list_all_from_among (free_in left set number) (overlays left) (λ merged m.
+      (none_on_unknown number new) (list_all_from_among (free_in left set number) (overlays left) (λ merged m.
       let from = among-from_filter is_overlay left.filesystems merged m in
-      ⊎_elim
-      (λ old. or_left (not (has_layer_on nat_eq number merged)) (no_outsider_on nat_eq left set merged.number)
+      ⊎_elim (λ old. or_left (not (has_layer_on nat_eq number merged)) (no_outsider_on nat_eq left set merged.number)
       (ap not (false_from_ne_true (has_layer_on nat_eq number merged) (λ layered.
       new (layer_is_there world names is old.0 old.1 number
       (sym (layers_alike number merged old.0 old.3) ∙ layered))))))
       (λ fresh. or_right (not (has_layer_on nat_eq number merged)) (no_outsider_on nat_eq left set merged.number)
-      (none_on_unknown merged.number fresh.0))
-      (others.filesystems merged from.0)))
+      (none_on_unknown merged.number fresh.0)) (others.filesystems merged from.0)))
 
   -- what the set uses, and did not use, is new
   abbrev used : List ℕ
@@ -258,9 +241,7 @@ module _ (world left : World ℕ) (names set : List TaskName) (is : IsWorld nat_
 
   changed_used : (number k : ℕ) → Among k (used_directly nat_eq world names) → Among number (changed_in world k)
       → is_among nat_eq number used ≡ true
-  changed_used number k direct m =
-      is_among_numbers used number
-      (among-each_once (used_directly nat_eq world names
+  changed_used number k direct m = is_among_numbers used number (among-each_once (used_directly nat_eq world names
       ++ flat_map (changed_in world) (used_directly nat_eq world names)) number
       (among-append_right (used_directly nat_eq world names)
       (flat_map (changed_in world) (used_directly nat_eq world names)) number
@@ -268,8 +249,7 @@ module _ (world left : World ℕ) (names set : List TaskName) (is : IsWorld nat_
 
   used_or_new : (number : ℕ) → Among number (used_filesystems nat_eq left set)
       → (is_among nat_eq number used ≡ true) ⊎ (IsThere world number → ⊥)
-  used_or_new number m =
-      ⊎_elim
+  used_or_new number m = ⊎_elim
       (λ direct. ⊎_elim (λ was. inl (used_directly_used world names number was)) inr (others.direct number direct))
       (λ layered.
       let from = among-from_flat_map (changed_in left) (used_directly nat_eq left set) number layered in
@@ -279,27 +259,21 @@ module _ (world left : World ℕ) (names set : List TaskName) (is : IsWorld nat_
       ++ flat_map (changed_in left) (used_directly nat_eq left set)) number m))
     where
       over : (k : ℕ) → Among k (used_directly nat_eq left set) → (o : Option (Filesystem ℕ))
-          → find (λ (f : Filesystem ℕ). nat_eq k f.number) left.filesystems ≡ o
-          → Among number (change_layers (unwrap_or
+          → find (λ (f : Filesystem ℕ). nat_eq k f.number) left.filesystems ≡ o → Among number (change_layers (unwrap_or
           (find (λ (f : Filesystem ℕ). nat_eq k f.number) left.filesystems) (no_filesystem k)))
           → is_among nat_eq number used ≡ true
-      over k direct None e n =
-          absurd (subst (λ o. Among number (change_layers (unwrap_or o (no_filesystem k)))) e n)
+      over k direct None e n = absurd (subst (λ o. Among number (change_layers (unwrap_or o (no_filesystem k)))) e n)
       over k direct (Some merged) e n =
           let of : Among number (change_layers merged) =
           subst (λ o. Among number (change_layers (unwrap_or o (no_filesystem k)))) e n in
-          let its_number : k ≡ merged.number =
-          eqb-true k merged.number
+          let its_number : k ≡ merged.number = eqb-true k merged.number
           (found_passes (λ (f : Filesystem ℕ). nat_eq k f.number) left.filesystems merged e) in
-          ⊎_elim
-          (λ old. ⊎_elim
-          (λ was. changed_used number k was
+          ⊎_elim (λ old. ⊎_elim (λ was. changed_used number k was
           (subst (λ (f : Filesystem ℕ). Among number (change_layers f))
           (sym (ap (filesystem_numbered nat_eq world) (its_number ∙ sym old.2)
           ∙ found_filesystem world.filesystems is.files.one_filesystem old.0 old.1))
           (subst (Among number) (changes_alike merged old.0 old.3) of)))
-          (λ new. absurd (new (old.0, old.1, old.2 ∙ sym its_number)))
-          (others.direct k direct))
+          (λ new. absurd (new (old.0, old.1, old.2 ∙ sym its_number))) (others.direct k direct))
           (λ new. new.1 number of)
           (others.filesystems merged (found_among (λ (f : Filesystem ℕ). nat_eq k f.number) left.filesystems merged e))
 
@@ -309,7 +283,6 @@ module _ (world left : World ℕ) (names set : List TaskName) (is : IsWorld nat_
     events = others.events;
     locations = others.places;
     as_before = λ filesystem m was. same_footholds filesystem;
-    none_on_new = λ filesystem m new.
-        ⊎_elim (λ was. absurd (true≢false (sym was ∙ new))) (free_if_new filesystem)
+    none_on_new = λ filesystem m new. ⊎_elim (λ was. absurd (true≢false (sym was ∙ new))) (free_if_new filesystem)
         (used_or_new filesystem (among_from_contains (used_filesystems nat_eq left set) filesystem m));
   }

@@ -25,12 +25,10 @@ use Rattle.vt_laws_containers.proofs.footholds.AsBefore.{GoesOn, OthersAsBefore,
 pub going_on : (world : World ℕ) (names : List TaskName) (one other : Filesystem ℕ) → other.number ≡ one.number
     → layered_as other ≡ layered_as one → GoesOn world names one → GoesOn world names other
 going_on world names one other number layered goes =
-    ⊎_elim (λ old. inl (old.0, old.1, old.2 ∙ sym number, layered ∙ old.3))
-    (λ new. inr (
+    ⊎_elim (λ old. inl (old.0, old.1, old.2 ∙ sym number, layered ∙ old.3)) (λ new. inr (
       λ there. new.0 (there.0, there.1, there.2 ∙ number),
       λ n m. new.1 n (subst (Among n) (changes_alike other one layered) m),
-    ))
-    goes
+    )) goes
 
 -- The sweep
 module _ (world left : World ℕ) (names set : List TaskName) (others : OthersAsBefore world left names set) where
@@ -99,14 +97,11 @@ module _ (world left : World ℕ) (names set : List TaskName) (others : OthersAs
 
   direct_was : (number : ℕ) → Among number (used_directly nat_eq last set)
       → Among number (used_directly nat_eq left set)
-  direct_was number m =
-      ⊎_elim
-      (λ shown. among-append_left mounted located number
+  direct_was number m = ⊎_elim (λ shown. among-append_left mounted located number
       (subst (λ list. Among number (map (λ (x : Mount ℕ). x.filesystem) list)) owns_stay shown))
       (λ at. let l = among-from_map (λ (l : Location ℕ). (mount_at nat_eq last l).filesystem)
       (locations (members left set)) number at in
-      among-append_right mounted located number
-      (subst (λ n. Among n located)
+      among-append_right mounted located number (subst (λ n. Among n located)
       (sym (l.2 ∙ ap (λ (x : Mount ℕ). x.filesystem) (found_living l.0 (placed (is_member_task set) l.0 l.1))))
       (among-map (λ (l : Location ℕ). (mount_at nat_eq left l).filesystem) (locations (members left set)) l.0 l.1)))
       (among-append (map (λ (x : Mount ℕ). x.filesystem) (own_mounts nat_eq last set))
@@ -124,11 +119,9 @@ module _ (world left : World ℕ) (names set : List TaskName) (others : OthersAs
       record {
         others = others.others;
         mounts = others_stay ∙ others.mounts;
-        shown = λ location m.
-            ap (λ (x : Mount ℕ). x.filesystem)
+        shown = λ location m. ap (λ (x : Mount ℕ). x.filesystem)
             (found_living location (placed (λ (t : Task ℕ). not (is_member_task set t)) location
-            (subst (λ tasks. Among location (locations tasks)) (sym others.others) m)))
-            ∙ others.shown location m;
+            (subst (λ tasks. Among location (locations tasks)) (sym others.others) m))) ∙ others.shown location m;
         tasks = out.tasks;
         events = out.events;
         places = out.locations;
@@ -159,23 +152,19 @@ module _ (world left : World ℕ) (names set : List TaskName) (others : OthersAs
   unraised t m = by (same_name name t.name) refl
     where
       by : (b : Bool) → same_name name t.name ≡ b → cond b (record t { change = raised t.change }) t ≡ t
-      by true e =
-          absurd (true≢false
-          (sym (ap (λ n. is_among same_name n names) (sym (same_task_name name t.name e)) ∙ theirs)
-          ∙ outside))
+      by true e = absurd (true≢false
+          (sym (ap (λ n. is_among same_name n names) (sym (same_task_name name t.name e)) ∙ theirs) ∙ outside))
         where
           outside : is_member_task names t ≡ false
           outside = grind (arith, common_steps, not-true, among-from_filter)
       by false e = refl
 
-  map_same : (f : Task ℕ → Task ℕ) (list : List (Task ℕ)) → ((t : Task ℕ) → Among t list → f t ≡ t)
-      → map f list ≡ list
+  map_same : (f : Task ℕ → Task ℕ) (list : List (Task ℕ)) → ((t : Task ℕ) → Among t list → f t ≡ t) → map f list ≡ list
   map_same f [] same = refl
   map_same f (t ∷ rest) same = cc (same t (inl refl), map_same f rest (λ x m. same x (inr m)))
 
   outsiders_same : outsiders raised_left set ≡ outsiders left set
-  outsiders_same =
-      filter-map (λ (t : Task ℕ). not (is_member_task set t)) raise left.tasks
+  outsiders_same = filter-map (λ (t : Task ℕ). not (is_member_task set t)) raise left.tasks
       (λ t. ap (λ n. not (is_among same_name n set)) (raised_is name (λ (x : Task ℕ). x.name) (λ x. refl) t))
       ∙ map_same raise (outsiders left set) unraised
 
@@ -193,8 +182,7 @@ module _ (world left : World ℕ) (names set : List TaskName) (others : OthersAs
       flat (t ∷ rest) = cc (raised_is name locations_of (λ x. refl) t, flat rest)
 
   direct_same : used_directly nat_eq raised_left set ≡ used_directly nat_eq left set
-  direct_same i =
-      map (λ (mount : Mount ℕ). mount.filesystem) (owned_by (λ n. own_same n i))
+  direct_same i = map (λ (mount : Mount ℕ). mount.filesystem) (owned_by (λ n. own_same n i))
       ++ map (λ (l : Location ℕ). (mount_at nat_eq left l).filesystem) (places_same i)
 
   pub raised_as_before : OthersAsBefore world raised_left names set
@@ -209,8 +197,7 @@ module _ (world left : World ℕ) (names set : List TaskName) (others : OthersAs
         (locations (outsiders_same i))) ∙ others.places;
     filesystems = λ f m.
         let was = among-from_map (raised_if_changed nat_eq changed) left.filesystems f m in
-        going_on world names was.0 f
-        (ap (λ (x : Filesystem ℕ). x.number) was.2
+        going_on world names was.0 f (ap (λ (x : Filesystem ℕ). x.number) was.2
         ∙ by_number was.0 (list_any (λ number. nat_eq number was.0.number) changed))
         (ap layered_as was.2 ∙ by_layers was.0 (list_any (λ number. nat_eq number was.0.number) changed))
         (others.filesystems was.0 was.1);

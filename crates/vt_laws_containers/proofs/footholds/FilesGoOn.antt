@@ -16,8 +16,7 @@ use Rattle.vt_laws_containers.proofs.footholds.AsBefore.{layered_as, without_rea
 
 -- It is in the place of one of the world, with its layers.
 abbrev pub IsPlaced : World ℕ → Filesystem ℕ → Type 0
-IsPlaced world filesystem =
-    (old : Filesystem ℕ) × Among old world.filesystems × (old.number ≡ filesystem.number)
+IsPlaced world filesystem = (old : Filesystem ℕ) × Among old world.filesystems × (old.number ≡ filesystem.number)
     × (layered_as filesystem ≡ layered_as old)
 
 -- these filesystems alone may change, each in its place
@@ -66,11 +65,9 @@ module _ (world : World ℕ)
     over overlay e None = nothing_changes world
     over overlay e (Some upper) = record {
       same = refl;
-      placed = replaced_placed
-          (with_files (filesystem_numbered nat_eq world upper.filesystem)
+      placed = replaced_placed (with_files (filesystem_numbered nat_eq world upper.filesystem)
           (merge_changed nat_eq fresh (stack_of nat_eq world overlay upper) (merge_of nat_eq world its overlay upper)
-          change).upper)
-          upper.filesystem (number_of_filesystem world upper.filesystem) refl
+          change).upper) upper.filesystem (number_of_filesystem world upper.filesystem) refl
           (map (replaced_if_numbered nat_eq merged) world.filesystems)
           (replaced_placed merged number its_number (sym (ap (option_map without_real) e)) world.filesystems
           (λ f m. (f, m, refl, refl)));

@@ -72,12 +72,9 @@ module _ (world : World ℕ) (gone : List ℕ) where
 
   after_same : (mount : Mount ℕ) → Among mount world.mounts
       → after_going nat_eq world gone_there mount ≡ after_going nat_eq world gone mount
-  after_same mount m = λ i.
-      cond (kept_among is_mount mount.number
+  after_same mount m = λ i. cond (kept_among is_mount mount.number
       (any_from_among (λ (x : Mount ℕ). nat_eq mount.number x.number) world.mounts mount m
-      (eq-eqb mount.number mount.number refl)) gone i)
-      (detached mount)
-      (record mount {
+      (eq-eqb mount.number mount.number refl)) gone i) (detached mount) (record mount {
         mount_point = option_map (λ point.
             last_or point (chain (length world.mounts) (λ l. parent_same l i) point)) mount.mount_point;
       })
@@ -112,11 +109,9 @@ module _ (world : World ℕ) (names : List TaskName) (name : TaskName) (call : C
       → ((mount : Mount ℕ) → Among mount (taken_away nat_eq world gone).mounts → (n : ℕ) → mount.namespace ≡ Some n
       → (t : Task ℕ) × Among t world.tasks × (t.namespace ≡ n))
       → OthersAsBefore world (taken_away nat_eq world gone) names names
-  own_gone_before gone own tasked =
-      subst (λ w. OthersAsBefore world w names names) (taken_there world gone)
+  own_gone_before gone own tasked = subst (λ w. OthersAsBefore world w names names) (taken_there world gone)
       (gone_as_before world names name call it few fresh serves task called (gone_there world gone) [] goes
-      (λ mount m n e.
-      tasked mount (subst (λ (w : World ℕ). Among mount w.mounts) (taken_there world gone) m) n e))
+      (λ mount m n e. tasked mount (subst (λ (w : World ℕ). Among mount w.mounts) (taken_there world gone) m) n e))
     where
       goes : (number : ℕ) → is_going nat_eq (gone_there world gone) number ≡ true
           → (n : ℕ) × ((mount_numbered nat_eq world number).namespace ≡ Some n) × (ours n ≡ true)

@@ -35,8 +35,7 @@ use Rattle.vt_laws_containers.proofs.footholds.TasksAsBefore.{tasks_as_before, t
 -- the world itself
 pub as_itself : (world : World ℕ) (names : List TaskName) → IsWorld nat_eq world → sealed nat_eq world names ≡ true
     → OthersAsBefore world world names names
-as_itself world names is sealed_off =
-    tasks_as_before world names names is sealed_off world.tasks world.filesystems
+as_itself world names is sealed_off = tasks_as_before world names names is sealed_off world.tasks world.filesystems
     (tasks_beside world names is world.filesystems (λ f m. inl (f, m, refl, refl)))
 
 module _ (world : World ℕ) (names : List TaskName) (name : TaskName) (call : Call)
@@ -50,8 +49,7 @@ module _ (world : World ℕ) (names : List TaskName) (name : TaskName) (call : C
   -- what leaves the world leaves others
   pub unchanged_out : later ≡ world → grown names name call answer_given ≡ names
       → GivesNoFoothold world names name call fresh
-  unchanged_out same stays =
-      subst (LeavesOthersOut world later names) (sym stays)
+  unchanged_out same stays = subst (LeavesOthersOut world later names) (sym stays)
       (subst (λ w. LeavesOthersOut world w names names) (sym same)
       (leaves_others_out world world names names it.is it.is (as_itself world names it.is it.sealed_off)))
 
@@ -95,8 +93,7 @@ module _ (world : World ℕ) (names : List TaskName) (name : TaskName) (call : C
           (member_called world names it.is it.sealed_off name it.theirs task e) (overfills nat_eq fresh world task)
           names name call looks in
           ap (grown names name call) (answer-finished_by (only_looks call || not (is_ok outcome.answer)) world name
-          (filesystems_changed_by nat_eq world judgement) outcome)
-          ∙ after_stays task its.1 judgement its.0
+          (filesystems_changed_by nat_eq world judgement) outcome) ∙ after_stays task its.1 judgement its.0
 
       stays : grown names name call answer_given ≡ names
       stays = by (task_called world name) refl
@@ -115,8 +112,7 @@ module _ (world : World ℕ) (names : List TaskName) (name : TaskName) (call : C
 
   -- what a permit leaves is a world, after the sweep and with change numbers raised
   abbrev pub EndsInAWorld : Task ℕ → Permit ℕ → Type 0
-  EndsInAWorld task permit =
-      IsWorld nat_eq (numbers_raised nat_eq world name (filesystems_changed nat_eq world permit)
+  EndsInAWorld task permit = IsWorld nat_eq (numbers_raised nat_eq world name (filesystems_changed nat_eq world permit)
       (settled nat_eq (apply nat_eq fresh world task permit).world))
 
   -- what a granted call is permitted leaves others as they were, after the sweep
@@ -135,8 +131,7 @@ module _ (world : World ℕ) (names : List TaskName) (name : TaskName) (call : C
           let did = permitted world fresh name call answer changes e in
           let set = grown names name call (apply nat_eq fresh world did.task did.permit).answer in
           let done = (apply nat_eq fresh world did.task did.permit).world in
-          let same : grown names name call its_answer ≡ set =
-          ap (grown names name call) (e ∙ sym did.answered) in
+          let same : grown names name call its_answer ≡ set = ap (grown names name call) (e ∙ sym did.answered) in
           subst (LeavesOthersOut world after_call names) (sym same)
           (leaves_others_out world after_call names set it.is after_is
           (subst (λ w. OthersAsBefore world w names set) (sym did.left)
@@ -146,21 +141,17 @@ module _ (world : World ℕ) (names : List TaskName) (name : TaskName) (call : C
 
   -- which is one
   pub one_permit : (task : Task ℕ) → task_called world name ≡ Some task → (permit : Permit ℕ)
-      → judge_in nat_eq fresh world task call ≡ Ok permit
-      → (EndsInAWorld task permit
+      → judge_in nat_eq fresh world task call ≡ Ok permit → (EndsInAWorld task permit
       → OthersAsBefore world (settled nat_eq (apply nat_eq fresh world task permit).world) names
-      (grown names name call (apply nat_eq fresh world task permit).answer))
-      → Permits
+      (grown names name call (apply nat_eq fresh world task permit).answer)) → Permits
   one_permit task called permit judged before other called_too given judged_too =
       let same : task ≡ other = same_Some task other (sym called ∙ called_too) in
       let alike : Path (Result (Permit ℕ) Deny) (Ok permit) (Ok given) =
       sym judged ∙ ap (λ t. judge_in nat_eq fresh world t call) same ∙ judged_too in
-      subst (λ t. Leaves t given) same
-      (subst (λ p. Leaves task p) (same_permit permit given alike) before)
+      subst (λ t. Leaves t given) same (subst (λ p. Leaves task p) (same_permit permit given alike) before)
     where
       Leaves : Task ℕ → Permit ℕ → Type 0
-      Leaves t p =
-          EndsInAWorld t p → OthersAsBefore world (settled nat_eq (apply nat_eq fresh world t p).world) names
+      Leaves t p = EndsInAWorld t p → OthersAsBefore world (settled nat_eq (apply nat_eq fresh world t p).world) names
           (grown names name call (apply nat_eq fresh world t p).answer)
 
       same_permit : (a b : Permit ℕ) → Path (Result (Permit ℕ) Deny) (Ok a) (Ok b) → a ≡ b

@@ -59,8 +59,7 @@ module _ (world : World ℕ) (names : List TaskName) (apart : IsApart world name
 
   -- all tasks there are of that set
   all_named : (t : Task ℕ) → Among t out → is_member_task their_names t ≡ true
-  all_named t m =
-      any_from_among (same_name t.name) their_names t.name (among-map (λ (x : Task ℕ). x.name) out t m)
+  all_named t m = any_from_among (same_name t.name) their_names t.name (among-map (λ (x : Task ℕ). x.name) out t m)
       (same_name_itself t.name)
 
   pub all_there : filter (is_member_task their_names) out ≡ out
@@ -80,18 +79,15 @@ module _ (world : World ℕ) (names : List TaskName) (apart : IsApart world name
       let task = any_among (λ (t : Task ℕ). nat_eq space.0.number t.namespace) world.tasks
       (among_from_list_all (has_tasks nat_eq world) world.namespaces apart.is.namespaces.namespaces_live space.0
       space.1) in
-      by task.0 task.1
-      (eq-eqb n task.0.namespace
+      by task.0 task.1 (eq-eqb n task.0.namespace
       (eqb-true n at.0 at.2 ∙ space.2 ∙ eqb-true space.0.number task.0.namespace task.2))
       (is_member_task names task.0) refl
     where
       by : (t : Task ℕ) → Among t world.tasks → nat_eq n t.namespace ≡ true → (b : Bool)
           → is_member_task names t ≡ b → (is_ours n ≡ true) ⊎ (is_out n ≡ true)
-      by t m e true is =
-          inl (any_from_among (λ (x : Task ℕ). nat_eq n x.namespace) (members world names) t
+      by t m e true is = inl (any_from_among (λ (x : Task ℕ). nat_eq n x.namespace) (members world names) t
           (among-filter (is_member_task names) world.tasks t m is) e)
-      by t m e false is =
-          inr (any_from_among (λ (x : Task ℕ). nat_eq n x.namespace) out t
+      by t m e false is = inr (any_from_among (λ (x : Task ℕ). nat_eq n x.namespace) out t
           (among-filter (λ (x : Task ℕ). not (is_member_task names x)) world.tasks t m (ap not is)) e)
 
   pub out_is_not_ours : (n : ℕ) → is_out n ≡ true → is_ours n ≡ false
@@ -103,8 +99,7 @@ module _ (world : World ℕ) (names : List TaskName) (apart : IsApart world name
   ours_is_not_out n h = false_from_ne_true (is_out n) (λ e. true≢false (sym h ∙ out_is_not_ours n e))
 
   pub out_if_not_ours : (n : ℕ) → is_listed nat_eq world n ≡ true → is_out n ≡ not (is_ours n)
-  out_if_not_ours n listed =
-      ⊎_elim (λ ours. ours_is_not_out n ours ∙ ap not (sym ours))
+  out_if_not_ours n listed = ⊎_elim (λ ours. ours_is_not_out n ours ∙ ap not (sym ours))
       (λ theirs. theirs ∙ ap not (sym (out_is_not_ours n theirs))) (side n listed)
 
   pub ours_if_not_out : (n : ℕ) → is_listed nat_eq world n ≡ true → not (is_out n) ≡ is_ours n
@@ -115,8 +110,7 @@ module _ (world : World ℕ) (names : List TaskName) (apart : IsApart world name
   placed_listed mount m n e = grind (arith, common_steps, among_from_list_all)
 
   own_is_other : own_mounts nat_eq mirror their_names ≡ other_mounts nat_eq world names
-  own_is_other =
-      filter_alike (is_own_mount nat_eq mirror their_names)
+  own_is_other = filter_alike (is_own_mount nat_eq mirror their_names)
       (λ (x : Mount ℕ). holds_of (λ n. not (is_ours n)) x.namespace) world.mounts
       (λ mount m. by mount m mount.namespace refl)
     where
@@ -161,29 +155,25 @@ module _ (world : World ℕ) (names : List TaskName) (apart : IsApart world name
       (roots_and_directories (members mirror their_names)) h in
       let of = among-from_flat_map (λ (t : Task ℕ). t.root ∷ t.directory ∷ []) out at.0
       (subst (λ tasks. Among at.0 (roots_and_directories tasks)) all_there at.1) in
-      let used : Among at.0 (locations out) =
-      among-flat_map locations_of out of.0 at.0 of.1
+      let used : Among at.0 (locations out) = among-flat_map locations_of out of.0 at.0 of.1
       (⊎_elim inl (λ rest. inr (⊎_elim inl (λ none. absurd none) rest)) of.2) in
       let ours : is_ours n ≡ true =
       sym (ours_if_not_out n (placed_listed mount m n e)) ∙ ap not (sym (own_out n) ∙ other) in
       let it : mount_at nat_eq world at.0 ≡ mount =
       ap (mount_numbered nat_eq world) (eqb-true at.0.mount mount.number at.2)
       ∙ found_itself world.mounts apart.is.mounts.one_number mount m in
-      true≢false
-      (sym (ap (λ (x : Mount ℕ). holds_of is_ours x.namespace) it ∙ ap (holds_of is_ours) e ∙ ours)
+      true≢false (sym (ap (λ (x : Mount ℕ). holds_of is_ours x.namespace) it ∙ ap (holds_of is_ours) e ∙ ours)
       ∙ not-true (is_own_mount nat_eq world names (mount_at nat_eq world at.0))
       (among_from_list_all (λ location. not (is_own_mount nat_eq world names (mount_at nat_eq world location)))
       (locations out) apart.locations at.0 used)))
 
   pub mirror_stands : (New : ℕ → Type 0)
       → ((mount : Mount ℕ) (group : ℕ) → Among mount world.mounts → group_of mount.propagation ≡ Some group → New group
-      → ⊥)
-      → StandsApart mirror their_names New
+      → ⊥) → StandsApart mirror their_names New
   mirror_stands New no_group = record {
     mounts = mounts_too;
     tasks = ap (list_all (λ (t : Task ℕ). not (is_own_namespace nat_eq mirror their_names t.namespace))) none_there;
-    events =
-        (λ i. ShareNone (share_events nat_eq world) (own_is_other i) (other_is_own i))
+    events = (λ i. ShareNone (share_events nat_eq world) (own_is_other i) (other_is_own i))
         ∙ none_turned world (own_mounts nat_eq world names) (other_mounts nat_eq world names) apart.events;
     locations = cc none_there;
     not_stood = not_on_ours;

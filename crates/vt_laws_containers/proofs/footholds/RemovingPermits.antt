@@ -71,8 +71,7 @@ module _ (world : World ℕ) (names : List TaskName) (name : TaskName) (call : C
 
   -- what goes is on the mount of its directory, not locked, and no mount of the caller's namespace is on it
   abbrev IsFree : Location ℕ → Location ℕ → Type 0
-  IsFree gone location =
-      (is_theirs world names gone.mount ≡ true) × (is_locked_at nat_eq world gone ≡ false)
+  IsFree gone location = (is_theirs world names gone.mount ≡ true) × (is_locked_at nat_eq world gone ≡ false)
       × (is_mount_point_in nat_eq (looks_of nat_eq world) task.namespace gone ≡ false) × (gone.mount ≡ location.mount)
 
   -- A change by which a directory goes, with the mounts on it
@@ -88,13 +87,12 @@ module _ (world : World ℕ) (names : List TaskName) (name : TaskName) (call : C
 
     plain_alone : is_overlay (filesystem_at nat_eq world location) ≡ false
         → used_alone nat_eq world names (filesystem_at nat_eq world gone).number ≡ true
-    plain_alone plain =
-        cc (
-          one_filesystem,
-          found_numbered (mount_at nat_eq world location).filesystem world.filesystems,
-          naming_alone world names name call it fresh fresh fresh serves task called same_set permit judged
-              location change asks names_it plain,
-        )
+    plain_alone plain = cc (
+      one_filesystem,
+      found_numbered (mount_at nat_eq world location).filesystem world.filesystems,
+      naming_alone world names name call it fresh fresh fresh serves task called same_set permit judged
+          location change asks names_it plain,
+    )
 
     points_own : (point : ℕ × ℕ) → Among point (points_of nat_eq world gone)
         → used_alone nat_eq world names point.0 ≡ true
@@ -102,8 +100,7 @@ module _ (world : World ℕ) (names : List TaskName) (name : TaskName) (call : C
       where
         by : (o : Option (Overlay ℕ)) → (filesystem_at nat_eq world gone).overlay ≡ o → (point : ℕ × ℕ)
             → Among point (points_of nat_eq world gone) → used_alone nat_eq world names point.0 ≡ true
-        by None e =
-            plain_points world names it.is gone e
+        by None e = plain_points world names it.is gone e
             (plain_alone (ap is_overlay (sym one_filesystem) ∙ ap is_some e))
         by (Some overlay) e =
             points_alone world names it.is it.sealed_off gone overlay e (theirs_directly world names it.is gone on)
@@ -122,16 +119,14 @@ module _ (world : World ℕ) (names : List TaskName) (name : TaskName) (call : C
     done = with_change nat_eq fresh base location change
 
     changes : ChangesFiles base done
-    changes =
-        change_changes_files base
+    changes = change_changes_files base
         (subst (λ fs. any_pair (λ (a b : Filesystem ℕ). nat_eq a.number b.number) fs ≡ false)
         (sym (taken_filesystems world list)) it.is.files.one_filesystem) fresh location change
 
     pub removed_before : (changed : List ℕ)
         → IsWorld nat_eq (numbers_raised nat_eq world name changed (settled nat_eq done))
         → OthersAsBefore world done names names
-    removed_before changed ends =
-        files_as_before world base done names names
+    removed_before changed ends = files_as_before world base done names names
         (own_gone_before world names name call it few fresh serves task called list
         (own_go world names it.is gone on only_own) (λ mount m n e.
         let of = tasked_later world done name changed ends mount
@@ -150,8 +145,7 @@ module _ (world : World ℕ) (names : List TaskName) (name : TaskName) (call : C
       (apply nat_eq fresh world task (ToRemoveDirectory parent entry directory)).world
       (removed_before (ToRemoveDirectory parent entry directory) judged
       (stays world names name call it few fresh serves task called (ToRemoveDirectory parent entry directory) judged
-      refl)
-      directory parent (Remove parent.node entry directory.node) refl tt
+      refl) directory parent (Remove parent.node entry directory.node) refl tt
       (removed_free world names it.is it.sealed_off task member fresh call (ToRemoveDirectory parent entry directory)
       (calls_are_granted nat_eq (looks_of nat_eq world) (overfills nat_eq fresh world task) task call
       (ToRemoveDirectory parent entry directory) judged) parent entry directory refl) _ ends)
@@ -166,8 +160,7 @@ module _ (world : World ℕ) (names : List TaskName) (name : TaskName) (call : C
       (apply nat_eq fresh world task (ToRename from old to new object None)).world
       (changed_before world names name call it few fresh serves task called
       (apply nat_eq fresh world task (ToRename from old to new object None)).world
-      (change_changes_files world it.is.files.one_filesystem fresh from
-      (Move from.node old to.node new object.node)))
+      (change_changes_files world it.is.files.one_filesystem fresh from (Move from.node old to.node new object.node)))
   renames_before from old to new object (Some gone) judged ends =
       kept world names name call it few fresh serves task called (ToRename from old to new object (Some gone)) judged
       refl (apply nat_eq fresh world task (ToRename from old to new object (Some gone))).world
@@ -198,25 +191,19 @@ module _ (world : World ℕ) (names : List TaskName) (name : TaskName) (call : C
         (ap mounts_overlay for.1) judged).names.0
 
     is_there : Among (mount_numbered nat_eq world number) world.mounts
-    is_there =
-        ⊎_elim (λ m. m)
+    is_there = ⊎_elim (λ m. m)
         (λ none. none_is_some task.namespace (sym (ap (λ (m : Mount ℕ). m.namespace) none) ∙ in_callers))
         (found_or_none world.mounts number)
 
     is_its : is_own world names (members world names) (mount_numbered nat_eq world number) ≡ true
-    is_its =
-        in_own world names it.is task member (mount_numbered nat_eq world number)
+    is_its = in_own world names it.is task member (mount_numbered nat_eq world number)
         (ap (holds_of (nat_eq task.namespace)) in_callers ∙ eq-eqb task.namespace task.namespace refl)
 
-    all_gone : (gone : List ℕ)
-        × ((m : Mount ℕ) → Among m world.mounts → is_going nat_eq gone m.number ≡ true
-        → is_own world names (members world names) m ≡ true)
-        × TookAway world detached_ones gone
+    all_gone : (gone : List ℕ) × ((m : Mount ℕ) → Among m world.mounts → is_going nat_eq gone m.number ≡ true
+        → is_own world names (members world names) m ≡ true) × TookAway world detached_ones gone
         × TookAway part (folded (unmounted_if_there nat_eq) part (taken_in_turn world number)) gone
-    all_gone =
-        events_alike world names it.is it.sealed_off number (taken_in_turn world number) world part []
-        (begun world it.is.mounts number)
-        (subst (IsUnderWay part in_part number part)
+    all_gone = events_alike world names it.is it.sealed_off number (taken_in_turn world number) world part []
+        (begun world it.is.mounts number) (subst (IsUnderWay part in_part number part)
         (same_turns world names it.is it.sealed_off number is_there is_its) (begun part in_part number))
         (λ m n none. absurd (true≢false (sym none))) (took_none world it.is.mounts) (took_none part in_part)
         (turns_own world names it.is it.sealed_off number is_there is_its)
@@ -240,11 +227,9 @@ module _ (world : World ℕ) (names : List TaskName) (name : TaskName) (call : C
         ))
 
     lazy_out : GivesNoFoothold world names name call fresh
-    lazy_out =
-        swept_out world names name call it few fresh serves task called (ToUnmountLazily number) judged (λ ends.
+    lazy_out = swept_out world names name call it few fresh serves task called (ToUnmountLazily number) judged (λ ends.
         kept world names name call it few fresh serves task called (ToUnmountLazily number) judged refl
-        (settled nat_eq detached_ones)
-        (subst (λ w. OthersAsBefore world w names names) same_swept
+        (settled nat_eq detached_ones) (subst (λ w. OthersAsBefore world w names names) same_swept
         (swept_as_before world (taken_away nat_eq world all_gone.0) names names (taken_before ends))))
 
   by_permit : (permit : Permit ℕ) → judge_in nat_eq fresh world task call ≡ Ok permit → is_of_removing permit ≡ true

@@ -81,8 +81,7 @@ module _ (world : World ℕ) (names : List TaskName) (is : IsWorld nat_eq world)
   found_in {B} value same number (mount ∷ rest) =
       cc (replaces.number mount, by (nat_eq number mount.number) (found_in value same number rest))
     where
-      by : (b : Bool)
-          → value (mount_in nat_eq (map change rest) number) ≡ value (mount_in nat_eq rest number)
+      by : (b : Bool) → value (mount_in nat_eq (map change rest) number) ≡ value (mount_in nat_eq rest number)
           → value (unwrap_or (cond b (Some (change mount))
           (find (λ (m : Mount ℕ). nat_eq number m.number) (map change rest))) (no_mount number))
           ≡ value (unwrap_or (cond b (Some mount) (find (λ (m : Mount ℕ). nat_eq number m.number) rest))
@@ -116,8 +115,7 @@ module _ (world : World ℕ) (names : List TaskName) (is : IsWorld nat_eq world)
       by mount m (Some n) e h = replaces.fixed mount m n e (not-true (ours n) h)
 
   owns_changed : owned_by ours (map change world.mounts) ≡ map change (own_mounts nat_eq world names)
-  owns_changed =
-      filter-map (λ (mount : Mount ℕ). holds_of ours mount.namespace) change world.mounts
+  owns_changed = filter-map (λ (mount : Mount ℕ). holds_of ours mount.namespace) change world.mounts
       (λ mount. ap (holds_of ours) (replaces.namespace mount))
 
   -- events go by types alone
@@ -127,14 +125,13 @@ module _ (world : World ℕ) (names : List TaskName) (is : IsWorld nat_eq world)
 
   no_events : ShareNone (share_events nat_eq world) (map change (own_mounts nat_eq world names))
       (other_mounts nat_eq world names) ≡ true
-  no_events =
-      cc (
-        all-map_same (λ own. list_all (λ other. not (share_events nat_eq world own other)) (other_mounts nat_eq
-            world names)) (λ own. list_all (λ other. not (share_events nat_eq world own other)) (other_mounts nat_eq
-            world names)) change (own_mounts nat_eq world names) (λ own. ap (λ kind. list_all (λ (other : Mount ℕ). not
-            (share_by kind other.propagation)) (other_mounts nat_eq world names)) (replaces.kind own)),
-        apart.events,
-      )
+  no_events = cc (
+    all-map_same (λ own. list_all (λ other. not (share_events nat_eq world own other)) (other_mounts nat_eq
+        world names)) (λ own. list_all (λ other. not (share_events nat_eq world own other)) (other_mounts nat_eq
+        world names)) change (own_mounts nat_eq world names) (λ own. ap (λ kind. list_all (λ (other : Mount ℕ). not
+        (share_by kind other.propagation)) (other_mounts nat_eq world names)) (replaces.kind own)),
+    apart.events,
+  )
 
   abbrev mounted : List ℕ
   mounted = map (λ (x : Mount ℕ). x.filesystem) (own_mounts nat_eq world names)
@@ -143,10 +140,8 @@ module _ (world : World ℕ) (names : List TaskName) (is : IsWorld nat_eq world)
   located_at = map (λ (l : Location ℕ). (mount_at nat_eq world l).filesystem) (locations (members world names))
 
   mounted_same : map (λ (x : Mount ℕ). x.filesystem) (own_mounts nat_eq left names) ≡ mounted
-  mounted_same =
-      (λ i. map (λ (x : Mount ℕ). x.filesystem) (owned_by (λ n. beside.own n i) (map change world.mounts)))
-      ∙ ap (map (λ (x : Mount ℕ). x.filesystem)) owns_changed
-      ∙ twice (own_mounts nat_eq world names)
+  mounted_same = (λ i. map (λ (x : Mount ℕ). x.filesystem) (owned_by (λ n. beside.own n i) (map change world.mounts)))
+      ∙ ap (map (λ (x : Mount ℕ). x.filesystem)) owns_changed ∙ twice (own_mounts nat_eq world names)
     where
       twice : (list : List (Mount ℕ))
           → map (λ (x : Mount ℕ). x.filesystem) (map change list) ≡ map (λ (x : Mount ℕ). x.filesystem) list
@@ -159,12 +154,10 @@ module _ (world : World ℕ) (names : List TaskName) (is : IsWorld nat_eq world)
       ⊎_elim (λ shown. among-append_left mounted located_at number (subst (Among number) mounted_same shown))
       (λ there. let at = among-from_map (λ (l : Location ℕ). (mount_at nat_eq left l).filesystem)
       (locations (members left names)) number there in
-      subst (λ k. Among k (used_directly nat_eq world names)) (sym (at.2 ∙ shown_same at.0))
-      (⊎_elim
+      subst (λ k. Among k (used_directly nat_eq world names)) (sym (at.2 ∙ shown_same at.0)) (⊎_elim
       (λ old. among-append_right mounted located_at (mount_at nat_eq world at.0).filesystem
       (among-map (λ (l : Location ℕ). (mount_at nat_eq world l).filesystem) (locations (members world names)) at.0 old))
-      (λ theirs. theirs_directly world names is at.0 theirs)
-      (beside.located at.0 at.1)))
+      (λ theirs. theirs_directly world names is at.0 theirs) (beside.located at.0 at.1)))
       (among-append (map (λ (x : Mount ℕ). x.filesystem) (own_mounts nat_eq left names))
       (map (λ (l : Location ℕ). (mount_at nat_eq left l).filesystem) (locations (members left names))) number m)
 
@@ -175,11 +168,9 @@ module _ (world : World ℕ) (names : List TaskName) (is : IsWorld nat_eq world)
     mounts = (λ i. others_by (λ n. beside.own n i) (map change world.mounts)) ∙ others_fixed;
     shown = λ l m. shown_same l;
     tasks = (λ i. list_all (λ (t : Task ℕ). not (beside.own t.namespace i)) (beside.others i)) ∙ apart.tasks;
-    events =
-        (λ i. ShareNone (share_events nat_eq world) (owned_by (λ n. beside.own n i) (map change world.mounts))
+    events = (λ i. ShareNone (share_events nat_eq world) (owned_by (λ n. beside.own n i) (map change world.mounts))
         (others_by (λ n. beside.own n i) (map change world.mounts)))
-        ∙ (λ i. ShareNone (share_events nat_eq world) (owns_changed i) (others_fixed i))
-        ∙ no_events;
+        ∙ (λ i. ShareNone (share_events nat_eq world) (owns_changed i) (others_fixed i)) ∙ no_events;
     places =
         (λ i. list_all (λ (l : Location ℕ). not (holds_of (λ n. beside.own n i) (mount_at nat_eq left l).namespace))
         (locations (beside.others i)))
@@ -204,8 +195,7 @@ module _ (world : World ℕ) (names : List TaskName) (name : TaskName) (call : C
   caller_ours = own_of task its_member
     where
       own_of : (t : Task ℕ) → Among t (members world names) → is_ours t.namespace ≡ true
-      own_of t m =
-          any_from_among (λ (x : Task ℕ). nat_eq t.namespace x.namespace) (members world names) t m
+      own_of t m = any_from_among (λ (x : Task ℕ). nat_eq t.namespace x.namespace) (members world names) t m
           (eq-eqb t.namespace t.namespace refl)
 
   same_mount : (number : ℕ) (mount : Mount ℕ) → Among mount world.mounts → nat_eq number mount.number ≡ true
@@ -217,8 +207,7 @@ module _ (world : World ℕ) (names : List TaskName) (name : TaskName) (call : C
   clash : (number : ℕ) → (mount_numbered nat_eq world number).namespace ≡ Some task.namespace → (mount : Mount ℕ)
       → Among mount world.mounts → (n : ℕ) → mount.namespace ≡ Some n → is_ours n ≡ false
       → nat_eq number mount.number ≡ true → ⊥
-  clash number placed mount m n e other same =
-      true≢false (sym (ap is_ours (same_Some n task.namespace
+  clash number placed mount m n e other same = true≢false (sym (ap is_ours (same_Some n task.namespace
       (sym e ∙ ap (λ (x : Mount ℕ). x.namespace) (sym (same_mount number mount m same)) ∙ placed))
       ∙ caller_ours) ∙ other)
 
@@ -232,8 +221,7 @@ module _ (world : World ℕ) (names : List TaskName) (name : TaskName) (call : C
       (ap (task_called world) (sym (name_found world name task called)) ∙ called)
       (ap mounts_overlay for.1) judged).names in
       kept world names name call it few fresh serves task called (ToSetFlags number flags) judged refl
-      (apply nat_eq fresh world task (ToSetFlags number flags)).world
-      (subst (λ w. OthersAsBefore world w names names)
+      (apply nat_eq fresh world task (ToSetFlags number flags)).world (subst (λ w. OthersAsBefore world w names names)
       (sym (ap (with_mounts world) (map_alike (replaced_if_same nat_eq (record old { flags = flags }))
       (set world number flags) world.mounts same_set)))
       (replaced_as_before world names it.is it.sealed_off (set world number flags) (record {
@@ -287,8 +275,7 @@ module _ (world : World ℕ) (names : List TaskName) (name : TaskName) (call : C
     for_pivot = permits_are_for_their_calls fresh world task call (ToPivot new put) judged
 
     fits : MayPivot world task new put
-    fits =
-        (all_permits_fit world fresh task call (ToPivot new put) it.is serves
+    fits = (all_permits_fit world fresh task call (ToPivot new put) it.is serves
         (ap (task_called world) (sym (name_found world name task called)) ∙ called)
         (ap mounts_overlay for_pivot.2) judged).names
 
@@ -319,8 +306,7 @@ module _ (world : World ℕ) (names : List TaskName) (name : TaskName) (call : C
     }
       where
         abbrev_of : Mount ℕ → Bool → Bool → Mount ℕ
-        abbrev_of mount p q =
-            cond p (record mount { mount_point = old_root.mount_point })
+        abbrev_of mount p q = cond p (record mount { mount_point = old_root.mount_point })
             (cond q (record mount { mount_point = Some put }) mount)
 
         turn : (number : ℕ) (mount : Mount ℕ) → nat_eq mount.number (mount_numbered nat_eq world number).number ≡ true
@@ -365,10 +351,8 @@ module _ (world : World ℕ) (names : List TaskName) (name : TaskName) (call : C
     turned_other t m = grind (arith, common_steps, caller_ours, namespace_outside, apart_if_sealed, true≢false)
 
     new_theirs : IsTheirs world names it.is.mounts new
-    new_theirs =
-        subst (IsTheirs world names it.is.mounts) (number-mount_in world.mounts new)
-        (own_theirs world names it.is new_root
-        (⊎_elim (λ m. m) (λ none. none_is_some task.namespace
+    new_theirs = subst (IsTheirs world names it.is.mounts) (number-mount_in world.mounts new)
+        (own_theirs world names it.is new_root (⊎_elim (λ m. m) (λ none. none_is_some task.namespace
         (sym (ap (λ (x : Mount ℕ). x.namespace) none) ∙ fits.own)) (found_or_none world.mounts new))
         (ap (holds_of is_ours) fits.own ∙ caller_ours))
 
@@ -387,11 +371,8 @@ module _ (world : World ℕ) (names : List TaskName) (name : TaskName) (call : C
           root = pivoted_location nat_eq old_root new_root t.root;
           directory = pivoted_location nat_eq old_root new_root t.directory;
         }) t)) → Among l (locations_of t) ⊎ IsTheirs world names it.is.mounts l.mount
-        by true m =
-            ⊎_elim
-            (λ root. ⊎_elim (λ same. inl (inl same)) inr
-            (at t.root (same_location nat_eq t.root (root_of old_root)) root))
-            (λ rest. ⊎_elim
+        by true m = ⊎_elim (λ root. ⊎_elim (λ same. inl (inl same)) inr
+            (at t.root (same_location nat_eq t.root (root_of old_root)) root)) (λ rest. ⊎_elim
             (λ directory. ⊎_elim (λ same. inl (inr (inl same))) inr
             (at t.directory (same_location nat_eq t.directory (root_of old_root)) directory))
             (λ open_file. inl (inr (inr open_file))) rest) m
@@ -403,12 +384,10 @@ module _ (world : World ℕ) (names : List TaskName) (name : TaskName) (call : C
 
     turned_beside : StandsBeside world names names it.is (map turned world.tasks) world.filesystems
     turned_beside = record {
-      own = λ n.
-          ap (list_any (λ (t : Task ℕ). nat_eq n t.namespace)) members_turned
+      own = λ n. ap (list_any (λ (t : Task ℕ). nat_eq n t.namespace)) members_turned
           ∙ any_mapped (λ (t : Task ℕ). nat_eq n t.namespace) (λ (t : Task ℕ). nat_eq n t.namespace) turned
           (members world names) (λ t m. ap (nat_eq n) (turned_space t));
-      others =
-          filter-map (λ (t : Task ℕ). not (is_member_task names t)) turned world.tasks
+      others = filter-map (λ (t : Task ℕ). not (is_member_task names t)) turned world.tasks
           (λ t. ap (λ n. not (is_among same_name n names)) (turned_name t))
           ∙ tasks_fixed (outsiders world names) turned_other;
       located = λ l m.
@@ -425,8 +404,7 @@ module _ (world : World ℕ) (names : List TaskName) (name : TaskName) (call : C
         tasks_fixed (t ∷ rest) same = cc (same t (inl refl), tasks_fixed rest (λ x m. same x (inr m)))
 
     pivot_before : Before world names name call it few fresh serves task called (ToPivot new put)
-    pivot_before =
-        kept world names name call it few fresh serves task called (ToPivot new put) judged refl
+    pivot_before = kept world names name call it few fresh serves task called (ToPivot new put) judged refl
         (apply nat_eq fresh world task (ToPivot new put)).world
         (replaced_as_before world names it.is it.sealed_off change pivot_replaces (map turned world.tasks)
         turned_beside)

@@ -105,9 +105,7 @@ module _ (world : World ℕ) (names set : List TaskName) (is : IsWorld nat_eq wo
         let of = among-from_flat_map locations_of
         (filter (λ (x : Task ℕ). not (is_member_task others_names x)) (out world names apart)) location m in
         absurd (none_out of.0 of.1);
-    listed =
-        (λ i. filter (λ (s : Namespace ℕ). own_out world names apart s.number i) namespaces)
-        ∙ takes.listed
+    listed = (λ i. filter (λ (s : Namespace ℕ). own_out world names apart s.number i) namespaces) ∙ takes.listed
         ∙ sym (λ i. filter (λ (s : Namespace ℕ). own_out world names apart s.number i) world.namespaces);
   }
 
@@ -124,8 +122,7 @@ module _ (world : World ℕ) (names set : List TaskName) (is : IsWorld nat_eq wo
   }
 
   leaves : LeavesApart beside mirror_left others_names []
-  leaves =
-      taken_leaves_apart beside others_names stands (out world names apart) namespaces moved gone mirror_goes
+  leaves = taken_leaves_apart beside others_names stands (out world names apart) namespaces moved gone mirror_goes
 
   abbrev taken_ones : List (Mount ℕ)
   taken_ones = (taken_away nat_eq world gone).mounts
@@ -161,10 +158,8 @@ module _ (world : World ℕ) (names set : List TaskName) (is : IsWorld nat_eq wo
       theirs t k at own true is =
           any_from_among (λ (x : Task ℕ). nat_eq n x.namespace) (filter (is_member_task set) tasks) t
           (among-filter (is_member_task set) tasks t k is) (eq-eqb n t.namespace (sym at))
-      theirs t k at own false is =
-          absurd (true≢false (sym own ∙ ap ours (sym at)
-          ∙ namespace_outside world names apart t
-          (subst (Among t) takes.others
+      theirs t k at own false is = absurd (true≢false (sym own ∙ ap ours (sym at)
+          ∙ namespace_outside world names apart t (subst (Among t) takes.others
           (among-filter (λ (x : Task ℕ). not (is_member_task set x)) tasks t k (ap not is)))))
 
       by : (b : Bool) → ours n ≡ b → own_left n ≡ b
@@ -225,8 +220,7 @@ module _ (world : World ℕ) (names set : List TaskName) (is : IsWorld nat_eq wo
       let at = located_there world names apart location m in
       is_among_numbers (map (λ (x : Mount ℕ). x.number) world.mounts) location.mount
       (subst (λ n. Among n (map (λ (x : Mount ℕ). x.number) world.mounts))
-      (sym (eqb-true location.mount at.0.number at.2))
-      (among-map (λ (x : Mount ℕ). x.number) world.mounts at.0 at.1))
+      (sym (eqb-true location.mount at.0.number at.2)) (among-map (λ (x : Mount ℕ). x.number) world.mounts at.0 at.1))
 
   shown_still : (location : Location ℕ) → Among location (all_locations world)
       → (mount_at nat_eq left location).filesystem ≡ (mount_at nat_eq world location).filesystem
@@ -250,8 +244,7 @@ module _ (world : World ℕ) (names set : List TaskName) (is : IsWorld nat_eq wo
           (number_there location (placed (λ (t : Task ℕ). not (is_member_task names t)) location m))).namespace
 
       outside : is_own_mount nat_eq world names (mount_at nat_eq world location) ≡ false
-      outside =
-          not-true (is_own_mount nat_eq world names (mount_at nat_eq world location))
+      outside = not-true (is_own_mount nat_eq world names (mount_at nat_eq world location))
           (among_from_list_all (λ l. not (is_own_mount nat_eq world names (mount_at nat_eq world l)))
           (locations (outsiders world names)) apart.locations location m)
 
@@ -261,8 +254,7 @@ module _ (world : World ℕ) (names set : List TaskName) (is : IsWorld nat_eq wo
       by : (o : Option ℕ) → (mount_at nat_eq left location).namespace ≡ o → (p : Option ℕ)
           → (mount_at nat_eq world location).namespace ≡ p → holds_of own_left o ≡ false
       by None e p f = refl
-      by (Some n) e None f =
-          absurd (differ n (one_in n (other_than n)
+      by (Some n) e None f = absurd (differ n (one_in n (other_than n)
           (sym (ap (λ o. list_all (nat_eq (other_than n)) (option_to_list o)) e)
           ∙ view (other_than n) (ap (λ o. list_all (nat_eq (other_than n)) (option_to_list o)) f))))
         where
@@ -272,13 +264,10 @@ module _ (world : World ℕ) (names set : List TaskName) (is : IsWorld nat_eq wo
           differ : (k : ℕ) → k + 1 ≡ k → ⊥
           differ k g = omega (arith, g)
       by (Some n) e (Some k) f =
-          let same : k ≡ n =
-          one_in n k (sym (ap (λ o. list_all (nat_eq k) (option_to_list o)) e)
-          ∙ view k (ap (λ o. list_all (nat_eq k) (option_to_list o)) f
-          ∙ ap (λ b. b && true) (eq-eqb k k refl))) in
+          let same : k ≡ n = one_in n k (sym (ap (λ o. list_all (nat_eq k) (option_to_list o)) e)
+          ∙ view k (ap (λ o. list_all (nat_eq k) (option_to_list o)) f ∙ ap (λ b. b && true) (eq-eqb k k refl))) in
           false_from_ne_true (own_left n) (λ h.
-          true≢false (sym (ap ours same ∙ takes.own_less n h)
-          ∙ sym (ap (holds_of ours) f) ∙ outside))
+          true≢false (sym (ap ours same ∙ takes.own_less n h) ∙ sym (ap (holds_of ours) f) ∙ outside))
 
   abbrev shows : Location ℕ → ℕ
   shows location = (mount_at nat_eq world location).filesystem
@@ -290,8 +279,7 @@ module _ (world : World ℕ) (names set : List TaskName) (is : IsWorld nat_eq wo
   located_at = map shows (locations (members world names))
 
   one_left : OneNumberEach left
-  one_left =
-      subst OneNumberAMount (mirror_mounts ∙ sym left_mounts)
+  one_left = subst OneNumberAMount (mirror_mounts ∙ sym left_mounts)
       (one_taken beside others_names stands (out world names apart) namespaces moved gone mirror_goes)
 
   -- a mount of theirs was one, and shows what it showed
@@ -305,8 +293,7 @@ module _ (world : World ℕ) (names set : List TaskName) (is : IsWorld nat_eq wo
       (among-map (λ (x : Mount ℕ). x.number) world.mounts old.0 old.1) in
       subst (λ k. Among k mounted)
       (ap (λ (x : Mount ℕ). x.filesystem) (sym (found_itself world.mounts is.mounts.one_number old.0 old.1))
-      ∙ sym (seen.views old.0.number there).filesystem
-      ∙ ap (λ (x : Mount ℕ). x.filesystem)
+      ∙ sym (seen.views old.0.number there).filesystem ∙ ap (λ (x : Mount ℕ). x.filesystem)
       (ap (mount_numbered nat_eq left) old.2 ∙ found_itself left.mounts one_left mount m))
       (among-map (λ (x : Mount ℕ). x.filesystem) (own_mounts nat_eq world names) old.0
       (among-filter (is_own_mount nat_eq world names) world.mounts old.0 old.1
@@ -314,27 +301,22 @@ module _ (world : World ℕ) (names set : List TaskName) (is : IsWorld nat_eq wo
 
   direct_was : (number : ℕ) → Among number (used_directly nat_eq left set)
       → Among number (used_directly nat_eq world names)
-  direct_was number m =
-      ⊎_elim
+  direct_was number m = ⊎_elim
       (λ shown. let at = among-from_map (λ (x : Mount ℕ). x.filesystem) (own_mounts nat_eq left set) number shown in
       let from = among-from_filter (is_own_mount nat_eq left set) left.mounts at.0 at.1 in
-      among-append_left mounted located_at number
-      (subst (λ k. Among k mounted) (sym at.2)
+      among-append_left mounted located_at number (subst (λ k. Among k mounted) (sym at.2)
       (own_showed at.0 from.0 at.0.namespace refl
       (sym (λ i. holds_of (λ n. own_left_is n i) at.0.namespace) ∙ from.1))))
       (λ there. let at = among-from_map (λ (l : Location ℕ). (mount_at nat_eq left l).filesystem)
       (locations (members left set)) number there in
       let its : Among at.0 (locations (filter (is_member_task set) tasks)) =
       subst (λ list. Among at.0 (locations (filter (is_member_task set) list))) (taken_tasks world tasks gone) at.1 in
-      ⊎_elim
-      (λ old. among-append_right mounted located_at number
-      (subst (λ k. Among k located_at)
+      ⊎_elim (λ old. among-append_right mounted located_at number (subst (λ k. Among k located_at)
       (sym (at.2 ∙ shown_still at.0 (placed (is_member_task names) at.0 old)))
       (among-map shows (locations (members world names)) at.0 old)))
       (λ theirs. subst (λ k. Among k (used_directly nat_eq world names))
       (sym (at.2 ∙ (seen.views at.0.mount (theirs_there at.0 theirs)).filesystem))
-      (theirs_directly world names is at.0 theirs))
-      (takes.located at.0 its))
+      (theirs_directly world names is at.0 theirs)) (takes.located at.0 its))
       (among-append (map (λ (x : Mount ℕ). x.filesystem) (own_mounts nat_eq left set))
       (map (λ (l : Location ℕ). (mount_at nat_eq left l).filesystem) (locations (members left set))) number m)
     where
@@ -345,8 +327,7 @@ module _ (world : World ℕ) (names set : List TaskName) (is : IsWorld nat_eq wo
   others_are = ap (filter (λ (t : Task ℕ). not (is_member_task set t))) (taken_tasks world tasks gone) ∙ takes.others
 
   holds_all : list_all (λ (t : Task ℕ). not (is_own_namespace nat_eq left set t.namespace)) (outsiders left set) ≡ true
-  holds_all =
-      (λ i. list_all (λ (t : Task ℕ). not (own_left_is t.namespace i)) (others_are i))
+  holds_all = (λ i. list_all (λ (t : Task ℕ). not (own_left_is t.namespace i)) (others_are i))
       ∙ list_all_from_among (λ (t : Task ℕ). not (own_left t.namespace)) (outsiders world names) (λ t m.
       ap not (false_from_ne_true (own_left t.namespace) (λ h.
       true≢false (sym (takes.own_less t.namespace h) ∙ namespace_outside world names apart t m))))
@@ -356,18 +337,15 @@ module _ (world : World ℕ) (names set : List TaskName) (is : IsWorld nat_eq wo
   none_on_own = grind (arith, common_steps, own_left_is, others_are, list_all_from_among, not_on_own)
 
   no_events : ShareNone (share_events nat_eq left) (own_mounts nat_eq left set) (other_mounts nat_eq left set) ≡ true
-  no_events =
-      (λ i. ShareNone (share_events nat_eq (record world { master = sym same_master i })) (owns_alike i)
-      (others_alike i))
-      ∙ none_turned mirror_left (own_mounts nat_eq mirror_left others_names)
+  no_events = (λ i. ShareNone (share_events nat_eq (record world { master = sym same_master i })) (owns_alike i)
+      (others_alike i)) ∙ none_turned mirror_left (own_mounts nat_eq mirror_left others_names)
       (other_mounts nat_eq mirror_left others_names) leaves.others.events
 
   pub taken_as_before : OthersAsBefore world left names set
   taken_as_before = record {
     others = others_are;
     mounts = others_alike ∙ own_mounts_same beside mirror_left others_names leaves.sees ∙ mirror_owns world names apart;
-    shown = λ location m.
-        shown_still location (placed (λ (t : Task ℕ). not (is_member_task names t)) location m);
+    shown = λ location m. shown_still location (placed (λ (t : Task ℕ). not (is_member_task names t)) location m);
     tasks = holds_all;
     events = no_events;
     places = none_on_own;

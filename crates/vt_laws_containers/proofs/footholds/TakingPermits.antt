@@ -57,10 +57,8 @@ pub tasked_later : (before left : World ℕ) (name : TaskName) (changed : List �
     → (t : Task ℕ) × Among t left.tasks × (t.namespace ≡ n)
 tasked_later before left name changed is mount m n e =
     let later = numbers_raised nat_eq before name changed (settled nat_eq left) in
-    let lives : mount_lives nat_eq left mount ≡ true =
-    ap (λ o. is_some o || is_located nat_eq left mount.number) e in
-    let listed : is_listed nat_eq later n ≡ true =
-    (and_parts (is_listed nat_eq later n) true
+    let lives : mount_lives nat_eq left mount ≡ true = ap (λ o. is_some o || is_located nat_eq left mount.number) e in
+    let listed : is_listed nat_eq later n ≡ true = (and_parts (is_listed nat_eq later n) true
     (sym (ap (λ o. list_all (is_listed nat_eq later) (option_to_list o)) e)
     ∙ among_from_list_all (λ (x : Mount ℕ). list_all (is_listed nat_eq later) (option_to_list x.namespace))
     later.mounts is.namespaces.mounts_listed mount
@@ -94,15 +92,13 @@ module _ (world : World ℕ) (names : List TaskName) (name : TaskName) (call : C
   ours = is_own_namespace nat_eq world names
 
   its_own : (t : Task ℕ) → Among t (members world names) → ours t.namespace ≡ true
-  its_own t m =
-      any_from_among (λ (x : Task ℕ). nat_eq t.namespace x.namespace) (members world names) t m
+  its_own t m = any_from_among (λ (x : Task ℕ). nat_eq t.namespace x.namespace) (members world names) t m
       (eq-eqb t.namespace t.namespace refl)
 
   -- the mount of a number is there, if it is in a namespace
   there_in : (number n : ℕ) → (mount_numbered nat_eq world number).namespace ≡ Some n
       → Among (mount_numbered nat_eq world number) world.mounts
-  there_in number n e =
-      ⊎_elim (λ m. m) (λ none. none_is_some n (sym (ap (λ (x : Mount ℕ). x.namespace) none) ∙ e))
+  there_in number n e = ⊎_elim (λ m. m) (λ none. none_is_some n (sym (ap (λ (x : Mount ℕ). x.namespace) none) ∙ e))
       (found_or_none world.mounts number)
 
   -- Namespaces that lose their last tasks end, and the others' are not among them.
@@ -111,10 +107,8 @@ module _ (world : World ℕ) (names : List TaskName) (name : TaskName) (call : C
       (own_less : (n : ℕ) → list_any (λ (t : Task ℕ). nat_eq n t.namespace) (filter (is_member_task set) tasks) ≡ true
       → ours n ≡ true)
       (located : (location : Location ℕ) → Among location (locations (filter (is_member_task set) tasks))
-      → Among location (locations (members world names))
-      ⊎ IsTheirs world names it.is.mounts location.mount)
-      (changed : List ℕ)
-      (ends : IsWorld nat_eq (numbers_raised nat_eq world name changed
+      → Among location (locations (members world names)) ⊎ IsTheirs world names it.is.mounts location.mount)
+      (changed : List ℕ) (ends : IsWorld nat_eq (numbers_raised nat_eq world name changed
       (settled nat_eq (namespaces_ended nat_eq (record world { tasks = tasks }))))) where
     abbrev before : World ℕ
     before = record world { tasks = tasks }
@@ -135,8 +129,7 @@ module _ (world : World ℕ) (names : List TaskName) (name : TaskName) (call : C
         let space = among-from_map (λ (s : Namespace ℕ). s.number) world.namespaces at.0 at.1 in
         let same : n ≡ space.0.number = eqb-true n at.0 at.2 ∙ space.2 in
         any_from_among (λ (s : Namespace ℕ). nat_eq n s.number && has_tasks nat_eq before s) world.namespaces space.0
-        space.1
-        (and_from (nat_eq n space.0.number) (has_tasks nat_eq before space.0) (eq-eqb n space.0.number same)
+        space.1 (and_from (nat_eq n space.0.number) (has_tasks nat_eq before space.0) (eq-eqb n space.0.number same)
         (subst (λ k. list_any (λ (t : Task ℕ). nat_eq k t.namespace) tasks ≡ true) same (out_stays n theirs)))
 
     ended_ours : (mount : Mount ℕ) → Among mount world.mounts → is_in_ended nat_eq before mount ≡ true
@@ -145,15 +138,13 @@ module _ (world : World ℕ) (names : List TaskName) (name : TaskName) (call : C
       where
         by : (o : Option ℕ) → mount.namespace ≡ o
             → holds_of (λ n. not (list_any (λ (s : Namespace ℕ). nat_eq n s.number && has_tasks nat_eq before s)
-            world.namespaces)) o ≡ true
-            → (n : ℕ) × (mount.namespace ≡ Some n) × (ours n ≡ true)
+            world.namespaces)) o ≡ true → (n : ℕ) × (mount.namespace ≡ Some n) × (ours n ≡ true)
         by None e ended = absurd (true≢false (sym ended))
         by (Some n) e ended =
             let listed = placed_listed world names apart mount m n e in (
               n,
               e,
-              ⊎_elim (λ own. own)
-                  (λ theirs. absurd (true≢false (sym (lives_on n listed theirs) ∙ not-true _ ended)))
+              ⊎_elim (λ own. own) (λ theirs. absurd (true≢false (sym (lives_on n listed theirs) ∙ not-true _ ended)))
                   (side world names apart n listed),
             )
 
@@ -165,10 +156,8 @@ module _ (world : World ℕ) (names : List TaskName) (name : TaskName) (call : C
           let at = among-from_filter (is_in_ended nat_eq before) world.mounts from.0 from.1 in
           let its_space = ended_ours from.0 at.0 at.1 in (
             its_space.0,
-            ap (λ (x : Mount ℕ). x.namespace)
-                (ap (mount_numbered nat_eq world) from.2
-                ∙ found_itself world.mounts it.is.mounts.one_number from.0 at.0)
-                ∙ its_space.1,
+            ap (λ (x : Mount ℕ). x.namespace) (ap (mount_numbered nat_eq world) from.2
+                ∙ found_itself world.mounts it.is.mounts.one_number from.0 at.0) ∙ its_space.1,
             its_space.2,
           );
       others = others;
@@ -179,8 +168,7 @@ module _ (world : World ℕ) (names : List TaskName) (name : TaskName) (call : C
           (of.0, subst (Among of.0) (taken_tasks world tasks gone) of.1, of.2);
       located = located;
       listed = filter_less (λ (s : Namespace ℕ). list_any (λ (t : Task ℕ). nat_eq s.number t.namespace)
-          (outsiders world names)) (has_tasks nat_eq before) world.namespaces
-          (λ s m ended. false_from_ne_true
+          (outsiders world names)) (has_tasks nat_eq before) world.namespaces (λ s m ended. false_from_ne_true
           (list_any (λ (t : Task ℕ). nat_eq s.number t.namespace) (outsiders world names)) (λ h.
           true≢false (sym (out_stays s.number h) ∙ ended)));
     }
@@ -200,11 +188,9 @@ module _ (world : World ℕ) (names : List TaskName) (name : TaskName) (it : IsC
   is_left = its world names name it task called
 
   others_rest : filter (λ (t : Task ℕ). not (is_left t)) rest ≡ outsiders world names
-  others_rest =
-      filter_twice (λ (t : Task ℕ). not (is_left t)) (stays world names name it task called)
+  others_rest = filter_twice (λ (t : Task ℕ). not (is_left t)) (stays world names name it task called)
       (λ (t : Task ℕ). not (is_member_task names t)) world.tasks
-      (λ t m stay. ap not (same t stay (is_member_task names t) refl))
-      (λ t m gone. ap not
+      (λ t m stay. ap not (same t stay (is_member_task names t) refl)) (λ t m gone. ap not
       (ap (is_member_task names) (sym (is_task world names name it task called t m
       (not-false (same_name name t.name) gone)))
       ∙ (among-from_filter (is_member_task names) world.tasks task (member world names name it task called)).1))
@@ -212,30 +198,24 @@ module _ (world : World ℕ) (names : List TaskName) (name : TaskName) (it : IsC
       same : (t : Task ℕ) → stays world names name it task called t ≡ true → (b : Bool) → is_member_task names t ≡ b
           → is_left t ≡ b
       same t stay true e = set_from world names name it task called t e stay
-      same t stay false e =
-          false_from_ne_true (is_left t) (λ h.
+      same t stay false e = false_from_ne_true (is_left t) (λ h.
           true≢false (sym (set_parts world names name it task called t h).0 ∙ e))
 
-  exit_before : (changed : List ℕ)
-      → IsWorld nat_eq (numbers_raised nat_eq world name changed
+  exit_before : (changed : List ℕ) → IsWorld nat_eq (numbers_raised nat_eq world name changed
       (settled nat_eq (namespaces_ended nat_eq (without_task world name))))
       → OthersAsBefore world (namespaces_ended nat_eq (without_task world name)) names (left names name Exit)
-  exit_before changed ends =
-      ended_as_before world names name Exit it (left names name Exit) rest others_rest
+  exit_before changed ends = ended_as_before world names name Exit it (left names name Exit) rest others_rest
       (λ n h. let at = any_among (λ (t : Task ℕ). nat_eq n t.namespace) (filter is_left rest) h in
       any_from_among (λ (t : Task ℕ). nat_eq n t.namespace) (members world names) at.0
       (new_old world names name it task called at.0 at.1) at.2)
       (λ l m. let from = among-from_flat_map locations_of (filter is_left rest) l m in
       inl (among-flat_map locations_of (members world names) from.0 l
-      (new_old world names name it task called from.0 from.1) from.2))
-      changed ends
+      (new_old world names name it task called from.0 from.1) from.2)) changed ends
 
-  pub exits_before : (fresh : Fresh ℕ) (changed : List ℕ)
-      → IsWorld nat_eq (numbers_raised nat_eq world name changed
+  pub exits_before : (fresh : Fresh ℕ) (changed : List ℕ) → IsWorld nat_eq (numbers_raised nat_eq world name changed
       (settled nat_eq (apply nat_eq fresh world task ToExit).world))
       → OthersAsBefore world (apply nat_eq fresh world task ToExit).world names (left names name Exit)
-  exits_before fresh changed =
-      subst (λ n. IsWorld nat_eq (numbers_raised nat_eq world name changed
+  exits_before fresh changed = subst (λ n. IsWorld nat_eq (numbers_raised nat_eq world name changed
       (settled nat_eq (namespaces_ended nat_eq (without_task world n))))
       → OthersAsBefore world (namespaces_ended nat_eq (without_task world n)) names (left names name Exit))
       (its_name world names name it task called) (exit_before changed)
@@ -244,8 +224,7 @@ module _ (world : World ℕ) (names : List TaskName) (name : TaskName) (it : IsC
 pub entering_before : (world : World ℕ) (names : List TaskName) (name target_name : TaskName)
     (it : IsCallOfTheirs world names name (Setns target_name)) (task : Task ℕ)
     (called : task_called world name ≡ Some task) (target : Task ℕ) (target_in : Among target (members world names))
-    (fresh : Fresh ℕ) (changed : List ℕ)
-    → IsWorld nat_eq (numbers_raised nat_eq world name changed
+    (fresh : Fresh ℕ) (changed : List ℕ) → IsWorld nat_eq (numbers_raised nat_eq world name changed
     (settled nat_eq (apply nat_eq fresh world task (ToEnterNamespace target.namespace)).world))
     → OthersAsBefore world (apply nat_eq fresh world task (ToEnterNamespace target.namespace)).world names names
 entering_before world names name target_name it task called target target_in fresh changed ends =
@@ -260,8 +239,7 @@ entering_before world names name target_name it task called target target_in fre
     (stands world names name target_name it task called target target_in) world.tasks)) ∙ h))
     (places_left world names name (Setns target_name) it task called
     (mine world names name target_name it task called target target_in)
-    (stands world names name target_name it task called target target_in))
-    changed ends
+    (stands world names name target_name it task called target target_in)) changed ends
 
 -- umount(2)
 module _ (world : World ℕ) (names : List TaskName) (name : TaskName) (call : Call)
@@ -275,8 +253,7 @@ module _ (world : World ℕ) (names : List TaskName) (name : TaskName) (call : C
   its_member = member_called world names it.is it.sealed_off name it.theirs task called
 
   -- mounts that go without a change of tasks
-  pub gone_as_before : (gone : List ℕ) → (changed : List ℕ)
-      → ((number : ℕ) → is_going nat_eq gone number ≡ true
+  pub gone_as_before : (gone : List ℕ) → (changed : List ℕ) → ((number : ℕ) → is_going nat_eq gone number ≡ true
       → (n : ℕ) × ((mount_numbered nat_eq world number).namespace ≡ Some n)
       × (is_own_namespace nat_eq world names n ≡ true))
       → ((mount : Mount ℕ) → Among mount (taken_away nat_eq world gone).mounts → (n : ℕ) → mount.namespace ≡ Some n
@@ -295,8 +272,7 @@ module _ (world : World ℕ) (names : List TaskName) (name : TaskName) (call : C
 
   umount_goes : (number : ℕ) → (mount_numbered nat_eq world number).namespace ≡ Some task.namespace → (k : ℕ)
       → is_going nat_eq (going nat_eq world (mount_numbered nat_eq world number)) k ≡ true
-      → (n : ℕ) × ((mount_numbered nat_eq world k).namespace ≡ Some n)
-      × (is_own_namespace nat_eq world names n ≡ true)
+      → (n : ℕ) × ((mount_numbered nat_eq world k).namespace ≡ Some n) × (is_own_namespace nat_eq world names n ≡ true)
   umount_goes number placed k h =
       let goes = others_go (mirror world names its_apart) (their_names world names its_apart)
       (mirror_stands world names its_apart NothingNew (λ mount group m is_in new. new)) task.namespace
@@ -307,8 +283,7 @@ module _ (world : World ℕ) (names : List TaskName) (name : TaskName) (call : C
         goes.1,
         ⊎_elim (λ own. own)
             (λ theirs. absurd (true≢false (sym (own_out world names its_apart goes.0 ∙ theirs) ∙ goes.2)))
-            (side world names its_apart goes.0
-            (placed_listed world names its_apart (mount_numbered nat_eq world k)
+            (side world names its_apart goes.0 (placed_listed world names its_apart (mount_numbered nat_eq world k)
             (there_in world names name call it k goes.0 goes.1) goes.0 goes.1)),
       )
 
@@ -332,8 +307,7 @@ module _ (world : World ℕ) (names : List TaskName) (name : TaskName) (call : C
         of.2,
       )))
 
-  of_detaching : (permit : Permit ℕ) → judge_in nat_eq fresh world task call ≡ Ok permit
-      → is_of_detaching permit ≡ true
+  of_detaching : (permit : Permit ℕ) → judge_in nat_eq fresh world task call ≡ Ok permit → is_of_detaching permit ≡ true
       → EndsInAWorld world names name call it fresh serves few task permit
       → Before world names name call it few fresh serves task called permit
   of_detaching ToExit judged e ends =
@@ -358,8 +332,7 @@ module _ (world : World ℕ) (names : List TaskName) (name : TaskName) (call : C
       enters_before n target_name its_call so ended =
           let target : Enters world names it.is it.sealed_off task its_member (ToEnterNamespace n) =
           subst (λ j. IfOk j (Enters world names it.is it.sealed_off task its_member)) so
-          (enters world names it.is it.sealed_off task its_member target_name
-          (its_call.among_them target_name refl)) in
+          (enters world names it.is it.sealed_off task its_member target_name (its_call.among_them target_name refl)) in
           subst (λ k. IsWorld nat_eq (numbers_raised nat_eq world name []
           (settled nat_eq (apply nat_eq fresh world task (ToEnterNamespace k)).world))
           → OthersAsBefore world (apply nat_eq fresh world task (ToEnterNamespace k)).world names names)

@@ -62,16 +62,12 @@ module _ (world : World ℕ) (names set : List TaskName) (is : IsWorld nat_eq wo
 
   direct_was : (number : ℕ) → Among number (used_directly nat_eq left set)
       → Among number (used_directly nat_eq world names)
-  direct_was number m =
-      ⊎_elim
-      (λ shown. among-append_left mounted (map shows (locations (members world names))) number
+  direct_was number m = ⊎_elim (λ shown. among-append_left mounted (map shows (locations (members world names))) number
       (subst (Among number) mounted_same shown))
       (λ placed. let l = among-from_map shows (locations (members left set)) number placed in
-      subst (λ k. Among k (used_directly nat_eq world names)) (sym l.2)
-      (⊎_elim
+      subst (λ k. Among k (used_directly nat_eq world names)) (sym l.2) (⊎_elim
       (λ was. among-append_right mounted (map shows (locations (members world names))) (shows l.0)
-      (among-map shows (locations (members world names)) l.0 was))
-      (λ theirs. theirs_directly world names is l.0 theirs)
+      (among-map shows (locations (members world names)) l.0 was)) (λ theirs. theirs_directly world names is l.0 theirs)
       (beside.located l.0 l.1)))
       (among-append (map (λ (mount : Mount ℕ). mount.filesystem) (own_mounts nat_eq left set))
       (map shows (locations (members left set))) number m)
@@ -91,8 +87,7 @@ module _ (world : World ℕ) (names set : List TaskName) (is : IsWorld nat_eq wo
     direct = λ number m. inl (direct_was number m);
   }
 
-map_itself : (f : Task ℕ → Task ℕ) (list : List (Task ℕ)) → ((t : Task ℕ) → Among t list → f t ≡ t)
-    → map f list ≡ list
+map_itself : (f : Task ℕ → Task ℕ) (list : List (Task ℕ)) → ((t : Task ℕ) → Among t list → f t ≡ t) → map f list ≡ list
 map_itself f [] same = refl
 map_itself f (t ∷ rest) same = cc (same t (inl refl), map_itself f rest (λ x m. same x (inr m)))
 
@@ -116,17 +111,14 @@ others_unmoved world names name call it task called mine named =
     ∙ map_itself (replaced_if_called mine) (outsiders world names) (λ t m. unmoved t m)
   where
     member : is_member_task names task ≡ true
-    member =
-        (among-from_filter (is_member_task names) world.tasks task
+    member = (among-from_filter (is_member_task names) world.tasks task
         (member_called world names it.is it.sealed_off name it.theirs task called)).1
 
     unmoved : (t : Task ℕ) → Among t (outsiders world names) → replaced_if_called mine t ≡ t
     unmoved t m =
         let from = among-from_filter (λ (x : Task ℕ). not (is_member_task names x)) world.tasks t m in
-        ⊎_elim
-        (λ its. absurd (true≢false (sym member ∙ ap (is_member_task names) its.1
-        ∙ not-true (is_member_task names t) from.1)))
-        (λ same. same)
+        ⊎_elim (λ its. absurd (true≢false (sym member ∙ ap (is_member_task names) its.1
+        ∙ not-true (is_member_task names t) from.1))) (λ same. same)
         (replaced_how world names name call it task called mine named t from.0)
 
 -- It stands where members get.
@@ -137,8 +129,7 @@ pub caller_beside : (world : World ℕ) (names : List TaskName) (name : TaskName
     → ((filesystem : Filesystem ℕ) → Among filesystem filesystems → GoesOn world names filesystem)
     → StandsBeside world names names it.is (map (replaced_if_called mine) world.tasks) filesystems
 caller_beside world names name call it task called mine stands spaced filesystems files = record {
-  own = λ n.
-      ap (list_any (λ (t : Task ℕ). nat_eq n t.namespace))
+  own = λ n. ap (list_any (λ (t : Task ℕ). nat_eq n t.namespace))
       (of_set world names name call it task called mine stands world.tasks)
       ∙ spaces_kept world names name call it task called mine stands.named spaced n;
   others = others_unmoved world names name call it task called mine stands.named;
@@ -184,8 +175,7 @@ module _ (world : World ℕ) (names : List TaskName) (name : TaskName) (call : C
 
   -- no task has the child's name
   child_apart : (t : Task ℕ) → Among t world.tasks → same_name t.name (child_name task) ≡ false
-  child_apart t m =
-      false_from_ne_true (same_name t.name (child_name task)) (λ h.
+  child_apart t m = false_from_ne_true (same_name t.name (child_name task)) (λ h.
       let less = it.is.tasks.forks_counted task t (task.forks + 1) [] (contains_from_among world.tasks task there)
       (contains_from_among world.tasks t m) (same_task_name t.name (child_name task) h) in
       absurd (omega (arith, less)))
@@ -208,18 +198,14 @@ module _ (world : World ℕ) (names : List TaskName) (name : TaskName) (call : C
   replaced_how_here = replaced_how world names name call it task called parent refl
 
   others_are : filter (λ (t : Task ℕ). not (is_member_task set t)) tasks ≡ outsiders world names
-  others_are =
-      filter_append (λ (t : Task ℕ). not (is_member_task set t)) (map replaced world.tasks) (child ∷ [])
+  others_are = filter_append (λ (t : Task ℕ). not (is_member_task set t)) (map replaced world.tasks) (child ∷ [])
       ∙ ap (λ l. l ++ filter (λ (t : Task ℕ). not (is_member_task set t)) (child ∷ []))
       (filter_changed (λ (t : Task ℕ). not (is_member_task set t)) (λ (t : Task ℕ). not (is_member_task names t))
       replaced world.tasks (λ t m. ap not (member_alike t m)))
       ∙ ap (λ b. map replaced (outsiders world names) ++ cond (not b) (child ∷ []) []) child_member
-      ∙ append_none (map replaced (outsiders world names))
-      ∙ map_itself replaced (outsiders world names) (λ t m.
+      ∙ append_none (map replaced (outsiders world names)) ∙ map_itself replaced (outsiders world names) (λ t m.
       let from = among-from_filter (λ (x : Task ℕ). not (is_member_task names x)) world.tasks t m in
-      ⊎_elim
-      (λ its. absurd (true≢false
-      (sym (among-from_filter (is_member_task names) world.tasks task its_member).1
+      ⊎_elim (λ its. absurd (true≢false (sym (among-from_filter (is_member_task names) world.tasks task its_member).1
       ∙ ap (is_member_task names) its.1 ∙ not-true (is_member_task names t) from.1)))
       (λ same. same) (replaced_how_here t from.0))
 
@@ -227,33 +213,25 @@ module _ (world : World ℕ) (names : List TaskName) (name : TaskName) (call : C
   was : (t : Task ℕ) → Among t (map replaced (members world names) ++ child ∷ [])
       → (old : Task ℕ) × Among old (members world names) × (t.namespace ≡ old.namespace)
       × ((l : Location ℕ) → Among l (locations_of t) → Among l (locations_of old))
-  was t m =
-      ⊎_elim
-      (λ mapped.
+  was t m = ⊎_elim (λ mapped.
       let from = among-from_map replaced (members world names) t mapped in
-      ⊎_elim
-      (λ its. (
+      ⊎_elim (λ its. (
         task,
         its_member,
         ap (λ (x : Task ℕ). x.namespace) (from.2 ∙ its.0),
         λ l k. subst (λ (x : Task ℕ). Among l (locations_of x)) (from.2 ∙ its.0) k,
-      ))
-      (λ same. (
+      )) (λ same. (
         from.0,
         from.1,
         ap (λ (x : Task ℕ). x.namespace) (from.2 ∙ same),
         λ l k. subst (λ (x : Task ℕ). Among l (locations_of x)) (from.2 ∙ same) k,
-      ))
-      (replaced_how_here from.0 (among-from_filter (is_member_task names) world.tasks from.0 from.1).0))
-      (λ last. ⊎_elim
-      (λ e. (
+      )) (replaced_how_here from.0 (among-from_filter (is_member_task names) world.tasks from.0 from.1).0))
+      (λ last. ⊎_elim (λ e. (
         task,
         its_member,
         ap (λ (x : Task ℕ). x.namespace) e,
         λ l k. of_child l (subst (λ (x : Task ℕ). Among l (locations_of x)) e k),
-      ))
-      (λ none. absurd none) last)
-      (among-append (map replaced (members world names)) (child ∷ []) t m)
+      )) (λ none. absurd none) last) (among-append (map replaced (members world names)) (child ∷ []) t m)
     where
       of_child : (l : Location ℕ) → Among l (locations_of child) → Among l (locations_of task)
       of_child l k = ⊎_elim inl (λ rest. inr (⊎_elim inl (λ none. absurd none) rest)) k
@@ -265,17 +243,14 @@ module _ (world : World ℕ) (names : List TaskName) (name : TaskName) (call : C
     replaced t,
     among-append_left (map replaced (members world names)) (child ∷ []) (replaced t)
         (among-map replaced (members world names) t m),
-    ⊎_elim
-        (λ its. ap (λ (x : Task ℕ). x.namespace) (sym its.1) ∙ sym (ap (λ (x : Task ℕ). x.namespace) its.0))
+    ⊎_elim (λ its. ap (λ (x : Task ℕ). x.namespace) (sym its.1) ∙ sym (ap (λ (x : Task ℕ). x.namespace) its.0))
         (λ same. sym (ap (λ (x : Task ℕ). x.namespace) same))
         (replaced_how_here t (among-from_filter (is_member_task names) world.tasks t m).0),
   )
 
   pub child_beside : StandsBeside world names set it.is tasks world.filesystems
   child_beside = record {
-    own = λ n.
-        ap (list_any (λ (t : Task ℕ). nat_eq n t.namespace)) members_are
-        ∙ same_truth
+    own = λ n. ap (list_any (λ (t : Task ℕ). nat_eq n t.namespace)) members_are ∙ same_truth
         (list_any (λ (t : Task ℕ). nat_eq n t.namespace) (map replaced (members world names) ++ child ∷ []))
         (list_any (λ (t : Task ℕ). nat_eq n t.namespace) (members world names))
         (λ h. let at = any_among (λ (t : Task ℕ). nat_eq n t.namespace)

@@ -42,18 +42,15 @@ opened_at : (new : Descriptor ℕ) (list : List (Descriptor ℕ)) (location : Lo
     → Among location (map (λ (d : Descriptor ℕ). d.location) (inserted new list))
     → (location ≡ new.location) ⊎ Among location (map (λ (d : Descriptor ℕ). d.location) list)
 opened_at new [] location m = ⊎_elim inl (λ none. absurd none) m
-opened_at new (first ∷ rest) location m =
-    by (nat_lt new.number first.number) m (opened_at new rest location)
+opened_at new (first ∷ rest) location m = by (nat_lt new.number first.number) m (opened_at new rest location)
   where
-    by : (b : Bool)
-        → Among location (map (λ (d : Descriptor ℕ). d.location)
+    by : (b : Bool) → Among location (map (λ (d : Descriptor ℕ). d.location)
         (cond b (new ∷ first ∷ rest) (first ∷ inserted new rest)))
         → (Among location (map (λ (d : Descriptor ℕ). d.location) (inserted new rest))
         → (location ≡ new.location) ⊎ Among location (map (λ (d : Descriptor ℕ). d.location) rest))
         → (location ≡ new.location) ⊎ Among location (map (λ (d : Descriptor ℕ). d.location) (first ∷ rest))
     by true k later = k
-    by false k later =
-        ⊎_elim (λ e. inr (inl e)) (λ r. ⊎_elim inl (λ old. inr (inr old)) (later r)) k
+    by false k later = ⊎_elim (λ e. inr (inl e)) (λ r. ⊎_elim inl (λ old. inr (inr old)) (later r)) k
 
 -- the place that a permit names
 abbrev place_of : Location ℕ → Permit ℕ → Location ℕ
@@ -73,8 +70,7 @@ module _ (world : World ℕ) (names : List TaskName) (name : TaskName) (call : C
   member = member_called world names it.is it.sealed_off name it.theirs task called
 
   abbrev pub Before : Permit ℕ → Type 0
-  Before permit =
-      OthersAsBefore world (apply nat_eq fresh world task permit).world names
+  Before permit = OthersAsBefore world (apply nat_eq fresh world task permit).world names
       (grown names name call (apply nat_eq fresh world task permit).answer)
 
   -- a call that ends no task leaves the set
@@ -202,8 +198,7 @@ module _ (world : World ℕ) (names : List TaskName) (name : TaskName) (call : C
         directory = directory_theirs world names it.is task member;
         places = λ l m. inl m;
       }) refl world.filesystems its_files)
-  of_tasks (ToSetCredentials credentials) judged e =
-      kept (ToSetCredentials credentials) judged refl
+  of_tasks (ToSetCredentials credentials) judged e = kept (ToSetCredentials credentials) judged refl
       (apply nat_eq fresh world task (ToSetCredentials credentials)).world
       (replaced (record task { credentials = credentials }) (record {
         named = refl;
@@ -211,34 +206,29 @@ module _ (world : World ℕ) (names : List TaskName) (name : TaskName) (call : C
         directory = directory_theirs world names it.is task member;
         places = λ l m. inl m;
       }) refl world.filesystems its_files)
-  of_tasks (ToFork credentials) judged e =
-      tasks_as_before world names _ it.is it.sealed_off _ world.filesystems
+  of_tasks (ToFork credentials) judged e = tasks_as_before world names _ it.is it.sealed_off _ world.filesystems
       (child_beside world names name call it task called credentials)
   of_tasks permit judged e = absurd (true≢false (sym e))
 
   -- Files
   pub changed_before : (w : World ℕ) → ChangesFiles world w → OthersAsBefore world w names names
-  changed_before w changes =
-      subst (λ v. OthersAsBefore world v names names) (sym changes.same)
+  changed_before w changes = subst (λ v. OthersAsBefore world v names names) (sym changes.same)
       (tasks_as_before world names names it.is it.sealed_off world.tasks w.filesystems
       (tasks_beside world names it.is w.filesystems (λ f m. inl (changes.placed f m))))
 
   opened_before : (w : World ℕ) → ChangesFiles world w → (file : Location ℕ) (access : Access) → OnTheirs file
       → OthersAsBefore world
       (record w { tasks = map (replaced_if_called (with_descriptor task file access)) w.tasks }) names names
-  opened_before w changes file access on =
-      subst (λ v. OthersAsBefore world
+  opened_before w changes file access on = subst (λ v. OthersAsBefore world
       (record v { tasks = map (replaced_if_called (with_descriptor task file access)) v.tasks }) names names)
-      (sym changes.same)
-      (replaced (with_descriptor task file access) (opening file access on) refl w.filesystems
+      (sym changes.same) (replaced (with_descriptor task file access) (opening file access on) refl w.filesystems
       (λ f m. inl (changes.placed f m)))
 
   opened_there : (file : Location ℕ) (access : Access) → judge_in nat_eq fresh world task call ≡ Ok (ToOpen file access)
       → OnTheirs file
   opened_there file access judged =
       let for = permits_are_for_their_calls fresh world task call (ToOpen file access) judged in
-      theirs_from world names it.is.mounts file.mount
-      (subst (λ j. IfOk j (OpensOn (is_theirs world names)))
+      theirs_from world names it.is.mounts file.mount (subst (λ j. IfOk j (OpensOn (is_theirs world names)))
       (sym (ap (judge_in nat_eq fresh world task) for.2) ∙ judged)
       (opens_theirs world names it.is it.sealed_off task member for.0 access for.1))
 
@@ -253,8 +243,7 @@ module _ (world : World ℕ) (names : List TaskName) (name : TaskName) (call : C
       (changed_before (apply nat_eq fresh world task (ToMake directory entry node)).world
       (change_changes_files world it.is.files.one_filesystem (odds fresh) directory
       (Make directory.node entry (evens fresh 0) node)))
-  of_files (ToOpen file access) judged e =
-      opened_before _
+  of_files (ToOpen file access) judged e = opened_before _
       (copy_changes_files world it.is.files.one_filesystem (is_copied_up nat_eq world file access) fresh file)
       file access (opened_there file access judged)
   of_files (ToOpenNew directory entry node access) judged e =
@@ -264,8 +253,7 @@ module _ (world : World ℕ) (names : List TaskName) (name : TaskName) (call : C
       (theirs_from world names it.is.mounts directory.mount
       (granted_theirs world names it.is it.sealed_off task member fresh call (ToOpenNew directory entry node access)
       judged directory (Make directory.node entry (evens fresh 0) node) refl tt))
-  of_files (ToWritePart file offset bytes) judged e =
-      kept (ToWritePart file offset bytes) judged refl
+  of_files (ToWritePart file offset bytes) judged e = kept (ToWritePart file offset bytes) judged refl
       (apply nat_eq fresh world task (ToWritePart file offset bytes)).world
       (changed_before (apply nat_eq fresh world task (ToWritePart file offset bytes)).world
       (write_changes_files world it.is.files.one_filesystem fresh file offset bytes))
@@ -281,16 +269,14 @@ module _ (world : World ℕ) (names : List TaskName) (name : TaskName) (call : C
     where
       by : (b : Bool) → only_looks call ≡ b → GivesNoFoothold world names name call fresh
       by true e = looks_out world names name call it fresh e
-      by false e =
-          granted_out world names name call it fresh serves few e
+      by false e = granted_out world names name call it fresh serves few e
           (one_permit world names name call it fresh serves few task called permit judged before)
 
   -- or before the sweep
   pub permit_out : (permit : Permit ℕ) → judge_in nat_eq fresh world task call ≡ Ok permit
       → (EndsInAWorld world names name call it fresh serves few task permit → Before permit)
       → GivesNoFoothold world names name call fresh
-  permit_out permit judged before =
-      swept_out permit judged (λ ends.
+  permit_out permit judged before = swept_out permit judged (λ ends.
       swept_as_before world (apply nat_eq fresh world task permit).world names
       (grown names name call (apply nat_eq fresh world task permit).answer) (before ends))
 

@@ -39,11 +39,9 @@ module _ (one other : Sched ℕ) (names : List TaskName) (same : HaveOnePart one
 
   -- where the world is the part, it goes alike
   in_parts : SameTurned (turned (part_of_sched names one)) (turned (part_of_sched names other))
-  in_parts =
-      subst (λ (p : World ℕ). SameTurned (turned (part_of_sched names one))
+  in_parts = subst (λ (p : World ℕ). SameTurned (turned (part_of_sched names one))
       (turned (record { world = p; queues = other.queues; under_way = their_calls names other.under_way })))
-      (sym same.part)
-      (subst (λ (u : List (Progress ℕ)). SameTurned (turned (part_of_sched names one))
+      (sym same.part) (subst (λ (u : List (Progress ℕ)). SameTurned (turned (part_of_sched names one))
       (turned (record { world = part_of nat_eq one.world names; queues = other.queues; under_way = u })))
       (sym same.calls)
       (same_turned (part_of nat_eq one.world names) (their_calls names one.under_way) one.queues other.queues name fresh
@@ -52,8 +50,7 @@ module _ (one other : Sched ℕ) (names : List TaskName) (same : HaveOnePart one
   -- and leaves the set that it leaves in the one
   pub same_set : (turned other).reply ≡ (turned one).reply
       → set_left other names name fresh ≡ set_left one names name fresh
-  same_set reply =
-      ap (λ (l : List Queued). grown_after names name (first_of_list l) (turned other).reply)
+  same_set reply = ap (λ (l : List Queued). grown_after names name (first_of_list l) (turned other).reply)
       (same.queues name it.theirs)
       ∙ ap (grown_after names name (first_of_list (queue_of one.queues (Someone name)))) reply
 
@@ -68,21 +65,15 @@ module _ (one other : Sched ℕ) (names : List TaskName) (same : HaveOnePart one
       subst (λ (s : List TaskName). part_of_sched s (turned (part_of_sched names other)).sched
       ≡ part_of_sched s (turned other).sched) (same_set reply) second.left in record {
         reply = reply;
-        part =
-            sym (ap (λ (s : Sched ℕ). s.world) left)
-            ∙ ap (λ (w : World ℕ). part_of nat_eq w set) in_parts.world
+        part = sym (ap (λ (s : Sched ℕ). s.world) left) ∙ ap (λ (w : World ℕ). part_of nat_eq w set) in_parts.world
             ∙ ap (λ (s : Sched ℕ). s.world) first.left;
-        calls =
-            sym (ap (λ (s : Sched ℕ). s.under_way) left)
-            ∙ ap (their_calls set) in_parts.under_way
+        calls = sym (ap (λ (s : Sched ℕ). s.under_way) left) ∙ ap (their_calls set) in_parts.under_way
             ∙ ap (λ (s : Sched ℕ). s.under_way) first.left;
-        queues = λ member theirs.
-            queue_after other (Someone name) fresh member
+        queues = λ member theirs. queue_after other (Someone name) fresh member
             ∙ ap (λ (r : Option Reply). shortened_by r (same_who (Someone member) (Someone name))
             (queue_of other.queues (Someone member))) reply
             ∙ ap (shortened_by (turned one).reply (same_who (Someone member) (Someone name)))
-            (same.queues member theirs)
-            ∙ sym (queue_after one (Someone name) fresh member);
+            (same.queues member theirs) ∙ sym (queue_after one (Someone name) fresh member);
       }
 
 pub outsiders_change_no_turn_of_theirs : OutsidersChangeNoTurnOfTheirs

@@ -37,8 +37,7 @@ module _ (sched : Sched ℕ) (names : List TaskName) (name : TaskName) (fresh : 
   answers first turned e done =
       ap (λ (r : Option Reply). are_all_called turned.sched.world (grown_after names name (Some first) r)) done.reply
       ∙ ap (λ (w : World ℕ). are_all_called w (grown_by names name first.item
-      (run_item sched.world (Someone name) first.item fresh).answer)) done.world
-      ∙ by_item first.item fresh e
+      (run_item sched.world (Someone name) first.item fresh).answer)) done.world ∙ by_item first.item fresh e
 
   by_queue : (items : List Queued) (turned : Turned ℕ) → ((first : Queued) → first_of_list items ≡ Some first
       → is_directive first.item ≡ false) → Turns sched (Someone name) fresh items turned
@@ -50,6 +49,5 @@ module _ (sched : Sched ℕ) (names : List TaskName) (name : TaskName) (fresh : 
   pub still_called : ((first : Queued) → first_of_list (queue_of sched.queues (Someone name)) ≡ Some first
       → is_directive first.item ≡ false)
       → are_all_called (turn nat_eq sched (Someone name) fresh).sched.world (set_left sched names name fresh) ≡ true
-  still_called plain =
-      by_queue (queue_of sched.queues (Someone name)) (turn nat_eq sched (Someone name) fresh) plain
+  still_called plain = by_queue (queue_of sched.queues (Someone name)) (turn nat_eq sched (Someone name) fresh) plain
       (turn_is sched (Someone name) fresh)

@@ -44,8 +44,7 @@ module _ (sched : Sched ℕ) (names : List TaskName) (name : TaskName) (is : IsW
   others progress = not (same_name name progress.task)
 
   cut : (a b : World ℕ) (queues : List Queue) (u v : List (Progress ℕ))
-      → part_of nat_eq b names ≡ part_of nat_eq a names
-      → their_calls names v ≡ their_calls names u
+      → part_of nat_eq b names ≡ part_of nat_eq a names → their_calls names v ≡ their_calls names u
       → part_of_sched names (record { world = b; queues = queues; under_way = v })
       ≡ part_of_sched names (record { world = a; queues = queues; under_way = u })
   cut a b queues u v e f =
@@ -68,8 +67,7 @@ module _ (sched : Sched ℕ) (names : List TaskName) (name : TaskName) (is : IsW
 
   others_again : their_calls names (without_progress name part.under_way)
       ≡ their_calls names (without_progress name sched.under_way)
-  others_again =
-      ap (filter own) (swapped others own sched.under_way) ∙ filter_again own (filter others sched.under_way)
+  others_again = ap (filter own) (swapped others own sched.under_way) ∙ filter_again own (filter others sched.under_way)
 
   module _ (fresh : Option (Fresh ℕ)) where
     abbrev whole : Turned ℕ
@@ -82,8 +80,7 @@ module _ (sched : Sched ℕ) (names : List TaskName) (name : TaskName) (is : IsW
     Alike = TurnsAlikeFor sched names (set_left sched names name fresh) name fresh
 
     as_turned : (set : List TaskName) → set_left sched names name fresh ≡ set → LeaveAlike set whole in_part → Alike
-    as_turned set e alike =
-        subst (λ (s : List TaskName). TurnsAlikeFor sched names s name fresh) (sym e)
+    as_turned set e alike = subst (λ (s : List TaskName). TurnsAlikeFor sched names s name fresh) (sym e)
         (record { reply = alike.reply; left = alike.left })
 
     -- a turn that answers nothing
@@ -96,8 +93,7 @@ module _ (sched : Sched ℕ) (names : List TaskName) (name : TaskName) (is : IsW
         (ap (grown_after names name (first_of_list (queue_of sched.queues (Someone name)))) none ∙ stays names name _)
         (record {
           reply = ap (λ (t : Turned ℕ). t.reply) same ∙ sym none;
-          left =
-              ap (λ (t : Turned ℕ). part_of_sched names t.sched) same
+          left = ap (λ (t : Turned ℕ). part_of_sched names t.sched) same
               ∙ cut world (part_of nat_eq world names) whole.sched.queues whole.sched.under_way
               (their_calls names whole.sched.under_way) (part_of_the_part world names still)
               (filter_again own whole.sched.under_way);
@@ -116,13 +112,11 @@ module _ (sched : Sched ℕ) (names : List TaskName) (name : TaskName) (is : IsW
     -- a turn that refuses what stands first, and leaves the set
     refused : (first : Queued) (rest : List Queued) → queue_of sched.queues (Someone name) ≡ first ∷ rest
         → grown_after names name (Some first) (queue_turn nat_eq sched (Someone name) (first ∷ rest) fresh).reply
-        ≡ names
-        → LeaveAlike names (queue_turn nat_eq sched (Someone name) (first ∷ rest) fresh)
+        ≡ names → LeaveAlike names (queue_turn nat_eq sched (Someone name) (first ∷ rest) fresh)
         (queue_turn nat_eq part (Someone name) (first ∷ rest) fresh) → Alike
     refused first rest e stay alike =
         let turned = turned_by (first ∷ rest) e in
-        as_turned names
-        (ap (λ (o : Option Queued). grown_after names name o whole.reply) (ap first_of_list e)
+        as_turned names (ap (λ (o : Option Queued). grown_after names name o whole.reply) (ap first_of_list e)
         ∙ ap (λ (t : Turned ℕ). grown_after names name (Some first) t.reply) turned.0 ∙ stay)
         (subst (λ (t : Turned ℕ). LeaveAlike names t in_part) (sym turned.0)
         (subst (LeaveAlike names (queue_turn nat_eq sched (Someone name) (first ∷ rest) fresh)) (sym turned.1) alike))
@@ -153,20 +147,17 @@ module _ (sched : Sched ℕ) (names : List TaskName) (name : TaskName) (is : IsW
           is = is;
           sealed_off = it.sealed_off;
           theirs = it.theirs;
-          among_them = λ member same.
-              it.among_them member (subst (IsFirst sched (Someone name)) same (line, first));
+          among_them = λ member same. it.among_them member (subst (IsFirst sched (Someone name)) same (line, first));
         }) given (it.serves given refl)))
 
   by_item : (fresh : Option (Fresh ℕ)) → IsTurnOfTheirs sched names name fresh
-      → is_some (turn nat_eq sched (Someone name) fresh).reply ≡ true
-      → (line : ℕ) (item : Item) (rest : List Queued)
+      → is_some (turn nat_eq sched (Someone name) fresh).reply ≡ true → (line : ℕ) (item : Item) (rest : List Queued)
       → queue_of sched.queues (Someone name) ≡ record { line = line; item = item } ∷ rest → Alike fresh
   by_item None it answers line (Calls call) rest e =
       refused None (record { line = line; item = Calls call }) rest e refl
       (denied_alike line _ (without_progress name sched.under_way) (without_progress name part.under_way) others_again)
   by_item (Some given) it answers line (Calls call) rest e = called given it answers line call rest e
-  by_item fresh it answers line (Asks directive) rest e =
-      absurd (true≢false (it.no_directive _ (ap first_of_list e)))
+  by_item fresh it answers line (Asks directive) rest e = absurd (true≢false (it.no_directive _ (ap first_of_list e)))
   by_item fresh it answers line (Refused deny) rest e =
       refused fresh (record { line = line; item = Refused deny }) rest e refl
       (denied_alike line deny sched.under_way part.under_way calls_again)
@@ -179,8 +170,7 @@ module _ (sched : Sched ℕ) (names : List TaskName) (name : TaskName) (is : IsW
   by_queue fresh it answers (first ∷ rest) e = by_item fresh it answers first.line first.item rest e
 
 pub each_turn_of_theirs_is_of_their_part : EachTurnOfTheirsIsOfTheirPart
-each_turn_of_theirs_is_of_their_part sched names name fresh it =
-    ⊎_elim
+each_turn_of_theirs_is_of_their_part sched names name fresh it = ⊎_elim
     (λ both. by_queue sched names name it.has.is fresh it both.0 (queue_of sched.queues (Someone name)) refl)
     (λ none. unanswered sched names name it.has.is fresh none.0 none.1)
     (turns_alike sched names it.has name it.theirs fresh)

@@ -42,15 +42,13 @@ module _ (kin : List TaskName) (one other : Sched ℕ) (names : List TaskName) (
   later_at = record {
     sealed_in =
         (outsiders_turns_leave_it_sealed_in_turn other names round.others at.there.sealed_in is.outside).sealed_off;
-    holds =
-        (schedules_hold_what_is_seen other round.others at.there.sealed_in.is at.there.holds
+    holds = (schedules_hold_what_is_seen other round.others at.there.sealed_in.is at.there.holds
         (fit_turns round.others other names is.outside)).1;
   }
 
   kin_queues : (member : TaskName) → is_among same_name member kin ≡ true
       → queue_of later.queues (Someone member) ≡ queue_of one.queues (Someone member)
-  kin_queues member theirs =
-      queues_stay kin round.others other is.apart member theirs ∙ at.queues member theirs
+  kin_queues member theirs = queues_stay kin round.others other is.apart member theirs ∙ at.queues member theirs
 
   same : HaveOnePart one later names
   same =
@@ -79,8 +77,7 @@ module _ (kin : List TaskName) (one other : Sched ℕ) (names : List TaskName) (
   }
 
   lone_turn : IsTurnOfTheirs one names round.name round.fresh
-  lone_turn =
-      still_theirs later one names same_back round.name round.fresh later_turn at.here.sealed_in at.here.holds
+  lone_turn = still_theirs later one names same_back round.name round.fresh later_turn at.here.sealed_in at.here.holds
       lone.serves
 
   alike : TurnsAlikeIn one later names (set_left one names round.name round.fresh) round.name round.fresh
@@ -127,15 +124,12 @@ module _ (kin : List TaskName) (one other : Sched ℕ) (names : List TaskName) (
     there = next_at;
     part = alike.part;
     calls = alike.calls;
-    queues = λ member theirs.
-        queue_after later (Someone round.name) round.fresh member
+    queues = λ member theirs. queue_after later (Someone round.name) round.fresh member
         ∙ ap (λ (r : Option Reply). shortened_by r (same_who (Someone member) (Someone round.name))
         (queue_of later.queues (Someone member))) alike.reply
         ∙ ap (shortened_by (turn_of_theirs one (alone round)).reply (same_who (Someone member) (Someone round.name)))
-        (kin_queues member theirs)
-        ∙ sym (queue_after one (Someone round.name) round.fresh member);
-    within = λ member theirs.
-        is.within member (subst (λ s. is_among same_name member s ≡ true) (sym sets) theirs);
+        (kin_queues member theirs) ∙ sym (queue_after one (Someone round.name) round.fresh member);
+    within = λ member theirs. is.within member (subst (λ s. is_among same_name member s ≡ true) (sym sets) theirs);
   }
 
 in_rounds : (kin : List TaskName) (rounds : List Round) (one other : Sched ℕ) (names : List TaskName)
@@ -144,8 +138,7 @@ in_rounds : (kin : List TaskName) (rounds : List Round) (one other : Sched ℕ) 
 in_rounds kin [] one other names at are lone = refl
 in_rounds kin (round ∷ rest) one other names at are lone =
     ap (λ r. r ∷ their_replies (turn_of_theirs other round).sched rest)
-    (alike kin one other names at round are.0 lone.0).reply
-    ∙ ap (λ l. (turn_of_theirs one (alone round)).reply ∷ l)
+    (alike kin one other names at round are.0 lone.0).reply ∙ ap (λ l. (turn_of_theirs one (alone round)).reply ∷ l)
     (in_rounds kin rest (turn_of_theirs one (alone round)).sched (turn_of_theirs other round).sched
     (set_left one names round.name round.fresh) (next kin one other names at round are.0 lone.0)
     (subst (λ s. AreRounds kin (turn_of_theirs other round).sched s rest)

@@ -56,8 +56,7 @@ module _ (world : World ℕ) (under_way : List (Progress ℕ)) (queues others : 
     entry (Err deny) task restarts = record { reply = refl; world = refl; under_way = refl }
     entry (Ok same) task restarts = on task (first_progress nat_eq world task restarts)
 
-    first : (task : Task ℕ) (restarts : ℕ)
-        → SameTurned (first_turn nat_eq one task line call fresh restarts)
+    first : (task : Task ℕ) (restarts : ℕ) → SameTurned (first_turn nat_eq one task line call fresh restarts)
         (first_turn nat_eq other task line call fresh restarts)
     first task restarts = entry (unless (entry_rules task call) (Ok call)) task restarts
 
@@ -79,8 +78,7 @@ module _ (world : World ℕ) (under_way : List (Progress ℕ)) (queues others : 
     under task None = first task 0
     under task (Some progress) = later (is_overtaken nat_eq world task progress) task progress
 
-    called : (name : TaskName) (task : Option (Task ℕ))
-        → SameTurned (call_turn_of nat_eq one name line call fresh task)
+    called : (name : TaskName) (task : Option (Task ℕ)) → SameTurned (call_turn_of nat_eq one name line call fresh task)
         (call_turn_of nat_eq other name line call fresh task)
     called name None = record { reply = refl; world = refl; under_way = refl }
     called name (Some task) = under task (find (λ (p : Progress ℕ). same_name name p.task) under_way)
@@ -108,8 +106,7 @@ module _ (world : World ℕ) (under_way : List (Progress ℕ)) (queues others : 
       → queue_of others (Someone name) ≡ queue_of queues (Someone name)
       → SameTurned (turn nat_eq one (Someone name) fresh) (turn nat_eq other (Someone name) fresh)
   unfolding turn
-  same_turned name fresh e =
-      subst (λ (items : List Queued). SameTurned
+  same_turned name fresh e = subst (λ (items : List Queued). SameTurned
       (queue_turn nat_eq one (Someone name) (queue_of queues (Someone name)) fresh)
       (queue_turn nat_eq other (Someone name) items fresh)) (sym e)
       (of_items name (queue_of queues (Someone name)) fresh)
@@ -129,23 +126,19 @@ queue_after sched who fresh member =
     items : List Queued
     items = queue_of sched.queues (Someone member)
 
-    goes_on : (turned : Turned ℕ) → GoesOn sched turned
-        → queue_of turned.sched.queues (Someone member)
+    goes_on : (turned : Turned ℕ) → GoesOn sched turned → queue_of turned.sched.queues (Someone member)
         ≡ shortened_by turned.reply (same_who (Someone member) who) items
-    goes_on turned goes =
-        ap (λ (q : List Queue). queue_of q (Someone member)) goes.queues
+    goes_on turned goes = ap (λ (q : List Queue). queue_of q (Someone member)) goes.queues
         ∙ sym (ap (λ (r : Option Reply). shortened_by r (same_who (Someone member) who) items) goes.reply)
 
     by : (list : List Queued) (turned : Turned ℕ) → Turns sched who fresh list turned
         → queue_of turned.sched.queues (Someone member)
         ≡ shortened_by turned.reply (same_who (Someone member) who) items
     by [] turned goes = goes_on turned goes
-    by (first ∷ rest) turned is =
-        ⊎_elim (goes_on turned)
+    by (first ∷ rest) turned is = ⊎_elim (goes_on turned)
         (λ done. ap (λ (q : List Queue). queue_of q (Someone member)) done.queues
         ∙ shorter who (Someone member) sched.queues
-        ∙ sym (ap (λ (r : Option Reply). shortened_by r (same_who (Someone member) who) items) done.reply))
-        is
+        ∙ sym (ap (λ (r : Option Reply). shortened_by r (same_who (Someone member) who) items) done.reply)) is
 
 -- Turns of others leave the queues of these tasks.
 pub queues_stay : (kin : List TaskName) (schedule : List Turn) (sched : Sched ℕ)
@@ -156,16 +149,13 @@ queues_stay kin [] sched apart member theirs = refl
 queues_stay kin (given ∷ rest) sched apart member theirs =
     queues_stay kin rest (turn nat_eq sched given.0 given.1).sched
     (λ other c. apart other (contains_from_among (given ∷ rest) other (inr (among_from_contains rest other c))))
-    member theirs
-    ∙ queue_after sched given.0 given.1 member
+    member theirs ∙ queue_after sched given.0 given.1 member
     ∙ ap (λ b. shortened_by (turn nat_eq sched given.0 given.1).reply b (queue_of sched.queues (Someone member)))
-    (another (same_who (Someone member) given.0) refl)
-    ∙ whole (turn nat_eq sched given.0 given.1).reply
+    (another (same_who (Someone member) given.0) refl) ∙ whole (turn nat_eq sched given.0 given.1).reply
   where
     another : (b : Bool) → same_who (Someone member) given.0 ≡ b → b ≡ false
     another false e = refl
-    another true e =
-        absurd (true≢false (sym theirs ∙ ap (is_of_theirs kin) (same_whos (Someone member) given.0 e)
+    another true e = absurd (true≢false (sym theirs ∙ ap (is_of_theirs kin) (same_whos (Someone member) given.0 e)
         ∙ apart given (contains_from_among (given ∷ rest) given (inl refl))))
 
     whole : (reply : Option Reply)

@@ -107,8 +107,7 @@ module _ (number : ℕ) (full lone : World ℕ) (names : List TaskName) (both : 
               let was : Contains (used_filesystems nat_eq full names) filesystem =
               subst (λ list. Contains list filesystem) (used_by_parts of_full.world full names leaves.part) used in
               let there = used_is_there full names both.of_full.is filesystem was in
-              subst (λ n. used_alone nat_eq of_full.world names n ≡ true) there.2
-              (leaves.no_more there.0 there.1
+              subst (λ n. used_alone nat_eq of_full.world names n ≡ true) there.2 (leaves.no_more there.0 there.1
               (subst (λ n. used_alone nat_eq full names n ≡ true) (sym there.2) (both.no_more filesystem was alone)));
         }
 
@@ -161,13 +160,12 @@ module _ (number : ℕ) (full lone : World ℕ) (names : List TaskName) (both : 
             is = full_is;
             there = subst (λ set. are_all_called of_full.world set ≡ true) same_left
                 (members_stay_called full fresh names name call both.of_full.there);
-            sealed_off =
-                fewer_footholds_seal_too of_full.world of_lone.world left (record {
-                  is = full_is;
-                  tasks = full_left.tasks;
-                  events = full_left.events;
-                  locations = full_left.locations;
-                }) lone_is parts_left no_more_left stays;
+            sealed_off = fewer_footholds_seal_too of_full.world of_lone.world left (record {
+              is = full_is;
+              tasks = full_left.tasks;
+              events = full_left.events;
+              locations = full_left.locations;
+            }) lone_is parts_left no_more_left stays;
             counted = (let least = both.of_full.counted in omega (arith, least));
             numbers = numbers_left number full name call both.of_full.counted both.of_full.numbers;
           };
@@ -209,8 +207,7 @@ record After (at at_alone : Stand) (name : TaskName) (call : Call) (calls : List
 
 -- so it is of the calls that are left
 abbrev NextAlike : List Asked → Type 0
-NextAlike calls =
-    (number : ℕ) (full lone : World ℕ) (names : List TaskName) → Both number full lone names
+NextAlike calls = (number : ℕ) (full lone : World ℕ) (names : List TaskName) → Both number full lone names
     → Rest number full lone names names calls
     → own_answers true (stand number full names) calls ≡ own_answers false (stand number lone names) calls
 
@@ -218,24 +215,19 @@ alike : (calls : List Asked) → AreFew calls → (number : ℕ) (full lone : Wo
     → Both number full lone names → Rest number full lone names names calls
     → own_answers true (stand number full names) calls ≡ own_answers false (stand number lone names) calls
 alike [] few number full lone names both rest = refl
-alike (None ∷ calls) few number full lone names both rest =
-    alike calls few.1 (number + 1) full lone names
-    (record {
-      of_full = later_line number full names both.of_full;
-      of_lone = later_line number lone names both.of_lone;
-      parts = both.parts;
-      no_more = both.no_more;
-    })
-    (record {
-      alone = rest.alone.1;
-      sides = rest.sides.1;
-      full_ends = record { in_part = rest.full_ends.in_part.1; footholds = rest.full_ends.footholds.1 };
-      lone_ends = record { in_part = rest.lone_ends.in_part.1; footholds = rest.lone_ends.footholds.1 };
-    })
-alike (Some call ∷ calls) few number full lone names both rest =
-    by (λ now full_now lone_now set both_now rest_now.
-    alike calls few.1 now full_now lone_now set both_now rest_now) (is_among same_name call.0 names) refl
-    (record {
+alike (None ∷ calls) few number full lone names both rest = alike calls few.1 (number + 1) full lone names (record {
+  of_full = later_line number full names both.of_full;
+  of_lone = later_line number lone names both.of_lone;
+  parts = both.parts;
+  no_more = both.no_more;
+}) (record {
+  alone = rest.alone.1;
+  sides = rest.sides.1;
+  full_ends = record { in_part = rest.full_ends.in_part.1; footholds = rest.full_ends.footholds.1 };
+  lone_ends = record { in_part = rest.lone_ends.in_part.1; footholds = rest.lone_ends.footholds.1 };
+})
+alike (Some call ∷ calls) few number full lone names both rest = by (λ now full_now lone_now set both_now rest_now.
+    alike calls few.1 now full_now lone_now set both_now rest_now) (is_among same_name call.0 names) refl (record {
       alone = rest.alone.1;
       sides = rest.sides.1;
       full_in = rest.full_ends.in_part.1;
@@ -255,8 +247,7 @@ alike (Some call ∷ calls) few number full lone names both rest =
         ≡ told b (outcome_at at_alone call.0 call.1) ++ own_answers false (moved false b at_alone call.0 call.1) calls
     by others_alike false outside after =
         let left = others_leave number full lone names both call.0 call.1 few.0 rest.sides.0 outside in
-        others_alike (number + 1) (outcome_at at call.0 call.1).world lone names left
-        (record {
+        others_alike (number + 1) (outcome_at at call.0 call.1).world lone names left (record {
           alone = after.alone;
           sides = after.sides;
           full_ends = record { in_part = after.full_in; footholds = after.full_out };
@@ -294,8 +285,7 @@ alike (Some call ∷ calls) few number full lone names both rest =
             let left = theirs_leave number full lone names both call.0 call.1 few.0 rest.sides.0 theirs ends ends_too
             out out_too (rest.alone.0 theirs) in
             let given : Rest (number + 1) (outcome_at at call.0 call.1).world (outcome_at at_alone call.0 call.1).world
-            (after_theirs at call.0 call.1).names (after_theirs at_alone call.0 call.1).names calls =
-            record {
+            (after_theirs at call.0 call.1).names (after_theirs at_alone call.0 call.1).names calls = record {
               alone = after.alone;
               sides = after.sides;
               full_ends = record { in_part = after.full_in; footholds = after.full_out };

@@ -31,8 +31,7 @@ use Rattle.vt_laws_members.proofs.changes.looks.Told.{ran}
 
 -- a task of this name is found where one is
 pub found_called : (member : TaskName) (tasks : List (Task ℕ)) (task : Task ℕ) → Among task tasks
-    → same_name member task.name ≡ true
-    → is_some (find (λ (t : Task ℕ). same_name member t.name) tasks) ≡ true
+    → same_name member task.name ≡ true → is_some (find (λ (t : Task ℕ). same_name member t.name) tasks) ≡ true
 found_called member [] task m e = absurd m
 found_called member (first ∷ rest) task m e =
     by (same_name member first.name) refl (λ later. found_called member rest task later e)
@@ -53,13 +52,11 @@ still_called world later names same there =
     let test : Task ℕ → Bool = λ (t : Task ℕ). same_name member t.name in
     let passes = found_passes test world.tasks found.0 found.1 in
     let its_name = name_found world member found.0 found.1 in
-    let is_one : is_among same_name found.0.name names ≡ true =
-    any_from_among (same_name found.0.name) names member m
+    let is_one : is_among same_name found.0.name names ≡ true = any_from_among (same_name found.0.name) names member m
     (ap (same_name found.0.name) its_name ∙ ap (λ n. same_name n found.0.name) (sym its_name) ∙ passes) in
     let member_there = among-filter (is_member_task names) world.tasks found.0
     (found_among test world.tasks found.0 found.1) is_one in
-    found_called member later.tasks found.0
-    (among-from_filter (is_member_task names) later.tasks found.0
+    found_called member later.tasks found.0 (among-from_filter (is_member_task names) later.tasks found.0
     (subst (Among found.0) (sym same) member_there)).0 passes)
 
 -- A child that is answered is there.
@@ -86,13 +83,11 @@ applied fresh world task (ToSetDirectory directory) = tt
 applied fresh world task (ToSetRoot root) = tt
 applied fresh world task (ToSetUmask umask) = tt
 applied fresh world task (ToSetCredentials credentials) = tt
-applied fresh world task (ToFork credentials) =
-    found_called (child_name task)
+applied fresh world task (ToFork credentials) = found_called (child_name task)
     (map (replaced_if_called (record task { forks = task.forks + 1 })) world.tasks
     ++ child_of task credentials ∷ []) (child_of task credentials)
     (among-append_right (map (replaced_if_called (record task { forks = task.forks + 1 })) world.tasks)
-    (child_of task credentials ∷ []) (child_of task credentials) (inl refl))
-    (same_name_itself (child_name task))
+    (child_of task credentials ∷ []) (child_of task credentials) (inl refl)) (same_name_itself (child_name task))
 applied fresh world task ToExit = tt
 applied fresh world task ToUnshare = tt
 applied fresh world task (ToEnterNamespace namespace) = tt
@@ -189,13 +184,11 @@ module _ (world : World ℕ) (fresh : Fresh ℕ) (names : List TaskName) (name :
 
       by : (b : Bool) → same_name member name ≡ b → is_some (task_called later member) ≡ true
       by true e = found (same_task_name member name e) (task_called later name) refl
-      by false e =
-          other_stays member was.0
+      by false e = other_stays member was.0
           (λ same. true≢false (sym (ap (same_name member) (sym same) ∙ same_name_itself member) ∙ e)) was.1
 
   all_stay : is_exit call ≡ false → are_all_called later names ≡ true
-  all_stay other =
-      list_all_from_among (λ member. is_some (task_called later member)) names (λ member m.
+  all_stay other = list_all_from_among (λ member. is_some (task_called later member)) names (λ member m.
       stays member (among_from_list_all (λ n. is_some (task_called world n)) names there member m) (λ same. other))
 
   -- after a call that is no exit
@@ -214,12 +207,10 @@ module _ (world : World ℕ) (fresh : Fresh ℕ) (names : List TaskName) (name :
   ended = (policy nat_eq fresh world name Exit).world
 
   rest_stay : are_all_called ended (left names name Exit) ≡ true
-  rest_stay =
-      list_all_from_among (λ member. is_some (task_called ended member)) (left names name Exit) (λ member m.
+  rest_stay = list_all_from_among (λ member. is_some (task_called ended member)) (left names name Exit) (λ member m.
       let from = among-from_filter (λ n. not (same_name name n)) names member m in
       stays world fresh names name Exit there member
-      (among_from_list_all (λ n. is_some (task_called world n)) names there member from.0)
-      (λ same. absurd (true≢false
+      (among_from_list_all (λ n. is_some (task_called world n)) names there member from.0) (λ same. absurd (true≢false
       (sym (ap (same_name name) same ∙ same_name_itself name) ∙ not-true (same_name name member) from.1))))
 
   exit_by : (o : Option (Task ℕ)) → task_called world name ≡ o
@@ -229,18 +220,14 @@ module _ (world : World ℕ) (fresh : Fresh ℕ) (names : List TaskName) (name :
   exit_by (Some task) e = rest_stay
 
 pub members_stay_called : (world : World ℕ) (fresh : Fresh ℕ) (names : List TaskName) (name : TaskName) (call : Call)
-    → are_all_called world names ≡ true
-    → are_all_called (policy nat_eq fresh world name call).world
+    → are_all_called world names ≡ true → are_all_called (policy nat_eq fresh world name call).world
     (grown names name call (policy nat_eq fresh world name call).answer) ≡ true
 members_stay_called world fresh names name call there = by (is_exit call) refl
   where
-    by : (b : Bool) → is_exit call ≡ b
-        → are_all_called (policy nat_eq fresh world name call).world
+    by : (b : Bool) → is_exit call ≡ b → are_all_called (policy nat_eq fresh world name call).world
         (grown names name call (policy nat_eq fresh world name call).answer) ≡ true
-    by true e =
-        subst (λ c. are_all_called (policy nat_eq fresh world name c).world
+    by true e = subst (λ c. are_all_called (policy nat_eq fresh world name c).world
         (grown names name c (policy nat_eq fresh world name c).answer) ≡ true) (sym (exit_if call e))
         (exit_by world fresh names name there (task_called world name) refl)
-    by false e =
-        others_stay world fresh names name call there e (policy nat_eq fresh world name call).answer
+    by false e = others_stay world fresh names name call there e (policy nat_eq fresh world name call).answer
         (child_is_there world name call fresh)

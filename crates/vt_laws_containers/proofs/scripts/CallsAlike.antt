@@ -95,8 +95,7 @@ module _ (world : World ℕ) (names : List TaskName) (name : TaskName) (call : C
     by_permit (ToSetCredentials credentials) judged = of_tasks (ToSetCredentials credentials) judged refl
     by_permit (ToFork credentials) judged = of_tasks (ToFork credentials) judged refl
     by_permit ToExit judged = of_detaching ToExit judged refl
-    by_permit ToUnshare judged =
-        never Unshare (permits_are_for_their_calls fresh world task call ToUnshare judged) refl
+    by_permit ToUnshare judged = never Unshare (permits_are_for_their_calls fresh world task call ToUnshare judged) refl
     by_permit (ToEnterNamespace namespace) judged = of_detaching (ToEnterNamespace namespace) judged refl
     by_permit (ToMountPlain place flags) judged =
         let for = permits_are_for_their_calls fresh world task call (ToMountPlain place flags) judged in
@@ -125,20 +124,17 @@ module _ (world : World ℕ) (names : List TaskName) (name : TaskName) (call : C
       judged_by : (task : Task ℕ) → task_called world name ≡ Some task → (judgement : Judgement ℕ)
           → judge_in nat_eq fresh world task call ≡ judgement → None_given
       judged_by task e (Ok permit) judged = by_permit task e permit judged
-      judged_by task e (Err deny) judged =
-          denials_give_no_foothold world names name call it fresh
+      judged_by task e (Err deny) judged = denials_give_no_foothold world names name call it fresh
           (ap (λ found. is_ok (ran name call world fresh found).answer) e
           ∙ ap (λ judgement. is_ok (run_by world names name call it fresh fresh world fresh task judgement).answer)
-          judged
-          ∙ refused (only_looks call))
+          judged ∙ refused (only_looks call))
         where
           refused : (b : Bool) → is_ok (finished_by nat_eq (b || true) world name [] (denied world deny)).answer ≡ false
           refused true = refl
           refused false = refl
 
       by : (found : Option (Task ℕ)) → task_called world name ≡ found → None_given
-      by None e =
-          denials_give_no_foothold world names name call it fresh
+      by None e = denials_give_no_foothold world names name call it fresh
           (ap (λ found. is_ok (ran name call world fresh found).answer) e)
       by (Some task) e = judged_by task e (judge_in nat_eq fresh world task call) refl
 

@@ -52,9 +52,7 @@ module _ (line : ℕ) (world : World ℕ) (has : HasEarlierNumbers (suc line) wo
       → HasEarlierNumbers (suc line + 1) after
   row_added after keeps = record {
     named = named_now;
-    keeps =
-        keeps named_now
-        (λ renaming leaves.
+    keeps = keeps named_now (λ renaming leaves.
         has.keeps renaming (λ number is.
         leaves number (or_left (has.named number) (nat_eq (row number) (suc line)) is)))
         (λ place. or_right (has.named (numbers_for (suc line) place))
@@ -73,12 +71,10 @@ module _ (line : ℕ) (world : World ℕ) (has : HasEarlierNumbers (suc line) wo
 
   numbers_left_here : (name : TaskName) (call : Call)
       → HasEarlierNumbers (suc line + 1) (policy nat_eq (numbers_for (suc line)) world name call).world
-  numbers_left_here name call =
-      row_added (policy nat_eq (numbers_for (suc line)) world name call).world
+  numbers_left_here name call = row_added (policy nat_eq (numbers_for (suc line)) world name call).world
       (λ named keeps supplied. calls_keep_to_numbers named (numbers_for (suc line)) world name call keeps supplied)
 
-  line_numbers_here : (grammar : Grammar) (text : List ℕ)
-      → HasEarlierNumbers (suc line + 1)
+  line_numbers_here : (grammar : Grammar) (text : List ℕ) → HasEarlierNumbers (suc line + 1)
       (step_world world (line_step nat_eq grammar world text (Some (numbers_for (suc line)))))
   line_numbers_here grammar text =
       row_added (step_world world (line_step nat_eq grammar world text (Some (numbers_for (suc line)))))
@@ -97,8 +93,7 @@ numbers_left zero world name call counted has = absurd (omega (arith, counted))
 numbers_left (suc line) world name call counted has = numbers_left_here line world has name call
 
 pub line_numbers_left : (number : ℕ) (grammar : Grammar) (world : World ℕ) (text : List ℕ) → 1 ≤ number
-    → HasEarlierNumbers number world
-    → HasEarlierNumbers (number + 1)
+    → HasEarlierNumbers number world → HasEarlierNumbers (number + 1)
     (step_world world (line_step nat_eq grammar world text (Some (numbers_for number))))
 line_numbers_left zero grammar world text counted has = absurd (omega (arith, counted))
 line_numbers_left (suc line) grammar world text counted has = line_numbers_here line world has grammar text

@@ -15,11 +15,9 @@ use Rattle.vt_laws_containers.specs.Scripts.{HasEarlierNumbers, SealedSetsStandS
 use Rattle.vt_laws_containers.proofs.scripts.LineNumbers.{line_numbers_left, serves_line}
 
 lines_lead : (grammar : Grammar) (number : ℕ) (world : World ℕ) (lines : List (List ℕ)) → IsWorld nat_eq world
-    → 1 ≤ number → HasEarlierNumbers number world
-    → IsWorld nat_eq (world_from grammar world number lines)
+    → 1 ≤ number → HasEarlierNumbers number world → IsWorld nat_eq (world_from grammar world number lines)
     × HasEarlierNumbers (number + length lines) (world_from grammar world number lines)
-lines_lead grammar number world [] is counted has =
-    (is, subst (λ n. HasEarlierNumbers n world) (omega arith) has)
+lines_lead grammar number world [] is counted has = (is, subst (λ n. HasEarlierNumbers n world) (omega arith) has)
 lines_lead grammar number world (line ∷ lines) is counted has =
     let after : World ℕ = step_world world (line_step nat_eq grammar world line (Some (numbers_for number))) in
     let rest = lines_lead grammar (number + 1) after lines
@@ -44,10 +42,4 @@ pub sealed_sets_stand_so : SealedSetsStandSo
 sealed_sets_stand_so grammar lines names there sealed_off =
     let leads = lines_lead grammar 1 first_world lines (opening_is_a_world (λ place. place) (λ j k e. e)).0
     (omega arith) first_numbers in
-    record {
-      is = leads.0;
-      there = there;
-      sealed_off = sealed_off;
-      counted = omega arith;
-      numbers = leads.1;
-    }
+    record { is = leads.0; there = there; sealed_off = sealed_off; counted = omega arith; numbers = leads.1 }

@@ -23,13 +23,11 @@ IsThere world number = (filesystem : Filesystem ℕ) × Among filesystem world.f
 -- where an inode is found, the filesystem is there
 pub there_with_inode : (world : World ℕ) (number inode : ℕ)
     → is_some ((filesystem_numbered nat_eq world number).files.tree.node inode) ≡ true → IsThere world number
-there_with_inode world number inode h =
-    by (find (λ (f : Filesystem ℕ). nat_eq number f.number) world.filesystems) refl
+there_with_inode world number inode h = by (find (λ (f : Filesystem ℕ). nat_eq number f.number) world.filesystems) refl
   where
     by : (o : Option (Filesystem ℕ)) → find (λ (f : Filesystem ℕ). nat_eq number f.number) world.filesystems ≡ o
         → IsThere world number
-    by None e =
-        absurd (true≢false (sym h
+    by None e = absurd (true≢false (sym h
         ∙ ap (λ o. is_some ((unwrap_or o (no_filesystem number)).files.tree.node inode)) e))
     by (Some filesystem) e = (
       filesystem,
@@ -41,47 +39,39 @@ there_with_inode world number inode h =
 module _ (world : World ℕ) (names : List TaskName) (is : IsWorld nat_eq world) where
   -- the filesystem of a mount
   pub mounted_is_there : (mount : Mount ℕ) → Among mount world.mounts → IsThere world mount.filesystem
-  mounted_is_there mount m =
-      there_with_inode world mount.filesystem mount.root
-      (directory_is_there ((filesystem_numbered nat_eq world mount.filesystem).files.tree.node mount.root)
-      (and_parts
+  mounted_is_there mount m = there_with_inode world mount.filesystem mount.root
+      (directory_is_there ((filesystem_numbered nat_eq world mount.filesystem).files.tree.node mount.root) (and_parts
       (is_directory_node ((filesystem_numbered nat_eq world mount.filesystem).files.tree.node mount.root)) _
       (among_from_list_all (has_its_root nat_eq world) world.mounts is.roots mount m)).0)
 
   -- of a location
   pub located_is_there : (location : Location ℕ) → Among location (all_locations world)
       → IsThere world (mount_at nat_eq world location).filesystem
-  located_is_there location m =
-      there_with_inode world (mount_at nat_eq world location).filesystem location.node
+  located_is_there location m = there_with_inode world (mount_at nat_eq world location).filesystem location.node
       (and_parts (is_among nat_eq location.mount (map (λ (x : Mount ℕ). x.number) world.mounts))
       (is_there nat_eq world (mount_at nat_eq world location).filesystem location.node)
       (among_from_list_all (is_located_well nat_eq world) (all_locations world) is.tasks.locations_live location m)).1
 
   -- one that the set uses directly
   pub direct_is_there : (number : ℕ) → Among number (used_directly nat_eq world names) → IsThere world number
-  direct_is_there number m =
-      ⊎_elim
+  direct_is_there number m = ⊎_elim
       (λ shown. let at = among-from_map (λ (x : Mount ℕ). x.filesystem) (own_mounts nat_eq world names) number shown in
       subst (IsThere world) (sym at.2)
       (mounted_is_there at.0 (among-from_filter (is_own_mount nat_eq world names) world.mounts at.0 at.1).0))
       (λ placed. let at = among-from_map (λ (l : Location ℕ). (mount_at nat_eq world l).filesystem)
       (locations (members world names)) number placed in
       let of = among-from_flat_map locations_of (members world names) at.0 at.1 in
-      subst (IsThere world) (sym at.2)
-      (located_is_there at.0 (among-flat_map locations_of world.tasks of.0 at.0
+      subst (IsThere world) (sym at.2) (located_is_there at.0 (among-flat_map locations_of world.tasks of.0 at.0
       (among-from_filter (is_member_task names) world.tasks of.0 of.1).0 of.2)))
       (among-append (map (λ (x : Mount ℕ). x.filesystem) (own_mounts nat_eq world names))
       (map (λ (l : Location ℕ). (mount_at nat_eq world l).filesystem) (locations (members world names))) number m)
 
   pub used_among_is_there : (number : ℕ) → Among number (used_filesystems nat_eq world names) → IsThere world number
-  used_among_is_there number m =
-      ⊎_elim (direct_is_there number)
+  used_among_is_there number m = ⊎_elim (direct_is_there number)
       (λ layered. let of = changed_of world names number layered in
-      subst (IsThere world) (sym of.5)
-      (there_with_inode world of.3.filesystem of.3.directory
+      subst (IsThere world) (sym of.5) (there_with_inode world of.3.filesystem of.3.directory
       (directory_is_there ((filesystem_numbered nat_eq world of.3.filesystem).files.tree.node of.3.directory)
-      (layer_directory world names is of.0 of.1 of.3 of.4))))
-      (among-append (used_directly nat_eq world names)
+      (layer_directory world names is of.0 of.1 of.3 of.4)))) (among-append (used_directly nat_eq world names)
       (flat_map (λ n. change_layers (filesystem_numbered nat_eq world n)) (used_directly nat_eq world names)) number
       (among-from_each_once (used_directly nat_eq world names
       ++ flat_map (λ n. change_layers (filesystem_numbered nat_eq world n)) (used_directly nat_eq world names))

@@ -130,14 +130,9 @@ module _ (world : World ℕ) (names : List TaskName) (is : IsWorld nat_eq world)
   master_in Unbindable group e = none_is_some group e
 
   above_ours : (group above : ℕ) → Ours group → world.master group ≡ Some above → Ours above
-  above_ours group above its e =
-      ⊎_elim
+  above_ours group above its e = ⊎_elim
       (λ heard. let member = member_of_heard world names so_far heard.0 heard.1 group heard.2 in
-      inl (
-        member.0,
-        member.1,
-        inr (master_in member.0.propagation group (member_group group member.0 member.2) ∙ e),
-      ))
+      inl (member.0, member.1, inr (master_in member.0.propagation group (member_group group member.0 member.2) ∙ e)))
       (λ new. none_is_some above
       (sym ((standing_apart_with world names apart fresh serves).new_master group new) ∙ e)) its
 
@@ -148,14 +143,11 @@ module _ (world : World ℕ) (names : List TaskName) (is : IsWorld nat_eq world)
       ⊎_elim (λ lives. lives) (λ none. absurd none) (other_hears_foreign world names so_far other m group how)
 
   unheard : (other : Mount ℕ) → Among other others → (group : ℕ) → Ours group → Hears world other.propagation group → ⊥
-  unheard other m group its how =
-      ⊎_elim
-      (λ heard. not_heard world names so_far heard.0 heard.1 group
+  unheard other m group its how = ⊎_elim (λ heard. not_heard world names so_far heard.0 heard.1 group
       (other_hears_foreign world names so_far other m group how) heard.2)
       (λ new. let member = any_among (is_member_of nat_eq group) world.mounts
       (members_of world names so_far.mounts so_far.events group (other_lives other m group how).1) in
-      member_not_new world fresh serves member.0 group new.0 member.1 (member_group group member.0 member.2) new.1)
-      its
+      member_not_new world fresh serves member.0 group new.0 member.1 (member_group group member.0 member.2) new.1) its
 
   -- What is named is theirs.
   own_not_out : (o : Option ℕ) → holds_of (is_own_namespace nat_eq world names) o ≡ true
@@ -168,14 +160,12 @@ module _ (world : World ℕ) (names : List TaskName) (is : IsWorld nat_eq world)
       let other = any_among (λ (o : Mount ℕ). nat_eq m.number o.number) named h in
       let own = named_own other.0 other.1 in
       let there = (among-from_filter (is_own_mount nat_eq world names) world.mounts other.0 own).0 in
-      subst (λ k. Among k owns)
-      (sym (found_itself world.mounts is.mounts.one_number other.0 there)
+      subst (λ k. Among k owns) (sym (found_itself world.mounts is.mounts.one_number other.0 there)
       ∙ ap (mount_numbered nat_eq world) (sym (eqb-true m.number other.0.number other.2))
       ∙ found_itself world.mounts is.mounts.one_number m n) own
 
   other_unnamed : (other : Mount ℕ) → Among other others → is_named fresh word named other ≡ false
-  other_unnamed other m =
-      false_from_ne_true (is_named fresh word named other) (λ h.
+  other_unnamed other m = false_from_ne_true (is_named fresh word named other) (λ h.
       let at = among-from_filter is_out world.mounts other m in
       own_not_out other.namespace
       (among-from_filter (is_own_mount nat_eq world names) world.mounts other (named_there other at.0 h)).1 at.1)
@@ -184,8 +174,7 @@ module _ (world : World ℕ) (names : List TaskName) (is : IsWorld nat_eq world)
   masters_how : (g : ℕ) (list : List (Mount ℕ)) (a : ℕ → Option ℕ)
       → (with_new_groups nat_eq (numbers_by nat_eq fresh named) a list g ≡ a g) ⊎ IsNewBy fresh g
   masters_how g [] a = inl refl
-  masters_how g (m ∷ rest) a =
-      ⊎_elim (λ same. by (nat_eq g (numbers_by nat_eq fresh named m.number)) refl same) inr
+  masters_how g (m ∷ rest) a = ⊎_elim (λ same. by (nat_eq g (numbers_by nat_eq fresh named m.number)) refl same) inr
       (masters_how g rest (with_master nat_eq a (numbers_by nat_eq fresh named m.number) (master_after m.propagation)))
     where
       by : (b : Bool) → nat_eq g (numbers_by nat_eq fresh named m.number) ≡ b
@@ -193,8 +182,7 @@ module _ (world : World ℕ) (names : List TaskName) (is : IsWorld nat_eq world)
           (with_master nat_eq a (numbers_by nat_eq fresh named m.number) (master_after m.propagation)) rest g
           ≡ cond (nat_eq g (numbers_by nat_eq fresh named m.number)) (master_after m.propagation) (a g)
           → (with_new_groups nat_eq (numbers_by nat_eq fresh named) a (m ∷ rest) g ≡ a g) ⊎ IsNewBy fresh g
-      by true e same =
-          inr (index_of nat_eq named m.number, eqb-true g (numbers_by nat_eq fresh named m.number) e)
+      by true e same = inr (index_of nat_eq named m.number, eqb-true g (numbers_by nat_eq fresh named m.number) e)
       by false e same = inl (same ∙ ap (λ b. cond b (master_after m.propagation) (a g)) e)
 
   masters_ours : (g above : ℕ) (a : ℕ → Option ℕ) → (a g ≡ Some above → Ours above) → (list : List (Mount ℕ))
@@ -213,16 +201,14 @@ module _ (world : World ℕ) (names : List TaskName) (is : IsWorld nat_eq world)
   up_ours above g e its = masters_ours g above world.master (above_ours g above its) named named_own e
 
   heir_ours : (g found : ℕ) → Ours g → heir nat_eq t (Some g) ≡ Some found → Ours found
-  heir_ours g found its e =
-      along_chain masters Ours up_ours (length t.mounts) g found its
+  heir_ours g found its e = along_chain masters Ours up_ours (length t.mounts) g found its
       (is_among_numbers (groups_up t g) found (found_among has (groups_up t g) found e))
 
   kind_ours : (m : Mount ℕ) → Among m owns → (g : ℕ) → source_of (kind m) ≡ Some g → Ours g
   kind_ours m own g = by (is_named fresh word named m)
     where
       by : (b : Bool) → source_of (kind_by fresh word named b m) ≡ Some g → Ours g
-      by true e =
-          ⊎_elim (source_ours m own g) (λ new. inr (index_of nat_eq named m.number, sym new))
+      by true e = ⊎_elim (source_ours m own g) (λ new. inr (index_of nat_eq named m.number, sym new))
           (source_after (numbers_by nat_eq fresh named m.number) word m.propagation g e)
       by false e = source_ours m own g e
 
@@ -244,8 +230,7 @@ module _ (world : World ℕ) (names : List TaskName) (is : IsWorld nat_eq world)
   -- the master of a group with a member is the heir of what it was
   master_so : (m : Mount ℕ) → Among m world.mounts → (g : ℕ) → group_of (kind_after m) ≡ Some g
       → left.master g ≡ heir nat_eq t (masters g)
-  master_so m n g e =
-      master_left_so world kind masters g
+  master_so m n g e = master_left_so world kind masters g
       (any_from_among (is_member_of nat_eq g) t.mounts (record m { propagation = kind m })
       (among-map (λ (x : Mount ℕ). record x { propagation = kind x }) world.mounts m n)
       (ap (holds_of (nat_eq g)) (shared_before t (kind m) g e) ∙ eq-eqb g g refl))
@@ -261,8 +246,7 @@ module _ (world : World ℕ) (names : List TaskName) (is : IsWorld nat_eq world)
   own_hears m own group how = by (kind_after m) refl how
     where
       by : (k : Propagation ℕ) → kind_after m ≡ k → Hears left k group → Ours group
-      by (Shared g) k h =
-          ⊎_elim (λ e. source_left m own group (ap source_of k ∙ e))
+      by (Shared g) k h = ⊎_elim (λ e. source_left m own group (ap source_of k ∙ e))
           (λ e. above_left g (source_left m own g (ap source_of k)) group
           (sym (master_so m (among-from_filter (is_own_mount nat_eq world names) world.mounts m own).0 g
           (ap group_of k)) ∙ e)) h
@@ -279,8 +263,7 @@ module _ (world : World ℕ) (names : List TaskName) (is : IsWorld nat_eq world)
       let lives = other_lives other m g how in
       let found = any_among (is_member_of nat_eq g) world.mounts
       (members_of world names so_far.mounts so_far.events g lives.1) in
-      ⊎_elim
-      (λ own. absurd (none_other world names so_far.mounts so_far.events g found.0 lives.0 own found.2))
+      ⊎_elim (λ own. absurd (none_other world names so_far.mounts so_far.events g found.0 lives.0 own found.2))
       (λ out. any_from_among (is_member_of nat_eq g) t.mounts (record found.0 { propagation = kind found.0 })
       (among-map (λ (x : Mount ℕ). record x { propagation = kind x }) world.mounts found.0 found.1)
       (ap (λ k. holds_of (nat_eq g) (group_of k)) (kind_kept found.0 out) ∙ found.2))
@@ -288,8 +271,7 @@ module _ (world : World ℕ) (names : List TaskName) (is : IsWorld nat_eq world)
 
   heir_kept : (other : Mount ℕ) → Among other others → (g : ℕ) → Hears world other.propagation g
       → heir nat_eq t (Some g) ≡ Some g
-  heir_kept other m g how =
-      find-chain_start has masters (length t.mounts) g (other_has other m g how)
+  heir_kept other m g how = find-chain_start has masters (length t.mounts) g (other_has other m g how)
 
   pub other_kept : (other : Mount ℕ) → Among other others → kind_after other ≡ other.propagation
   other_kept other m = ap (inherited nat_eq t) (kind_kept other m) ∙ by other.propagation refl
@@ -301,8 +283,7 @@ module _ (world : World ℕ) (names : List TaskName) (is : IsWorld nat_eq world)
       by Unbindable e = refl
 
   pub others_kept : other_mounts nat_eq left names ≡ other_mounts nat_eq world names
-  others_kept =
-      filter-map is_out {q = is_out} after world.mounts (λ m. refl)
+  others_kept = filter-map is_out {q = is_out} after world.mounts (λ m. refl)
       ∙ map_same after others (λ m n. ap (λ k. record m { propagation = k }) (other_kept m n))
 
   -- and their masters.
@@ -319,15 +300,11 @@ module _ (world : World ℕ) (names : List TaskName) (is : IsWorld nat_eq world)
       up g e (Some upper) f h = sym (heir_kept other m upper (inr (ap (master_of world) e ∙ f))) ∙ h
 
       kept : (g : ℕ) → other.propagation ≡ Shared g → masters g ≡ world.master g
-      kept g e =
-          ⊎_elim (λ same. same) (λ new. absurd (unheard other m g (inr new) (inl (ap group_of e))))
+      kept g e = ⊎_elim (λ same. same) (λ new. absurd (unheard other m g (inr new) (inl (ap group_of e))))
           (masters_how g named world.master)
 
       by : (k : Propagation ℕ) → other.propagation ≡ k → Hears left k group → Hears world k group
-      by (Shared g) k h =
-          ⊎_elim inl
-          (λ e. inr (up g k (world.master g) refl
-          (sym (ap (heir nat_eq t) (kept g k))
+      by (Shared g) k h = ⊎_elim inl (λ e. inr (up g k (world.master g) refl (sym (ap (heir nat_eq t) (kept g k))
           ∙ sym (master_so other there g (ap group_of (other_kept other m ∙ k))) ∙ e))) h
       by (Slave g) k h = h
       by Private k h = h
@@ -335,9 +312,7 @@ module _ (world : World ℕ) (names : List TaskName) (is : IsWorld nat_eq world)
 
   own_receives : (m other : Mount ℕ) → Among m owns → Among other others
       → receives_events_of nat_eq left (after m) other ≡ true → ⊥
-  own_receives m other own n h =
-      ⊎_elim
-      (λ e. let found = in_group (group_of (kind_after m)) other e in
+  own_receives m other own n h = ⊎_elim (λ e. let found = in_group (group_of (kind_after m)) other e in
       unheard other n found.0 (own_hears m own found.0 (inl found.1)) (inl found.2))
       (λ e. let found = in_group (master_of left (kind_after m)) other e in
       unheard other n found.0 (own_hears m own found.0 (inr found.1)) (inl found.2))
@@ -346,9 +321,7 @@ module _ (world : World ℕ) (names : List TaskName) (is : IsWorld nat_eq world)
 
   other_receives : (m other : Mount ℕ) → Among m owns → Among other others
       → receives_events_of nat_eq left other (after m) ≡ true → ⊥
-  other_receives m other own n h =
-      ⊎_elim
-      (λ e. let found = in_group (group_of other.propagation) (after m) e in
+  other_receives m other own n h = ⊎_elim (λ e. let found = in_group (group_of other.propagation) (after m) e in
       unheard other n found.0 (own_hears m own found.0 (inl found.2)) (inl found.1))
       (λ e. let found = in_group (master_of left other.propagation) (after m) e in
       unheard other n found.0 (own_hears m own found.0 (inl found.2)) (other_hears other n found.0 (inr found.1)))
@@ -356,8 +329,7 @@ module _ (world : World ℕ) (names : List TaskName) (is : IsWorld nat_eq world)
       (holds_of (λ group. is_member_of nat_eq group (after m)) (master_of left other.propagation)) h)
 
   pub groups_apart : shares_no_events nat_eq left names ≡ true
-  groups_apart =
-      ap (λ outs. list_all (λ y. list_all (λ other. not (share_events nat_eq left y other)) outs)
+  groups_apart = ap (λ outs. list_all (λ y. list_all (λ other. not (share_events nat_eq left y other)) outs)
       (own_mounts nat_eq left names)) others_kept
       ∙ ap (list_all (λ y. list_all (λ other. not (share_events nat_eq left y other)) others))
       (filter-map (is_own_mount nat_eq world names) {q = is_own_mount nat_eq world names} after world.mounts
@@ -369,8 +341,7 @@ module _ (world : World ℕ) (names : List TaskName) (is : IsWorld nat_eq world)
     where
       none_shared : (m : Mount ℕ) → Among m owns
           → list_all (λ other. not (share_events nat_eq left (after m) other)) others ≡ true
-      none_shared m own =
-          list_all_from_among (λ other. not (share_events nat_eq left (after m) other)) others
+      none_shared m own = list_all_from_among (λ other. not (share_events nat_eq left (after m) other)) others
           (λ other n. ap not (false_from_ne_true (share_events nat_eq left (after m) other) (λ h.
           ⊎_elim (own_receives m other own n) (other_receives m other own n)
           (or_cases (receives_events_of nat_eq left (after m) other) (receives_events_of nat_eq left other (after m))

@@ -39,8 +39,7 @@ module _ (world : World ℕ) (names : List TaskName) (is : IsWorld nat_eq world)
     (sealed_off : sealed nat_eq world names ≡ true) (task : Task ℕ) (member : Among task (members world names))
     (word : TypeWord) (recursive : Bool) where
   abbrev SetsType : Permit ℕ → Type 0
-  SetsType permit =
-      (here : Location ℕ) × (permit ≡ ToSetType here.mount word recursive)
+  SetsType permit = (here : Location ℕ) × (permit ≡ ToSetType here.mount word recursive)
       × (is_theirs world names here.mount ≡ true)
       × (is_own world names (members world names) (mount_at nat_eq world here) ≡ true)
 
@@ -51,16 +50,13 @@ module _ (world : World ℕ) (names : List TaskName) (is : IsWorld nat_eq world)
   sets_type : (path : List ℕ) → IfOk
       (type_permit nat_eq (one world names is sealed_off task member) task path word recursive) SetsType
   unfolding type_permit
-  sets_type path =
-      of_rules SetsType (admin_rules task) _
+  sets_type path = of_rules SetsType (admin_rules task) _
       (of_walk (StandsHere world names is sealed_off task member) SetsType
       (directory_walk nat_eq (one world names is sealed_off task member) task path)
       (λ here. unless (type_rules nat_eq (one world names is sealed_off task member) task here.location)
       (Ok (ToSetType here.location.mount word recursive))) (at_directory world names is sealed_off task member path)
-      (λ here on. of_passed SetsType
-      (type_rules nat_eq (one world names is sealed_off task member) task here.location)
-      (Ok (ToSetType here.location.mount word recursive))
-      (λ passed. (
+      (λ here on. of_passed SetsType (type_rules nat_eq (one world names is sealed_off task member) task here.location)
+      (Ok (ToSetType here.location.mount word recursive)) (λ passed. (
         here.location,
         refl,
         on,
@@ -80,22 +76,18 @@ module _ (world : World ℕ) (names : List TaskName) (name : TaskName) (path : L
   judged_by task member e (Ok permit) judged its =
       let granted = judged ∙ ap Ok its.1 in
       swept_out world names name (SetType path word recursive) it refl fresh serves task e
-      (ToSetType its.0.mount word recursive) granted
-      (λ ends. subst (λ w. OthersAsBefore world w names names)
+      (ToSetType its.0.mount word recursive) granted (λ ends. subst (λ w. OthersAsBefore world w names names)
       (sym (types_settled world (all_in_use world it.is) fresh word
       (named world names name path word recursive it task e fresh fresh its.0 its.2 its.3 granted)))
       (types_as_before world names it.is it.sealed_off fresh serves word
       (named world names name path word recursive it task e fresh fresh its.0 its.2 its.3 granted)
       (all_own world names name path word recursive it task e fresh fresh its.0 its.2 its.3 granted)))
-  judged_by task member e (Err deny) judged its =
-      refused_out world names name (SetType path word recursive) it fresh
-      (ap (λ o. is_ok (ran name (SetType path word recursive) world fresh o).answer) e
-      ∙ ap (λ j. is_ok
+  judged_by task member e (Err deny) judged its = refused_out world names name (SetType path word recursive) it fresh
+      (ap (λ o. is_ok (ran name (SetType path word recursive) world fresh o).answer) e ∙ ap (λ j. is_ok
       (run_by world names name (SetType path word recursive) it fresh fresh world fresh task j).answer) judged)
 
   by_caller : (o : Option (Task ℕ)) → task_called world name ≡ o → NoneGiven
-  by_caller None e =
-      refused_out world names name (SetType path word recursive) it fresh
+  by_caller None e = refused_out world names name (SetType path word recursive) it fresh
       (ap (λ o. is_ok (ran name (SetType path word recursive) world fresh o).answer) e)
   by_caller (Some task) e =
       let member = member_called world names it.is it.sealed_off name it.theirs task e in

@@ -55,12 +55,10 @@ module _ (world : World ℕ) (names : List TaskName) (is : IsWorld nat_eq world)
   shown_still l = kept_at kind shows (λ m. refl) l.mount world.mounts
 
   direct_same : used_directly nat_eq now names ≡ used_directly nat_eq world names
-  direct_same =
-      ap (λ l. map shows l ++ map (λ k. shows (mount_at nat_eq now k)) (locations (members world names)))
+  direct_same = ap (λ l. map shows l ++ map (λ k. shows (mount_at nat_eq now k)) (locations (members world names)))
       (filter-map owned {q = owned} typed world.mounts (λ m. refl))
       ∙ ap (λ l. l ++ map (λ k. shows (mount_at nat_eq now k)) (locations (members world names)))
-      (map_twice shows typed (own_mounts nat_eq world names))
-      ∙ ap (λ l. map shows (own_mounts nat_eq world names) ++ l)
+      (map_twice shows typed (own_mounts nat_eq world names)) ∙ ap (λ l. map shows (own_mounts nat_eq world names) ++ l)
       (map_alike (λ k. shows (mount_at nat_eq now k)) (λ k. shows (mount_at nat_eq world k))
       (locations (members world names)) (λ l m. shown_still l))
 

@@ -95,8 +95,7 @@ module _ (world : World ℕ) (names : List TaskName) (name : TaskName) (it : IsC
   only t m = by (same_name task.name t.name) refl
     where
       by : (b : Bool) → same_name task.name t.name ≡ b → (task ≡ t) ⊎ (same_name task.name t.name ≡ false)
-      by true e =
-          inl (only_task world.tasks it.is.tasks.one_task task t (in_world task member) m
+      by true e = inl (only_task world.tasks it.is.tasks.one_task task t (in_world task member) m
           (same_task_name task.name t.name e))
       by false e = inr e
 
@@ -111,8 +110,7 @@ module _ (world : World ℕ) (names : List TaskName) (name : TaskName) (it : IsC
       (sym (eq-eqb s at.0.number (sym (eqb-true n s e) ∙ at.2)) ∙ new_among_spaces world fresh serves at.0 at.1))
 
   task_listed : (t : Task ℕ) → Among t world.tasks → is_listed nat_eq world t.namespace ≡ true
-  task_listed t m =
-      among_from_list_all (λ (t : Task ℕ). is_listed nat_eq world t.namespace) world.tasks
+  task_listed t m = among_from_list_all (λ (t : Task ℕ). is_listed nat_eq world t.namespace) world.tasks
       it.is.namespaces.tasks_listed t m
 
   can : CanUnshare world fresh task
@@ -129,8 +127,7 @@ module _ (world : World ℕ) (names : List TaskName) (name : TaskName) (it : IsC
 
   -- Tasks of the set
   set_is : new ≡ map replaced old
-  set_is =
-      filter-map (is_member_task names) replaced world.tasks
+  set_is = filter-map (is_member_task names) replaced world.tasks
       (λ t. ap (λ n. is_among same_name n names) (name-replaced_if_called moved t))
 
   how : (t : Task ℕ) → Among t old → ((replaced t ≡ moved) × (task ≡ t)) ⊎ (replaced t ≡ t)
@@ -147,31 +144,25 @@ module _ (world : World ℕ) (names : List TaskName) (name : TaskName) (it : IsC
   entered n h =
       let t = any_among (λ (x : Task ℕ). nat_eq n x.namespace) new h in
       let u = set_from t.0 t.1 in
-      ⊎_elim
-      (λ caller. inr (eqb-true n s (ap (λ (x : Task ℕ). nat_eq n x.namespace) (sym (u.2 ∙ caller.0)) ∙ t.2)))
+      ⊎_elim (λ caller. inr (eqb-true n s (ap (λ (x : Task ℕ). nat_eq n x.namespace) (sym (u.2 ∙ caller.0)) ∙ t.2)))
       (λ same. inl (any_from_among (λ (x : Task ℕ). nat_eq n x.namespace) old u.0 u.1
-      (ap (λ (x : Task ℕ). nat_eq n x.namespace) (sym (u.2 ∙ same)) ∙ t.2)))
-      (how u.0 u.1)
+      (ap (λ (x : Task ℕ). nat_eq n x.namespace) (sym (u.2 ∙ same)) ∙ t.2))) (how u.0 u.1)
 
   s_own : own_left s ≡ true
-  s_own =
-      any_from_among (λ (x : Task ℕ). nat_eq s x.namespace) new moved
+  s_own = any_from_among (λ (x : Task ℕ). nat_eq s x.namespace) new moved
       (subst (λ x. Among x new) (ap (λ b. cond b moved task) (same_name_itself task.name)) (in_set task member))
       (eq-eqb s s refl)
 
   still : (n : ℕ) → nat_eq k n ≡ false → ours n ≡ true → own_left n ≡ true
   still n differ h =
       let t = any_among (λ (x : Task ℕ). nat_eq n x.namespace) old h in
-      ⊎_elim
-      (λ caller. absurd (true≢false (sym (eq-eqb k n
+      ⊎_elim (λ caller. absurd (true≢false (sym (eq-eqb k n
       (ap (λ (x : Task ℕ). x.namespace) caller.1 ∙ sym (eqb-true n t.0.namespace t.2))) ∙ differ)))
       (λ same. any_from_among (λ (x : Task ℕ). nat_eq n x.namespace) new t.0
-      (subst (λ x. Among x new) same (in_set t.0 t.1)) t.2)
-      (how t.0 t.1)
+      (subst (λ x. Among x new) same (in_set t.0 t.1)) t.2) (how t.0 t.1)
 
   unentered : (n : ℕ) → is_listed nat_eq world n ≡ true → ours n ≡ false → own_left n ≡ false
-  unentered n listed other =
-      false_from_ne_true (own_left n) (λ h.
+  unentered n listed other = false_from_ne_true (own_left n) (λ h.
       ⊎_elim (λ own. true≢false (sym own ∙ other))
       (λ same. true≢false (sym (eq-eqb n s same) ∙ not_new n listed)) (entered n h))
 
@@ -188,17 +179,14 @@ module _ (world : World ℕ) (names : List TaskName) (name : TaskName) (it : IsC
     where
       by : (o : Option ℕ) → m.namespace ≡ o → holds_of own_left o ≡ holds_of ours o
       by None e = refl
-      by (Some i) e =
-          own_same i (placed_listed world names its_apart m n i e) (sym (ap (holds_of (nat_eq k)) e) ∙ out)
+      by (Some i) e = own_same i (placed_listed world names its_apart m n i e) (sym (ap (holds_of (nat_eq k)) e) ∙ out)
 
   outs_same : (m : Mount ℕ) → Among m world.mounts → in_space k m ≡ false → is_out_left m ≡ is_out m
   outs_same m n out = by m.namespace refl
     where
-      by : (o : Option ℕ) → m.namespace ≡ o
-          → holds_of (λ i. not (own_left i)) o ≡ holds_of (λ i. not (ours i)) o
+      by : (o : Option ℕ) → m.namespace ≡ o → holds_of (λ i. not (own_left i)) o ≡ holds_of (λ i. not (ours i)) o
       by None e = refl
-      by (Some i) e =
-          ap not
+      by (Some i) e = ap not
           (own_same i (placed_listed world names its_apart m n i e) (sym (ap (holds_of (nat_eq k)) e) ∙ out))
 
   own_in_k : (m : Mount ℕ) → in_space k m ≡ true → owns m ≡ true
@@ -211,12 +199,10 @@ module _ (world : World ℕ) (names : List TaskName) (name : TaskName) (it : IsC
   none_come : (list : List (Mount ℕ)) → filter is_out_left (map copy list) ≡ []
   none_come [] = refl
   none_come (x ∷ rest) =
-      ap (λ c. cond c (copy x ∷ filter is_out_left (map copy rest)) (filter is_out_left (map copy rest)))
-      (ap not s_own)
+      ap (λ c. cond c (copy x ∷ filter is_out_left (map copy rest)) (filter is_out_left (map copy rest))) (ap not s_own)
       ∙ none_come rest
 
-  others_are : filter (λ (t : Task ℕ). not (is_member_task names t)) (map replaced world.tasks)
-      ≡ outsiders world names
+  others_are : filter (λ (t : Task ℕ). not (is_member_task names t)) (map replaced world.tasks) ≡ outsiders world names
   others_are = others_unmoved world names name Unshare it task called moved refl
 
   placed : (test : Task ℕ → Bool) (l : Location ℕ) → Among l (locations (filter test world.tasks))
@@ -245,26 +231,21 @@ module _ (world : World ℕ) (names : List TaskName) (name : TaskName) (it : IsC
           inr (
             copy m.0,
             among-map copy copied m.0 m.1,
-            ap (λ (x : Location ℕ). x.mount)
-                (e ∙ ap (λ b. cond b (location_on_copy number before) before) f)
+            ap (λ (x : Location ℕ). x.mount) (e ∙ ap (λ b. cond b (location_on_copy number before) before) f)
                 ∙ ap number (eqb-true before.mount m.0.number m.2),
           )
-      by false f =
-          inl (subst OnTheirs (sym (e ∙ ap (λ b. cond b (location_on_copy number before) before) f)) on)
+      by false f = inl (subst OnTheirs (sym (e ∙ ap (λ b. cond b (location_on_copy number before) before) f)) on)
 
-  places_moved : (l : Location ℕ) → Among l (locations new)
-      → Among l (locations old) ⊎ (OnTheirs l ⊎ OnCopy l)
+  places_moved : (l : Location ℕ) → Among l (locations new) → Among l (locations old) ⊎ (OnTheirs l ⊎ OnCopy l)
   places_moved l m =
       let t = among-from_flat_map locations_of new l m in
       let u = set_from t.0 t.1 in
       ⊎_elim (λ caller. mine (subst (λ (x : Task ℕ). Among l (locations_of x)) (u.2 ∙ caller.0) t.2))
       (λ same. inl (among-flat_map locations_of old u.0 l u.1
-      (subst (λ (x : Task ℕ). Among l (locations_of x)) (u.2 ∙ same) t.2)))
-      (how u.0 u.1)
+      (subst (λ (x : Task ℕ). Among l (locations_of x)) (u.2 ∙ same) t.2))) (how u.0 u.1)
     where
       mine : Among l (locations_of moved) → Among l (locations old) ⊎ (OnTheirs l ⊎ OnCopy l)
-      mine n =
-          ⊎_elim (λ e. inr (moved_how task.root l (root_theirs world names it.is task member) e))
+      mine n = ⊎_elim (λ e. inr (moved_how task.root l (root_theirs world names it.is task member) e))
           (λ rest. ⊎_elim (λ e. inr (moved_how task.directory l (directory_theirs world names it.is task member) e))
           (λ files. inl (among-flat_map locations_of old task l member (inr (inr files)))) rest) n
 
@@ -293,9 +274,7 @@ module _ (world : World ℕ) (names : List TaskName) (name : TaskName) (it : IsC
     world_so = unshared_so world fresh task can ends here
 
     left_kept : MountInvariants nat_eq left
-    left_kept =
-        subst (MountInvariants nat_eq) world_so
-        (ended_namespaces_keep_mounts (unshared nat_eq world fresh task)
+    left_kept = subst (MountInvariants nat_eq) world_so (ended_namespaces_keep_mounts (unshared nat_eq world fresh task)
         (unshare_keeps_mounts world fresh task serves it.is.mounts))
 
     not_cut : (m : Mount ℕ) → in_space k m ≡ false → turn m ≡ m
@@ -339,15 +318,13 @@ module _ (world : World ℕ) (names : List TaskName) (name : TaskName) (it : IsC
         theirs : (t : Task ℕ) → Among t world.tasks → t.namespace ≡ k → (b : Bool)
             → is_member_task names t ≡ b → Among t old
         theirs t m together true f = among-filter (is_member_task names) world.tasks t m f
-        theirs t m together false f =
-            absurd (true≢false (sym (ap ours together ∙ k_own)
+        theirs t m together false f = absurd (true≢false (sym (ap ours together ∙ k_own)
             ∙ namespace_outside world names its_apart t
             (among-filter (λ x. not (is_member_task names x)) world.tasks t m (ap not f))))
 
         by : (b : Bool) → Ends b world task → is_out_left (cut b k m) ≡ false
         by true alone = ap (λ c. is_out_left (cond c (detached m) m)) e
-        by false (other, n, together, differ) =
-            in_old m.namespace e
+        by false (other, n, together, differ) = in_old m.namespace e
             (any_from_among (λ (x : Task ℕ). nat_eq k x.namespace) new other
             (subst (λ x. Among x new) (ap (λ b. cond b moved other) differ)
             (in_set other (theirs other n together (is_member_task names other) refl)))
@@ -360,14 +337,11 @@ module _ (world : World ℕ) (names : List TaskName) (name : TaskName) (it : IsC
       where
         by : (b : Bool) → in_space k x ≡ b → filter is_out_left (map turn rest ++ copies) ≡ filter is_out rest
             → filter is_out_left (map turn (x ∷ rest) ++ copies) ≡ filter is_out (x ∷ rest)
-        by true e later =
-            ap (λ c. cond c (turn x ∷ filter is_out_left (map turn rest ++ copies))
-            (filter is_out_left (map turn rest ++ copies))) (turned_ours x e)
-            ∙ later
+        by true e later = ap (λ c. cond c (turn x ∷ filter is_out_left (map turn rest ++ copies))
+            (filter is_out_left (map turn rest ++ copies))) (turned_ours x e) ∙ later
             ∙ sym (ap (λ c. cond c (x ∷ filter is_out rest) (filter is_out rest))
             (own_not_out x.namespace (own_in_k x e)))
-        by false e later =
-            ap (λ y. cond (is_out_left y) (y ∷ filter is_out_left (map turn rest ++ copies))
+        by false e later = ap (λ y. cond (is_out_left y) (y ∷ filter is_out_left (map turn rest ++ copies))
             (filter is_out_left (map turn rest ++ copies))) (not_cut x e)
             ∙ ap (λ c. cond c (x ∷ filter is_out_left (map turn rest ++ copies))
             (filter is_out_left (map turn rest ++ copies))) (outs_same x (sub x (inl refl)) e)
@@ -387,24 +361,19 @@ module _ (world : World ℕ) (names : List TaskName) (name : TaskName) (it : IsC
     origin : (y : Mount ℕ) → Among y left.mounts → owns_left y ≡ true
         → (m : Mount ℕ) × Among m (own_mounts nat_eq world names) × (y.filesystem ≡ m.filesystem)
         × ((y.propagation ≡ m.propagation) ⊎ (y.propagation ≡ Private))
-    origin y n own =
-        ⊎_elim
-        (λ turned. let from = among-from_map turn world.mounts y turned in (
-          from.0,
-          among-filter owns world.mounts from.0 from.1
-              (own_before from.0 from.1 (ap owns_left (sym from.2) ∙ own)),
-          ap (λ (x : Mount ℕ). x.filesystem) from.2 ∙ turned_shows from.0,
-          subst (λ (x : Mount ℕ). (x.propagation ≡ from.0.propagation) ⊎ (x.propagation ≡ Private)) (sym from.2)
-              (turned_kind from.0),
-        ))
-        (λ late. let from = among-from_map copy copied y late in
+    origin y n own = ⊎_elim (λ turned. let from = among-from_map turn world.mounts y turned in (
+      from.0,
+      among-filter owns world.mounts from.0 from.1 (own_before from.0 from.1 (ap owns_left (sym from.2) ∙ own)),
+      ap (λ (x : Mount ℕ). x.filesystem) from.2 ∙ turned_shows from.0,
+      subst (λ (x : Mount ℕ). (x.propagation ≡ from.0.propagation) ⊎ (x.propagation ≡ Private)) (sym from.2)
+          (turned_kind from.0),
+    )) (λ late. let from = among-from_map copy copied y late in
         let at = among-from_filter (in_space k) world.mounts from.0 from.1 in (
           from.0,
           among-filter owns world.mounts from.0 at.0 (own_in_k from.0 at.1),
           ap (λ (x : Mount ℕ). x.filesystem) from.2,
           inl (ap (λ (x : Mount ℕ). x.propagation) from.2),
-        ))
-        (among-append (map turn world.mounts) copies y n)
+        )) (among-append (map turn world.mounts) copies y n)
 
     -- Events
     apart_before : (own other : Mount ℕ) → Among own (own_mounts nat_eq world names)
@@ -420,21 +389,16 @@ module _ (world : World ℕ) (names : List TaskName) (name : TaskName) (it : IsC
     apart_now y other m n =
         let from = among-from_filter owns_left left.mounts y m in
         let of = origin y from.0 from.1 in
-        ⊎_elim
-        (λ same. ap (λ kind. not (share_events nat_eq world (record y { propagation = kind }) other)) same
+        ⊎_elim (λ same. ap (λ kind. not (share_events nat_eq world (record y { propagation = kind }) other)) same
         ∙ apart_before of.0 other of.1 n)
         (λ alone. ap (λ kind. not (share_events nat_eq world (record y { propagation = kind }) other)) alone
-        ∙ ap not (private_apart y other))
-        of.3
+        ∙ ap not (private_apart y other)) of.3
 
     no_events : shares_no_events nat_eq left names ≡ true
-    no_events =
-        ap (λ others. list_all (λ y. list_all (λ other. not (share_events nat_eq left y other)) others)
-        (own_mounts nat_eq left names)) mounts_stay
-        ∙ list_all_from_among
+    no_events = ap (λ others. list_all (λ y. list_all (λ other. not (share_events nat_eq left y other)) others)
+        (own_mounts nat_eq left names)) mounts_stay ∙ list_all_from_among
         (λ y. list_all (λ other. not (share_events nat_eq left y other)) (other_mounts nat_eq world names))
-        (own_mounts nat_eq left names)
-        (λ y m. list_all_from_among (λ other. not (share_events nat_eq left y other))
+        (own_mounts nat_eq left names) (λ y m. list_all_from_among (λ other. not (share_events nat_eq left y other))
         (other_mounts nat_eq world names) (λ other n. apart_now y other m n))
 
     -- Locations
@@ -444,20 +408,16 @@ module _ (world : World ℕ) (names : List TaskName) (name : TaskName) (it : IsC
 
     at_turned : (m : Mount ℕ) → Among m world.mounts → (l : Location ℕ) → l.mount ≡ m.number
         → mount_at nat_eq left l ≡ turn m
-    at_turned m n l e =
-        found_left (turn m)
+    at_turned m n l e = found_left (turn m)
         (among-append_left (map turn world.mounts) copies (turn m) (among-map turn world.mounts m n)) l
         (e ∙ sym (turned_number m))
 
-    at_old : (m : Mount ℕ) → Among m world.mounts → (l : Location ℕ) → l.mount ≡ m.number
-        → mount_at nat_eq world l ≡ m
+    at_old : (m : Mount ℕ) → Among m world.mounts → (l : Location ℕ) → l.mount ≡ m.number → mount_at nat_eq world l ≡ m
     at_old m n l e = ap (mount_numbered nat_eq world) e ∙ found_itself world.mounts it.is.mounts.one_number m n
 
     shown_still : (m : Mount ℕ) → Among m world.mounts → (l : Location ℕ) → l.mount ≡ m.number
         → (mount_at nat_eq left l).filesystem ≡ (mount_at nat_eq world l).filesystem
-    shown_still m n l e =
-        ap (λ (x : Mount ℕ). x.filesystem) (at_turned m n l e)
-        ∙ turned_shows m
+    shown_still m n l e = ap (λ (x : Mount ℕ). x.filesystem) (at_turned m n l e) ∙ turned_shows m
         ∙ ap (λ (x : Mount ℕ). x.filesystem) (sym (at_old m n l e))
 
     shown_there : (l : Location ℕ) → Among l (all_locations world)
@@ -473,8 +433,7 @@ module _ (world : World ℕ) (names : List TaskName) (name : TaskName) (it : IsC
         let same = eqb-true l.mount at.0.number at.2 in
         ap not (false_from_ne_true (owns_left (mount_at nat_eq left l)) (λ h. true≢false
         (sym (own_before at.0 at.1 (ap owns_left (sym (at_turned at.0 at.1 l same)) ∙ h))
-        ∙ ap owns (sym (at_old at.0 at.1 l same))
-        ∙ not-true (owns (mount_at nat_eq world l))
+        ∙ ap owns (sym (at_old at.0 at.1 l same)) ∙ not-true (owns (mount_at nat_eq world l))
         (among_from_list_all (λ p. not (owns (mount_at nat_eq world p))) (locations (outsiders world names))
         its_apart.locations l m))))
 
@@ -489,8 +448,7 @@ module _ (world : World ℕ) (names : List TaskName) (name : TaskName) (it : IsC
         → Among n (used_directly nat_eq world names)
     shown_was y m own n e =
         let of = origin y m own in
-        among-append_left mounted (map shows (locations old)) n
-        (subst (λ i. Among i mounted) (sym (e ∙ of.2))
+        among-append_left mounted (map shows (locations old)) n (subst (λ i. Among i mounted) (sym (e ∙ of.2))
         (among-map (λ (m : Mount ℕ). m.filesystem) (own_mounts nat_eq world names) of.0 of.1))
 
     copy_owned : (y : Mount ℕ) → Among y copies → owns_left y ≡ true
@@ -498,9 +456,7 @@ module _ (world : World ℕ) (names : List TaskName) (name : TaskName) (it : IsC
 
     located_was : (l : Location ℕ) → Among l (locations new)
         → Among (mount_at nat_eq left l).filesystem (used_directly nat_eq world names)
-    located_was l m =
-        ⊎_elim
-        (λ before. subst (λ i. Among i (used_directly nat_eq world names))
+    located_was l m = ⊎_elim (λ before. subst (λ i. Among i (used_directly nat_eq world names))
         (sym (shown_there l (placed (is_member_task names) l before)))
         (among-append_right mounted (map shows (locations old)) (shows l) (among-map shows (locations old) l before)))
         (λ rest. ⊎_elim
@@ -508,12 +464,10 @@ module _ (world : World ℕ) (names : List TaskName) (name : TaskName) (it : IsC
         (theirs_directly world names it.is l on))
         (λ late. let there = among-append_right (map turn world.mounts) copies late.0 late.1 in
         shown_was late.0 there (copy_owned late.0 late.1) (mount_at nat_eq left l).filesystem
-        (ap (λ (x : Mount ℕ). x.filesystem) (found_left late.0 there l late.2))) rest)
-        (places_moved l m)
+        (ap (λ (x : Mount ℕ). x.filesystem) (found_left late.0 there l late.2))) rest) (places_moved l m)
 
     direct_was : (n : ℕ) → Among n (used_directly nat_eq left names) → Among n (used_directly nat_eq world names)
-    direct_was n m =
-        ⊎_elim
+    direct_was n m = ⊎_elim
         (λ shown. let y = among-from_map (λ (m : Mount ℕ). m.filesystem) (own_mounts nat_eq left names) n shown in
         let own = among-from_filter owns_left left.mounts y.0 y.1 in
         shown_was y.0 own.0 own.1 n y.2)

@@ -140,8 +140,7 @@ module _ (world : World ℕ) (fresh : Fresh ℕ) (call : Call) (is : IsWorld nat
         later = (apply nat_eq fresh world task permit).world
 
         with_more : (new : Filesystem ℕ) → later.filesystems ≡ world.filesystems ++ (new ∷ []) → IsThere later
-        with_more new more =
-            ap (λ fs. is_some ((numbered filesystem fs).files.tree.node number)) more
+        with_more new more = ap (λ fs. is_some ((numbered filesystem fs).files.tree.node number)) more
             ∙ found_among_more (new ∷ []) world.filesystems filesystem number there
 
         with_none : LeavesFilesystems world fresh task permit → IsThere later
@@ -151,11 +150,9 @@ module _ (world : World ℕ) (fresh : Fresh ℕ) (call : Call) (is : IsWorld nat
 
         by : (o : Option (Location ℕ × Change ℕ)) → change_asked fresh world permit ≡ o → IsThere later
         by None asks = with_none (unchanged world fresh task permit asks)
-        by (Some made) asks =
-            same_there later (with_change nat_eq (numbers_left fresh permit) world made.0 made.1)
+        by (Some made) asks = same_there later (with_change nat_eq (numbers_left fresh permit) world made.0 made.1)
             (permits_make_their_change world fresh task permit made.0 made.1 asks)
-            (change_remains number (numbers_left fresh permit) world is made.0 made.1
-            (subst TakesNone asks
+            (change_remains number (numbers_left fresh permit) world is made.0 made.1 (subst TakesNone asks
             (takes_none permit (permits_are_for_their_calls fresh world task call permit judged))) filesystem there)
 
     abbrev left : World ℕ
@@ -174,31 +171,24 @@ module _ (world : World ℕ) (fresh : Fresh ℕ) (call : Call) (is : IsWorld nat
     not_taken (inr none) taken = true≢false (sym has ∙ has_none)
       where
         has : has_upper_in filesystem (filesystem_numbered nat_eq world taken.merged) ≡ true
-        has =
-            ap (overlay_or false (λ (overlay : Overlay ℕ). holds_of (λ (layer : Layer ℕ).
+        has = ap (overlay_or false (λ (overlay : Overlay ℕ). holds_of (λ (layer : Layer ℕ).
             nat_eq filesystem layer.filesystem) overlay.upper)) taken.overlay_there
             ∙ ap (holds_of (λ (layer : Layer ℕ). nat_eq filesystem layer.filesystem)) taken.upper_there
             ∙ eq-eqb filesystem taken.upper.filesystem taken.in_upper
 
         has_none : has_upper_in filesystem (filesystem_numbered nat_eq world taken.merged) ≡ false
-        has_none =
-            numbered_anyhow (λ f. has_upper_in filesystem f ≡ false) taken.merged world.filesystems
+        has_none = numbered_anyhow (λ f. has_upper_in filesystem f ≡ false) taken.merged world.filesystems
             (all_from_among (λ f. has_upper_in filesystem f ≡ false) world.filesystems
             (λ f m. fails (has_upper_in filesystem) world.filesystems none f m)) refl
 
     swept_remains : (is_kind_in White (inode_in world filesystem number) ≡ false)
-        ⊎ (list_any (has_upper_in filesystem) world.filesystems ≡ false)
-        → IsThere left → IsThere (settled nat_eq left)
-    swept_remains spared stays =
-        ⊎_elim
+        ⊎ (list_any (has_upper_in filesystem) world.filesystems ≡ false) → IsThere left → IsThere (settled nat_eq left)
+    swept_remains spared stays = ⊎_elim
         (λ (typing : (path : List ℕ) × (word : TypeWord) × (recursive : Bool) × (call ≡ SetType path word recursive)).
-        same_there (settled nat_eq left) left
-        (ap (λ (w : World ℕ). w.filesystems)
+        same_there (settled nat_eq left) left (ap (λ (w : World ℕ). w.filesystems)
         (subst (λ c. KeepsAllButMasters (call_outcome nat_eq fresh world task c).world) (sym typing.3)
-        (all_types_leave_all_but_masters world fresh task typing.0 typing.1 typing.2 is serves called))) stays)
-        (λ none.
-        ⊎_elim (λ same. ap is_some same ∙ stays)
-        (λ gone. absurd (not_taken spared
+        (all_types_leave_all_but_masters world fresh task typing.0 typing.1 typing.2 is serves called))) stays) (λ none.
+        ⊎_elim (λ same. ap is_some same ∙ stays) (λ gone. absurd (not_taken spared
         (replaced_are_whiteouts world fresh task call is serves called only (filesystem, number) gone.0)))
         ((only_whiteouts_are_taken world fresh task call is serves called only none).inodes filesystem number))
         (typing_or call)
@@ -214,15 +204,10 @@ only_these_end_other_inodes world fresh name call filesystem number is serves on
 
 -- what changes a plain filesystem replaces nothing
 pub plain_changes_keep_all : PlainChangesKeepAll
-plain_changes_keep_all world fresh task call is serves called only permit location change judged asks plain =
-    ⊎_elim
+plain_changes_keep_all world fresh task call is serves called only permit location change judged asks plain = ⊎_elim
     (λ (typing : (path : List ℕ) × (word : TypeWord) × (recursive : Bool) × (call ≡ SetType path word recursive)).
-    none_is_some (location, change)
-    (sym (asks_nothing world fresh task call (ap changes_no_mount typing.3) permit
-    (permits_are_for_their_calls fresh world task call permit judged)) ∙ asks))
-    (λ no_type.
+    none_is_some (location, change) (sym (asks_nothing world fresh task call (ap changes_no_mount typing.3) permit
+    (permits_are_for_their_calls fresh world task call permit judged)) ∙ asks)) (λ no_type.
     other_calls_keep_all world fresh task call is serves called only no_type
-    (ap (replaced_as fresh world) judged ∙ ap (replaced_if world) asks
-    ∙ ap (λ o. replaced_over world o change)
-    (none_from_not_some (filesystem_at nat_eq world location).overlay plain)))
-    (typing_or call)
+    (ap (replaced_as fresh world) judged ∙ ap (replaced_if world) asks ∙ ap (λ o. replaced_over world o change)
+    (none_from_not_some (filesystem_at nat_eq world location).overlay plain))) (typing_or call)

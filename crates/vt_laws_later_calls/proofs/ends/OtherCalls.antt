@@ -86,8 +86,7 @@ groups_leave (group ∷ groups) world = groups_leave groups (let_go_group world 
 
 -- what takes nothing takes masters at the most
 kept_but_masters : (left : World ℕ) → KeepsAll left → KeepsAllButMasters left
-kept_but_masters left e =
-    e ∙ ap (λ master. record left { master = master }) (ap (λ (w : World ℕ). w.master) (sym e))
+kept_but_masters left e = e ∙ ap (λ master. record left { master = master }) (ap (λ (w : World ℕ). w.master) (sym e))
 
 -- Calls that change a mount ask for no change of a filesystem
 module _ (world : World ℕ) (fresh : Fresh ℕ) (task : Task ℕ) (call : Call)
@@ -112,8 +111,7 @@ module _ (world : World ℕ) (fresh : Fresh ℕ) (task : Task ℕ) (call : Call)
   pub asks_nothing : (permit : Permit ℕ) → IsFor (looks_of nat_eq world) task call permit
       → change_asked fresh world permit ≡ None
   asks_nothing (ToChange location change) for = absurd (no_change location change for)
-  asks_nothing (ToMake directory name node) for =
-      absurd (true≢false (sym (makes_files call for) ∙ of_mounts))
+  asks_nothing (ToMake directory name node) for = absurd (true≢false (sym (makes_files call for) ∙ of_mounts))
   asks_nothing (ToRemoveDirectory parent name directory) for = not_that _ for.1 refl
   asks_nothing (ToRename from old to new object replaced) for = not_that _ for.2 refl
   asks_nothing (ToOpen file access) for = not_that _ for.2 refl
@@ -130,9 +128,7 @@ module _ (world : World ℕ) (fresh : Fresh ℕ) (task : Task ℕ) (is : IsWorld
   in_use = settles.in_use
 
   among_tasks : Contains world.tasks task
-  among_tasks =
-      contains_from_among world.tasks task
-      (called_there world.tasks task.name task called)
+  among_tasks = contains_from_among world.tasks task (called_there world.tasks task.name task called)
 
   -- A change of a tree, plain or an overlay, by which no name is lost
   module _ (call : Call) (permit : Permit ℕ) (judged : judge_in nat_eq fresh world task call ≡ Ok permit)
@@ -155,9 +151,7 @@ module _ (world : World ℕ) (fresh : Fresh ℕ) (task : Task ℕ) (is : IsWorld
     proper = (permits_ask_properly world fresh task call permit location change is serves called judged asks).0
 
     tree : IsListedTree files
-    tree =
-        ⊎_elim (λ tree. tree)
-        (λ missing. absurd (true≢false
+    tree = ⊎_elim (λ tree. tree) (λ missing. absurd (true≢false
         (sym something ∙ ap (λ (f : Filesystem ℕ). is_some (f.files.tree.node location.node)) missing.0)))
         (numbered_all (λ (f : Filesystem ℕ). IsListedTree f.files) number world.filesystems settles.trees)
 
@@ -196,8 +190,7 @@ module _ (world : World ℕ) (fresh : Fresh ℕ) (task : Task ℕ) (is : IsWorld
       where
         over : (overlay : Overlay ℕ) → merged.overlay ≡ Some overlay → (o : Option (Layer ℕ)) → overlay.upper ≡ o
             → LetsGo left (replaced_in world overlay o change)
-        over overlay e None u =
-            subst KeepsAll
+        over overlay e None u = subst KeepsAll
             (sym (ap (λ o. filesystem_changed nat_eq (numbers_left fresh permit) world merged o change) e
             ∙ ap (λ o. overlay_changed nat_eq (numbers_left fresh permit) world merged overlay o change) u))
             is.nothing_unused
@@ -239,8 +232,7 @@ module _ (world : World ℕ) (fresh : Fresh ℕ) (task : Task ℕ) (is : IsWorld
 
         over : (overlay : Overlay ℕ) → merged.overlay ≡ Some overlay → (o : Option (Layer ℕ)) → overlay.upper ≡ o
             → LetsGo opens (replaced_in world overlay o made)
-        over overlay e None u =
-            absurd (true≢false
+        over overlay e None u = absurd (true≢false
             (sym (ap (overlay_or false (λ (overlay : Overlay ℕ). not (is_some overlay.upper))) e
             ∙ ap (λ o. not (is_some o)) u)
             ∙ (permits_spare_what_is_locked world fresh task call (ToOpenNew location name node access) is serves called
@@ -251,8 +243,7 @@ module _ (world : World ℕ) (fresh : Fresh ℕ) (task : Task ℕ) (is : IsWorld
             is serves called judged_so refl e u) made_well
 
         by : (o : Option (Overlay ℕ)) → merged.overlay ≡ o → LetsGo opens (replaced_over world o made)
-        by None e =
-            opened_new_keeps_all fresh world task location name node access settles is.files.one_filesystem
+        by None e = opened_new_keeps_all fresh world task location name node access settles is.files.one_filesystem
             is.tasks.one_task among_tasks there (ap is_some e) made_tree
             (record { in_directory = made_well.name_is_free.in_directory; is_new = made_well.number_is_new })
             made_well.name_is_free.free
@@ -268,14 +259,12 @@ module _ (world : World ℕ) (fresh : Fresh ℕ) (task : Task ℕ) (is : IsWorld
       opens = (apply nat_eq fresh world task (ToOpen file access)).world
 
       without_copy : KeepsAll (opened world task file access).world
-      without_copy =
-          staying_keeps_overlays world (with_task world (with_descriptor task file access)).tasks settles
+      without_copy = staying_keeps_overlays world (with_task world (with_descriptor task file access)).tasks settles
           (none_left world task file access is.tasks.one_task (among_from_contains world.tasks task among_tasks))
 
       over : (overlay : Overlay ℕ) → (filesystem_at nat_eq world file).overlay ≡ Some overlay → (o : Option (Layer ℕ))
           → overlay.upper ≡ o → is_copied_up nat_eq world file access ≡ true → KeepsAll opens
-      over overlay e None u copied =
-          subst KeepsAll
+      over overlay e None u copied = subst KeepsAll
           (sym (ap (λ b. (opened (with_copy nat_eq b fresh world file) task file access).world) copied
           ∙ ap (λ o. (opened (filesystem_changed nat_eq fresh world (filesystem_at nat_eq world file) o
           (CopyUp file.node)) task file access).world) e
@@ -288,17 +277,14 @@ module _ (world : World ℕ) (fresh : Fresh ℕ) (task : Task ℕ) (is : IsWorld
 
       in_overlay : (o : Option (Overlay ℕ)) → (filesystem_at nat_eq world file).overlay ≡ o
           → is_copied_up nat_eq world file access ≡ true → KeepsAll opens
-      in_overlay None e copied =
-          absurd (true≢false (sym copied
-          ∙ ap (λ o. opens_for_writing access
+      in_overlay None e copied = absurd (true≢false (sym copied ∙ ap (λ o. opens_for_writing access
           && overlay_or false (λ overlay. lies_only_in_lowers overlay file.node) o) e
           ∙ and-false (opens_for_writing access)))
       in_overlay (Some overlay) e copied = over overlay e overlay.upper refl copied
 
       by : (b : Bool) → is_copied_up nat_eq world file access ≡ b → KeepsAll opens
       by true copied = in_overlay (filesystem_at nat_eq world file).overlay refl copied
-      by false copied =
-          opened_files_keep_all fresh world task file access settles is.tasks.one_task among_tasks copied
+      by false copied = opened_files_keep_all fresh world task file access settles is.tasks.one_task among_tasks copied
 
   -- and replaces nothing
   nothing_replaced : (file : Location ℕ) (b : Bool) → replaced_if world (when b (file, CopyUp file.node)) ≡ []
@@ -320,8 +306,7 @@ module _ (world : World ℕ) (fresh : Fresh ℕ) (task : Task ℕ) (is : IsWorld
   -- what a walk reaches is there
   reached_something : (location : Location ℕ) → IsReached world task location
       → is_some (node_at nat_eq world location) ≡ true
-  reached_something location reached =
-      (and_parts (is_on_mount world location)
+  reached_something location reached = (and_parts (is_on_mount world location)
       (is_there nat_eq world (mount_at nat_eq world location).filesystem location.node) reached.there).1
 
   abbrev spent : Permit ℕ → World ℕ
@@ -349,8 +334,7 @@ module _ (world : World ℕ) (fresh : Fresh ℕ) (task : Task ℕ) (is : IsWorld
     change_leaves location (AddName directory name object) judged for something =
         change_goes call (ToChange location (AddName directory name object)) judged location
         (AddName directory name object) refl refl something
-    change_leaves location (Remove directory name object) judged for something =
-        not_this (Unlink for.0) for.1 refl
+    change_leaves location (Remove directory name object) judged for something = not_this (Unlink for.0) for.1 refl
     change_leaves location (Move from old to new object) judged for something = absurd for
     change_leaves location (SetBytes file bytes) judged for something =
         change_goes call (ToChange location (SetBytes file bytes)) judged location (SetBytes file bytes) refl refl
@@ -382,8 +366,7 @@ module _ (world : World ℕ) (fresh : Fresh ℕ) (task : Task ℕ) (is : IsWorld
         change_goes call (ToMake directory name node) judged directory (Make directory.node name (evens fresh 0) node)
         refl refl (reached_something directory names.reached)
     permit_leaves (ToRemoveDirectory parent name directory) judged for names = not_this (Rmdir for.0) for.1 refl
-    permit_leaves (ToRename from old to new object replaced) judged for names =
-        not_this (Rename for.0 for.1) for.2 refl
+    permit_leaves (ToRename from old to new object replaced) judged for names = not_this (Rename for.0 for.1) for.2 refl
     permit_leaves (ToOpen file access) judged for names =
         opened_keeps call file access judged (reached_on_mount world task file names.reached)
         ∙ ap (let_go_plain (spent (ToOpen file access)))
@@ -429,8 +412,7 @@ module _ (world : World ℕ) (fresh : Fresh ℕ) (task : Task ℕ) (is : IsWorld
         groups = groups_of_types fresh world mount recursive
 
         lets : settled nat_eq left ≡ let_go_groups left groups
-        lets =
-            set_types_let_go fresh world task mount word recursive in_use (mounts_of_worlds_stand world is)
+        lets = set_types_let_go fresh world task mount word recursive in_use (mounts_of_worlds_stand world is)
             (ap is_some names)
     permit_leaves (ToPivot new put) judged for names = not_this (PivotRoot for.0 for.1) for.2 refl
     permit_leaves permit judged for names = is.nothing_unused
@@ -445,8 +427,7 @@ module _ (world : World ℕ) (fresh : Fresh ℕ) (task : Task ℕ) (is : IsWorld
     -- where no types are set, the permit looks at what it replaces
     no_types : (permit : Permit ℕ) → IsFor (looks_of nat_eq world) task call permit → sets_type call ≡ false
         → Leaves permit → Goes permit
-    no_types (ToSetType mount word recursive) for none leaves =
-        absurd (true≢false (sym (ap sets_type for.1) ∙ none))
+    no_types (ToSetType mount word recursive) for none leaves = absurd (true≢false (sym (ap sets_type for.1) ∙ none))
     no_types permit for none leaves = leaves
 
     -- and a permit that asks for no change leaves all but masters
@@ -461,8 +442,7 @@ module _ (world : World ℕ) (fresh : Fresh ℕ) (task : Task ℕ) (is : IsWorld
       → judge_in nat_eq fresh world task call ≡ judgement
       → P (after world judgement (apply nat_eq fresh world task)).world
       → P (call_outcome nat_eq fresh world task call).world
-  by_judgement P call judgement e =
-      subst (λ (o : Outcome ℕ). P o.world)
+  by_judgement P call judgement e = subst (λ (o : Outcome ℕ). P o.world)
       (sym (call_is_judged_then_applied fresh world task call
       ∙ ap (λ j. after world j (apply nat_eq fresh world task)) e))
 
@@ -478,8 +458,7 @@ module _ (world : World ℕ) (fresh : Fresh ℕ) (task : Task ℕ) (is : IsWorld
       none : (judgement : Judgement ℕ) → judge_in nat_eq fresh world task (MountOverlay path options flags) ≡ judgement
           → replaced_as fresh world judgement ≡ []
       none (Err deny) e = refl
-      none (Ok permit) e =
-          ap (replaced_if world)
+      none (Ok permit) e = ap (replaced_if world)
           (asks_nothing world fresh task (MountOverlay path options flags) refl permit
           (permits_are_for_their_calls fresh world task (MountOverlay path options flags) permit e))
 
@@ -497,8 +476,7 @@ module _ (world : World ℕ) (fresh : Fresh ℕ) (task : Task ℕ) (is : IsWorld
 
       by : (judgement : Judgement ℕ) → judge_in nat_eq fresh world task call ≡ judgement
           → LetsGo (call_outcome nat_eq fresh world task call).world (replaced_by fresh world task call)
-      by judgement e =
-          by_judgement (λ w. LetsGo w (replaced_by fresh world task call)) call judgement e
+      by judgement e = by_judgement (λ w. LetsGo w (replaced_by fresh world task call)) call judgement e
           (subst (λ j. LetsGo (after world judgement (apply nat_eq fresh world task)).world (replaced_as fresh world j))
           (sym e) (judged_goes judgement e))
 
@@ -512,8 +490,7 @@ mounting_or (MountOverlay path options flags) = inl (path, options, flags, refl)
 mounting_or call = inr refl
 
 pub other_calls_let_whiteouts_go : OtherCallsLetWhiteoutsGo
-other_calls_let_whiteouts_go world fresh task call is serves called only no_type =
-    ⊎_elim
+other_calls_let_whiteouts_go world fresh task call is serves called only no_type = ⊎_elim
     (λ (mounting : IsMounting call).
     subst (λ c. LetsGo (call_outcome nat_eq fresh world task c).world (replaced_by fresh world task c))
     (sym mounting.3) (mounting_goes world fresh task is serves called mounting.0 mounting.1 mounting.2))
@@ -528,10 +505,8 @@ all_types_leave_all_but_masters world fresh task path word recursive is serves c
 
     judged_keeps : (judgement : Judgement ℕ) → judge_in nat_eq fresh world task call ≡ judgement
         → KeepsAllButMasters (after world judgement (apply nat_eq fresh world task)).world
-    judged_keeps (Ok permit) e =
-        but_masters world fresh task is serves called call refl permit
-        (asks_nothing world fresh task call refl permit
-        (permits_are_for_their_calls fresh world task call permit e))
+    judged_keeps (Ok permit) e = but_masters world fresh task is serves called call refl permit
+        (asks_nothing world fresh task call refl permit (permits_are_for_their_calls fresh world task call permit e))
         (granted_leaves world fresh task is serves called call refl permit refl e)
     judged_keeps (Err deny) e = kept_but_masters world is.nothing_unused
 

@@ -79,12 +79,10 @@ module _ (other : ℕ) where
   set_remains : (fresh : Fresh ℕ) (merge : Merge ℕ) (object : ℕ) (set : Option (Node ℕ) → Option (Node ℕ))
       → ((node : Node ℕ) → is_some (set (Some node)) ≡ true)
       → BothRemain merge (changed_both nat_eq (copied_up nat_eq fresh merge object) object set)
-  set_remains fresh merge object set leaves =
-      then_remain merge copied _ (up_remain fresh merge object)
-      (record {
-        files = λ there. at_node other copied.files object set leaves there;
-        upper = λ there. at_node other copied.upper (upper_of copied object) set leaves there;
-      })
+  set_remains fresh merge object set leaves = then_remain merge copied _ (up_remain fresh merge object) (record {
+    files = λ there. at_node other copied.files object set leaves there;
+    upper = λ there. at_node other copied.upper (upper_of copied object) set leaves there;
+  })
     where
       copied : Merge ℕ
       copied = copied_up nat_eq fresh merge object
@@ -93,11 +91,9 @@ module _ (other : ℕ) where
   merge_remains : (fresh : Fresh ℕ) (stack : Stack ℕ) (merge : Merge ℕ) (change : Change ℕ)
       → takes_a_name change ≡ false → BothRemain merge (merge_changed nat_eq fresh stack merge change)
   merge_remains fresh stack merge (Make directory name number node) none =
-      then_remain merge copied _ (up_remain (evens fresh) merge directory)
-      (record {
+      then_remain merge copied _ (up_remain (evens fresh) merge directory) (record {
         files = changed_remains other copied.files (Make directory name number node);
-        upper = λ there.
-            marked_remains (hides_directory nat_eq stack copied directory name)
+        upper = λ there. marked_remains (hides_directory nat_eq stack copied directory name)
             (with_name nat_eq (with_inode nat_eq copied.upper (odds fresh 0) object) (upper_of copied directory) name
             (odds fresh 0)) (odds fresh 0)
             (named_remains other (with_inode nat_eq copied.upper (odds fresh 0) object) (upper_of copied directory) name
@@ -111,8 +107,7 @@ module _ (other : ℕ) where
       object = record { attr = node.attr; content = content_with_parent (upper_of copied directory) node.content }
   merge_remains fresh stack merge (AddName directory name object) none =
       then_remain merge one _ (up_remain (evens fresh) merge object)
-      (then_remain one two _ (up_remain (odds fresh) one directory)
-      (record {
+      (then_remain one two _ (up_remain (odds fresh) one directory) (record {
         files = changed_remains other two.files (AddName directory name object);
         upper = named_remains other two.upper (upper_of two directory) name (upper_of two object);
       }))
@@ -137,14 +132,12 @@ module _ (other : ℕ) where
       → In (filesystem_numbered nat_eq world new.number).files new.files → (filesystem : ℕ)
       → is_some (inode_in world filesystem other) ≡ true
       → is_some (inode_in (with_filesystem nat_eq world new) filesystem other) ≡ true
-  placed_remains world new grows filesystem there =
-      ⊎_elim
+  placed_remains world new grows filesystem there = ⊎_elim
       (λ same. filesystem_there (λ f. is_some (f.files.tree.node other) ≡ true) world new filesystem same.1
       (grows (ap (λ n. is_some (inode_in world n other)) (sym same.1) ∙ there))
       (λ none. sym (ap (λ (f : Filesystem ℕ). is_some (f.files.tree.node other)) none) ∙ there))
       (λ differ. ap (λ (f : Filesystem ℕ). is_some (f.files.tree.node other))
-      (filesystem_elsewhere world new filesystem differ.1) ∙ there)
-      (eqb_tells filesystem new.number)
+      (filesystem_elsewhere world new filesystem differ.1) ∙ there) (eqb_tells filesystem new.number)
 
   module _ (fresh : Fresh ℕ) (world : World ℕ) (is : IsWorld nat_eq world) (location : Location ℕ) (change : Change ℕ)
       (none : takes_a_name change ≡ false) (filesystem : ℕ)
@@ -166,23 +159,18 @@ module _ (other : ℕ) where
 
     -- of a plain filesystem
     plain_remains : Remains (filesystem_changed nat_eq fresh world merged None change)
-    plain_remains =
-        placed_remains world (with_files merged (changed nat_eq merged.files change))
+    plain_remains = placed_remains world (with_files merged (changed nat_eq merged.files change))
         (at_own (changed nat_eq merged.files change) (changed_remains other merged.files change)) filesystem there
 
     -- of an overlay, and then of the filesystem of its upper layer
     merged_remains : (overlay : Overlay ℕ) (upper : Layer ℕ) → merged.overlay ≡ Some overlay
-        → overlay.upper ≡ Some upper
-        → Remains (overlay_changed nat_eq fresh world merged overlay (Some upper) change)
-    merged_remains overlay upper o u =
-        placed_remains (with_filesystem nat_eq world new_merged) new_layer
+        → overlay.upper ≡ Some upper → Remains (overlay_changed nat_eq fresh world merged overlay (Some upper) change)
+    merged_remains overlay upper o u = placed_remains (with_filesystem nat_eq world new_merged) new_layer
         (λ here. both.upper (ap (λ (f : Filesystem ℕ). is_some (f.files.tree.node other))
         (sym (ap (filesystem_numbered nat_eq (with_filesystem nat_eq world new_merged))
-        (number_of_filesystem world upper.filesystem)
-        ∙ filesystem_elsewhere world new_merged upper.filesystem
+        (number_of_filesystem world upper.filesystem) ∙ filesystem_elsewhere world new_merged upper.filesystem
         (λ e. upper_elsewhere world is number overlay o upper u (e ∙ number_of_filesystem world number)))) ∙ here))
-        filesystem
-        (placed_remains world new_merged (at_own later.files both.files) filesystem there)
+        filesystem (placed_remains world new_merged (at_own later.files both.files) filesystem there)
       where
         later : Merge ℕ
         later = merge_changed nat_eq fresh (stack_of nat_eq world overlay upper)

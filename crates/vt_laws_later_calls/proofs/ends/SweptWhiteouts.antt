@@ -31,8 +31,7 @@ module _ (world : World ℕ) (inode : Inode) where
   same_numbers : (list : List (Filesystem ℕ)) → map (λ (f : Filesystem ℕ). f.number) (map change list)
       ≡ map (λ (f : Filesystem ℕ). f.number) list
   same_numbers [] = refl
-  same_numbers (f ∷ rest) =
-      ap (λ n. n ∷ map (λ (f : Filesystem ℕ). f.number) (map change rest)) (same_number f)
+  same_numbers (f ∷ rest) = ap (λ n. n ∷ map (λ (f : Filesystem ℕ). f.number) (map change rest)) (same_number f)
       ∙ ap (λ l. f.number ∷ l) (same_numbers rest)
 
   -- what becomes of an inode: it stays, or it is the one that is looked at, and goes
@@ -54,18 +53,15 @@ module _ (world : World ℕ) (inode : Inode) where
 
         by : (b : Bool) → ((is_plain f && nat_eq f.number inode.0) && not (is_inode_used world f inode.1)) ≡ b
             → StaysOrGoes (f.files.tree.node number) ((cond b (without_inode_of inode.1 f) f).files.tree.node number)
-        by true e =
-            itself (and_parts (is_plain f) (nat_eq f.number inode.0)
+        by true e = itself (and_parts (is_plain f) (nat_eq f.number inode.0)
             (and_parts (is_plain f && nat_eq f.number inode.0) (not (is_inode_used world f inode.1)) e).0).1
             (nat_eq number inode.1) refl
         by false e = inl refl
 
-    in_list : (list : List (Filesystem ℕ))
-        → StaysOrGoes ((numbered filesystem list).files.tree.node number)
+    in_list : (list : List (Filesystem ℕ)) → StaysOrGoes ((numbered filesystem list).files.tree.node number)
         ((numbered filesystem (map change list)).files.tree.node number)
     in_list [] = inl refl
-    in_list (first ∷ rest) =
-        subst (λ n. StaysOrGoes ((numbered filesystem (first ∷ rest)).files.tree.node number)
+    in_list (first ∷ rest) = subst (λ n. StaysOrGoes ((numbered filesystem (first ∷ rest)).files.tree.node number)
         ((unwrap_or (cond (nat_eq filesystem n) (Some (change first))
         (find (λ (f : Filesystem ℕ). nat_eq filesystem f.number) (map change rest)))
         (no_filesystem filesystem)).files.tree.node number)) (sym (same_number first))
@@ -76,8 +72,7 @@ module _ (world : World ℕ) (inode : Inode) where
             ((numbered filesystem (map change rest)).files.tree.node number)
             → StaysOrGoes ((unwrap_or (cond b (Some first)
             (find (λ (f : Filesystem ℕ). nat_eq filesystem f.number) rest))
-            (no_filesystem filesystem)).files.tree.node number)
-            ((unwrap_or (cond b (Some (change first))
+            (no_filesystem filesystem)).files.tree.node number) ((unwrap_or (cond b (Some (change first))
             (find (λ (f : Filesystem ℕ). nat_eq filesystem f.number) (map change rest)))
             (no_filesystem filesystem)).files.tree.node number)
         by true e later = in_one first (eqb-true filesystem first.number e)
@@ -95,11 +90,9 @@ inodes_stay : (list : List Inode) (world : World ℕ) (filesystem number : ℕ)
     → (inode_in (let_go_plain world list) filesystem number ≡ inode_in world filesystem number)
     ⊎ (Among (filesystem, number) list × (inode_in (let_go_plain world list) filesystem number ≡ None))
 inodes_stay [] world filesystem number = inl refl
-inodes_stay (inode ∷ rest) world filesystem number =
-    ⊎_elim
+inodes_stay (inode ∷ rest) world filesystem number = ⊎_elim
     (λ same. ⊎_elim (λ stays. inl (same ∙ stays)) (λ goes. inr (inl goes.0, same ∙ goes.1))
-    (in_list world inode filesystem number world.filesystems))
-    (λ gone. inr (inr gone.0, gone.1))
+    (in_list world inode filesystem number world.filesystems)) (λ gone. inr (inr gone.0, gone.1))
     (inodes_stay rest (let_go_in is_plain world inode) filesystem number)
 
 pub leaves_all_but : (world : World ℕ) (list : List Inode) → LeavesAllBut list world (let_go_plain world list)
@@ -107,7 +100,6 @@ leaves_all_but world list = record {
   mounts = ap (λ (w : World ℕ). w.mounts) (only_filesystems list world);
   masters = ap (λ (w : World ℕ). w.master) (only_filesystems list world);
   filesystems = numbers_stay list world;
-  inodes = λ filesystem number.
-      ⊎_elim inl (λ gone. inr (contains_from_among list (filesystem, number) gone.0, gone.1))
+  inodes = λ filesystem number. ⊎_elim inl (λ gone. inr (contains_from_among list (filesystem, number) gone.0, gone.1))
       (inodes_stay list world filesystem number);
 }

@@ -26,8 +26,7 @@ none_replaced world plain fresh task call = by (judge_in nat_eq fresh world task
   where
     asked : (o : Option (Location ℕ × Change ℕ)) → replaced_if world o ≡ []
     asked None = refl
-    asked (Some made) =
-        ap (λ o. replaced_over world o made.1)
+    asked (Some made) = ap (λ o. replaced_over world o made.1)
         (plain_numbered world plain (mount_at nat_eq world made.0).filesystem)
 
     by : (judgement : Judgement ℕ) → replaced_as fresh world judgement ≡ []
@@ -37,8 +36,7 @@ none_replaced world plain fresh task call = by (judge_in nat_eq fresh world task
 -- and none has an upper layer
 no_upper : (world : World ℕ) → IsPlain world → (filesystem : ℕ)
     → list_any (has_upper_in filesystem) world.filesystems ≡ false
-no_upper world plain filesystem =
-    none_passes (has_upper_in filesystem) world.filesystems (λ f m.
+no_upper world plain filesystem = none_passes (has_upper_in filesystem) world.filesystems (λ f m.
     ap (overlay_or false (λ (overlay : Overlay ℕ). holds_of (λ (layer : Layer ℕ).
     nat_eq filesystem layer.filesystem) overlay.upper))
     (none_from_not_some f.overlay (among_from_all (λ (g : Filesystem ℕ).

@@ -37,8 +37,7 @@ around_task world whole task there =
     whole.tasks.one_task task (among_from_contains world.tasks task there)
 
 pub exit_ends_its_namespace : ExitEndsItsNamespace
-exit_ends_its_namespace fresh world task whole there =
-    subst (λ tasks. namespaces_ended nat_eq (with_tasks world tasks)
+exit_ends_its_namespace fresh world task whole there = subst (λ tasks. namespaces_ended nat_eq (with_tasks world tasks)
     ≡ cond (nat_lt 1 (task_count world task.namespace)) (with_tasks world tasks)
     (without_namespace (with_tasks world tasks) task.namespace)) (sym split.left)
     (namespace_ends_with_its_last_task world split.front split.back task whole.mounts whole.namespaces split.whole)
@@ -54,8 +53,7 @@ numbered_alike a b = a.number == b.number
 at_least : (least : ℕ) (list : List (Descriptor ℕ)) → are_ascending_from least list ≡ true → (d : Descriptor ℕ)
     → Among d list → nat_le least d.number ≡ true
 at_least least [] order d m = absurd m
-at_least least (first ∷ rest) order d m =
-    ⊎_elim (λ is. ap (λ (x : Descriptor ℕ). nat_le least x.number) is ∙ parts.0)
+at_least least (first ∷ rest) order d m = ⊎_elim (λ is. ap (λ (x : Descriptor ℕ). nat_le least x.number) is ∙ parts.0)
     (λ later. between least first.number d.number parts.0 (at_least (first.number + 1) rest parts.1 d later)) m
   where
     parts : (nat_le least first.number ≡ true) × (are_ascending_from (first.number + 1) rest ≡ true)
@@ -68,8 +66,7 @@ at_least least (first ∷ rest) order d m =
 no_two : (least : ℕ) (list : List (Descriptor ℕ)) → are_ascending_from least list ≡ true
     → any_pair numbered_alike list ≡ false
 no_two least [] order = refl
-no_two least (first ∷ rest) order =
-    (λ i. none_passes (numbered_alike first) rest
+no_two least (first ∷ rest) order = (λ i. none_passes (numbered_alike first) rest
     (λ d m. apart first.number d.number (at_least (first.number + 1) rest parts.1 d m)) i
     || no_two (first.number + 1) rest parts.1 i)
   where
@@ -92,12 +89,9 @@ module _ (world : World ℕ) (whole : IsWorld nat_eq world) (task : Task ℕ) (t
   split = around_task world whole task there
 
   of : IsSplit numbered_alike task.descriptors descriptor
-  of =
-      split_around numbered_alike (λ d. eq-eqb d.number d.number refl) (λ a b. nat_eq-swapped a.number b.number false)
-      task.descriptors
-      (no_two 0 task.descriptors (descriptors_in_order task
-      (passes is_within_limits world.tasks whole.tasks.small_tasks task
-      (among_from_contains world.tasks task there))))
+  of = split_around numbered_alike (λ d. eq-eqb d.number d.number refl) (λ a b. nat_eq-swapped a.number b.number false)
+      task.descriptors (no_two 0 task.descriptors (descriptors_in_order task
+      (passes is_within_limits world.tasks whole.tasks.small_tasks task (among_from_contains world.tasks task there))))
       descriptor (among_from_contains task.descriptors descriptor is_open)
 
   abbrev own : List (Descriptor ℕ) → List (Location ℕ)
@@ -113,8 +107,7 @@ module _ (world : World ℕ) (whole : IsWorld nat_eq world) (task : Task ℕ) (t
   spread : (other : Task ℕ) (list : List (Descriptor ℕ)) → locations_of other ≡ own (of.front ++ list)
       → flat_map locations_of (split.front ++ (other ∷ split.back))
       ≡ ahead ++ (map at list ++ flat_map locations_of split.back)
-  spread other list e =
-      flat_map-append locations_of split.front (other ∷ split.back)
+  spread other list e = flat_map-append locations_of split.front (other ∷ split.back)
       ∙ ap (λ l. flat_map locations_of split.front ++ (l ++ flat_map locations_of split.back))
       (e ∙ ap (λ l. task.root ∷ task.directory ∷ l) (map-append at of.front list))
       ∙ regrouped (flat_map locations_of split.front) (own of.front) (map at list) (flat_map locations_of split.back)
@@ -123,12 +116,10 @@ module _ (world : World ℕ) (whole : IsWorld nat_eq world) (task : Task ℕ) (t
       regrouped a b c d = ap (λ l. a ++ l) (append_assoc b c d) ∙ sym (append_assoc a b (c ++ d))
 
   located_before : all_locations world ≡ ahead ++ (descriptor.location ∷ behind)
-  located_before =
-      ap (flat_map locations_of) split.whole ∙ spread task (descriptor ∷ of.back) (ap own of.whole)
+  located_before = ap (flat_map locations_of) split.whole ∙ spread task (descriptor ∷ of.back) (ap own of.whole)
 
   located_after : all_locations (with_task world closed) ≡ ahead ++ behind
-  located_after =
-      ap (flat_map locations_of) (split.changed (replaced_if_called closed)
+  located_after = ap (flat_map locations_of) (split.changed (replaced_if_called closed)
       (λ other differs. ap (λ b. cond b closed other) differs))
       ∙ ap (λ b. flat_map locations_of (split.front ++ (cond b closed task ∷ split.back))) (same_name_itself task.name)
       ∙ spread closed of.back (ap own of.left)

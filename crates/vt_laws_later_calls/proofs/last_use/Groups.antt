@@ -29,8 +29,7 @@ use Rattle.vt_laws_later_calls.proofs.last_use.OneLess.{some_without_another, so
 master_lives : (members : ℕ → Bool) (master : ℕ → Option ℕ) (group : ℕ) → Lives members master group
     → list_all members (option_to_list (master group)) ≡ true
 master_lives members master group (has_no_master it has e) = ap (λ o. list_all members (option_to_list o)) e
-master_lives members master group (has_master it above has e later) =
-    ap (λ o. list_all members (option_to_list o)) e
+master_lives members master group (has_master it above has e later) = ap (λ o. list_all members (option_to_list o)) e
     ∙ ap (λ b. b && true) (live_members master members above later)
 
 -- a mount has lost no group where its group and the master of that have members
@@ -54,14 +53,12 @@ unlost world mount live = by (source_of mount.propagation) refl
     by None e = refl
     by (Some group) e =
         let both = live group e in
-        ap (λ b. not b || is_lost_group nat_eq world (world.master group)) both.0
-        ∙ master (world.master group) both.1
+        ap (λ b. not b || is_lost_group nat_eq world (world.master group)) both.0 ∙ master (world.master group) both.1
 
 -- where groups live, no mount has lost one
 pub none_lost : (world : World ℕ) → MountInvariants nat_eq world
     → list_any (lost_a_group nat_eq world) world.mounts ≡ false
-none_lost world mounts =
-    none_passes (lost_a_group nat_eq world) world.mounts (λ mount m. unlost world mount (λ group e.
+none_lost world mounts = none_passes (lost_a_group nat_eq world) world.mounts (λ mount m. unlost world mount (λ group e.
     let life = among_from_all (HasLivingGroups nat_eq world) world.mounts mounts.groups mount m group e in (
       live_members world.master (has_members nat_eq world.mounts) group life,
       master_lives (has_members nat_eq world.mounts) world.master group life,
@@ -96,8 +93,7 @@ module _ (world : World ℕ) (front back : List (Mount ℕ)) (old new : Mount �
 
   -- the group has one if it had more
   members_still : has_members nat_eq after.mounts group ≡ nat_lt 1 (member_count world group)
-  members_still =
-      sym (some_without_another (is_member_of nat_eq group) new (new_is_none group) front back)
+  members_still = sym (some_without_another (is_member_of nat_eq group) new (new_is_none group) front back)
       ∙ some_without_it (is_member_of nat_eq group) old (old_is_one group ∙ eq-eqb group group refl) front back
       ∙ ap (λ mounts. nat_lt 1 (times (is_member_of nat_eq group) mounts)) (sym before)
 
@@ -107,9 +103,7 @@ module _ (world : World ℕ) (front back : List (Mount ℕ)) (old new : Mount �
 
   pub group_left : AllInUse world → without_dead_groups nat_eq after
       ≡ cond (nat_lt 1 (member_count world group)) after (without_master after group)
-  group_left in_use =
-      groups_go_one_by_one after (group ∷ []) (other_groups in_use)
-      ∙ group_is_looked_up after group
+  group_left in_use = groups_go_one_by_one after (group ∷ []) (other_groups in_use) ∙ group_is_looked_up after group
       ∙ ap (λ b. cond b after (without_master after group)) members_still
 
   module _ (in_use : AllInUse world) (mounts : MountInvariants nat_eq world) where
@@ -136,9 +130,7 @@ module _ (world : World ℕ) (front back : List (Mount ℕ)) (old new : Mount �
     -- a mount of the world after is new, or was there
     was_there : (mount : Mount ℕ) → Among mount after.mounts
         → (source_of mount.propagation ≡ None) ⊎ Among mount world.mounts
-    was_there mount m =
-        ⊎_elim
-        (λ f. inr (there (among-append_left front (old ∷ back) mount f)))
+    was_there mount m = ⊎_elim (λ f. inr (there (among-append_left front (old ∷ back) mount f)))
         (λ rest. ⊎_elim (λ same. inl (ap (λ x. source_of x.propagation) same ∙ is))
         (λ b. inr (there (among-append_right front (old ∷ back) mount (inr b)))) rest)
         (among-append front (new ∷ back) mount m)
@@ -148,8 +140,7 @@ module _ (world : World ℕ) (front back : List (Mount ℕ)) (old new : Mount �
 
     source_lives : (mount : Mount ℕ) → Among mount after.mounts → (source : ℕ)
         → source_of mount.propagation ≡ Some source → Lives members world.master source
-    source_lives mount m source e =
-        ⊎_elim (λ none. absurd (true≢false (ap is_some (sym e ∙ none))))
+    source_lives mount m source e = ⊎_elim (λ none. absurd (true≢false (ap is_some (sym e ∙ none))))
         (λ n. among_from_all (HasLivingGroups nat_eq world) world.mounts mounts.groups mount n source e)
         (was_there mount m)
 
@@ -172,8 +163,7 @@ module _ (world : World ℕ) (front back : List (Mount ℕ)) (old new : Mount �
         by : (o : Option ℕ) → world.master group ≡ o → list_all members (option_to_list o) ≡ true
             → list_all (has_members nat_eq after.mounts) (option_to_list o) ≡ true
         by None e h = refl
-        by (Some above) e h =
-            ap (λ b. b && true) (members_as_before above (apart (nat_eq above group) refl)) ∙ h
+        by (Some above) e h = ap (λ b. b && true) (members_as_before above (apart (nat_eq above group) refl)) ∙ h
           where
             apart : (b : Bool) → nat_eq above group ≡ b → b ≡ false
             apart false f = refl
@@ -193,8 +183,7 @@ module _ (world : World ℕ) (front back : List (Mount ℕ)) (old new : Mount �
         of : (mount : Mount ℕ) → Among mount after.mounts → (o : Option ℕ) → source_of mount.propagation ≡ o
             → list_all (is_group_or_lives after group) (option_to_list o) ≡ true
         of mount m None e = refl
-        of mount m (Some source) e =
-            ap (λ b. b && true)
+        of mount m (Some source) e = ap (λ b. b && true)
             (had_members source (live_members world.master members source (source_lives mount m source e)))
 
         above : (other : ℕ) (b : Bool) → members other ≡ b
@@ -232,8 +221,7 @@ module _ (world : World ℕ) (front back : List (Mount ℕ)) (old new : Mount �
 
     pub group_handed_on : OneGroupIsHandedOn → regrouped nat_eq after
         ≡ cond (nat_lt 1 (member_count world group)) after (hand_on after group)
-    group_handed_on one =
-        by (has_members nat_eq after.mounts group) refl
+    group_handed_on one = by (has_members nat_eq after.mounts group) refl
         ∙ ap (λ b. cond b after (hand_on after group)) members_still
       where
         by : (b : Bool) → has_members nat_eq after.mounts group ≡ b

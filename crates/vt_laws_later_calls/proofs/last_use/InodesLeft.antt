@@ -38,15 +38,13 @@ exchange_of_one_loses_one_use world after inode exchange = record {
 used_in_numbered : (world : World ℕ) → InodesInUse world → (k number : ℕ)
     → Among number (filesystem_numbered nat_eq world k).files.numbers
     → is_inode_used world (filesystem_numbered nat_eq world k) number ≡ true
-used_in_numbered world in_use k number =
-    by (find (λ (f : Filesystem ℕ). nat_eq k f.number) world.filesystems) refl
+used_in_numbered world in_use k number = by (find (λ (f : Filesystem ℕ). nat_eq k f.number) world.filesystems) refl
   where
     by : (o : Option (Filesystem ℕ)) → find (λ (f : Filesystem ℕ). nat_eq k f.number) world.filesystems ≡ o
         → Among number (unwrap_or o (no_filesystem k)).files.numbers
         → is_inode_used world (unwrap_or o (no_filesystem k)) number ≡ true
     by None e m = absurd m
-    by (Some f) e m =
-        passes (is_inode_used world f) f.files.numbers
+    by (Some f) e m = passes (is_inode_used world f) f.files.numbers
         (among_from_all (λ g. list_all (is_inode_used world g) g.files.numbers ≡ true) world.filesystems in_use f
         (found_in (λ (g : Filesystem ℕ). nat_eq k g.number) world.filesystems f e).0) number m
 
@@ -55,11 +53,9 @@ module _ (world after : World ℕ) (inode : Inode) (in_use : InodesInUse world) 
   -- it is used if it had more uses
   used_still : is_inode_used after (filesystem_numbered nat_eq after inode.0) inode.1
       ≡ nat_lt 1 (inode_uses world (filesystem_numbered nat_eq world inode.0) inode.1)
-  used_still =
-      used_while_counted after (filesystem_numbered nat_eq after inode.0) inode.1
+  used_still = used_while_counted after (filesystem_numbered nat_eq after inode.0) inode.1
       ∙ some_left (inode_uses world (filesystem_numbered nat_eq world inode.0) inode.1)
-      (inode_uses after (filesystem_numbered nat_eq after inode.0) inode.1)
-      (loses.uses inode.0 inode.1
+      (inode_uses after (filesystem_numbered nat_eq after inode.0) inode.1) (loses.uses inode.0 inode.1
       ∙ ap (λ b. inode_uses after (filesystem_numbered nat_eq after inode.0) inode.1 + cond b 1 0)
       (λ i. eq-eqb inode.0 inode.0 refl i && eq-eqb inode.1 inode.1 refl i))
 
@@ -67,11 +63,9 @@ module _ (world after : World ℕ) (inode : Inode) (in_use : InodesInUse world) 
   used_as_before : (k number : ℕ) → is_inode k number inode ≡ false
       → is_inode_used after (filesystem_numbered nat_eq after k) number
       ≡ is_inode_used world (filesystem_numbered nat_eq world k) number
-  used_as_before k number differs =
-      used_while_counted after (filesystem_numbered nat_eq after k) number
+  used_as_before k number differs = used_while_counted after (filesystem_numbered nat_eq after k) number
       ∙ ap (nat_lt 0) (sym (alike (inode_uses world (filesystem_numbered nat_eq world k) number)
-      (inode_uses after (filesystem_numbered nat_eq after k) number)
-      (loses.uses k number
+      (inode_uses after (filesystem_numbered nat_eq after k) number) (loses.uses k number
       ∙ ap (λ b. inode_uses after (filesystem_numbered nat_eq after k) number + cond b 1 0) differs)))
       ∙ sym (used_while_counted world (filesystem_numbered nat_eq world k) number)
     where
@@ -87,10 +81,8 @@ module _ (world after : World ℕ) (inode : Inode) (in_use : InodesInUse world) 
   others_used : (filesystem : Filesystem ℕ) → Among filesystem after.filesystems → (number : ℕ)
       → Among number filesystem.files.numbers → is_inode filesystem.number number inode ≡ false
       → is_inode_used after filesystem number ≡ true
-  others_used filesystem m number n differs =
-      ap (λ f. is_inode_used after f number) (sym (found_after filesystem m))
-      ∙ used_as_before filesystem.number number differs
-      ∙ used_in_numbered world in_use filesystem.number number
+  others_used filesystem m number n differs = ap (λ f. is_inode_used after f number) (sym (found_after filesystem m))
+      ∙ used_as_before filesystem.number number differs ∙ used_in_numbered world in_use filesystem.number number
       (subst (Among number) (ap (λ f. f.files.numbers) (sym (found_after filesystem m))
       ∙ loses.numbers filesystem.number) n)
 
@@ -107,8 +99,7 @@ module _ (world after : World ℕ) (inode : Inode) (in_use : InodesInUse world) 
 
   -- while it has another use, all are used
   all_used : nat_lt 1 (inode_uses world (filesystem_numbered nat_eq world inode.0) inode.1) ≡ true → InodesInUse after
-  all_used more =
-      all_from_among (λ f. list_all (is_inode_used after f) f.files.numbers ≡ true) after.filesystems
+  all_used more = all_from_among (λ f. list_all (is_inode_used after f) f.files.numbers ≡ true) after.filesystems
       (λ f m. all_pass (is_inode_used after f) f.files.numbers
       (λ number n. by f m number n (is_inode f.number number inode) refl))
     where
@@ -118,15 +109,13 @@ module _ (world after : World ℕ) (inode : Inode) (in_use : InodesInUse world) 
           let parts = and_parts (nat_eq f.number inode.0) (nat_eq number inode.1) e in
           ap (λ g. is_inode_used after g number) (sym (found_after f m))
           ∙ (λ i. is_inode_used after (filesystem_numbered nat_eq after (eqb-true f.number inode.0 parts.0 i))
-          (eqb-true number inode.1 parts.1 i))
-          ∙ used_still ∙ more
+          (eqb-true number inode.1 parts.1 i)) ∙ used_still ∙ more
       by f m number n false e = others_used f m number n e
 
   -- the filesystem of its number
   pub its_kind : (b : Bool) → is_overlay (filesystem_numbered nat_eq after inode.0) ≡ b → (filesystem : Filesystem ℕ)
       → Among filesystem after.filesystems → nat_eq filesystem.number inode.0 ≡ true → is_overlay filesystem ≡ b
-  its_kind b kind filesystem m e =
-      ap is_overlay (sym (found_after filesystem m))
+  its_kind b kind filesystem m e = ap is_overlay (sym (found_after filesystem m))
       ∙ ap (λ k. is_overlay (filesystem_numbered nat_eq after k)) (eqb-true filesystem.number inode.0 e) ∙ kind
 
   looked_up : let_go_inode after inode
@@ -138,8 +127,7 @@ module _ (world after : World ℕ) (inode : Inode) (in_use : InodesInUse world) 
   module _ (plain : is_overlay (filesystem_numbered nat_eq after inode.0) ≡ false) where
     -- no overlay is looked at
     merged_stay : let_go_in is_overlay after inode ≡ after
-    merged_stay =
-        ap (λ filesystems. record after { filesystems = filesystems })
+    merged_stay = ap (λ filesystems. record after { filesystems = filesystems })
         (map_same (let_go_in_of is_overlay after inode) after.filesystems
         (λ f m. ap (λ b. cond (b && not (is_inode_used after f inode.1)) (without_inode_of inode.1 f) f)
         (by f m (nat_eq f.number inode.0) refl)))
@@ -164,8 +152,7 @@ module _ (world after : World ℕ) (inode : Inode) (in_use : InodesInUse world) 
 
     -- in a plain tree it has no real object
     plain_looked_at : let_go_in is_plain after inode ≡ let_go_inode after inode
-    plain_looked_at =
-        ap (λ filesystems. record after { filesystems = filesystems })
+    plain_looked_at = ap (λ filesystems. record after { filesystems = filesystems })
         (map_alike (let_go_in_of is_plain after inode) (let_go_inode_of after inode) after.filesystems
         (λ f m. by f m (nat_eq f.number inode.0) refl (is_inode_used after f inode.1)))
       where
@@ -178,57 +165,47 @@ module _ (world after : World ℕ) (inode : Inode) (in_use : InodesInUse world) 
             ≡ cond (nat_eq f.number inode.0 && not used) (record f { files = without_inode inode.1 f.files }) f
         by f m true e used =
             ap (λ b. cond ((not b && nat_eq f.number inode.0) && not used) (without_inode_of inode.1 f) f)
-            (its_kind false plain f m e)
-            ∙ ap (λ o. cond (nat_eq f.number inode.0 && not used)
+            (its_kind false plain f m e) ∙ ap (λ o. cond (nat_eq f.number inode.0 && not used)
             (record f { files = without_inode inode.1 f.files; overlay = o }) f)
             (no_real f.overlay (its_kind false plain f m e))
-        by f m false e used =
-            ap (λ b. cond ((is_plain f && b) && not used) (without_inode_of inode.1 f) f) e
+        by f m false e used = ap (λ b. cond ((is_plain f && b) && not used) (without_inode_of inode.1 f) f) e
             ∙ ap (λ b. cond (b && not used) (without_inode_of inode.1 f) f) (and-false (is_plain f))
             ∙ ap (λ b. cond (b && not used) (record f { files = without_inode inode.1 f.files }) f) (sym e)
 
-    beside_overlays : HasTrees after → UppersArePlain after → RealsAreThere after
-        → without_dead_inodes nat_eq after
+    beside_overlays : HasTrees after → UppersArePlain after → RealsAreThere after → without_dead_inodes nat_eq after
         ≡ cond (nat_lt 1 (inode_uses world (filesystem_numbered nat_eq world inode.0) inode.1)) after
         (without_inode_at after inode)
-    beside_overlays trees uppers reals =
-        all_inodes_go_one_by_one after (inode ∷ []) trees uppers reals other_inodes
+    beside_overlays trees uppers reals = all_inodes_go_one_by_one after (inode ∷ []) trees uppers reals other_inodes
         ∙ ap (λ w. let_go_plain w (inode ∷ uppers_of after (inode ∷ []))) merged_stay
-        ∙ ap (λ list. let_go_plain after (inode ∷ (list ++ []))) no_uppers
-        ∙ plain_looked_at ∙ looked_up
+        ∙ ap (λ list. let_go_plain after (inode ∷ (list ++ []))) no_uppers ∙ plain_looked_at ∙ looked_up
 
   -- Of an overlay
   module _ (merged : is_overlay (filesystem_numbered nat_eq after inode.0) ≡ true) where
     unused : nat_lt 1 (inode_uses world (filesystem_numbered nat_eq world inode.0) inode.1) ≡ false
         → (f : Filesystem ℕ) → Among f after.filesystems → nat_eq f.number inode.0 ≡ true
         → is_inode_used after f inode.1 ≡ false
-    unused last f m e =
-        ap (λ g. is_inode_used after g inode.1) (sym (found_after f m))
+    unused last f m e = ap (λ g. is_inode_used after g inode.1) (sym (found_after f m))
         ∙ ap (λ k. is_inode_used after (filesystem_numbered nat_eq after k) inode.1) (eqb-true f.number inode.0 e)
         ∙ used_still ∙ last
 
     -- it goes
     merged_goes : nat_lt 1 (inode_uses world (filesystem_numbered nat_eq world inode.0) inode.1) ≡ false
         → let_go_in is_overlay after inode ≡ without_merged_inode after inode
-    merged_goes last =
-        ap (λ filesystems. record after { filesystems = filesystems })
+    merged_goes last = ap (λ filesystems. record after { filesystems = filesystems })
         (map_alike (let_go_in_of is_overlay after inode) (without_inode_of_any inode) after.filesystems
         (λ f m. ap (λ b. cond b (without_inode_of inode.1 f) f) (by f m (nat_eq f.number inode.0) refl)))
       where
         by : (f : Filesystem ℕ) → Among f after.filesystems → (b : Bool) → nat_eq f.number inode.0 ≡ b
             → ((is_overlay f && nat_eq f.number inode.0) && not (is_inode_used after f inode.1))
             ≡ nat_eq f.number inode.0
-        by f m true e =
-            (λ i. (its_kind true merged f m e i && nat_eq f.number inode.0) && not (unused last f m e i))
+        by f m true e = (λ i. (its_kind true merged f m e i && nat_eq f.number inode.0) && not (unused last f m e i))
             ∙ and-true (nat_eq f.number inode.0)
-        by f m false e =
-            ap (λ b. (is_overlay f && b) && not (is_inode_used after f inode.1)) e
+        by f m false e = ap (λ b. (is_overlay f && b) && not (is_inode_used after f inode.1)) e
             ∙ ap (λ b. b && not (is_inode_used after f inode.1)) (and-false (is_overlay f)) ∙ sym e
 
     -- no plain tree has its number
     no_plain : let_go_in is_plain (without_merged_inode after inode) inode ≡ without_merged_inode after inode
-    no_plain =
-        ap (λ filesystems. record after { filesystems = filesystems })
+    no_plain = ap (λ filesystems. record after { filesystems = filesystems })
         (map_same (let_go_in_of is_plain (without_merged_inode after inode) inode)
         (map (without_inode_of_any inode) after.filesystems)
         (λ g m. let from = among-from_map (without_inode_of_any inode) after.filesystems g m in
@@ -237,8 +214,7 @@ module _ (world after : World ℕ) (inode : Inode) (in_use : InodesInUse world) 
       where
         stays : (g : Filesystem ℕ) → (is_plain g && nat_eq g.number inode.0) ≡ false
             → let_go_in_of is_plain (without_merged_inode after inode) inode g ≡ g
-        stays g e =
-            ap (λ b. cond (b && not (is_inode_used (without_merged_inode after inode) g inode.1))
+        stays g e = ap (λ b. cond (b && not (is_inode_used (without_merged_inode after inode) g inode.1))
             (without_inode_of inode.1 g) g) e
 
         still_merged : (o : Option (Overlay ℕ)) → is_some (option_map (without_real inode.1) o) ≡ is_some o

@@ -42,8 +42,7 @@ found_beside (first ∷ rest) k gone differs =
     others = filter (λ f. not (nat_eq f.number gone)) rest
 
     by : (b : Bool) → nat_eq first.number gone ≡ b → (c : Bool) → nat_eq k first.number ≡ c
-        → find (λ (f : Filesystem ℕ). nat_eq k f.number) others
-        ≡ find (λ (f : Filesystem ℕ). nat_eq k f.number) rest
+        → find (λ (f : Filesystem ℕ). nat_eq k f.number) others ≡ find (λ (f : Filesystem ℕ). nat_eq k f.number) rest
         → find (λ (f : Filesystem ℕ). nat_eq k f.number) (cond (not b) (first ∷ others) others)
         ≡ cond c (Some first) (find (λ (f : Filesystem ℕ). nat_eq k f.number) rest)
     by true e true h later =
@@ -54,8 +53,7 @@ found_beside (first ∷ rest) k gone differs =
         ap (λ b. cond b (Some first) (find (λ (f : Filesystem ℕ). nat_eq k f.number) others)) h ∙ later
 
 module _ (world : World ℕ) (tasks : List (Task ℕ)) (front back : List (Location ℕ)) (location : Location ℕ)
-    (whole : IsWorld nat_eq world) (plain : IsPlain world)
-    (before : all_locations world ≡ front ++ (location ∷ back))
+    (whole : IsWorld nat_eq world) (plain : IsPlain world) (before : all_locations world ≡ front ++ (location ∷ back))
     (left : all_locations (with_tasks world tasks) ≡ front ++ back)
     (goes : (is_some (mount_at nat_eq world location).namespace || nat_lt 1 (mount_uses world location.mount)) ≡ false)
     (last : nat_lt 1 (mounts_showing world (mount_at nat_eq world location).filesystem) ≡ false) where
@@ -85,8 +83,7 @@ module _ (world : World ℕ) (tasks : List (Task ℕ)) (front back : List (Locat
 
   -- the mount is there
   numbered : is_among nat_eq location.mount (map (λ mount. mount.number) world.mounts) ≡ true
-  numbered =
-      passes (λ l. is_among nat_eq l.mount (map (λ mount. mount.number) world.mounts)) (all_locations world)
+  numbered = passes (λ l. is_among nat_eq l.mount (map (λ mount. mount.number) world.mounts)) (all_locations world)
       at_mounts location located
 
   its_there : Among its world.mounts × (its.number ≡ location.mount)
@@ -98,13 +95,11 @@ module _ (world : World ℕ) (tasks : List (Task ℕ)) (front back : List (Locat
       (subst (λ m. Among m world.mounts) (sym found) from.1, ap (λ m. m.number) found ∙ sym from.2)
 
   split : IsSplit (λ (a b : Mount ℕ). nat_eq a.number b.number) world.mounts its
-  split =
-      split_around (λ (a b : Mount ℕ). nat_eq a.number b.number) (λ m. eq-eqb m.number m.number refl)
+  split = split_around (λ (a b : Mount ℕ). nat_eq a.number b.number) (λ m. eq-eqb m.number m.number refl)
       (λ a b. nat_eq-swapped a.number b.number false) world.mounts stand.one_number its its_there.0
 
   mount_goes : without_dead_mounts nat_eq after ≡ unmounted
-  mount_goes =
-      mount_goes_with_its_last_use world tasks front back location in_use stand.one_number before left
+  mount_goes = mount_goes_with_its_last_use world tasks front back location in_use stand.one_number before left
       ∙ ap (λ b. cond b after unmounted) goes
 
   filesystem_goes : without_dead_filesystems nat_eq unmounted ≡ freed
@@ -112,8 +107,7 @@ module _ (world : World ℕ) (tasks : List (Task ℕ)) (front back : List (Locat
       filesystem_goes_with_its_last_use world unmounted split.front split.back its in_use plain refl split.whole
       (filter_alike (λ mount. not (nat_eq mount.number location.mount)) (λ mount. not (nat_eq its.number mount.number))
       world.mounts (λ mount m. ap (λ n. not (nat_eq mount.number n)) (sym its_there.1)
-      ∙ ap not (nat_eq-swapped its.number mount.number (nat_eq its.number mount.number) refl))
-      ∙ split.left)
+      ∙ ap not (nat_eq-swapped its.number mount.number (nat_eq its.number mount.number) refl)) ∙ split.left)
       ∙ ap (λ b. cond b unmounted freed) last
 
   -- Inodes of other filesystems are used as before
@@ -122,17 +116,14 @@ module _ (world : World ℕ) (tasks : List (Task ℕ)) (front back : List (Locat
   stand_after = record { one_number = stand.one_number; nowhere = stand.nowhere; on_attached = stand.on_attached }
 
   at_mounts_after : LocationsStand after
-  at_mounts_after =
-      ap (list_all (λ l. is_among nat_eq l.mount (map (λ mount. mount.number) world.mounts))) left
+  at_mounts_after = ap (list_all (λ l. is_among nat_eq l.mount (map (λ mount. mount.number) world.mounts))) left
       ∙ all_pass (λ l. is_among nat_eq l.mount (map (λ mount. mount.number) world.mounts)) (front ++ back)
       (λ l m. passes (λ x. is_among nat_eq x.mount (map (λ mount. mount.number) world.mounts)) (all_locations world)
-      at_mounts l (subst (Among l) (sym before)
-      (⊎_elim (λ f. among-append_left front (location ∷ back) l f)
+      at_mounts l (subst (Among l) (sym before) (⊎_elim (λ f. among-append_left front (location ∷ back) l f)
       (λ b. among-append_right front (location ∷ back) l (inr b)) (among-append front back l m))))
 
   unused : is_mount_used after location.mount ≡ false
-  unused =
-      ap (λ b. is_some its.namespace || b) (located_still world tasks front back location before left) ∙ goes
+  unused = ap (λ b. is_some its.namespace || b) (located_still world tasks front back location before left) ∙ goes
 
   plain_there : Counted.IsPlain unmounted
   plain_there = all_from_among (λ f. is_overlay f ≡ false) world.filesystems (fails is_overlay world.filesystems plain)
@@ -145,8 +136,7 @@ module _ (world : World ℕ) (tasks : List (Task ℕ)) (front back : List (Locat
   exchange : (k : ℕ) → nat_eq k its.filesystem ≡ false
       → Exchanges [] (inode_at world location ∷ root_inode after location.mount ∷ []) k world freed
   exchange k differs =
-      exchanges_follow world unmounted freed [] (inode_at world location ∷ root_inode after location.mount ∷ []) [] []
-      k
+      exchanges_follow world unmounted freed [] (inode_at world location ∷ root_inode after location.mount ∷ []) [] [] k
       (exchanges_follow world after unmounted [] (inode_at world location ∷ []) []
       (root_inode after location.mount ∷ []) k
       (locations_are_uses world after [] (location ∷ []) front back refl refl before left k)
@@ -155,8 +145,7 @@ module _ (world : World ℕ) (tasks : List (Task ℕ)) (front back : List (Locat
       (ap (λ o. unwrap_or o (no_filesystem k)) (found_beside world.filesystems k its.filesystem differs)))
 
   inodes_used : InodesInUse freed
-  inodes_used =
-      all_from_among (λ f. list_all (is_inode_used freed f) f.files.numbers ≡ true) freed.filesystems
+  inodes_used = all_from_among (λ f. list_all (is_inode_used freed f) f.files.numbers ≡ true) freed.filesystems
       (λ f m. let from = among-from_filter (λ g. not (nat_eq g.number its.filesystem)) world.filesystems f m in
       all_pass (is_inode_used freed f) f.files.numbers
       (λ number n. as_before f from.0 (apart (nat_eq f.number its.filesystem) from.1) number
@@ -178,34 +167,28 @@ module _ (world : World ℕ) (tasks : List (Task ℕ)) (front back : List (Locat
           found_by (λ (x : Filesystem ℕ). x.number) (no_filesystem f.number) world.filesystems
           whole.files.one_filesystem f m in
           let moved = exchange f.number differs in
-          used_while_counted freed f number
-          ∙ ap (λ g. nat_lt 0 (inode_uses freed g number)) (sym (moved.same ∙ found))
+          used_while_counted freed f number ∙ ap (λ g. nat_lt 0 (inode_uses freed g number)) (sym (moved.same ∙ found))
           ∙ ap (nat_lt 0) (sym (alike (inode_uses world (filesystem_numbered nat_eq world f.number) number)
-          (inode_uses freed (filesystem_numbered nat_eq freed f.number) number)
-          (moved.uses number
+          (inode_uses freed (filesystem_numbered nat_eq freed f.number) number) (moved.uses number
           ∙ ap (λ b. inode_uses freed (filesystem_numbered nat_eq freed f.number) number
           + (cond (b && nat_eq number location.node) 1 0 + (cond (b && nat_eq number its.root) 1 0 + 0))) differs)))
-          ∙ ap (λ g. nat_lt 0 (inode_uses world g number)) found
-          ∙ sym (used_while_counted world f number) ∙ was
+          ∙ ap (λ g. nat_lt 0 (inode_uses world g number)) found ∙ sym (used_while_counted world f number) ∙ was
 
   -- the mount was in no group
   groups_used : GroupsInUse freed
-  groups_used group none =
-      in_use.groups group
+  groups_used group none = in_use.groups group
       (sym (any-filter (is_member_of nat_eq group) (λ mount. not (nat_eq mount.number location.mount)) world.mounts
       (λ mount m gone. private_is_no_member group mount
       (nowhere_parts mount (passes is_nowhere_or_attached world.mounts stand.nowhere mount m)
       (ap (λ x. is_some x.namespace) (itself mount m (named (nat_eq mount.number location.mount) gone))
-      ∙ (or_parts (is_some its.namespace) (nat_lt 1 (mount_uses world location.mount)) goes).0)).1))
-      ∙ none)
+      ∙ (or_parts (is_some its.namespace) (nat_lt 1 (mount_uses world location.mount)) goes).0)).1)) ∙ none)
     where
       named : (b : Bool) → not b ≡ false → b ≡ true
       named true e = refl
       named false e = sym e
 
       itself : (mount : Mount ℕ) → Among mount world.mounts → nat_eq mount.number location.mount ≡ true → mount ≡ its
-      itself mount m e =
-          sym (found_itself world.mounts stand.one_number mount m)
+      itself mount m e = sym (found_itself world.mounts stand.one_number mount m)
           ∙ ap (mount_in nat_eq world.mounts) (eqb-true mount.number location.mount e)
 
   pub all_goes : settled nat_eq after ≡ freed
@@ -214,8 +197,7 @@ module _ (world : World ℕ) (tasks : List (Task ℕ)) (front back : List (Locat
       ∙ ap (λ w. without_dead_groups nat_eq (without_dead_inodes nat_eq w)) filesystem_goes
       ∙ ap (without_dead_groups nat_eq)
       (ap (without_dead_in nat_eq (λ f. not (is_overlay f))) (inodes_stay is_overlay freed inodes_used)
-      ∙ inodes_stay (λ f. not (is_overlay f)) freed inodes_used)
-      ∙ groups_stay freed groups_used
+      ∙ inodes_stay (λ f. not (is_overlay f)) freed inodes_used) ∙ groups_stay freed groups_used
 
 pub location_takes_its_filesystem : LocationTakesItsFilesystem
 location_takes_its_filesystem world tasks front back location whole plain before left goes last =

@@ -27,15 +27,13 @@ module _ (world : World ℕ) (tasks : List (Task ℕ)) (front back : List (Locat
   -- other mounts are located as before
   located_as_before : (number : ℕ) → nat_eq number location.mount ≡ false
       → is_located nat_eq after number ≡ is_located nat_eq world number
-  located_as_before number differs =
-      ap (list_any (λ (l : Location ℕ). nat_eq number l.mount)) left
+  located_as_before number differs = ap (list_any (λ (l : Location ℕ). nat_eq number l.mount)) left
       ∙ some_without_another (λ (l : Location ℕ). nat_eq number l.mount) location differs front back
       ∙ ap (list_any (λ (l : Location ℕ). nat_eq number l.mount)) (sym before)
 
   -- its own mount is located if it was more than once
   pub located_still : is_located nat_eq after location.mount ≡ nat_lt 1 (mount_uses world location.mount)
-  located_still =
-      ap (list_any (λ (l : Location ℕ). nat_eq location.mount l.mount)) left
+  located_still = ap (list_any (λ (l : Location ℕ). nat_eq location.mount l.mount)) left
       ∙ some_without_it (λ (l : Location ℕ). nat_eq location.mount l.mount) location
       (eq-eqb location.mount location.mount refl) front back
       ∙ ap (λ list. nat_lt 1 (times (λ (l : Location ℕ). nat_eq location.mount l.mount) list)) (sym before)
@@ -43,8 +41,7 @@ module _ (world : World ℕ) (tasks : List (Task ℕ)) (front back : List (Locat
   other_mounts : MountsInUse world → MountsInUseBut (location.mount ∷ []) after
   other_mounts in_use =
       all_pass (λ mount. is_among nat_eq mount.number (location.mount ∷ []) || mount_lives nat_eq after mount)
-      world.mounts
-      (λ mount m. by mount (nat_eq mount.number location.mount) refl
+      world.mounts (λ mount m. by mount (nat_eq mount.number location.mount) refl
       (passes (mount_lives nat_eq world) world.mounts in_use mount m))
     where
       by : (mount : Mount ℕ) (b : Bool) → nat_eq mount.number location.mount ≡ b
@@ -59,23 +56,20 @@ mount_goes_with_its_last_use world tasks front back location in_use one before l
     (other_mounts world tasks front back location before left in_use.mounts)
     ∙ mount_is_looked_up (with_tasks world tasks) location.mount one
     ∙ ap (λ b. cond (is_some (mount_at nat_eq world location).namespace || b) (with_tasks world tasks)
-    (without_mount (with_tasks world tasks) location.mount))
-    (located_still world tasks front back location before left)
+    (without_mount (with_tasks world tasks) location.mount)) (located_still world tasks front back location before left)
 
 module _ (world after : World ℕ) (front back : List (Mount ℕ)) (mount : Mount ℕ)
     (before : world.mounts ≡ front ++ (mount ∷ back)) (left : after.mounts ≡ front ++ back) where
   -- other filesystems are mounted as before
   pub mounted_as_before : (number : ℕ) → nat_eq number mount.filesystem ≡ false
       → is_mounted nat_eq after number ≡ is_mounted nat_eq world number
-  mounted_as_before number differs =
-      ap (list_any (λ (m : Mount ℕ). nat_eq number m.filesystem)) left
+  mounted_as_before number differs = ap (list_any (λ (m : Mount ℕ). nat_eq number m.filesystem)) left
       ∙ some_without_another (λ (m : Mount ℕ). nat_eq number m.filesystem) mount differs front back
       ∙ ap (list_any (λ (m : Mount ℕ). nat_eq number m.filesystem)) (sym before)
 
   -- its own filesystem is mounted if it was more than once
   pub mounted_still : is_mounted nat_eq after mount.filesystem ≡ nat_lt 1 (mounts_showing world mount.filesystem)
-  mounted_still =
-      ap (list_any (λ (m : Mount ℕ). nat_eq mount.filesystem m.filesystem)) left
+  mounted_still = ap (list_any (λ (m : Mount ℕ). nat_eq mount.filesystem m.filesystem)) left
       ∙ some_without_it (λ (m : Mount ℕ). nat_eq mount.filesystem m.filesystem) mount
       (eq-eqb mount.filesystem mount.filesystem refl) front back
       ∙ ap (λ list. nat_lt 1 (times (λ (m : Mount ℕ). nat_eq mount.filesystem m.filesystem) list)) (sym before)
@@ -84,14 +78,12 @@ module _ (world after : World ℕ) (front back : List (Mount ℕ)) (mount : Moun
     -- a plain filesystem is in use just while it is mounted
     lives_mounted : (other : World ℕ) → other.filesystems ≡ world.filesystems → (filesystem : Filesystem ℕ)
         → filesystem_lives nat_eq other filesystem ≡ is_mounted nat_eq other filesystem.number
-    lives_mounted other alike filesystem =
-        ap (λ b. is_mounted nat_eq other filesystem.number || b)
+    lives_mounted other alike filesystem = ap (λ b. is_mounted nat_eq other filesystem.number || b)
         (no_layers filesystem.number other other.filesystems (ap (list_any is_overlay) alike ∙ plain))
         ∙ or-false (is_mounted nat_eq other filesystem.number)
 
     other_filesystems : FilesystemsInUse world → FilesystemsInUseBut (mount.filesystem ∷ []) after
-    other_filesystems in_use =
-        ap (list_all (λ filesystem. is_among nat_eq filesystem.number (mount.filesystem ∷ [])
+    other_filesystems in_use = ap (list_all (λ filesystem. is_among nat_eq filesystem.number (mount.filesystem ∷ [])
         || filesystem_lives nat_eq after filesystem)) same
         ∙ all_pass (λ filesystem. is_among nat_eq filesystem.number (mount.filesystem ∷ [])
         || filesystem_lives nat_eq after filesystem) world.filesystems
@@ -106,11 +98,9 @@ module _ (world after : World ℕ) (front back : List (Mount ℕ)) (mount : Moun
             lives_mounted after same filesystem ∙ mounted_as_before filesystem.number differs
             ∙ sym (lives_mounted world refl filesystem) ∙ lives
 
-    filesystem_left : FilesystemsInUse world
-        → without_dead_filesystems nat_eq after
+    filesystem_left : FilesystemsInUse world → without_dead_filesystems nat_eq after
         ≡ cond (nat_lt 1 (mounts_showing world mount.filesystem)) after (without_filesystem after mount.filesystem)
-    filesystem_left in_use =
-        filesystems_go_one_by_one after (mount.filesystem ∷ []) (other_filesystems in_use)
+    filesystem_left in_use = filesystems_go_one_by_one after (mount.filesystem ∷ []) (other_filesystems in_use)
         ∙ filesystem_is_looked_up after mount.filesystem
         ∙ ap (λ b. cond b after (without_filesystem after mount.filesystem))
         (ap (λ b. is_mounted nat_eq after mount.filesystem || b)

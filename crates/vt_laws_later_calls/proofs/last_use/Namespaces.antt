@@ -27,8 +27,7 @@ module _ (world : World ℕ) (front back : List (Task ℕ)) (task : Task ℕ) (m
 
   -- its own namespace has tasks if it had more
   entered_still : is_entered task.namespace ≡ nat_lt 1 (task_count world task.namespace)
-  entered_still =
-      some_without_it (λ (other : Task ℕ). nat_eq task.namespace other.namespace) task
+  entered_still = some_without_it (λ (other : Task ℕ). nat_eq task.namespace other.namespace) task
       (eq-eqb task.namespace task.namespace refl) front back
       ∙ ap (λ tasks. nat_lt 1 (times (λ (other : Task ℕ). nat_eq task.namespace other.namespace) tasks)) (sym before)
 
@@ -43,8 +42,7 @@ module _ (world : World ℕ) (front back : List (Task ℕ)) (task : Task ℕ) (m
 
   namespace_left : (b : Bool) → is_entered task.namespace ≡ b
       → namespaces_ended nat_eq after ≡ cond b after (without_namespace after task.namespace)
-  namespace_left true has =
-      no_namespace_ends after namespaces.mounts_listed
+  namespace_left true has = no_namespace_ends after namespaces.mounts_listed
       (all_pass (has_tasks nat_eq after) world.namespaces
       (λ namespace m. by namespace m (nat_eq task.namespace namespace.number) refl))
       ∙ ap (λ lost. regrouped_by nat_eq lost after) (none_lost world mounts)
@@ -53,11 +51,9 @@ module _ (world : World ℕ) (front back : List (Task ℕ)) (task : Task ℕ) (m
           → nat_eq task.namespace namespace.number ≡ b → has_tasks nat_eq after namespace ≡ true
       by namespace m true e = ap is_entered (sym (eqb-true task.namespace namespace.number e)) ∙ has
       by namespace m false e = entered_as_before namespace m e
-  namespace_left false none =
-      one_namespace_ends after task.namespace namespaces.mounts_listed none
+  namespace_left false none = one_namespace_ends after task.namespace namespaces.mounts_listed none
       (all_pass (λ namespace. nat_eq task.namespace namespace.number || has_tasks nat_eq after namespace)
-      world.namespaces
-      (λ namespace m. by namespace m (nat_eq task.namespace namespace.number) refl))
+      world.namespaces (λ namespace m. by namespace m (nat_eq task.namespace namespace.number) refl))
     where
       by : (namespace : Namespace ℕ) → Among namespace world.namespaces → (b : Bool)
           → nat_eq task.namespace namespace.number ≡ b → (b || has_tasks nat_eq after namespace) ≡ true
@@ -69,5 +65,4 @@ namespace_ends_with_its_last_task world front back task mounts namespaces before
     namespace_left world front back task mounts namespaces before
     (list_any (λ (other : Task ℕ). nat_eq task.namespace other.namespace) (front ++ back)) refl
     ∙ ap (λ b. cond b (with_tasks world (front ++ back)) (without_namespace (with_tasks world
-    (front ++ back)) task.namespace))
-    (entered_still world front back task mounts namespaces before)
+    (front ++ back)) task.namespace)) (entered_still world front back task mounts namespaces before)

@@ -24,18 +24,15 @@ module _ {A : Type 0} (test : A → Bool) where
   -- without one that passes, some pass just where more than one did
   pub some_without_it : (a : A) → test a ≡ true → (front back : List A)
       → list_any test (front ++ back) ≡ nat_lt 1 (times test (front ++ (a ∷ back)))
-  some_without_it a e front back =
-      any_counted test (front ++ back)
+  some_without_it a e front back = any_counted test (front ++ back)
       ∙ some_left (times test (front ++ (a ∷ back))) (times test (front ++ back))
       (times_around test front back a ∙ ap (λ b. times test (front ++ back) + cond b 1 0) e)
 
   -- without one that does not pass, some pass just where some did
   pub some_without_another : (a : A) → test a ≡ false → (front back : List A)
       → list_any test (front ++ back) ≡ list_any test (front ++ (a ∷ back))
-  some_without_another a e front back =
-      list_any-append test front back
-      ∙ ap (λ b. list_any test front || (b || list_any test back)) (sym e)
-      ∙ sym (list_any-append test front (a ∷ back))
+  some_without_another a e front back = list_any-append test front back
+      ∙ ap (λ b. list_any test front || (b || list_any test back)) (sym e) ∙ sym (list_any-append test front (a ∷ back))
 
 -- A list around one of it, of which no two are the same: without it, and with another in its place
 pub record IsSplit {A : Type 0} (same : A → A → Bool) (list : List A) (it : A) : Type 0 where

@@ -41,8 +41,7 @@ module _ (world after : World ℕ) (front back : List (Mount ℕ)) (mount : Moun
   -- what has the number of the filesystem that the mount showed is that one
   its_own : (f : Filesystem ℕ) → Among f world.filesystems → nat_eq f.number mount.filesystem ≡ true
       → filesystem_numbered nat_eq world mount.filesystem ≡ f
-  its_own f m e =
-      ap (filesystem_numbered nat_eq world) (sym (eqb-true f.number mount.filesystem e))
+  its_own f m e = ap (filesystem_numbered nat_eq world) (sym (eqb-true f.number mount.filesystem e))
       ∙ found_by (λ (x : Filesystem ℕ). x.number) (no_filesystem f.number) world.filesystems one f m
 
   -- Where it was a plain one, overlays are mounted as before
@@ -62,13 +61,11 @@ module _ (world after : World ℕ) (front back : List (Mount ℕ)) (mount : Moun
             let none = no_layer number merged (ap is_overlay (sym (its_own merged m e)) ∙ plain) in
             ap (λ b. b && is_mounted nat_eq after merged.number) none
             ∙ ap (λ b. b && is_mounted nat_eq world merged.number) (sym none)
-        by merged m false e =
-            ap (λ b. has_layer_on nat_eq number merged && b)
+        by merged m false e = ap (λ b. has_layer_on nat_eq number merged && b)
             (mounted_as_before world after front back mount before left merged.number e)
 
     other_filesystems : FilesystemsInUseBut (mount.filesystem ∷ []) after
-    other_filesystems =
-        ap (list_all (λ filesystem. is_among nat_eq filesystem.number (mount.filesystem ∷ [])
+    other_filesystems = ap (list_all (λ filesystem. is_among nat_eq filesystem.number (mount.filesystem ∷ [])
         || filesystem_lives nat_eq after filesystem)) same
         ∙ all_pass (λ filesystem. is_among nat_eq filesystem.number (mount.filesystem ∷ [])
         || filesystem_lives nat_eq after filesystem) world.filesystems
@@ -78,23 +75,19 @@ module _ (world after : World ℕ) (front back : List (Mount ℕ)) (mount : Moun
         by : (f : Filesystem ℕ) (b : Bool) → nat_eq f.number mount.filesystem ≡ b
             → filesystem_lives nat_eq world f ≡ true → ((b || false) || filesystem_lives nat_eq after f) ≡ true
         by f true e lives = refl
-        by f false e lives =
-            (λ i. mounted_as_before world after front back mount before left f.number e i
-            || layered_as_before f.number i)
-            ∙ lives
+        by f false e lives = (λ i. mounted_as_before world after front back mount before left f.number e i
+            || layered_as_before f.number i) ∙ lives
 
     pub plain_left : without_dead_filesystems nat_eq after
         ≡ cond (nat_lt 1 (mounts_showing world mount.filesystem) || is_layered world mount.filesystem) after
         (without_filesystem after mount.filesystem)
-    plain_left =
-        filesystems_go_one_by_one after (mount.filesystem ∷ []) other_filesystems
+    plain_left = filesystems_go_one_by_one after (mount.filesystem ∷ []) other_filesystems
         ∙ filesystem_is_looked_up after mount.filesystem
         ∙ (λ i. cond (mounted_still world after front back mount before left i
         || layered_as_before mount.filesystem i) after (without_filesystem after mount.filesystem))
 
   -- Where it was an overlay, filesystems of its layers may go
-  module _ (overlay : Overlay ℕ)
-      (is : (filesystem_numbered nat_eq world mount.filesystem).overlay ≡ Some overlay)
+  module _ (overlay : Overlay ℕ) (is : (filesystem_numbered nat_eq world mount.filesystem).overlay ≡ Some overlay)
       (no_layers : list_any (has_layer_on nat_eq mount.filesystem) world.filesystems ≡ false) where
     abbrev layers : List ℕ
     layers = map (λ layer. layer.filesystem) (layers_of overlay)
@@ -103,8 +96,7 @@ module _ (world after : World ℕ) (front back : List (Mount ℕ)) (mount : Moun
     lives_layered : (number : ℕ) (merged : Filesystem ℕ) → Among merged world.filesystems
         → has_layer_on nat_eq number merged ≡ true → is_mounted nat_eq after merged.number ≡ true
         → (is_mounted nat_eq after number || is_layered after number) ≡ true
-    lives_layered number merged m has mounted =
-        or_second (is_mounted nat_eq after number) (is_layered after number)
+    lives_layered number merged m has mounted = or_second (is_mounted nat_eq after number) (is_layered after number)
         (ap (list_any (λ x. has_layer_on nat_eq number x && is_mounted nat_eq after x.number)) same
         ∙ any_passes (λ x. has_layer_on nat_eq number x && is_mounted nat_eq after x.number) world.filesystems merged m
         (λ i. has i && mounted i))
@@ -113,18 +105,15 @@ module _ (world after : World ℕ) (front back : List (Mount ℕ)) (mount : Moun
     lived : (f : Filesystem ℕ) → Among f world.filesystems
         → (is_mounted nat_eq world f.number ≡ true) ⊎ ((merged : Filesystem ℕ) × Among merged world.filesystems
         × (has_layer_on nat_eq f.number merged ≡ true) × (is_mounted nat_eq world merged.number ≡ true))
-    lived f m =
-        ⊎_elim inl
+    lived f m = ⊎_elim inl
         (λ layered. let t = one_passes (λ x. has_layer_on nat_eq f.number x && is_mounted nat_eq world x.number)
         world.filesystems layered in
         let both = and_parts (has_layer_on nat_eq f.number t.0) (is_mounted nat_eq world t.0.number) t.2 in
-        inr (t.0, t.1, both.0, both.1))
-        (or_cases (is_mounted nat_eq world f.number) (is_layered world f.number)
+        inr (t.0, t.1, both.0, both.1)) (or_cases (is_mounted nat_eq world f.number) (is_layered world f.number)
         (passes (filesystem_lives nat_eq world) world.filesystems in_use f m))
 
     all_but : FilesystemsInUseBut (mount.filesystem ∷ layers) after
-    all_but =
-        ap (list_all (λ filesystem. is_among nat_eq filesystem.number (mount.filesystem ∷ layers)
+    all_but = ap (list_all (λ filesystem. is_among nat_eq filesystem.number (mount.filesystem ∷ layers)
         || filesystem_lives nat_eq after filesystem)) same
         ∙ all_pass (λ filesystem. is_among nat_eq filesystem.number (mount.filesystem ∷ layers)
         || filesystem_lives nat_eq after filesystem) world.filesystems
@@ -143,28 +132,23 @@ module _ (world after : World ℕ) (front back : List (Mount ℕ)) (mount : Moun
             × (has_layer_on nat_eq f.number merged ≡ true) × (is_mounted nat_eq world merged.number ≡ true))
             → ((b || is_among nat_eq f.number layers) || filesystem_lives nat_eq after f) ≡ true
         by f true e how = refl
-        by f false e (inl mounted) =
-            or_second (is_among nat_eq f.number layers) (filesystem_lives nat_eq after f)
+        by f false e (inl mounted) = or_second (is_among nat_eq f.number layers) (filesystem_lives nat_eq after f)
             (or_first (is_mounted nat_eq after f.number) (is_layered after f.number)
             (mounted_as_before world after front back mount before left f.number e ∙ mounted))
         by f false e (inr t) = which (nat_eq t.0.number mount.filesystem) refl
           where
             which : (b : Bool) → nat_eq t.0.number mount.filesystem ≡ b
                 → (is_among nat_eq f.number layers || filesystem_lives nat_eq after f) ≡ true
-            which true g =
-                or_first (is_among nat_eq f.number layers) (filesystem_lives nat_eq after f)
+            which true g = or_first (is_among nat_eq f.number layers) (filesystem_lives nat_eq after f)
                 (is_layer f t.0 t.1 g t.2)
-            which false g =
-                or_second (is_among nat_eq f.number layers) (filesystem_lives nat_eq after f)
+            which false g = or_second (is_among nat_eq f.number layers) (filesystem_lives nat_eq after f)
                 (lives_layered f.number t.0 t.1 t.2
                 (mounted_as_before world after front back mount before left t.0.number g ∙ t.3))
 
     -- while another mount shows it, all are in use
     all_mounted : is_mounted nat_eq after mount.filesystem ≡ true → FilesystemsInUse after
-    all_mounted still =
-        ap (list_all (filesystem_lives nat_eq after)) same
-        ∙ all_pass (filesystem_lives nat_eq after) world.filesystems
-        (λ f m. ⊎_elim
+    all_mounted still = ap (list_all (filesystem_lives nat_eq after)) same
+        ∙ all_pass (filesystem_lives nat_eq after) world.filesystems (λ f m. ⊎_elim
         (λ mounted. or_first (is_mounted nat_eq after f.number) (is_layered after f.number) (as_before f.number mounted))
         (λ t. lives_layered f.number t.0 t.1 t.2 (as_before t.0.number t.3)) (lived f m))
       where
@@ -177,27 +161,22 @@ module _ (world after : World ℕ) (front back : List (Mount ℕ)) (mount : Moun
 
     -- no overlay has a layer in it
     not_layered : is_layered after mount.filesystem ≡ false
-    not_layered =
-        ap (list_any (λ x. has_layer_on nat_eq mount.filesystem x && is_mounted nat_eq after x.number)) same
+    not_layered = ap (list_any (λ x. has_layer_on nat_eq mount.filesystem x && is_mounted nat_eq after x.number)) same
         ∙ none_passes (λ x. has_layer_on nat_eq mount.filesystem x && is_mounted nat_eq after x.number)
         world.filesystems (λ x m. ap (λ b. b && is_mounted nat_eq after x.number)
         (fails (has_layer_on nat_eq mount.filesystem) world.filesystems no_layers x m))
 
-    overlay_left : (b : Bool) → is_mounted nat_eq after mount.filesystem ≡ b
-        → without_dead_filesystems nat_eq after
+    overlay_left : (b : Bool) → is_mounted nat_eq after mount.filesystem ≡ b → without_dead_filesystems nat_eq after
         ≡ cond b after (let_go_filesystems (without_filesystem after mount.filesystem) layers)
     overlay_left true still = filesystems_stay after (all_mounted still)
-    overlay_left false gone =
-        filesystems_go_one_by_one after (mount.filesystem ∷ layers) all_but
-        ∙ ap (λ w. let_go_filesystems w layers)
-        (filesystem_is_looked_up after mount.filesystem
+    overlay_left false gone = filesystems_go_one_by_one after (mount.filesystem ∷ layers) all_but
+        ∙ ap (λ w. let_go_filesystems w layers) (filesystem_is_looked_up after mount.filesystem
         ∙ (λ i. cond (gone i || not_layered i) after (without_filesystem after mount.filesystem)))
 
     pub overlay_goes : without_dead_filesystems nat_eq after
         ≡ cond (nat_lt 1 (mounts_showing world mount.filesystem)) after
         (let_go_filesystems (without_filesystem after mount.filesystem) layers)
-    overlay_goes =
-        overlay_left (is_mounted nat_eq after mount.filesystem) refl
+    overlay_goes = overlay_left (is_mounted nat_eq after mount.filesystem) refl
         ∙ ap (λ b. cond b after (let_go_filesystems (without_filesystem after mount.filesystem) layers))
         (mounted_still world after front back mount before left)
 

@@ -27,8 +27,7 @@ others_differ : (first : Filesystem ℕ) (rest : List (Filesystem ℕ))
     → any_pair (λ (a b : Filesystem ℕ). nat_eq a.number b.number) (first ∷ rest) ≡ false
     → (list_any (λ (b : Filesystem ℕ). nat_eq first.number b.number) rest ≡ false)
     × (any_pair (λ (a b : Filesystem ℕ). nat_eq a.number b.number) rest ≡ false)
-others_differ first rest one =
-    or_parts (list_any (λ (b : Filesystem ℕ). nat_eq first.number b.number) rest)
+others_differ first rest one = or_parts (list_any (λ (b : Filesystem ℕ). nat_eq first.number b.number) rest)
     (any_pair (λ (a b : Filesystem ℕ). nat_eq a.number b.number) rest) one
 
 -- what one filesystem alone gives
@@ -37,14 +36,11 @@ given_by_one : {B : Type 0} (give : Filesystem ℕ → List B) (filesystems : Li
     → (it : Filesystem ℕ) → Among it filesystems → ((f : Filesystem ℕ) → nat_eq f.number it.number ≡ false
     → give f ≡ []) → flat_map give filesystems ≡ give it
 given_by_one give [] one it m none = absurd m
-given_by_one give (first ∷ rest) one it m none =
-    ⊎_elim
-    (λ same. ap (λ l. give first ++ l)
+given_by_one give (first ∷ rest) one it m none = ⊎_elim (λ same. ap (λ l. give first ++ l)
     (flat_map_none give rest (λ f n. none f (nat_eq-swapped it.number f.number false
     (ap (λ (x : Filesystem ℕ). nat_eq x.number f.number) same
     ∙ fails (λ (b : Filesystem ℕ). nat_eq first.number b.number) rest parts.0 f n))))
-    ∙ append-nil (give first) ∙ ap give (sym same))
-    (λ later. ap (λ l. l ++ flat_map give rest)
+    ∙ append-nil (give first) ∙ ap give (sym same)) (λ later. ap (λ l. l ++ flat_map give rest)
     (none first (fails (λ (b : Filesystem ℕ). nat_eq first.number b.number) rest parts.0 it later))
     ∙ given_by_one give rest parts.1 it later none) m
   where
@@ -59,8 +55,7 @@ found_there : (world : World ℕ) (k : ℕ) → is_overlay (filesystem_numbered 
 found_there world k = by (find (λ (f : Filesystem ℕ). nat_eq k f.number) world.filesystems) refl
   where
     by : (o : Option (Filesystem ℕ)) → find (λ (f : Filesystem ℕ). nat_eq k f.number) world.filesystems ≡ o
-        → is_overlay (unwrap_or o (no_filesystem k)) ≡ true
-        → Among (unwrap_or o (no_filesystem k)) world.filesystems
+        → is_overlay (unwrap_or o (no_filesystem k)) ≡ true → Among (unwrap_or o (no_filesystem k)) world.filesystems
         × (nat_eq k (unwrap_or o (no_filesystem k)).number ≡ true)
     by None e h = absurd (true≢false (sym h))
     by (Some f) e h = found_in (λ (g : Filesystem ℕ). nat_eq k g.number) world.filesystems f e
@@ -84,8 +79,7 @@ module _ (after : World ℕ) (inode : Inode) (overlay : Overlay ℕ)
   its_number k = ap (nat_eq k) (sym (eqb-true inode.0 merged.number there.1))
 
   uppers_are : uppers_of after (inode ∷ []) ≡ uppers_in inode.1 overlay
-  uppers_are =
-      append-nil (uppers_of_inode after inode)
+  uppers_are = append-nil (uppers_of_inode after inode)
       ∙ given_by_one (uppers_of_inode_in inode) after.filesystems one merged there.0
       (λ f differs. ap (λ b. cond b (of_overlay [] (uppers_in inode.1) f) []) (sym (its_number f.number) ∙ differs))
       ∙ ap (λ b. cond b (of_overlay [] (uppers_in inode.1) merged) [])
@@ -116,8 +110,7 @@ module _ (after : World ℕ) (inode : Inode) (overlay : Overlay ℕ)
         where
           by : (b : Bool) → is_overlay f ≡ b → b ≡ false
           by false h = refl
-          by true h =
-              absurd (true≢false
+          by true h = absurd (true≢false
               (sym (ap (overlay_or false (λ o. holds_of (λ l. nat_eq f.number l.filesystem) o.upper)) is
               ∙ ap (holds_of (λ l. nat_eq f.number l.filesystem)) upper ∙ e)
               ∙ among_from_all (λ g. has_upper_in f.number g ≡ false) after.filesystems
@@ -140,17 +133,14 @@ module _ (after : World ℕ) (inode : Inode) (overlay : Overlay ℕ)
       upper_used : (f : Filesystem ℕ) → Among f after.filesystems → nat_eq f.number layer.filesystem ≡ true
           → is_inode_used left f object
           ≡ nat_lt 1 (inode_uses world (filesystem_numbered nat_eq world layer.filesystem) object)
-      upper_used f m e =
-          ap (λ filesystems. is_inode_used (record after { filesystems = filesystems }) f object)
+      upper_used f m e = ap (λ filesystems. is_inode_used (record after { filesystems = filesystems }) f object)
           (changed ∙ ap (λ b. split.front ++ (cond b (without_inode_of inode.1 merged) merged ∷ split.back))
           (sym (its_number merged.number) ∙ eq-eqb merged.number merged.number refl))
           ∙ used_while_counted (record after { filesystems = last }) f object
           ∙ some_left (inode_uses after f object) (inode_uses (record after { filesystems = last }) f object)
           (one_upper_use_less after split.front split.back merged overlay layer inode.1 object split.whole is upper real once
-          f object
-          ∙ ap (λ b. inode_uses (record after { filesystems = last }) f object + cond b 1 0)
-          (λ i. e i && eq-eqb object object refl i))
-          ∙ ap (λ g. nat_lt 1 (inode_uses after g object)) (sym found)
+          f object ∙ ap (λ b. inode_uses (record after { filesystems = last }) f object + cond b 1 0)
+          (λ i. e i && eq-eqb object object refl i)) ∙ ap (λ g. nat_lt 1 (inode_uses after g object)) (sym found)
           ∙ ap (nat_lt 1) (sym (alike (inode_uses world (filesystem_numbered nat_eq world layer.filesystem) object)
           (inode_uses after (filesystem_numbered nat_eq after layer.filesystem) object)
           (loses.uses layer.filesystem object
@@ -159,8 +149,7 @@ module _ (after : World ℕ) (inode : Inode) (overlay : Overlay ℕ)
           (ap (λ k. nat_eq k inode.0) (sym (eqb-true f.number layer.filesystem e)) ∙ apart f m e))))
         where
           split : IsSplit (λ (a b : Filesystem ℕ). nat_eq a.number b.number) after.filesystems merged
-          split =
-              split_around (λ (a b : Filesystem ℕ). nat_eq a.number b.number) (λ g. eq-eqb g.number g.number refl)
+          split = split_around (λ (a b : Filesystem ℕ). nat_eq a.number b.number) (λ g. eq-eqb g.number g.number refl)
               (λ a b. nat_eq-swapped a.number b.number false) after.filesystems one merged there.0
 
           changed : map (without_inode_of_any inode) after.filesystems
@@ -245,8 +234,7 @@ inode_over_lowers_goes_alone world after inode overlay in_use loses is none tree
 
 pub upper_inode_goes_with_its_last_use : UpperInodeGoesWithItsLastUse
 upper_inode_goes_with_its_last_use world after inode overlay layer object in_use loses is upper real once trees uppers
-    reals one =
-    of_overlay_left world after inode in_use.inodes loses one (ap is_some is) trees uppers reals
+    reals one = of_overlay_left world after inode in_use.inodes loses one (ap is_some is) trees uppers reals
     (nat_lt 1 (inode_uses world (filesystem_numbered nat_eq world inode.0) inode.1)) refl
     ∙ ap (λ list. cond (nat_lt 1 (inode_uses world (filesystem_numbered nat_eq world inode.0) inode.1)) after
     (let_go_plain (without_merged_inode after inode) list))

@@ -87,9 +87,7 @@ module _ (world : World ℕ) (fresh : Fresh ℕ) (name : TaskName) (call : Call)
   own_task = called_own world fresh name call answer is plain serves other few did
 
   pub seen_to : SeesTo world did.task (ToRemoveDirectory parent word object)
-  seen_to =
-      subst (SeesTo world did.task) permit_is
-      (given_permits_are_seen_to world fresh did.task did.permit is
+  seen_to = subst (SeesTo world did.task) permit_is (given_permits_are_seen_to world fresh did.task did.permit is
       (given_of world fresh name call answer serves other few did))
 
   pub may : MayRemove (files_at nat_eq world parent).tree parent.node word object.node
@@ -98,8 +96,7 @@ module _ (world : World ℕ) (fresh : Fresh ℕ) (name : TaskName) (call : Call)
   -- the parent is reached, and no mount of the task's namespace stands on the directory
   pub reaches : IsReached world did.task parent
       × (is_mount_point_in nat_eq (looks_of nat_eq world) did.task.namespace object ≡ false)
-  reaches =
-      removal_reached fresh world is did.task own_task call (ToRemoveDirectory parent word object)
+  reaches = removal_reached fresh world is did.task own_task call (ToRemoveDirectory parent word object)
       (did.judged ∙ ap Ok permit_is)
 
   pub own_parent : IsOn world is did.task parent.mount
@@ -112,8 +109,7 @@ module _ (world : World ℕ) (fresh : Fresh ℕ) (name : TaskName) (call : Call)
   stays : (number : ℕ) → IsOn world is did.task number → is_going nat_eq gone number ≡ false
   stays number own =
       let root : Location ℕ = record { mount = number; node = (mount_numbered nat_eq world number).root } in
-      reached_stays world is did.task object root reaches.1
-      (is_reached world is did.task root
+      reached_stays world is did.task object root reaches.1 (is_reached world is did.task root
       (own, directory_used (files_at nat_eq world root).tree root.node (mount_root world is number own.0)))
 
   closed : AreClosed world gone
@@ -128,9 +124,7 @@ module _ (world : World ℕ) (fresh : Fresh ℕ) (name : TaskName) (call : Call)
   does = ap (λ p. (apply nat_eq fresh world did.task p).world) permit_is
 
   living : left.mounts ≡ filter (mount_lives nat_eq spent) middle.mounts
-  living =
-      ap (λ (w : World ℕ). w.mounts) did.left
-      ∙ ap (filter (mount_lives nat_eq spent))
+  living = ap (λ (w : World ℕ). w.mounts) did.left ∙ ap (filter (mount_lives nat_eq spent))
       (ap (λ (w : World ℕ). w.mounts) does ∙ change_mounts fresh middle middle_plain parent change)
 
   attached_live : (mount : Mount ℕ) → is_some mount.namespace ≡ true → mount_lives nat_eq spent mount ≡ true
@@ -138,12 +132,9 @@ module _ (world : World ℕ) (fresh : Fresh ℕ) (name : TaskName) (call : Call)
 
   -- the caller is there still
   pub caller : task_called left name ≡ Some (raised_task name did.task)
-  caller =
-      still_called world fresh name call answer is plain serves other few did name did.task
-      (ap (λ w. task_called w name) does
-      ∙ ap (find (λ (t : Task ℕ). same_name name t.name))
-      (change_tasks fresh middle middle_plain parent change ∙ tasks-taken_away world gone)
-      ∙ did.called)
+  caller = still_called world fresh name call answer is plain serves other few did name did.task
+      (ap (λ w. task_called w name) does ∙ ap (find (λ (t : Task ℕ). same_name name t.name))
+      (change_tasks fresh middle middle_plain parent change ∙ tasks-taken_away world gone) ∙ did.called)
 
   pub mounts_seen : (reader : Task ℕ) → reader.root ≡ did.task.root
       → MountsSeen world left is plain is_left.0 is_left.1 did.task reader
@@ -160,13 +151,11 @@ module _ (world : World ℕ) (fresh : Fresh ℕ) (name : TaskName) (call : Call)
   middle_shown = (kept_by_number world gone parent.mount (stays parent.mount own_parent)).filesystem
 
   middle_numbered : (number : ℕ) → filesystem_numbered nat_eq middle number ≡ filesystem_numbered nat_eq world number
-  middle_numbered number =
-      ap (λ list. unwrap_or (find (λ (f : Filesystem ℕ). nat_eq number f.number) list)
+  middle_numbered number = ap (λ list. unwrap_or (find (λ (f : Filesystem ℕ). nat_eq number f.number) list)
       (no_filesystem number)) (filesystems-taken_away world gone)
 
   middle_files : files_at nat_eq middle parent ≡ files_at nat_eq world parent
-  middle_files =
-      ap (λ n. (filesystem_numbered nat_eq middle n).files) middle_shown
+  middle_files = ap (λ n. (filesystem_numbered nat_eq middle n).files) middle_shown
       ∙ ap (λ (f : Filesystem ℕ). f.files) (middle_numbered shown)
 
   spent_files : (number : ℕ) → (filesystem_numbered nat_eq spent number).files
@@ -175,11 +164,9 @@ module _ (world : World ℕ) (fresh : Fresh ℕ) (name : TaskName) (call : Call)
 
   pub spent_shown : (filesystem_numbered nat_eq spent shown).files
       ≡ changed nat_eq (files_at nat_eq world parent) change
-  spent_shown =
-      spent_files shown
+  spent_shown = spent_files shown
       ∙ ap (λ n. (filesystem_numbered nat_eq (with_change nat_eq fresh middle parent change) n).files)
-      (sym middle_shown)
-      ∙ files_changed fresh middle middle_plain parent change
+      (sym middle_shown) ∙ files_changed fresh middle middle_plain parent change
       (ap (λ (f : FileTree ℕ). is_some (f.tree.node parent.node)) middle_files ∙ parent_there)
       ∙ ap (λ f. changed nat_eq f change) middle_files
 
@@ -220,12 +207,9 @@ module _ (world : World ℕ) (fresh : Fresh ℕ) (name : TaskName) (call : Call)
       }
 
       by : (b : Bool) → nat_eq shown number ≡ b → IsLess number (tree_in world number) (tree_in spent number)
-      by true e =
-          subst (λ n. IsLess n (tree_in world n) (tree_in spent n)) (eqb-true shown number e)
+      by true e = subst (λ n. IsLess n (tree_in world n) (tree_in spent n)) (eqb-true shown number e)
           (subst (λ (f : FileTree ℕ). IsLess shown (tree_in world shown) f.tree) (sym spent_shown) here)
-      by false e =
-          subst (λ (f : FileTree ℕ). IsLess number (tree_in world number) f.tree)
-          (sym (spent_files number
+      by false e = subst (λ (f : FileTree ℕ). IsLess number (tree_in world number) f.tree) (sym (spent_files number
           ∙ files_other fresh middle middle_plain parent change number (ap (λ n. nat_eq n number) middle_shown ∙ e)
           ∙ ap (λ (f : Filesystem ℕ). f.files) (middle_numbered number))) same
 
@@ -238,20 +222,15 @@ module _ (world : World ℕ) (fresh : Fresh ℕ) (name : TaskName) (call : Call)
       → (tree_in left filesystem).root ≡ (tree_in world filesystem).root
   root_left filesystem number there =
       let files = later_files world fresh name call answer is plain serves other few did filesystem in
-      ap (λ (f : FileTree ℕ). f.tree.root) files
-      ∙ root_settled spent
+      ap (λ (f : FileTree ℕ). f.tree.root) files ∙ root_settled spent
       (spent_unsettled world fresh name call answer is plain serves other few did).files.one_filesystem filesystem
-      number
-      (ap (λ (f : FileTree ℕ). is_some (f.tree.node number)) (sym files) ∙ there)
-      ∙ (each filesystem).root
+      number (ap (λ (f : FileTree ℕ). is_some (f.tree.node number)) (sym files) ∙ there) ∙ (each filesystem).root
 
   pub rights_left : (filesystem number : ℕ) → is_some (node_in left filesystem number) ≡ true
-      → is_some (node_in world filesystem number) ≡ true
-      → (who : Credentials) (wanted : ℕ)
+      → is_some (node_in world filesystem number) ≡ true → (who : Credentials) (wanted : ℕ)
       → node_allows who wanted (node_in left filesystem number)
       ≡ node_allows who wanted (node_in world filesystem number)
-  rights_left filesystem number now was who wanted =
-      ap (node_allows who wanted) (node_left filesystem number now)
+  rights_left filesystem number now was who wanted = ap (node_allows who wanted) (node_left filesystem number now)
       ∙ (each filesystem).rights who wanted number was
 
   pub objects_stay : (Refused : Deny → Type 0) → Refused (denial W6) → ObjectsStay world left Refused
@@ -276,7 +255,6 @@ module _ (world : World ℕ) (fresh : Fresh ℕ) (name : TaskName) (call : Call)
   -- the name is missing
   pub name_left : is_some (node_in left shown parent.node) ≡ true
       → entry_at (tree_in left shown) parent.node word ≡ None
-  name_left there =
-      ap (λ o. entry_named word (entries_in o))
+  name_left there = ap (λ o. entry_named word (entries_in o))
       (node_left shown parent.node there ∙ ap (λ (f : FileTree ℕ). f.tree.node parent.node) spent_shown)
       ∙ removed_name (files_at nat_eq world parent) parent.node word object.node may

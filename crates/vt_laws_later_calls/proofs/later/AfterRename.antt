@@ -67,32 +67,26 @@ module _ (world : World ℕ) (is : IsWorld nat_eq world) (object : Location ℕ)
   pub none_on_it : (mount : Mount ℕ) (place : Location ℕ) → Among mount world.mounts → mount.mount_point ≡ Some place
       → (mount_at nat_eq world place).filesystem ≡ (mount_at nat_eq world object).filesystem → place.node ≡ object.node
       → ⊥
-  none_on_it mount place m at same node =
-      true≢false
+  none_on_it mount place m at same node = true≢false
       (sym (any_from_among (λ (m : Mount ℕ). is_some m.namespace) (mounts_on nat_eq world object) mount
       (among-filter (λ (m : Mount ℕ). list_any (λ point. is_point nat_eq world point.0 point.1 m)
-      (points_of nat_eq world object)) world.mounts
-      mount m on_it) (attached (is_some mount.namespace) refl))
+      (points_of nat_eq world object)) world.mounts mount m on_it) (attached (is_some mount.namespace) refl))
       ∙ uncovered)
     where
       number_is : (mount_at nat_eq world place).filesystem ≡ (filesystem_at nat_eq world object).number
       number_is = same ∙ sym (number_numbered (mount_at nat_eq world object).filesystem world.filesystems)
 
       on_it : list_any (λ point. is_point nat_eq world point.0 point.1 mount) (points_of nat_eq world object) ≡ true
-      on_it =
-          ap (λ b. b || list_any (λ point. is_point nat_eq world point.0 point.1 mount)
+      on_it = ap (λ b. b || list_any (λ point. is_point nat_eq world point.0 point.1 mount)
           (of_overlay [] (λ overlay. upper_points world (filesystem_at nat_eq world object) overlay object.node)
-          (filesystem_at nat_eq world object)))
-          (ap (holds_of (λ at. nat_eq at.node object.node
+          (filesystem_at nat_eq world object))) (ap (holds_of (λ at. nat_eq at.node object.node
           && nat_eq (mount_at nat_eq world at).filesystem (filesystem_at nat_eq world object).number)) at
           ∙ and_from _ _ (eq-eqb place.node object.node node)
           (eq-eqb (mount_at nat_eq world place).filesystem (filesystem_at nat_eq world object).number number_is))
 
       attached : (b : Bool) → is_some mount.namespace ≡ b → is_some mount.namespace ≡ true
       attached true e = e
-      attached false e =
-          absurd (true≢false (sym (ap is_some at)
-          ∙ (nowhere_parts mount
+      attached false e = absurd (true≢false (sym (ap is_some at) ∙ (nowhere_parts mount
           (among_from_list_all is_nowhere_or_attached world.mounts is.mounts.nowhere mount m) e).0))
 
   pub free_over : (place : Location ℕ)
@@ -135,9 +129,7 @@ module _ (world : World ℕ) (fresh : Fresh ℕ) (name : TaskName) (call : Call)
   is_left = later_is world fresh name call answer is plain serves other few did
 
   pub may : MayBeRenamed world from old to new object replaced
-  may =
-      subst (SeesTo world did.task) permit_is
-      (given_permits_are_seen_to world fresh did.task did.permit is
+  may = subst (SeesTo world did.task) permit_is (given_permits_are_seen_to world fresh did.task did.permit is
       (given_of world fresh name call answer serves other few did))
 
   from_directory : is_directory_node ((files_at nat_eq world from).tree.node from.node) ≡ true
@@ -158,8 +150,7 @@ module _ (world : World ℕ) (fresh : Fresh ℕ) (name : TaskName) (call : Call)
   middle_plain = replaced_plain world replaced plain
 
   middle_files : files_at nat_eq middle from ≡ files_at nat_eq world from
-  middle_files =
-      ap (λ n. (filesystem_numbered nat_eq middle n).files) (shown-without_replaced world replaced from)
+  middle_files = ap (λ n. (filesystem_numbered nat_eq middle n).files) (shown-without_replaced world replaced from)
       ∙ ap (λ list. (unwrap_or (find (λ (f : Filesystem ℕ). nat_eq shown f.number) list) (no_filesystem shown)).files)
       (filesystems-without_replaced world replaced)
 
@@ -167,27 +158,22 @@ module _ (world : World ℕ) (fresh : Fresh ℕ) (name : TaskName) (call : Call)
   does = ap (λ p. (apply nat_eq fresh world did.task p).world) permit_is
 
   spent_shown : (filesystem_numbered nat_eq spent shown).files ≡ changed nat_eq (files_at nat_eq world from) change
-  spent_shown =
-      ap (λ w. (filesystem_numbered nat_eq w shown).files) does
+  spent_shown = ap (λ w. (filesystem_numbered nat_eq w shown).files) does
       ∙ ap (λ n. (filesystem_numbered nat_eq (with_change nat_eq fresh middle from change) n).files)
-      (sym (shown-without_replaced world replaced from))
-      ∙ files_changed fresh middle middle_plain from change
+      (sym (shown-without_replaced world replaced from)) ∙ files_changed fresh middle middle_plain from change
       (ap (λ (f : FileTree ℕ). is_some (f.tree.node from.node)) middle_files
       ∙ directory_used (files_at nat_eq world from).tree from.node from_directory)
       ∙ ap (λ f. changed nat_eq f change) middle_files
 
   node_left : (number : ℕ) → is_some (node_in left shown number) ≡ true
       → node_in left shown number ≡ (changed nat_eq (files_at nat_eq world from) change).tree.node number
-  node_left number there =
-      as_spent world fresh name call answer is plain serves other few did shown number there
+  node_left number there = as_spent world fresh name call answer is plain serves other few did shown number there
       ∙ ap (λ (f : FileTree ℕ). f.tree.node number) spent_shown
 
   entry_left : (directory : ℕ) (word : List ℕ) → is_some (node_in left shown directory) ≡ true
-      → entry_at (tree_in left shown) directory word
-      ≡ cond (is_entry to.node new directory word) (Some object.node)
+      → entry_at (tree_in left shown) directory word ≡ cond (is_entry to.node new directory word) (Some object.node)
       (cond (is_entry from.node old directory word) None (entry_at (files_at nat_eq world from).tree directory word))
-  entry_left directory word there =
-      ap (λ o. entry_named word (entries_in o)) (node_left directory there)
+  entry_left directory word there = ap (λ o. entry_named word (entries_in o)) (node_left directory there)
       ∙ move_told (files_at nat_eq world from) from.node old to.node new object.node may.moves.in_directory directory
       word
 
@@ -198,15 +184,12 @@ module _ (world : World ℕ) (fresh : Fresh ℕ) (name : TaskName) (call : Call)
   -- the object has its new name, and no longer the old one
   pub new_left : is_some (node_in left shown to.node) ≡ true
       → entry_at (tree_in left shown) to.node new ≡ Some object.node
-  new_left there =
-      entry_left to.node new there
-      ∙ ap (λ b. cond b (Some object.node)
+  new_left there = entry_left to.node new there ∙ ap (λ b. cond b (Some object.node)
       (cond (is_entry from.node old to.node new) None (entry_at (files_at nat_eq world from).tree to.node new)))
       (entry_itself to.node new)
 
   pub old_left : entry_at (files_at nat_eq world from).tree to.node new ≢ Some object.node
-      → is_some (node_in left shown from.node) ≡ true
-      → entry_at (tree_in left shown) from.node old ≡ None
+      → is_some (node_in left shown from.node) ≡ true → entry_at (tree_in left shown) from.node old ≡ None
   old_left two there = entry_left from.node old there ∙ by (is_entry to.node new from.node old) refl
     where
       by : (b : Bool) → is_entry to.node new from.node old ≡ b
@@ -222,12 +205,9 @@ module _ (world : World ℕ) (fresh : Fresh ℕ) (name : TaskName) (call : Call)
   -- and is as it was
   pub object_left : is_some (node_in left shown object.node) ≡ true
       → IsKept ((files_at nat_eq world from).tree.node object.node) (node_in left shown object.node)
-  object_left there =
-      kept_both _ _ _
-      (others_stay (files_at nat_eq world from) change object.node
+  object_left there = kept_both _ _ _ (others_stay (files_at nat_eq world from) change object.node
       (ap (λ b. b || (nat_eq object.node to.node || false)) (ne_eqb object.node from.node not_from)
-      ∙ ap (λ b. b || false) (ne_eqb object.node to.node not_to)))
-      (kept_same _ _ (node_left object.node there))
+      ∙ ap (λ b. b || false) (ne_eqb object.node to.node not_to))) (kept_same _ _ (node_left object.node there))
     where
       not_from : object.node ≢ from.node
       not_from same = no_way_up (files_at nat_eq world from) tree.tree from.node old object.node may.moves.named []
@@ -238,9 +218,7 @@ module _ (world : World ℕ) (fresh : Fresh ℕ) (name : TaskName) (call : Call)
 
   -- Mounts
   living : left.mounts ≡ filter (mount_lives nat_eq spent) middle.mounts
-  living =
-      ap (λ (w : World ℕ). w.mounts) did.left
-      ∙ ap (filter (mount_lives nat_eq spent))
+  living = ap (λ (w : World ℕ). w.mounts) did.left ∙ ap (filter (mount_lives nat_eq spent))
       (ap (λ (w : World ℕ). w.mounts) does ∙ change_mounts fresh middle middle_plain from change)
 
   in_middle : (mount : Mount ℕ) → Among mount left.mounts → Among mount middle.mounts
@@ -254,16 +232,14 @@ module _ (world : World ℕ) (fresh : Fresh ℕ) (name : TaskName) (call : Call)
       by : (o : Option (Location ℕ)) → Among mount (without_replaced nat_eq world o).mounts
           → (was : Mount ℕ) × Among was world.mounts × (was.mount_point ≡ Some place)
       by None among = (mount, among, e)
-      by (Some gone) among =
-          placed_before world is (numbers_of_trees world (mounts_on nat_eq world gone))
+      by (Some gone) among = placed_before world is (numbers_of_trees world (mounts_on nat_eq world gone))
           (trees_closed world is.mounts.one_number
           ((standing_is_computed world is.mounts.one_number).0 is.mounts.standing) (mounts_on nat_eq world gone))
           mount place among e
 
   pub left_mount : (number : ℕ) → is_among nat_eq number (numbers_of left.mounts) ≡ true
       → (mount_numbered nat_eq left number).filesystem ≡ (mount_numbered nat_eq world number).filesystem
-  left_mount number listed =
-      ap (λ (m : Mount ℕ). m.filesystem)
+  left_mount number listed = ap (λ (m : Mount ℕ). m.filesystem)
       (sym (ap (mount_numbered nat_eq middle) (sym (number-mount_in left.mounts number))
       ∙ found_itself middle.mounts (replaced_keeps_mounts world replaced is.mounts).one_number
       (mount_numbered nat_eq left number)

@@ -108,11 +108,9 @@ module _ (world later : World ℕ) (shown : ℕ) (files : FileTree ℕ) (mounts 
           (λ number. itself (filesystem_numbered nat_eq world number).files)
 
   rights_by : RightsStay (tree_in world shown) files.tree → (filesystem number wanted : ℕ) (who : Credentials)
-      → is_some (node_in world filesystem number) ≡ true
-      → node_allows who wanted (node_in later filesystem number)
+      → is_some (node_in world filesystem number) ≡ true → node_allows who wanted (node_in later filesystem number)
       ≡ node_allows who wanted (node_in world filesystem number)
-  rights_by rights filesystem number wanted who was =
-      in_each (λ f t. is_some (node_in world f number) ≡ true
+  rights_by rights filesystem number wanted who was = in_each (λ f t. is_some (node_in world f number) ≡ true
       → node_allows who wanted (t.tree.node number) ≡ node_allows who wanted (node_in world f number))
       (λ there_before. rights who wanted number there_before) (λ f there_before. refl) filesystem was
 
@@ -122,15 +120,13 @@ module _ (looks later : Looks ℕ) (task reader : Task ℕ) (Refused : Deny → 
     (named : is_special place.last ≡ false) (parts : NamedPlace looks task path place) (object : Option (Location ℕ))
     (found : Known place.parent → entry_location nat_eq later place.parent (name_of place.last) ≡ object) where
   abbrev IsPlacedThere : Result (Place ℕ) (Stop ℕ) → Type 0
-  IsPlacedThere walk =
-      ((steps : List (List ℕ)) × (walk ≡ Ok (record {
-        parent = place.parent;
-        last = place.last;
-        object = object;
-        slash = place.slash;
-        steps = steps;
-      })))
-      ⊎ Stops Refused walk
+  IsPlacedThere walk = ((steps : List (List ℕ)) × (walk ≡ Ok (record {
+    parent = place.parent;
+    last = place.last;
+    object = object;
+    slash = place.slash;
+    steps = steps;
+  }))) ⊎ Stops Refused walk
 
   word_is : last_word parts.word ≡ Named (name_of place.last)
   word_is = parts.last_is ∙ named_last place.last named
@@ -138,8 +134,7 @@ module _ (looks later : Looks ℕ) (task reader : Task ℕ) (Refused : Deny → 
   place_is : place_walk nat_eq later reader path
       ≡ then_walk (words_walked nat_eq later reader (followed nat_eq later reader) (walk_start reader path) parts.front)
       (λ here. placed nat_eq later reader here (Named (name_of place.last)) (ends_in_slash path))
-  place_is =
-      ap (λ r. then_walk r (λ text.
+  place_is = ap (λ r. then_walk r (λ text.
       then_walk (prefix_walked nat_eq later reader (followed nat_eq later reader) (walk_start reader text)
       (reverse (words text)))
       (λ here. placed nat_eq later reader here (final_word (reverse (words text))) (ends_in_slash text)))) parts.parsed
@@ -147,17 +142,13 @@ module _ (looks later : Looks ℕ) (task reader : Task ℕ) (Refused : Deny → 
       (walk_start reader path) list)
       (λ here. placed nat_eq later reader here (final_word list) (ends_in_slash path))) parts.words_are
       ∙ ap (λ last. then_walk (words_walked nat_eq later reader (followed nat_eq later reader)
-      (walk_start reader path) parts.front)
-      (λ here. placed nat_eq later reader here last (ends_in_slash path))) word_is
+      (walk_start reader path) parts.front) (λ here. placed nat_eq later reader here last (ends_in_slash path))) word_is
 
   pub place_too : IsPlacedThere (place_walk nat_eq later reader path)
-  place_too =
-      subst IsPlacedThere (sym place_is)
-      (through looks later task reader Refused Known leads IsPlacedThere
+  place_too = subst IsPlacedThere (sym place_is) (through looks later task reader Refused Known leads IsPlacedThere
       (words_walked nat_eq later reader (followed nat_eq later reader)
       (walk_start reader path) parts.front) _ parts.here
-      (front_too looks later task reader Refused Known leads path place named parts)
-      (λ steps known. by steps known
+      (front_too looks later task reader Refused Known leads path place named parts) (λ steps known. by steps known
       (search_too looks later task reader Refused Known leads parts.here.location known parts.searched))
       (λ stop refused. inr (stop, refused, refl)))
     where
@@ -167,43 +158,36 @@ module _ (looks later : Looks ℕ) (task reader : Task ℕ) (Refused : Deny → 
           → unless (search_rules nat_eq later reader parts.here.location) answer ≡ Err (denial W4)))
           → IsPlacedThere (placed nat_eq later reader (at parts.here steps) (Named (name_of place.last))
           (ends_in_slash path))
-      by steps known (inl pass) =
-          inl (
-            steps_at nat_eq later reader (at parts.here steps) (Named (name_of place.last)),
-            ap (λ r. stopped_by {A = Place ℕ}
-                (steps_at nat_eq later reader (at parts.here steps) (Named (name_of place.last)))
-                (and_then r (λ o.
-                Ok (record {
-                  parent = parts.here.location;
-                  last = Named (name_of place.last);
-                  object = o;
-                  slash = ends_in_slash path;
-                  steps = steps_at nat_eq later reader (at parts.here steps) (Named (name_of place.last));
-                }))))
-                (passed (search_rules nat_eq later reader parts.here.location)
-                (Ok (entry_location nat_eq later parts.here.location (name_of place.last))) pass)
-                ∙ (λ i. Ok (record {
-                  parent = parts.parent_is i;
-                  last = sym (named_last place.last named) i;
-                  object = (ap (λ l. entry_location nat_eq later l (name_of place.last)) parts.parent_is
-                      ∙ found (subst Known parts.parent_is known)) i;
-                  slash = parts.slash_is i;
-                  steps = steps_at nat_eq later reader (at parts.here steps) (Named (name_of place.last));
-                })),
-          )
-      by steps known (inr hidden) =
-          inr (
-            record {
-              deny = denial W4;
-              steps = steps_at nat_eq later reader (at parts.here steps)
-                  (Named (name_of place.last));
-            },
-            hidden.0,
-            hidden_so (search_rules nat_eq later reader parts.here.location) hidden.1,
-          )
+      by steps known (inl pass) = inl (
+        steps_at nat_eq later reader (at parts.here steps) (Named (name_of place.last)),
+        ap (λ r. stopped_by {A = Place ℕ}
+            (steps_at nat_eq later reader (at parts.here steps) (Named (name_of place.last))) (and_then r (λ o.
+            Ok (record {
+              parent = parts.here.location;
+              last = Named (name_of place.last);
+              object = o;
+              slash = ends_in_slash path;
+              steps = steps_at nat_eq later reader (at parts.here steps) (Named (name_of place.last));
+            })))) (passed (search_rules nat_eq later reader parts.here.location)
+            (Ok (entry_location nat_eq later parts.here.location (name_of place.last))) pass) ∙ (λ i. Ok (record {
+              parent = parts.parent_is i;
+              last = sym (named_last place.last named) i;
+              object = (ap (λ l. entry_location nat_eq later l (name_of place.last)) parts.parent_is
+                  ∙ found (subst Known parts.parent_is known)) i;
+              slash = parts.slash_is i;
+              steps = steps_at nat_eq later reader (at parts.here steps) (Named (name_of place.last));
+            })),
+      )
+      by steps known (inr hidden) = inr (
+        record {
+          deny = denial W4;
+          steps = steps_at nat_eq later reader (at parts.here steps) (Named (name_of place.last));
+        },
+        hidden.0,
+        hidden_so (search_rules nat_eq later reader parts.here.location) hidden.1,
+      )
         where
-          hidden_so : (rules : Rules)
-              → ((answer : Result (Location ℕ) Deny) → unless rules answer ≡ Err (denial W4))
+          hidden_so : (rules : Rules) → ((answer : Result (Location ℕ) Deny) → unless rules answer ≡ Err (denial W4))
               → stopped_by {A = Place ℕ} (steps_at nat_eq later reader (at parts.here steps)
               (Named (name_of place.last)))
               (and_then (unless rules (Ok (entry_location nat_eq later parts.here.location (name_of place.last)))) (λ o.
@@ -213,23 +197,18 @@ module _ (looks later : Looks ℕ) (task reader : Task ℕ) (Refused : Deny → 
                 object = o;
                 slash = ends_in_slash path;
                 steps = steps_at nat_eq later reader (at parts.here steps) (Named (name_of place.last));
-              })))
-              ≡ Err (record {
+              }))) ≡ Err (record {
                 deny = denial W4;
-                steps = steps_at nat_eq later reader (at parts.here steps)
-                    (Named (name_of place.last));
+                steps = steps_at nat_eq later reader (at parts.here steps) (Named (name_of place.last));
               })
           hidden_so [] h = absurd (never (h (Ok place.parent)))
             where
               never : Path (Result (Location ℕ) Deny) (Ok place.parent) (Err (denial W4)) → ⊥
               never e = cc
-          hidden_so ((true, rule) ∷ rows) h =
-              ap (λ d. Err (record {
-                deny = d;
-                steps = steps_at nat_eq later reader (at parts.here steps)
-                    (Named (name_of place.last));
-              }))
-              (same_deny (h (Ok place.parent)))
+          hidden_so ((true, rule) ∷ rows) h = ap (λ d. Err (record {
+            deny = d;
+            steps = steps_at nat_eq later reader (at parts.here steps) (Named (name_of place.last));
+          })) (same_deny (h (Ok place.parent)))
             where
               same_deny : Path (Result (Location ℕ) Deny) (Err (denial rule)) (Err (denial W4))
                   → denial rule ≡ denial W4
@@ -262,8 +241,7 @@ exclusive_refused world fresh name task path access mode place called room walk 
     (create_file_permit nat_eq (looks_of nat_eq world) task place access mode)))
 
 module _ (path : List ℕ) (world : World ℕ) (fresh : Fresh ℕ) (name : TaskName) (task : Task ℕ) (access : Access)
-    (mode number : ℕ)
-    (is : IsWorld nat_eq world) (plain : IsPlain world) (serves : Serves nat_eq world fresh)
+    (mode number : ℕ) (is : IsWorld nat_eq world) (plain : IsPlain world) (serves : Serves nat_eq world fresh)
     (called : task_called world name ≡ Some task)
     (did : IsPermitted world fresh name (OpenFile path access (Exclusive mode)) (Opened number)) (place : Place ℕ)
     (walk : new_walk nat_eq (looks_of nat_eq world) did.task path ≡ Ok place) (named : is_special place.last ≡ false)
@@ -296,8 +274,7 @@ module _ (path : List ℕ) (world : World ℕ) (fresh : Fresh ℕ) (name : TaskN
   own = called_own world fresh name call (Opened number) is plain serves refl refl did
 
   may : MayBeMade world parent entry node
-  may =
-      (subst (SeesTo world did.task) permit
+  may = (subst (SeesTo world did.task) permit
       (given_permits_are_seen_to world fresh did.task did.permit is (given_of world fresh name call
       (Opened number) serves refl refl did))).0
 
@@ -323,8 +300,7 @@ module _ (path : List ℕ) (world : World ℕ) (fresh : Fresh ℕ) (name : TaskN
 
   settles : settled nat_eq (spent world fresh name call (Opened number) is plain serves refl refl did)
       ≡ with_task base new_task
-  settles =
-      ap (λ p. settled nat_eq (apply nat_eq fresh world did.task p).world) permit
+  settles = ap (λ p. settled nat_eq (apply nat_eq fresh world did.task p).world) permit
       ∙ opened_new_keeps_all fresh world did.task parent entry node access
       (worlds_are_settled world is) is.files.one_filesystem
       is.tasks.one_task (contains_from_among world.tasks did.task (found_among (λ
@@ -334,19 +310,16 @@ module _ (path : List ℕ) (world : World ℕ) (fresh : Fresh ℕ) (name : TaskN
       (record { in_directory = may.name_is_free.in_directory; is_new = new }) may.name_is_free.free
 
   mounts_stay : later.mounts ≡ world.mounts
-  mounts_stay =
-      ap (λ (w : World ℕ). w.mounts) did.left ∙ ap (λ (w : World ℕ). w.mounts) settles
+  mounts_stay = ap (λ (w : World ℕ). w.mounts) did.left ∙ ap (λ (w : World ℕ). w.mounts) settles
       ∙ change_mounts (odds fresh) world plain parent change
 
   files_stay : (n : ℕ) → (filesystem_numbered nat_eq later n).files ≡ (filesystem_numbered nat_eq base n).files
-  files_stay n =
-      later_files world fresh name call (Opened number) is plain serves refl refl did n
+  files_stay n = later_files world fresh name call (Opened number) is plain serves refl refl did n
       ∙ ap (λ w. (filesystem_numbered nat_eq w n).files) settles
 
   here_files : (filesystem_numbered nat_eq later (mount_at nat_eq world parent).filesystem).files ≡ changed nat_eq
       (files_at nat_eq world parent) change
-  here_files =
-      files_stay (mount_at nat_eq world parent).filesystem
+  here_files = files_stay (mount_at nat_eq world parent).filesystem
       ∙ files_changed (odds fresh) world plain parent change something
 
   other_files : (n : ℕ) → nat_eq (mount_at nat_eq world parent).filesystem n ≡ false
@@ -354,10 +327,8 @@ module _ (path : List ℕ) (world : World ℕ) (fresh : Fresh ℕ) (name : TaskN
   other_files n other = files_stay n ∙ files_other (odds fresh) world plain parent change n other
 
   stays : WorldStays world later Never
-  stays =
-      stays_by world later (mount_at nat_eq world parent).filesystem
-      (changed nat_eq (files_at nat_eq world parent) change) mounts_stay
-      here_files other_files Never
+  stays = stays_by world later (mount_at nat_eq world parent).filesystem
+      (changed nat_eq (files_at nat_eq world parent) change) mounts_stay here_files other_files Never
       (ways_made (files_at nat_eq world parent) Never parent.node entry
       (fresh 0) may.name_is_free.in_directory may.name_is_free.free node new)
 
@@ -365,19 +336,15 @@ module _ (path : List ℕ) (world : World ℕ) (fresh : Fresh ℕ) (name : TaskN
   is_later = later_is world fresh name call (Opened number) is plain serves refl refl did
 
   caller_there : task_called later name ≡ Some (raised_task name new_task)
-  caller_there =
-      still_called world fresh name call (Opened number) is plain serves refl refl did name new_task
-      (ap (λ w. task_called w name) spent_is
-      ∙ called_replaced base name did.task new_task
+  caller_there = still_called world fresh name call (Opened number) is plain serves refl refl did name new_task
+      (ap (λ w. task_called w name) spent_is ∙ called_replaced base name did.task new_task
       (ap (find (λ (t : Task ℕ). same_name name t.name)) (change_tasks (odds fresh) world plain parent change)
-      ∙ did.called)
-      (sym (name_found world name did.task did.called)))
+      ∙ did.called) (sym (name_found world name did.task did.called)))
 
   again_refused : (reader : TaskName) (reading : Task ℕ) → task_called later reader ≡ Some reading
       → StandsAs did.task reading
       → MayLook did.task reading → nat_le most_descriptors (length reading.descriptors) ≡ false
-      → (again : Access) (other : ℕ)
-      → (later_fresh : Fresh ℕ)
+      → (again : Access) (other : ℕ) → (later_fresh : Fresh ℕ)
       → (policy nat_eq later_fresh later reader (OpenFile path again (Exclusive other))).answer ≡ Err (denial E1)
   again_refused reader reading found stands looks room again other later_fresh = by
       (place_too (looks_of nat_eq world) (looks_of nat_eq later) did.task reading Never _ leads path place named
@@ -396,28 +363,22 @@ module _ (path : List ℕ) (world : World ℕ) (fresh : Fresh ℕ) (name : TaskN
       leads : LeadsToo (looks_of nat_eq world) (looks_of nat_eq later) did.task reading Never
           (Known world later is plain is_later.0 is_later.1 did.task reading own
           (own_name later reader reading found) stands Never stays)
-      leads =
-          world_leads world later is plain is_later.0 is_later.1 did.task reading own self stands Never stays
+      leads = world_leads world later is plain is_later.0 is_later.1 did.task reading own self stands Never stays
           (λ here known directory e. inl (searched here known directory e looks))
         where
           searched : (here : Location ℕ) → Known world later is plain is_later.0 is_later.1 did.task reading own
-              (own_name later reader reading found) stands Never stays here
-              → is_directory_at nat_eq world here ≡ true
-              → Look.may (looks_of nat_eq world) did.task here execute_right ≡ true
-              → MayLook did.task reading
+              (own_name later reader reading found) stands Never stays here → is_directory_at nat_eq world here ≡ true
+              → Look.may (looks_of nat_eq world) did.task here execute_right ≡ true → MayLook did.task reading
               → Look.may (looks_of nat_eq later) reading here execute_right ≡ true
-          searched here known directory e (inr all) =
-              search_all reading.credentials all (node_at nat_eq later here)
+          searched here known directory e (inr all) = search_all reading.credentials all (node_at nat_eq later here)
               (ap is_directory_node (at_node here)
               ∙ stays.directory (mount_at nat_eq world here).filesystem here.node known.0.1
-              (ap is_some (sym (at_node here))
-              ∙ known.1.1) ∙ directory)
+              (ap is_some (sym (at_node here)) ∙ known.1.1) ∙ directory)
           searched here known directory e (inl same) =
               ap (λ who. node_allows who execute_right (node_at nat_eq later here)) same
               ∙ ap (node_allows did.task.credentials execute_right) (at_node here)
               ∙ rights_by world later (mount_at nat_eq world parent).filesystem (changed nat_eq
-              (files_at nat_eq world parent) change) mounts_stay
-              here_files other_files
+              (files_at nat_eq world parent) change) mounts_stay here_files other_files
               (rights_made (files_at nat_eq world parent) Never parent.node entry
               (fresh 0) may.name_is_free.in_directory may.name_is_free.free node new)
               (mount_at nat_eq world here).filesystem here.node execute_right did.task.credentials known.0.1 ∙ e
@@ -426,10 +387,8 @@ module _ (path : List ℕ) (world : World ℕ) (fresh : Fresh ℕ) (name : TaskN
           (own_name later reader reading found) stands Never stays parent
           → entry_location nat_eq (looks_of nat_eq later) parent entry
           ≡ Some (record { mount = parent.mount; node = fresh 0 })
-      there known =
-          ap (λ o. option_map {U = Location ℕ} (λ object. record { mount = parent.mount; node = object })
-          (entry_named entry
-          (entries_in o)))
+      there known = ap (λ o. option_map {U = Location ℕ} (λ object. record { mount = parent.mount; node = object })
+          (entry_named entry (entries_in o)))
           (at_node parent ∙ ap (λ (f : FileTree ℕ). f.tree.node parent.node) here_files)
           ∙ ap (option_map {U = Location ℕ} (λ object. record { mount = parent.mount; node = object }))
           (made_entry (files_at nat_eq world parent) Never parent.node entry
@@ -443,8 +402,7 @@ module _ (path : List ℕ) (world : World ℕ) (fresh : Fresh ℕ) (name : TaskN
         steps = steps;
       }))) ⊎ Stops Never (place_walk nat_eq (looks_of nat_eq later) reading path)
           → (policy nat_eq later_fresh later reader (OpenFile path again (Exclusive other))).answer ≡ Err (denial E1)
-      by (inl e) =
-          exclusive_refused later later_fresh reader reading path again other _ found room
+      by (inl e) = exclusive_refused later later_fresh reader reading path again other _ found room
           (ap (λ r. then_walk r (λ p. walk_unless p.steps
           (new_name_rules nat_eq (looks_of nat_eq later) p) p)) e.1) named no_slash refl
       by (inr stop) = absurd stop.1
@@ -456,15 +414,12 @@ exclusive_twice path world fresh name task access again mode other number is pla
       facts.3 facts.4
       name now there (subst (StandsAs did.task) (same_Some _ now (sym caller_here ∙ there)) raised_stands_so)
       (inl (ap (λ (t : Task ℕ). t.credentials) (sym (same_Some _ now (sym caller_here ∙ there)))
-      ∙ raised_credentials name
-      (with_descriptor did.task
+      ∙ raised_credentials name (with_descriptor did.task
       (record { mount = facts.0.parent.mount; node = fresh 0 }) access))) room again other later_fresh,
   λ reader reading looks room later_fresh.
       again_refused path world fresh name task access mode number is plain serves called did facts.0 facts.1 facts.2
-      facts.3 facts.4
-      reader reading looks.called (subst (λ t. StandsAs t reading) (sym task_is)
-      (all_stands _ task reader reading looks))
-      (inr looks.all) room again other later_fresh,
+      facts.3 facts.4 reader reading looks.called (subst (λ t. StandsAs t reading) (sym task_is)
+      (all_stands _ task reader reading looks)) (inr looks.all) room again other later_fresh,
 )
   where
     did : IsPermitted world fresh name (OpenFile path access (Exclusive mode)) (Opened number)

@@ -68,8 +68,7 @@ module _ (world : World ℕ) (fresh : Fresh ℕ) (name : TaskName) (call : Call)
   tree = (files_at nat_eq world parent).tree
 
   parent_directory : is_directory_node (tree.node parent.node) ≡ true
-  parent_directory =
-      directory_from_entry word object.node (tree.node parent.node)
+  parent_directory = directory_from_entry word object.node (tree.node parent.node)
       (may world fresh name call answer is plain serves other few did parent word object permit_is).named
 
   file_tree : IsFileTree (files_at nat_eq world parent)
@@ -90,14 +89,12 @@ module _ (world : World ℕ) (fresh : Fresh ℕ) (name : TaskName) (call : Call)
   -- what has entries is not that
   not_above : (number : ℕ) (any : List ℕ) (next : ℕ) → number ≡ fs
       → entry_at (tree_in world number) object.node any ≡ Some next → ⊥
-  not_above number any next same e =
-      nothing_in_it (files_at nat_eq world parent) parent.node word object.node
+  not_above number any next same e = nothing_in_it (files_at nat_eq world parent) parent.node word object.node
       (may world fresh name call answer is plain serves other few did parent word object permit_is) any next
       (ap (λ n. entry_at (tree_in world n) object.node any) (sym same) ∙ e)
 
   not_root : object.node ≢ tree.root
-  not_root same =
-      file_tree.tree.root_unnamed parent.node word
+  not_root same = file_tree.tree.root_unnamed parent.node word
       ((may world fresh name call answer is plain serves other few did parent word object permit_is).named
       ∙ ap Some same)
 
@@ -106,22 +103,18 @@ module _ (world : World ℕ) (fresh : Fresh ℕ) (name : TaskName) (call : Call)
     number = (mount_at nat_eq world here).filesystem
 
     alike : SeenAlike (mount_at nat_eq world here) (mount_at nat_eq later here)
-    alike =
-        (mounts_seen world fresh name call answer is plain serves other few did parent word object permit_is reader
-        roots).own
-        here.mount known.0.0 known.1.0.0
+    alike = (mounts_seen world fresh name call answer is plain serves other few did parent word object permit_is reader
+        roots).own here.mount known.0.0 known.1.0.0
 
     files_here : files_at nat_eq later here ≡ (filesystem_numbered nat_eq later number).files
     files_here = ap (λ n. (filesystem_numbered nat_eq later n).files) alike.filesystem
 
     there : is_some (node_in later number here.node) ≡ true
-    there =
-        ap (λ (f : FileTree ℕ). is_some (f.tree.node here.node)) (sym files_here)
+    there = ap (λ (f : FileTree ℕ). is_some (f.tree.node here.node)) (sym files_here)
         ∙ directory_used (files_at nat_eq later here).tree here.node known.1.1
 
     as_spent : node_in later number here.node ≡ node_in spent_world number here.node
-    as_spent =
-        node_left world fresh name call answer is plain serves other few did parent word object permit_is number
+    as_spent = node_left world fresh name call answer is plain serves other few did parent word object permit_is number
         here.node there
 
     tree_later : IsFileTree (filesystem_numbered nat_eq later number).files
@@ -131,24 +124,20 @@ module _ (world : World ℕ) (fresh : Fresh ℕ) (name : TaskName) (call : Call)
     tree_before = tree_here world is here known.0.1
 
     root_same : (tree_in later number).root ≡ (tree_in world number).root
-    root_same =
-        root_left world fresh name call answer is plain serves other few did parent word object permit_is number
+    root_same = root_left world fresh name call answer is plain serves other few did parent word object permit_is number
         here.node there
 
     -- from it `..` leads nowhere
     lost_there : IsRemoved here → is_lost nat_eq later here ≡ true
-    lost_there removed =
-        ap (λ b. b || not (is_directory_under nat_eq
+    lost_there removed = ap (λ b. b || not (is_directory_under nat_eq
         (filesystem_numbered nat_eq later (mount_at nat_eq later here).filesystem).files
         (mount_at nat_eq later here).root here.node))
         (ap (λ (f : FileTree ℕ). is_removed nat_eq f.tree here.node) files_here
         ∙ ap (is_removed nat_eq (tree_in later number)) removed.1
         ∙ removed_alone (files_at nat_eq world parent) parent.node word object.node
         (may world fresh name call answer is plain serves other few did parent word object permit_is)
-        (tree_in later number)
-        (ap (λ n. node_in later number n) (sym removed.1) ∙ as_spent
-        ∙ (λ i. node_in spent_world (removed.0 i) (removed.1 i))
-        ∙ ap (λ (f : FileTree ℕ). f.tree.node object.node)
+        (tree_in later number) (ap (λ n. node_in later number n) (sym removed.1) ∙ as_spent
+        ∙ (λ i. node_in spent_world (removed.0 i) (removed.1 i)) ∙ ap (λ (f : FileTree ℕ). f.tree.node object.node)
         (spent_shown world fresh name call answer is plain serves other few did parent word object permit_is))
         (λ same. not_root (same ∙ root_same ∙ ap (λ n. (tree_in world n).root) removed.0)))
 
@@ -166,13 +155,11 @@ module _ (world : World ℕ) (fresh : Fresh ℕ) (name : TaskName) (call : Call)
         directory any next e)
       where
         node : node_in later number directory ≡ node_in spent_world number directory
-        node =
-            node_left world fresh name call answer is plain serves other few did parent word object permit_is number
+        node = node_left world fresh name call answer is plain serves other few did parent word object permit_is number
             directory now
 
         by : (entry_at (tree_in spent_world number) directory any ≡ Some next)
-            ⊎ ((entry_at (tree_in spent_world number) directory any ≡ None)
-            × (number ≡ fs) × (next ≡ object.node))
+            ⊎ ((entry_at (tree_in spent_world number) directory any ≡ None) × (number ≡ fs) × (next ≡ object.node))
             → entry_at (tree_in later number) directory any ≡ Some next
         by (inl same) = ap (λ o. entry_named any (entries_in o)) node ∙ same
         by (inr lost) = absurd (keeps lost.1 lost.2)
@@ -184,8 +171,7 @@ module _ (world : World ℕ) (fresh : Fresh ℕ) (name : TaskName) (call : Call)
           ∙ ap (parent_in here.node) as_spent
           ∙ (each world fresh name call answer is plain serves other few did parent word object permit_is
           number).parents here.node keeps;
-      not_lost =
-          (λ i. is_removed nat_eq (files_here i).tree here.node
+      not_lost = (λ i. is_removed nat_eq (files_here i).tree here.node
           || not (is_directory_under nat_eq (files_here i) (alike.root i) here.node))
           ∙ (λ i. present i || not (under i));
     }
@@ -199,55 +185,44 @@ module _ (world : World ℕ) (fresh : Fresh ℕ) (name : TaskName) (call : Call)
         now_directory = ap (λ (f : FileTree ℕ). is_directory_node (f.tree.node here.node)) (sym files_here) ∙ known.1.1
 
         root_there : is_some (node_in later number (mount_at nat_eq world here).root) ≡ true
-        root_there =
-            (λ i. is_some (node_in later (sym alike.filesystem i) (sym alike.root i)))
+        root_there = (λ i. is_some (node_in later (sym alike.filesystem i) (sym alike.root i)))
             ∙ directory_used (files_at nat_eq later here).tree (mount_at nat_eq later here).root
             (mount_root later is_later.0 here.mount known.1.0.0)
 
         present : is_removed nat_eq (tree_in later number) here.node ≡ false
-        present =
-            present_later Keeps (filesystem_numbered nat_eq world number).files
-            (filesystem_numbered nat_eq later number).files tree_before.tree
-            tree_later root_same above names
+        present = present_later Keeps (filesystem_numbered nat_eq world number).files
+            (filesystem_numbered nat_eq later number).files tree_before.tree tree_later root_same above names
             (mount_at nat_eq world here).root here.node known.0.1 now_directory keeps root_there parts.0
             (not-false _ parts.1)
 
         under : is_directory_under nat_eq (filesystem_numbered nat_eq later number).files
             (mount_at nat_eq world here).root here.node ≡ true
-        under =
-            under_later Keeps (filesystem_numbered nat_eq world number).files
-            (filesystem_numbered nat_eq later number).files tree_before.tree
-            tree_later root_same above names
+        under = under_later Keeps (filesystem_numbered nat_eq world number).files
+            (filesystem_numbered nat_eq later number).files tree_before.tree tree_later root_same above names
             (mount_at nat_eq world here).root here.node known.0.1 now_directory keeps root_there parts.0
             (not-false _ parts.1)
 
     -- and never to it
     up_outside : is_lost nat_eq world here ≡ false → IsRemoved (parent_location nat_eq world here) → ⊥
-    up_outside found removed =
-        ⊎_elim
-        (λ root. not_root (sym removed.1
+    up_outside found removed = ⊎_elim (λ root. not_root (sym removed.1
         ∙ ap (λ n. parent_in n (node_in world number n)) (sym root)
         ∙ tree_before.tree.root_parent ∙ ap (λ n. (tree_in world n).root) removed.0))
-        (λ named. not_above number named.1 here.node removed.0
-        (ap (λ n. entry_at (tree_in world number) n named.1)
-        (sym removed.1 ∙ tree_before.tree.one_parent named.0 named.1 here.node named.2 known.0.1)
-        ∙ named.2))
+        (λ named. not_above number named.1 here.node removed.0 (ap (λ n. entry_at (tree_in world number) n named.1)
+        (sym removed.1 ∙ tree_before.tree.one_parent named.0 named.1 here.node named.2 known.0.1) ∙ named.2))
         (reached_named (tree_in world number) here.node
         (not_removed_reached (tree_in world number) tree_before.tree here.node known.0.1 (or_false_left _ _ found)))
 
     -- its name leads there no longer
     name_outside : (any : List ℕ) → entry_named any (entries_in (node_at nat_eq world here)) ≡ Some object.node
         → entry_named any (entries_in (node_at nat_eq later here)) ≡ Some object.node → number ≡ fs → ⊥
-    name_outside any e f same =
-        none_is_not (entry_named any (entries_in (node_at nat_eq later here))) object.node
+    name_outside any e f same = none_is_not (entry_named any (entries_in (node_at nat_eq later here))) object.node
         (ap (λ (t : FileTree ℕ). entry_named any (entries_in (t.tree.node here.node))) files_here
         ∙ ap (λ o. entry_named any (entries_in o)) as_spent
         ∙ (λ i. entry_at (tree_in spent_world (same i)) (at i) (word_is i))
         ∙ ap (λ (t : FileTree ℕ). entry_at t.tree parent.node word)
         (spent_shown world fresh name call answer is plain serves other few did parent word object permit_is)
         ∙ removed_name (files_at nat_eq world parent) parent.node word object.node
-        (may world fresh name call answer is plain serves other few did parent word object permit_is))
-        f
+        (may world fresh name call answer is plain serves other few did parent word object permit_is)) f
       where
         named : entry_at tree here.node any ≡ Some object.node
         named = ap (λ n. entry_at (tree_in world n) here.node any) (sym same) ∙ e
@@ -260,8 +235,7 @@ module _ (world : World ℕ) (fresh : Fresh ℕ) (name : TaskName) (call : Call)
             (sym seen.0) ∙ seen.2
 
         at : here.node ≡ parent.node
-        at =
-            sym (file_tree.tree.one_parent here.node any object.node named is_directory)
+        at = sym (file_tree.tree.one_parent here.node any object.node named is_directory)
             ∙ file_tree.tree.one_parent parent.node word object.node
             (may world fresh name call answer is plain serves other few did parent word object permit_is).named
             is_directory
@@ -288,21 +262,17 @@ module _ (world : World ℕ) (fresh : Fresh ℕ) (name : TaskName) (call : Call)
           (ap (λ (m : Mount ℕ). m.root) (sym itself))))
 
   over_outside : (place : Location ℕ) → IsOutside place → IsOutside (topmost nat_eq world.mounts place)
-  over_outside place outside =
-      chain_ends IsOutside (λ here. option_map root_of (child_at nat_eq world.mounts here))
-      (λ a b out e. root_outside a b e)
-      (length world.mounts) place place outside
+  over_outside place outside = chain_ends IsOutside (λ here. option_map root_of (child_at nat_eq world.mounts here))
+      (λ a b out e. root_outside a b e) (length world.mounts) place place outside
 
   -- no mount of the task's namespace stands on it
   place_outside : (a b : Location ℕ) → IsFoundDirectory world is did.task a → hop nat_eq world did.task a ≡ Some b
       → IsRemoved b → ⊥
-  place_outside a b found e removed =
-      true≢false
+  place_outside a b found e removed = true≢false
       (sym (any_from_among (λ (m : Mount ℕ). holds_of (nat_eq did.task.namespace) m.namespace)
       (mounts_on nat_eq world object) mount
       (among-filter (λ (m : Mount ℕ). list_any (λ point. is_point nat_eq world point.0 point.1 m)
-      (points_of nat_eq world object)) world.mounts mount
-      there on_it) own)
+      (points_of nat_eq world object)) world.mounts mount there on_it) own)
       ∙ (reaches world fresh name call answer is plain serves other few did parent word object permit_is).1)
     where
       mount : Mount ℕ
@@ -318,18 +288,14 @@ module _ (world : World ℕ) (fresh : Fresh ℕ) (name : TaskName) (call : Call)
       same_mount = (seen_to world fresh name call answer is plain serves other few did parent word object permit_is).0
 
       number_is : (mount_at nat_eq world b).filesystem ≡ (filesystem_at nat_eq world object).number
-      number_is =
-          removed.0
-          ∙ ap (λ m. (mount_numbered nat_eq world m).filesystem) (sym same_mount)
+      number_is = removed.0 ∙ ap (λ m. (mount_numbered nat_eq world m).filesystem) (sym same_mount)
           ∙ sym (number_numbered (mount_at nat_eq world object).filesystem world.filesystems)
 
       on_it : list_any (λ point. is_point nat_eq world point.0 point.1 (mount_at nat_eq world a))
           (points_of nat_eq world object) ≡ true
-      on_it =
-          ap (λ b. b || list_any (λ point. is_point nat_eq world point.0 point.1 (mount_at nat_eq world a))
+      on_it = ap (λ b. b || list_any (λ point. is_point nat_eq world point.0 point.1 (mount_at nat_eq world a))
           (of_overlay [] (λ overlay. upper_points world (filesystem_at nat_eq world object) overlay object.node)
-          (filesystem_at nat_eq world object)))
-          (ap (holds_of (λ place. nat_eq place.node object.node
+          (filesystem_at nat_eq world object))) (ap (holds_of (λ place. nat_eq place.node object.node
           && nat_eq (mount_at nat_eq world place).filesystem (filesystem_at nat_eq world object).number)) at
           ∙ and_from _ _ (eq-eqb b.node object.node removed.1)
           (eq-eqb (mount_at nat_eq world b).filesystem (filesystem_at nat_eq world object).number number_is))
@@ -343,9 +309,7 @@ module _ (world : World ℕ) (fresh : Fresh ℕ) (name : TaskName) (call : Call)
           by None f g = absurd (nowhere_unplaced_here f)
             where
               nowhere_unplaced_here : (mount_at nat_eq world a).namespace ≡ None → ⊥
-              nowhere_unplaced_here none =
-                  true≢false (sym (ap is_some at)
-                  ∙ (nowhere_parts (mount_at nat_eq world a)
+              nowhere_unplaced_here none = true≢false (sym (ap is_some at) ∙ (nowhere_parts (mount_at nat_eq world a)
                   (among_from_list_all is_nowhere_or_attached world.mounts is.mounts.nowhere
                   (mount_at nat_eq world a) there) (ap is_some none)).0)
           by (Some n) f g = ap (holds_of (nat_eq did.task.namespace)) f ∙ (and_parts _ _ g).0
@@ -363,35 +327,28 @@ module _ (world : World ℕ) (fresh : Fresh ℕ) (name : TaskName) (call : Call)
     Fits here = Refused (denial W8) ⊎ IsOutside here
 
     up_fits : (here : Location ℕ) → BothAre world later is plain is_later.0 is_later.1 did.task reader here → Fits here
-        → ends_at here ≡ false
-        → is_lost nat_eq world here ≡ false
+        → ends_at here ≡ false → is_lost nat_eq world here ≡ false
         → (GoesUp world later is plain is_later.0 is_later.1 did.task reader here
-        × Fits (parent_location nat_eq world here))
-        ⊎ (Refused (denial W8) × (is_lost nat_eq later here ≡ true))
+        × Fits (parent_location nat_eq world here)) ⊎ (Refused (denial W8) × (is_lost nat_eq later here ≡ true))
     up_fits here known fits not_top found =
         by (nat_eq (mount_at nat_eq world here).filesystem fs) (nat_eq here.node object.node) refl refl
       where
-        at_it : IsRemoved here → Fits here
-            → (GoesUp world later is plain is_later.0 is_later.1 did.task reader here
-            × Fits (parent_location nat_eq world here))
-            ⊎ (Refused (denial W8) × (is_lost nat_eq later here ≡ true))
+        at_it : IsRemoved here → Fits here → (GoesUp world later is plain is_later.0 is_later.1 did.task reader here
+            × Fits (parent_location nat_eq world here)) ⊎ (Refused (denial W8) × (is_lost nat_eq later here ≡ true))
         at_it removed (inl refused) = inr (refused, lost_there here known removed)
         at_it removed (inr outside) = absurd (true≢false (sym (outside removed) ∙ not_top))
 
         elsewhere : ((mount_at nat_eq world here).filesystem ≡ fs → here.node ≢ object.node)
             → (GoesUp world later is plain is_later.0 is_later.1 did.task reader here
-            × Fits (parent_location nat_eq world here))
-            ⊎ (Refused (denial W8) × (is_lost nat_eq later here ≡ true))
+            × Fits (parent_location nat_eq world here)) ⊎ (Refused (denial W8) × (is_lost nat_eq later here ≡ true))
         elsewhere keeps = inl (
           goes_up here known keeps found,
-          inr
-              (λ removed. absurd (up_outside here known found removed)),
+          inr (λ removed. absurd (up_outside here known found removed)),
         )
 
         by : (p q : Bool) → nat_eq (mount_at nat_eq world here).filesystem fs ≡ p → nat_eq here.node object.node ≡ q
             → (GoesUp world later is plain is_later.0 is_later.1 did.task reader here
-            × Fits (parent_location nat_eq world here))
-            ⊎ (Refused (denial W8) × (is_lost nat_eq later here ≡ true))
+            × Fits (parent_location nat_eq world here)) ⊎ (Refused (denial W8) × (is_lost nat_eq later here ≡ true))
         by true true e f = at_it (eqb-true _ _ e, eqb-true _ _ f) fits
         by true false e f = elsewhere (λ same same_node.
             absurd (true≢false (sym (eq-eqb here.node object.node same_node) ∙ f)))
@@ -421,7 +378,6 @@ module _ (world : World ℕ) (fresh : Fresh ℕ) (name : TaskName) (call : Call)
         over place (inr outside) = inr (over_outside place outside)
 
         hopped : (here : Location ℕ) → BothAre world later is plain is_later.0 is_later.1 did.task reader here
-            → Fits here
-            → Fits (top world later is plain is_later.0 is_later.1 did.task reader here)
+            → Fits here → Fits (top world later is plain is_later.0 is_later.1 did.task reader here)
         hopped here known (inl refused) = inl refused
         hopped here known (inr outside) = inr (top_outside here known.0 outside)

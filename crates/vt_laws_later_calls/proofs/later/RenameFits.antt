@@ -65,8 +65,7 @@ use Rattle.vt_spec.proofs.NodeChanges.{directory_from_entry, parent-node_without
 
 -- what is of one kind, owner, mode and text
 link_same : (was now : Option (Node ℕ)) → is_some now ≡ is_some was → kind_in now ≡ kind_in was
-    → bytes_in now ≡ bytes_in was
-    → symlink_text now ≡ symlink_text was
+    → bytes_in now ≡ bytes_in was → symlink_text now ≡ symlink_text was
 link_same None None there kind bytes = refl
 link_same None (Some now) there kind bytes = absurd (true≢false there)
 link_same (Some was) None there kind bytes = absurd (true≢false (sym there))
@@ -97,8 +96,7 @@ module _ (files : FileTree ℕ) (from : ℕ) (old : List ℕ) (to : ℕ) (new : 
   moved = changed nat_eq files (Move from old to new object)
 
   with_free : Option ℕ → FileTree ℕ
-  with_free o =
-      changed_node nat_eq (with_name nat_eq
+  with_free o = changed_node nat_eq (with_name nat_eq
       (without_name nat_eq (without_parent nat_eq files o) from old) to new object) object (node_with_parent to)
 
   moved_in : IsMovedIn object own files.tree moved.tree
@@ -106,17 +104,14 @@ module _ (files : FileTree ℕ) (from : ℕ) (old : List ℕ) (to : ℕ) (new : 
   moved_in = record {
     root = ap (λ o. (with_free o).tree.root) free;
     directory = λ n. moved_part is_directory_node (λ change keeps. keeps.directory) files from old to new object n;
-    link = λ n. moved_part symlink_text
-        (λ change keeps o. link_same o (change o) (keeps.there o) (keeps.kind o)
+    link = λ n. moved_part symlink_text (λ change keeps o. link_same o (change o) (keeps.there o) (keeps.kind o)
         (keeps.bytes o)) files from old to new object n;
     rights = λ who wanted n is. moved_part (node_allows who wanted)
         (λ change keeps o. allows_same o (change o) (keeps.there o) (keeps.kind o)
         (keeps.attr o) who wanted) files from old to new object n;
-    parents = λ n differs.
-        ap (λ o. parent_in n ((with_free o).tree.node n)) free
+    parents = λ n differs. ap (λ o. parent_in n ((with_free o).tree.node n)) free
         ∙ ap (parent_in n) (elsewhere (with_name nat_eq (without_name nat_eq files from old) to new object) object
-        (node_with_parent to) n
-        (differs itself))
+        (node_with_parent to) n (differs itself))
         ∙ part_stays (without_name nat_eq files from old) to (node_with_entry new object) (parent_in n)
         (parent-node_with_entry new object n) n
         ∙ part_stays files from (node_without_entry old) (parent_in n) (parent-node_without_entry old n) n;
@@ -137,8 +132,7 @@ module _ (files : FileTree ℕ) (from : ℕ) (old : List ℕ) (to : ℕ) (new : 
             itself,
             same_Some next object (sym e ∙ (λ i. entry_at files.tree (same.0 i) (same.1 i)) ∙ named),
           )
-      by here any next e false f false g =
-          inl (
+      by here any next e false f false g = inl (
           move_told files from old to new object in_directory here any
           ∙ (λ i. cond (f i) (Some object) (cond (g i) None (entry_at files.tree here any))) ∙ e
           )
@@ -179,10 +173,8 @@ module _ (world : World ℕ) (fresh : Fresh ℕ) (name : TaskName) (call : Call)
   file_tree = tree_here world is from from_directory
 
   free : entry_at (files_at nat_eq world from).tree to.node new ≡ None
-  free =
-      ap (λ m. entry_at (files_at nat_eq world (record { mount = m; node = from.node })).tree to.node new)
-      (sym seen.to_mount)
-      ∙ none_of (entry_at (files_at nat_eq world to).tree to.node new) (sym seen.replaces)
+  free = ap (λ m. entry_at (files_at nat_eq world (record { mount = m; node = from.node })).tree to.node new)
+      (sym seen.to_mount) ∙ none_of (entry_at (files_at nat_eq world to).tree to.node new) (sym seen.replaces)
     where
       none_of : (o : Option ℕ) → option_map {U = Location ℕ} (λ number. record { mount = to.mount; node = number }) o
           ≡ None → o ≡ None
@@ -212,11 +204,9 @@ module _ (world : World ℕ) (fresh : Fresh ℕ) (name : TaskName) (call : Call)
   pub each : (number : ℕ) → IsMovedIn object.node (number ≡ fs) (tree_in world number) (tree_in spent number)
   each =
       in_each world fresh name call answer is plain serves other few did from change fresh asks does something allowed
-      file_tree
-      (λ number f. IsMovedIn object.node (number ≡ fs) (tree_in world number) f.tree)
+      file_tree (λ number f. IsMovedIn object.node (number ≡ fs) (tree_in world number) f.tree)
       (moved_in (files_at nat_eq world from) from.node old to.node new object.node seen.moves.named
-      seen.moves.in_directory free (fs ≡ fs) refl)
-      (λ number. record {
+      seen.moves.in_directory free (fs ≡ fs) refl) (λ number. record {
         root = refl;
         directory = λ n. refl;
         link = λ n. refl;
@@ -235,16 +225,13 @@ module _ (world : World ℕ) (fresh : Fresh ℕ) (name : TaskName) (call : Call)
   object_later =
       let files = files_at nat_eq world from in
       ap is_some (all_stays world fresh name call answer is plain serves other few did from change fresh asks does
-      something allowed file_tree
-      (ap option_to_list free) object.node)
+      something allowed file_tree (ap option_to_list free) object.node)
       ∙ directory_used (changed nat_eq files change).tree object.node
       ((moved_in files from.node old to.node new object.node seen.moves.named seen.moves.in_directory free
-      (fs ≡ fs) refl).directory object.node
-      ∙ is_directory)
+      (fs ≡ fs) refl).directory object.node ∙ is_directory)
 
   pub caller : task_called later name ≡ Some (raised_task name did.task)
-  caller =
-      still_called world fresh name call answer is plain serves other few did name did.task
+  caller = still_called world fresh name call answer is plain serves other few did name did.task
       (ap (λ w. task_called w name) does
       ∙ ap (find (λ (t : Task ℕ). same_name name t.name)) (change_tasks fresh world plain from change) ∙ did.called)
 
@@ -252,16 +239,12 @@ module _ (world : World ℕ) (fresh : Fresh ℕ) (name : TaskName) (call : Call)
       → (tree_in later filesystem).root ≡ (tree_in world filesystem).root
   root_left filesystem number there =
       let files = later_files world fresh name call answer is plain serves other few did filesystem in
-      ap (λ (f : FileTree ℕ). f.tree.root) files
-      ∙ root_settled spent
+      ap (λ (f : FileTree ℕ). f.tree.root) files ∙ root_settled spent
       (spent_unsettled world fresh name call answer is plain serves other few did).files.one_filesystem filesystem
-      number
-      (ap (λ (f : FileTree ℕ). is_some (f.tree.node number)) (sym files) ∙ there)
-      ∙ (each filesystem).root
+      number (ap (λ (f : FileTree ℕ). is_some (f.tree.node number)) (sym files) ∙ there) ∙ (each filesystem).root
 
   pub rights_left : (filesystem number : ℕ) → is_some (node_in later filesystem number) ≡ true
-      → is_some (node_in world filesystem number) ≡ true
-      → (who : Credentials) (wanted : ℕ)
+      → is_some (node_in world filesystem number) ≡ true → (who : Credentials) (wanted : ℕ)
       → node_allows who wanted (node_in later filesystem number)
       ≡ node_allows who wanted (node_in world filesystem number)
   rights_left filesystem number now was who wanted =
@@ -294,16 +277,14 @@ module _ (world : World ℕ) (fresh : Fresh ℕ) (name : TaskName) (call : Call)
   in_further here any next way e = (way.0 ++ any ∷ [], led-append tree object.node way.0 any here next way.1 e)
 
   object_reached : IsReached tree object.node
-  object_reached =
-      file_tree.tree.reached object.node is_directory (from.node, old, seen.moves.named)
+  object_reached = file_tree.tree.reached object.node is_directory (from.node, old, seen.moves.named)
 
   pub in_reached : (n : ℕ) → InIt n → IsReached tree n
   in_reached n way =
       (object_reached.0 ++ way.0, led_parts tree object_reached.0 way.0 tree.root object.node object_reached.1 ∙ way.1)
 
   lies_so : (here : Location ℕ) → (mount_at nat_eq world here).filesystem ≡ fs
-      → is_directory_node (tree.node here.node) ≡ true → InIt here.node
-      → lies_in world object here ≡ true
+      → is_directory_node (tree.node here.node) ≡ true → InIt here.node → lies_in world object here ≡ true
   lies_so here same directory way =
       let shown_is =
       object_shown world fresh name call answer is plain serves other few did from old to new object None permit_is
@@ -322,8 +303,7 @@ module _ (world : World ℕ) (fresh : Fresh ℕ) (name : TaskName) (call : Call)
   pub its_entry : (here : ℕ) (any : List ℕ) → entry_at tree here any ≡ Some object.node
       → (here ≡ from.node) × (any ≡ old)
   its_entry here any e =
-      let at : here ≡ from.node =
-      sym (file_tree.tree.one_parent here any object.node e is_directory)
+      let at : here ≡ from.node = sym (file_tree.tree.one_parent here any object.node e is_directory)
       ∙ file_tree.tree.one_parent from.node old object.node seen.moves.named is_directory in (
         at,
         file_tree.tree.one_name from.node any old object.node
@@ -355,21 +335,17 @@ module _ (world : World ℕ) (fresh : Fresh ℕ) (name : TaskName) (call : Call)
           let found = found_in (stands_at nat_eq a) world.mounts mount f in
           let itself = found_itself world.mounts is.mounts.one_number mount found.0 in
           let b_is : root_of mount ≡ b = same_Some (root_of mount) b h in
-          subst InIt
-          (ap (λ (l : Location ℕ). l.node) (sym b_is) ∙ ap (λ (m : Mount ℕ). m.root) (sym itself)
+          subst InIt (ap (λ (l : Location ℕ). l.node) (sym b_is) ∙ ap (λ (m : Mount ℕ). m.root) (sym itself)
           ∙ ap (λ (l : Location ℕ). (mount_at nat_eq world l).root) b_is) way
 
   pub over_fits : (place : Location ℕ) → Fits place → Fits (topmost nat_eq world.mounts place)
-  over_fits place fits =
-      chain_ends Fits (λ here. option_map root_of (child_at nat_eq world.mounts here))
-      (λ a b fit e. root_of_child a b e)
-      (length world.mounts) place place fits
+  over_fits place fits = chain_ends Fits (λ here. option_map root_of (child_at nat_eq world.mounts here))
+      (λ a b fit e. root_of_child a b e) (length world.mounts) place place fits
 
   -- no mount of the task's namespace stands inside
   pub point_fits : (a b : Location ℕ) → IsFoundDirectory world is did.task a → hop nat_eq world did.task a ≡ Some b
       → Fits b
-  point_fits a b found e =
-      outside_fits b
+  point_fits a b found e = outside_fits b
       (outside.points (mount_at nat_eq world a) b (contains_from_among world.mounts (mount_at nat_eq world a) there)
       (own (mount_at nat_eq world a).namespace refl found.0.1) at)
     where
@@ -382,9 +358,7 @@ module _ (world : World ℕ) (fresh : Fresh ℕ) (name : TaskName) (call : Call)
       own : (o : Option ℕ) → (mount_at nat_eq world a).namespace ≡ o
           → list_all (nat_eq did.task.namespace) (option_to_list o) ≡ true
           → (mount_at nat_eq world a).namespace ≡ Some did.task.namespace
-      own None f g =
-          absurd (true≢false (sym (ap is_some at)
-          ∙ (nowhere_parts (mount_at nat_eq world a)
+      own None f g = absurd (true≢false (sym (ap is_some at) ∙ (nowhere_parts (mount_at nat_eq world a)
           (among_from_list_all is_nowhere_or_attached world.mounts is.mounts.nowhere (mount_at nat_eq world a) there)
           (ap is_some f)).0))
       own (Some n) f g = f ∙ ap Some (sym (eqb-true did.task.namespace n (and_parts _ _ g).0))

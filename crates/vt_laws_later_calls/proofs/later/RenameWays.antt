@@ -42,8 +42,7 @@ use Rattle.vt_laws_later_calls.proofs.WaysTrees.{DirectoryNamesStay, KeepsAbove,
 
 -- the mount of a task's steps upwards
 abbrev hop_by : List (Mount ℕ) → Location ℕ → Location ℕ → Option (Location ℕ)
-hop_by mounts root here =
-    cond (same_location nat_eq here root) None
+hop_by mounts root here = cond (same_location nat_eq here root) None
     (cond (nat_eq here.node (mount_in nat_eq mounts here.mount).root)
     (mount_in nat_eq mounts here.mount).mount_point None)
 
@@ -64,8 +63,7 @@ module _ (world : World ℕ) (fresh : Fresh ℕ) (name : TaskName) (call : Call)
       is_directory outside
 
   abbrev own_fs : ℕ
-  own_fs =
-      fs world fresh name call answer is plain serves other few did from old to new object permit_is uncovered
+  own_fs = fs world fresh name call answer is plain serves other few did from old to new object permit_is uncovered
       is_directory outside
 
   abbrev is_left : IsWorld nat_eq left_world × IsPlain left_world
@@ -74,13 +72,11 @@ module _ (world : World ℕ) (fresh : Fresh ℕ) (name : TaskName) (call : Call)
       is_directory outside
 
   abbrev Inside : ℕ → Type 0
-  Inside =
-      InIt world fresh name call answer is plain serves other few did from old to new object permit_is uncovered
+  Inside = InIt world fresh name call answer is plain serves other few did from old to new object permit_is uncovered
       is_directory outside
 
   abbrev FitsIn : Location ℕ → Type 0
-  FitsIn =
-      Fits world fresh name call answer is plain serves other few did from old to new object permit_is uncovered
+  FitsIn = Fits world fresh name call answer is plain serves other few did from old to new object permit_is uncovered
       is_directory outside
 
   abbrev BothDirectories : Location ℕ → Type 0
@@ -95,8 +91,7 @@ module _ (world : World ℕ) (fresh : Fresh ℕ) (name : TaskName) (call : Call)
       is_directory outside
 
   abbrev whole : Tree ℕ
-  whole =
-      tree world fresh name call answer is plain serves other few did from old to new object permit_is uncovered
+  whole = tree world fresh name call answer is plain serves other few did from old to new object permit_is uncovered
       is_directory outside
 
   whole_is : IsFileTree (files_at nat_eq world from)
@@ -105,8 +100,7 @@ module _ (world : World ℕ) (fresh : Fresh ℕ) (name : TaskName) (call : Call)
       is_directory outside
 
   each_in : (number : ℕ) → IsMovedIn object.node (number ≡ own_fs) (tree_in world number) (tree_in spent_world number)
-  each_in =
-      each world fresh name call answer is plain serves other few did from old to new object permit_is uncovered
+  each_in = each world fresh name call answer is plain serves other few did from old to new object permit_is uncovered
       is_directory outside
 
   left_node : (filesystem number : ℕ) → is_some (node_in left_world filesystem number) ≡ true
@@ -148,13 +142,11 @@ module _ (world : World ℕ) (fresh : Fresh ℕ) (name : TaskName) (call : Call)
 
   pub mounts_seen : MountsSeen world
       (later world fresh name call answer is plain serves other few did from old to new object permit_is uncovered
-      is_directory outside)
-      is plain
+      is_directory outside) is plain
       (left_is world fresh name call answer is plain serves other few did from old to new object permit_is uncovered
       is_directory outside).0
       (left_is world fresh name call answer is plain serves other few did from old to new object permit_is uncovered
-      is_directory outside).1
-      did.task reader
+      is_directory outside).1 did.task reader
   mounts_seen = record {
     own = λ number own listed. alike_by number;
     topmost_is = λ place own. ap (λ mounts. topmost nat_eq mounts place) same;
@@ -162,8 +154,7 @@ module _ (world : World ℕ) (fresh : Fresh ℕ) (name : TaskName) (call : Call)
   }
     where
       same : left_world.mounts ≡ world.mounts
-      same =
-          mounts_same world fresh name call answer is plain serves other few did from old to new object permit_is
+      same = mounts_same world fresh name call answer is plain serves other few did from old to new object permit_is
           uncovered is_directory outside
 
       mount_same : (number : ℕ) → mount_numbered nat_eq left_world number ≡ mount_numbered nat_eq world number
@@ -188,8 +179,7 @@ module _ (world : World ℕ) (fresh : Fresh ℕ) (name : TaskName) (call : Call)
     files_here = ap (λ n. (filesystem_numbered nat_eq left_world n).files) alike.filesystem
 
     there : is_some (node_in left_world number here.node) ≡ true
-    there =
-        ap (λ (f : FileTree ℕ). is_some (f.tree.node here.node)) (sym files_here)
+    there = ap (λ (f : FileTree ℕ). is_some (f.tree.node here.node)) (sym files_here)
         ∙ directory_used (files_at nat_eq left_world here).tree here.node known.1.1
 
     as_spent : node_in left_world number here.node ≡ node_in spent_world number here.node
@@ -204,15 +194,13 @@ module _ (world : World ℕ) (fresh : Fresh ℕ) (name : TaskName) (call : Call)
     root_same : (tree_in left_world number).root ≡ (tree_in world number).root
     root_same =
         root_left world fresh name call answer is plain serves other few did from old to new object permit_is uncovered
-        is_directory outside
-        number here.node there
+        is_directory outside number here.node there
 
     now_directory : is_directory_node (node_in left_world number here.node) ≡ true
     now_directory = ap (λ (f : FileTree ℕ). is_directory_node (f.tree.node here.node)) (sym files_here) ∙ known.1.1
 
     root_there : is_some (node_in left_world number (mount_at nat_eq world here).root) ≡ true
-    root_there =
-        (λ i. is_some (node_in left_world (sym alike.filesystem i) (sym alike.root i)))
+    root_there = (λ i. is_some (node_in left_world (sym alike.filesystem i) (sym alike.root i)))
         ∙ directory_used (files_at nat_eq left_world here).tree (mount_at nat_eq left_world here).root
         (mount_root left_world is_left.0 here.mount known.1.0.0)
 
@@ -235,12 +223,10 @@ module _ (world : World ℕ) (fresh : Fresh ℕ) (name : TaskName) (call : Call)
         ≡ parent_in here.node (node_in world number here.node)
         → is_removed nat_eq (tree_in left_world number) here.node ≡ false
         → is_directory_under nat_eq (filesystem_numbered nat_eq left_world number).files
-        (mount_at nat_eq world here).root here.node ≡ true
-        → Up here
+        (mount_at nat_eq world here).root here.node ≡ true → Up here
     goes parent present under = record {
       parent = ap (λ (f : FileTree ℕ). parent_in here.node (f.tree.node here.node)) files_here ∙ parent;
-      not_lost =
-          (λ i. is_removed nat_eq (files_here i).tree here.node
+      not_lost = (λ i. is_removed nat_eq (files_here i).tree here.node
           || not (is_directory_under nat_eq (files_here i) (alike.root i) here.node))
           ∙ (λ i. present i || not (under i));
     }
@@ -251,8 +237,7 @@ module _ (world : World ℕ) (fresh : Fresh ℕ) (name : TaskName) (call : Call)
 
       under_before : is_directory_under nat_eq (filesystem_numbered nat_eq world number).files
           (mount_at nat_eq world here).root here.node ≡ true
-      under_before =
-          not-false (is_directory_under nat_eq (filesystem_numbered nat_eq world number).files
+      under_before = not-false (is_directory_under nat_eq (filesystem_numbered nat_eq world number).files
           (mount_at nat_eq world here).root here.node)
           (or_parts (is_removed nat_eq (tree_in world number) here.node) _ found_so).1
 
@@ -276,29 +261,20 @@ module _ (world : World ℕ) (fresh : Fresh ℕ) (name : TaskName) (call : Call)
           entry_later directory any next e (λ same it. keeps same ([], ap Some (sym it))) now
 
       outside_goes : Keeps here.node → Up here
-      outside_goes keeps =
-          goes
-          (ap (parent_in here.node) as_spent
+      outside_goes keeps = goes (ap (parent_in here.node) as_spent
           ∙ (each_in number).parents here.node (λ same it. keeps same ([], ap Some (sym it))))
           (present_later Keeps (filesystem_numbered nat_eq world number).files
-          (filesystem_numbered nat_eq left_world number).files tree_before.tree
-          tree_later root_same above names
+          (filesystem_numbered nat_eq left_world number).files tree_before.tree tree_later root_same above names
           (mount_at nat_eq world here).root here.node known.0.1 now_directory keeps root_there present_before
-          under_before)
-          (under_later Keeps (filesystem_numbered nat_eq world number).files
-          (filesystem_numbered nat_eq left_world number).files tree_before.tree
-          tree_later root_same above names
+          under_before) (under_later Keeps (filesystem_numbered nat_eq world number).files
+          (filesystem_numbered nat_eq left_world number).files tree_before.tree tree_later root_same above names
           (mount_at nat_eq world here).root here.node known.0.1 now_directory keeps root_there present_before
           under_before)
 
       outside_fits : Keeps here.node → FitsIn (parent_location nat_eq world here)
-      outside_fits keeps same directory way =
-          absurd (⊎_elim
-          (λ root. keeps same
-          (subst Inside
+      outside_fits keeps same directory way = absurd (⊎_elim (λ root. keeps same (subst Inside
           (ap (λ n. parent_in n (node_in world number n)) (sym root) ∙ tree_before.tree.root_parent ∙ root) way))
-          (λ named. keeps same
-          (further named.0 named.1 here.node
+          (λ named. keeps same (further named.0 named.1 here.node
           (subst Inside (tree_before.tree.one_parent named.0 named.1 here.node named.2 known.0.1) way)
           (at_fs same named.0 named.1 here.node named.2)))
           (reached_named (tree_in world number) here.node reached_before))
@@ -320,8 +296,7 @@ module _ (world : World ℕ) (fresh : Fresh ℕ) (name : TaskName) (call : Call)
         -- an entry inside never leads to it
         not_moved : (at : ℕ) (any : List ℕ) (next : ℕ) → Inside at → entry_at (tree_in world number) at any ≡ Some next
             → next ≢ object.node
-        not_moved at any next in_it e it =
-            not_around
+        not_moved at any next in_it e it = not_around
             (subst Inside (only_entry at any (at_fs same at any next e ∙ ap Some it)).0 in_it)
 
         led_later : (start : ℕ) (path : List (List ℕ)) (end : ℕ) → Inside start
@@ -337,28 +312,21 @@ module _ (world : World ℕ) (fresh : Fresh ℕ) (name : TaskName) (call : Call)
             (tree_later.tree.alive start any step.0 entry)
 
         from_top : (path : List (List ℕ)) × (led (tree_in world number) top_of path ≡ Some here.node)
-        from_top =
-            under_led (tree_in world number) tree_before.tree
+        from_top = under_led (tree_in world number) tree_before.tree
             (length (filesystem_numbered nat_eq world number).files.numbers) top_of here.node
             known.0.1 reached_before under_before
 
         here_not_moved : here.node ≢ object.node
-        here_not_moved it =
-            ⊎_elim
-            (λ at_top. true≢false (sym (eq-eqb here.node top_of (sym at_top)) ∙ not_top))
+        here_not_moved it = ⊎_elim (λ at_top. true≢false (sym (eq-eqb here.node top_of (sym at_top)) ∙ not_top))
             (λ step. not_moved step.0 step.1 here.node (led_on top_of step.3 step.0 root_in step.4) step.2 it)
             (last_step (tree_in world number) top_of from_top.0 here.node from_top.1)
 
         parent_same : parent_in here.node (node_in left_world number here.node)
             ≡ parent_in here.node (node_in world number here.node)
-        parent_same =
-            ap (parent_in here.node) as_spent ∙ (each_in number).parents here.node (λ own. here_not_moved)
+        parent_same = ap (parent_in here.node) as_spent ∙ (each_in number).parents here.node (λ own. here_not_moved)
 
         reached_later : IsReached (tree_in left_world number) here.node
-        reached_later =
-            ⊎_elim
-            (λ root. absurd (⊎_elim
-            (λ it. here_not_moved (sym it))
+        reached_later = ⊎_elim (λ root. absurd (⊎_elim (λ it. here_not_moved (sym it))
             (λ step. tree_before.tree.root_unnamed step.0 step.1
             (ap (λ n. entry_at (tree_in world n) step.0 step.1) same ∙ step.2 ∙ ap Some (sym root)))
             (last_step whole object.node way.0 here.node way.1)))
@@ -371,24 +339,19 @@ module _ (world : World ℕ) (fresh : Fresh ℕ) (name : TaskName) (call : Call)
                   ∙ directory_used (tree_in left_world number)
                   (parent_in here.node (node_in left_world number here.node))
                   (tree_later.tree.parent_directory here.node now_directory)),
-            ))
-            (reached_named (tree_in world number) here.node reached_before)
+            )) (reached_named (tree_in world number) here.node reached_before)
 
         inside_goes : Up here
-        inside_goes =
-            goes parent_same (reached_not_removed
+        inside_goes = goes parent_same (reached_not_removed
             (tree_in left_world number) tree_later.tree here.node now_directory reached_later)
             (under_seen (filesystem_numbered nat_eq left_world number).files tree_later here.node now_directory
-            reached_later top_of from_top.0
-            (led_later top_of from_top.0 here.node root_in from_top.1 root_there))
+            reached_later top_of from_top.0 (led_later top_of from_top.0 here.node root_in from_top.1 root_there))
 
   up_fits : (Refused : Deny → Type 0) (here : Location ℕ) → BothDirectories here → FitsIn here
       → (same_location nat_eq here did.task.root || nat_eq here.node (mount_at nat_eq world here).root) ≡ false
-      → is_lost nat_eq world here ≡ false
-      → (Up here × FitsIn (parent_location nat_eq world here))
+      → is_lost nat_eq world here ≡ false → (Up here × FitsIn (parent_location nat_eq world here))
       ⊎ (Refused (denial W8) × (is_lost nat_eq left_world here ≡ true))
-  up_fits Refused here known fits not_top found_so =
-      inl (by (nat_eq (mount_at nat_eq world here).filesystem own_fs)
+  up_fits Refused here known fits not_top found_so = inl (by (nat_eq (mount_at nat_eq world here).filesystem own_fs)
       (is_directory_under nat_eq (files_at nat_eq world from) object.node here.node) refl refl)
     where
       elsewhere : ((mount_at nat_eq world here).filesystem ≡ own_fs → Inside here.node → ⊥)
@@ -403,8 +366,7 @@ module _ (world : World ℕ) (fresh : Fresh ℕ) (name : TaskName) (call : Call)
           → Up here × FitsIn (parent_location nat_eq world here)
       inside same way =
           let root_in = fits same (directory_here same) way in (
-            inside_goes here known found_so same way root_in
-                (or_parts (same_location nat_eq here did.task.root)
+            inside_goes here known found_so same way root_in (or_parts (same_location nat_eq here did.task.root)
                 (nat_eq here.node (mount_at nat_eq world here).root) not_top).1,
             λ again directory above. root_in,
           )
@@ -414,16 +376,12 @@ module _ (world : World ℕ) (fresh : Fresh ℕ) (name : TaskName) (call : Call)
           → Up here × FitsIn (parent_location nat_eq world here)
       by true true e f =
           let same = eqb-true (mount_at nat_eq world here).filesystem own_fs e in
-          inside same
-          (under_led whole whole_is.tree (length (files_at nat_eq world from).numbers) object.node here.node
+          inside same (under_led whole whole_is.tree (length (files_at nat_eq world from).numbers) object.node here.node
           (directory_here same)
           (subst (λ n. IsReached (tree_in world n) here.node) same (reached_before here known found_so)) f)
-      by true false e f =
-          elsewhere (λ same way.
-          true≢false
-          (sym (under_seen (files_at nat_eq world from) whole_is here.node (directory_here same)
-          (reached_in here.node way)
-          object.node way.0 way.1) ∙ f))
+      by true false e f = elsewhere (λ same way.
+          true≢false (sym (under_seen (files_at nat_eq world from) whole_is here.node (directory_here same)
+          (reached_in here.node way) object.node way.0 way.1) ∙ f))
       by false q e f =
           elsewhere (λ same way. true≢false (sym (eq-eqb (mount_at nat_eq world here).filesystem own_fs same) ∙ e))
 
@@ -431,13 +389,11 @@ module _ (world : World ℕ) (fresh : Fresh ℕ) (name : TaskName) (call : Call)
       → FitsIn here → entry_named any (entries_in (node_at nat_eq world here)) ≡ Some next
       → entry_named any (entries_in (node_at nat_eq left_world here)) ≡ Some next
       → FitsIn (record { mount = here.mount; node = next })
-  named_fits here any next known fits e f same directory way =
-      ⊎_elim moved_here (λ step. fits same (directory_here) (
-        step.3,
-        step.4 ∙ ap Some (sym (whole_is.tree.one_parent step.0 step.1 next step.2 directory)
-            ∙ whole_is.tree.one_parent here.node any next at_fs_now directory),
-      ))
-      (last_step whole object.node way.0 next way.1)
+  named_fits here any next known fits e f same directory way = ⊎_elim moved_here (λ step. fits same (directory_here) (
+    step.3,
+    step.4 ∙ ap Some (sym (whole_is.tree.one_parent step.0 step.1 next step.2 directory)
+        ∙ whole_is.tree.one_parent here.node any next at_fs_now directory),
+  )) (last_step whole object.node way.0 next way.1)
     where
       at_fs_now : entry_at whole here.node any ≡ Some next
       at_fs_now = ap (λ n. entry_at (tree_in world n) here.node any) (sym same) ∙ e
@@ -455,8 +411,7 @@ module _ (world : World ℕ) (fresh : Fresh ℕ) (name : TaskName) (call : Call)
           uncovered
           (seen world fresh name call answer is plain serves other few did from old to new object permit_is uncovered
           is_directory outside).moves.replaced_other
-          ((λ i. is_some (node_in left_world (sym same i) (sym was.0 i))) ∙ there here known))
-          f
+          ((λ i. is_some (node_in left_world (sym same i) (sym was.0 i))) ∙ there here known)) f
 
   top_fits : (here : Location ℕ) → IsFoundDirectory world is did.task here → FitsIn here
       → FitsIn (top world left_world is plain is_left.0 is_left.1 did.task reader here)
@@ -465,16 +420,13 @@ module _ (world : World ℕ) (fresh : Fresh ℕ) (name : TaskName) (call : Call)
       (λ a b both e. (hop_known world is did.task a b both.0 e, points_fit a b both.0 e))
       (length world.mounts) here here (found_here, fits)).1
 
-  pub fits_ways : (Refused : Deny → Type 0)
-      → FitsWays world
+  pub fits_ways : (Refused : Deny → Type 0) → FitsWays world
       (later world fresh name call answer is plain serves other few did from old to new object permit_is uncovered
-      is_directory outside)
-      is plain
+      is_directory outside) is plain
       (left_is world fresh name call answer is plain serves other few did from old to new object permit_is uncovered
       is_directory outside).0
       (left_is world fresh name call answer is plain serves other few did from old to new object permit_is uncovered
-      is_directory outside).1
-      did.task reader Refused
+      is_directory outside).1 did.task reader Refused
       (Fits world fresh name call answer is plain serves other few did from old to new object permit_is uncovered
       is_directory outside)
   fits_ways Refused = record {

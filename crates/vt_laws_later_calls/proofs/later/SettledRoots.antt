@@ -49,8 +49,7 @@ module _ (world : World ℕ) (one : any_pair (λ (a b : Filesystem ℕ). nat_eq 
   abbrev first : World ℕ
   first = without_dead_in nat_eq is_overlay living
 
-  swept : (w : World ℕ) (chosen : Bool) (f : Filesystem ℕ)
-      → ((only_used nat_eq w chosen f).number ≡ f.number)
+  swept : (w : World ℕ) (chosen : Bool) (f : Filesystem ℕ) → ((only_used nat_eq w chosen f).number ≡ f.number)
       × ((only_used nat_eq w chosen f).files.tree.root ≡ f.files.tree.root)
   swept w false f = (refl, refl)
   swept w true f = by (list_all (λ number. is_among nat_eq number (used_in nat_eq w f)) f.files.numbers)
@@ -68,8 +67,7 @@ module _ (world : World ℕ) (one : any_pair (λ (a b : Filesystem ℕ). nat_eq 
 
   looked_up_settled : (number : ℕ) → looked_up number (settled nat_eq world).filesystems
       ≡ option_map twice (option_map once (looked_up number living.filesystems))
-  looked_up_settled number =
-      looked_up-map twice (λ f. (swept first (not (is_overlay f)) f).0) number first.filesystems
+  looked_up_settled number = looked_up-map twice (λ f. (swept first (not (is_overlay f)) f).0) number first.filesystems
       ∙ ap (option_map twice) (looked_up-map once (λ f. (swept living (is_overlay f) f).0) number living.filesystems)
 
   pub root_settled : (number inode : ℕ)
@@ -81,8 +79,7 @@ module _ (world : World ℕ) (one : any_pair (λ (a b : Filesystem ℕ). nat_eq 
       left : (o : Option (Filesystem ℕ)) → looked_up number living.filesystems ≡ o
           → filesystem_numbered nat_eq (settled nat_eq world) number
           ≡ unwrap_or (option_map twice (option_map once o)) (no_filesystem number)
-      left o e =
-          ap (λ x. unwrap_or x (no_filesystem number)) (looked_up_settled number)
+      left o e = ap (λ x. unwrap_or x (no_filesystem number)) (looked_up_settled number)
           ∙ ap (λ x. unwrap_or (option_map twice (option_map once x)) (no_filesystem number)) e
 
       by : (o : Option (Filesystem ℕ)) → looked_up number living.filesystems ≡ o

@@ -78,15 +78,13 @@ module _ (world later : World ℕ) (is : IsWorld nat_eq world) (plain : IsPlain 
     pub hopped : (here : Location ℕ) → BothAre here → Fits here → Fits (top here)
     pub up : (here : Location ℕ) → BothAre here → Fits here
         → (same_location nat_eq here task.root || nat_eq here.node (mount_at nat_eq world here).root) ≡ false
-        → is_lost nat_eq world here ≡ false
-        → (GoesUp here × Fits (parent_location nat_eq world here))
+        → is_lost nat_eq world here ≡ false → (GoesUp here × Fits (parent_location nat_eq world here))
         ⊎ (Refused (denial W8) × (is_lost nat_eq later here ≡ true))
 
   module _ (called : task_called world task.name ≡ Some task)
       (called_later : task_called later reader.name ≡ Some reader)
       (stands : StandsAs task reader) (Refused : Deny → Type 0) (seen : MountsSeen)
-      (stay : ObjectsStay world later Refused)
-      (Fits : Location ℕ → Type 0) (fits : FitsWays Refused Fits) where
+      (stay : ObjectsStay world later Refused) (Fits : Location ℕ → Type 0) (fits : FitsWays Refused Fits) where
     -- a location that is there in both worlds, and fits
     abbrev pub Known : Location ℕ → Type 0
     Known here = BothFound here × Fits here
@@ -104,8 +102,7 @@ module _ (world later : World ℕ) (is : IsWorld nat_eq world) (plain : IsPlain 
 
     directory_too : (here : Location ℕ) → BothFound here
         → is_directory_at nat_eq later here ≡ is_directory_at nat_eq world here
-    directory_too here known =
-        ap is_directory_node (node_here here known)
+    directory_too here known = ap is_directory_node (node_here here known)
         ∙ stay.directory (mount_at nat_eq world here).filesystem here.node known.0.1 (there_later here known)
 
     both_are : (here : Location ℕ) → BothFound here → is_directory_at nat_eq world here ≡ true → BothAre here
@@ -122,14 +119,12 @@ module _ (world later : World ℕ) (is : IsWorld nat_eq world) (plain : IsPlain 
         (step_found world is task here word next known.0 e, step_found later is_later reader here word next known.1 f)
 
     abbrev Steps : Location ℕ → LastWord → Location ℕ → Type 0
-    Steps here word next =
-        ((stepped nat_eq later reader here word ≡ Ok next) × Known next)
+    Steps here word next = ((stepped nat_eq later reader here word ≡ Ok next) × Known next)
         ⊎ ((deny : Deny) × Refused deny × (stepped nat_eq later reader here word ≡ Err deny))
 
     -- Names
     abbrev named_by : List (Mount ℕ) → Location ℕ → Option ℕ → Result (Location ℕ) Deny
-    named_by mounts here o =
-        ok_or (option_map (topmost nat_eq mounts)
+    named_by mounts here o = ok_or (option_map (topmost nat_eq mounts)
         (option_map (λ object. record { mount = here.mount; node = object }) o)) (denial W6)
 
     no_answer : (deny : Deny) (a : Location ℕ) → Path (Result (Location ℕ) Deny) (Err deny) (Ok a) → ⊥
@@ -147,8 +142,7 @@ module _ (world later : World ℕ) (is : IsWorld nat_eq world) (plain : IsPlain 
             → named_by world.mounts here (Some object) ≡ Ok next
             → (entry_at (tree_in later (mount_at nat_eq world here).filesystem) here.node name ≡ Some object)
             ⊎ ((entry_at (tree_in later (mount_at nat_eq world here).filesystem) here.node name ≡ None)
-            × Refused (denial W6))
-            → Steps here (Named name) next
+            × Refused (denial W6)) → Steps here (Named name) next
         inside object f g (inl stays) =
             let place : Location ℕ = record { mount = here.mount; node = object } in
             let now : stepped nat_eq later reader here (Named name) ≡ Ok next =
@@ -169,8 +163,7 @@ module _ (world later : World ℕ) (is : IsWorld nat_eq world) (plain : IsPlain 
             → named_by world.mounts here (entry_named name (entries_in (node_at nat_eq world here))) ≡ Ok next
             → Steps here (Named name) next
         by None f g = absurd (no_answer (denial W6) next (ap (named_by world.mounts here) (sym f) ∙ g))
-        by (Some object) f g =
-            inside object f (ap (named_by world.mounts here) (sym f) ∙ g)
+        by (Some object) f g = inside object f (ap (named_by world.mounts here) (sym f) ∙ g)
             (stay.entry (mount_at nat_eq world here).filesystem here.node name object f
             (there_later here (both_found here known)))
 
@@ -179,8 +172,7 @@ module _ (world later : World ℕ) (is : IsWorld nat_eq world) (plain : IsPlain 
     is_top_by root mount_root here = same_location nat_eq here root || nat_eq here.node mount_root
 
     abbrev up_by : List (Mount ℕ) → Bool → Bool → ℕ → Location ℕ → Result (Location ℕ) Deny
-    up_by mounts ends lost parent here =
-        cond ends (Ok here) (unless ((lost, W8) ∷ [])
+    up_by mounts ends lost parent here = cond ends (Ok here) (unless ((lost, W8) ∷ [])
         (Ok (topmost nat_eq mounts (record { mount = here.mount; node = parent }))))
 
     module _ (here next : Location ℕ) (known : BothAre here) (fit : Fits here) where
@@ -200,12 +192,9 @@ module _ (world later : World ℕ) (is : IsWorld nat_eq world) (plain : IsPlain 
 
       later_up : stepped nat_eq later reader here DotDot
           ≡ up_by later.mounts (is_top_by task.root (mount_at nat_eq world above).root above)
-          (is_lost nat_eq later above)
-          (parent_in above.node (node_at nat_eq later above)) above
-      later_up =
-          ap (λ (at : Location ℕ). up_by later.mounts (is_top_by reader.root (mount_at nat_eq later at).root at)
-          (is_lost nat_eq later at)
-          (parent_in at.node (node_at nat_eq later at)) at) (seen.top_is here known)
+          (is_lost nat_eq later above) (parent_in above.node (node_at nat_eq later above)) above
+      later_up = ap (λ (at : Location ℕ). up_by later.mounts (is_top_by reader.root (mount_at nat_eq later at).root at)
+          (is_lost nat_eq later at) (parent_in at.node (node_at nat_eq later at)) at) (seen.top_is here known)
           ∙ ap (λ b. up_by later.mounts b (is_lost nat_eq later above)
           (parent_in above.node (node_at nat_eq later above)) above) ends_same
 
@@ -218,33 +207,25 @@ module _ (world later : World ℕ) (is : IsWorld nat_eq world) (plain : IsPlain 
 
           on : is_top_by task.root (mount_at nat_eq world above).root above ≡ false
               → Path (Result (Location ℕ) Deny) (Ok (topmost nat_eq world.mounts (parent_location nat_eq world above)))
-              (Ok next)
-              → (GoesUp above × Fits (parent_location nat_eq world above))
-              ⊎ (Refused (denial W8) × (is_lost nat_eq later above ≡ true))
-              → Steps here DotDot next
-          on p g (inl goes) =
-              found_too
-              (later_up
+              (Ok next) → (GoesUp above × Fits (parent_location nat_eq world above))
+              ⊎ (Refused (denial W8) × (is_lost nat_eq later above ≡ true)) → Steps here DotDot next
+          on p g (inl goes) = found_too (later_up
               ∙ (λ i. up_by later.mounts (p i) (goes.0.not_lost i) (goes.0.parent i) above)
               ∙ ap Ok (seen.topmost_is (parent_location nat_eq world above) above_known.0.0) ∙ g)
               (subst Fits (same_ok (topmost nat_eq world.mounts (parent_location nat_eq world above)) next g)
               (fits.over (parent_location nat_eq world above) above_known.0.0 goes.1))
-          on p g (inr lost) =
-              inr (
-                denial W8,
-                lost.0,
-                later_up ∙ (λ i. up_by later.mounts (p i) (lost.1 i)
-                    (parent_in above.node (node_at nat_eq later above)) above),
-              )
+          on p g (inr lost) = inr (
+            denial W8,
+            lost.0,
+            later_up ∙ (λ i. up_by later.mounts (p i) (lost.1 i)
+                (parent_in above.node (node_at nat_eq later above)) above),
+          )
 
           by : (p : Bool) → is_top_by task.root (mount_at nat_eq world above).root above ≡ p
               → (q : Bool) → is_lost nat_eq world above ≡ q
               → up_by world.mounts p q (parent_in above.node (node_at nat_eq world above)) above ≡ Ok next
               → Steps here DotDot next
-          by true f q lost g =
-              found_too
-              (later_up
-              ∙ ap (λ b. up_by later.mounts b (is_lost nat_eq later above)
+          by true f q lost g = found_too (later_up ∙ ap (λ b. up_by later.mounts b (is_lost nat_eq later above)
               (parent_in above.node (node_at nat_eq later above)) above) f ∙ g)
               (subst Fits (same_ok above next g) (fits.hopped here known fit))
           by false f true lost g = absurd (no_answer (denial W8) next g)

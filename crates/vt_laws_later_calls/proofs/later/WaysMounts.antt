@@ -49,12 +49,10 @@ module _ {A : Type 0} where
     where
       by : (o : Option A) → f a ≡ o → (n : ℕ) → g (last_or a (chain n g a)) ≡ None
           → ((k : ℕ) (b : A) → Q b → f (last_or b (chain m f b)) ≡ None → g (last_or b (chain k g b)) ≡ None
-          → last_or b (chain k g b) ≡ last_or b (chain m f b))
-          → last_or a (chain n g a) ≡ last_or a (chain (suc m) f a)
+          → last_or b (chain k g b) ≡ last_or b (chain m f b)) → last_or a (chain n g a) ≡ last_or a (chain (suc m) f a)
       by None e n h rest = stops n g a (same a q ∙ e) ∙ sym (stops (suc m) f a e)
       by (Some b) e zero h rest = none_is_not (g a) b h (same a q ∙ e)
-      by (Some b) e (suc k) h rest =
-          goes k g a b (same a q ∙ e)
+      by (Some b) e (suc k) h rest = goes k g a b (same a q ∙ e)
           ∙ rest k b (on a b q e) (sym (ap f (goes m f a b e)) ∙ ends) (sym (ap g (goes k g a b (same a q ∙ e))) ∙ h)
           ∙ sym (goes m f a b e)
 
@@ -75,8 +73,7 @@ module _ (world : World ℕ) (is : IsWorld nat_eq world) (task : Task ℕ) where
 
   pub top_known : (here : Location ℕ) → IsFoundDirectory world is task here
       → IsFoundDirectory world is task (last_or here (chain (length world.mounts) (hop nat_eq world task) here))
-  top_known here found =
-      chain_ends_at (IsFoundDirectory world is task) (hop nat_eq world task) hop_known
+  top_known here found = chain_ends_at (IsFoundDirectory world is task) (hop nat_eq world task) hop_known
       (length world.mounts) here here found
 
   -- hops come to an end
@@ -94,14 +91,11 @@ module _ (world : World ℕ) (is : IsWorld nat_eq world) (task : Task ℕ) where
           absurd (omega arith)
   hops_end_by (suc n) here less = by (hop nat_eq world task here) refl (λ b h. hops_end_by n b h)
     where
-      by : (o : Option (Location ℕ)) → hop nat_eq world task here ≡ o
-          → ((b : Location ℕ) → deep b.mount ≤ n
+      by : (o : Option (Location ℕ)) → hop nat_eq world task here ≡ o → ((b : Location ℕ) → deep b.mount ≤ n
           → hop nat_eq world task (last_or b (chain n (hop nat_eq world task) b)) ≡ None)
           → hop nat_eq world task (last_or here (chain (suc n) (hop nat_eq world task) here)) ≡ None
       by None e rest = ap (hop nat_eq world task) (stops (suc n) (hop nat_eq world task) here e) ∙ e
-      by (Some b) e rest =
-          ap (hop nat_eq world task) (goes n (hop nat_eq world task) here b e)
-          ∙ rest b
+      by (Some b) e rest = ap (hop nat_eq world task) (goes n (hop nat_eq world task) here b e) ∙ rest b
           (let child = rank_child world is.mounts.one_number is.mounts.standing here.mount b
           (hop_place here b e) in omega arith)
 
@@ -120,13 +114,11 @@ pub record SeenAlike (before after : Mount ℕ) : Type 0 where
 -- What stands somewhere when mounts are taken away with all that stands on them, stood there.
 module _ (world : World ℕ) (is : IsWorld nat_eq world) (gone : List ℕ) (closed : AreClosed world gone) where
   pub placed_before : (new : Mount ℕ) (place : Location ℕ) → Among new (taken_away nat_eq world gone).mounts
-      → new.mount_point ≡ Some place
-      → (was : Mount ℕ) × Among was world.mounts × (was.mount_point ≡ Some place)
+      → new.mount_point ≡ Some place → (was : Mount ℕ) × Among was world.mounts × (was.mount_point ≡ Some place)
   placed_before new place m e = by (is_going nat_eq gone new.number) refl
     where
       itself : mount_numbered nat_eq (taken_away nat_eq world gone) new.number ≡ new
-      itself =
-          found_itself (taken_away nat_eq world gone).mounts
+      itself = found_itself (taken_away nat_eq world gone).mounts
           (taking_away_keeps_numbers world gone is.mounts.one_number) new m
 
       at : (mount_numbered nat_eq (taken_away nat_eq world gone) new.number).mount_point ≡ Some place
@@ -138,8 +130,7 @@ module _ (world : World ℕ) (is : IsWorld nat_eq world) (gone : List ℕ) (clos
           → (was : Mount ℕ) × Among was world.mounts × (was.mount_point ≡ Some place)
       on keeps before f true g =
           let there = placed_among world.mounts new.number before f in
-          absurd (true≢false
-          (sym (ap (is_going nat_eq gone) (sym (number-mount_in world.mounts new.number))
+          absurd (true≢false (sym (ap (is_going nat_eq gone) (sym (number-mount_in world.mounts new.number))
           ∙ closed (mount_numbered nat_eq world new.number) before there f g) ∙ keeps))
       on keeps before f false g = (
         mount_numbered nat_eq world new.number,
@@ -157,14 +148,12 @@ module _ (world : World ℕ) (is : IsWorld nat_eq world) (gone : List ℕ) (clos
 
       by : (b : Bool) → is_going nat_eq gone new.number ≡ b
           → (was : Mount ℕ) × Among was world.mounts × (was.mount_point ≡ Some place)
-      by true f =
-          none_is_not (mount_numbered nat_eq (taken_away nat_eq world gone) new.number).mount_point place
+      by true f = none_is_not (mount_numbered nat_eq (taken_away nat_eq world gone) new.number).mount_point place
           (ap (λ (m : Mount ℕ). m.mount_point) (detached_by_number world gone new.number f)) at
       by false f = by_place f (mount_numbered nat_eq world new.number).mount_point refl
 
 module _ (world later : World ℕ) (is : IsWorld nat_eq world) (is_later : IsWorld nat_eq later) (task : Task ℕ)
-    (gone : List ℕ)
-    (closed : AreClosed world gone) (lives : Mount ℕ → Bool)
+    (gone : List ℕ) (closed : AreClosed world gone) (lives : Mount ℕ → Bool)
     (living : later.mounts ≡ filter lives (taken_away nat_eq world gone).mounts)
     (attached_live : (mount : Mount ℕ) → is_some mount.namespace ≡ true → lives mount ≡ true)
     (stays : (number : ℕ) → IsOn world is task number → is_going nat_eq gone number ≡ false) where
@@ -178,12 +167,10 @@ module _ (world later : World ℕ) (is : IsWorld nat_eq world) (is_later : IsWor
   IsListed number = is_among nat_eq number (numbers_of later.mounts) ≡ true
 
   from_taken : (mount : Mount ℕ) → Among mount later.mounts → Among mount taken.mounts
-  from_taken mount m =
-      (among-from_filter lives taken.mounts mount (subst (Among mount) living m)).0
+  from_taken mount m = (among-from_filter lives taken.mounts mount (subst (Among mount) living m)).0
 
   later_mount : (number : ℕ) → IsListed number → mount_numbered nat_eq later number ≡ mount_numbered nat_eq taken number
-  later_mount number listed =
-      sym (ap (mount_numbered nat_eq taken) (sym (number-mount_in later.mounts number))
+  later_mount number listed = sym (ap (mount_numbered nat_eq taken) (sym (number-mount_in later.mounts number))
       ∙ found_itself taken.mounts one_taken (mount_numbered nat_eq later number)
       (from_taken (mount_numbered nat_eq later number) (found_there later.mounts number listed)))
 
@@ -206,15 +193,12 @@ module _ (world later : World ℕ) (is : IsWorld nat_eq world) (is_later : IsWor
       by : (o : Option (Location ℕ)) → (mount_numbered nat_eq world number).mount_point ≡ o
           → (mount_numbered nat_eq taken number).mount_point ≡ (mount_numbered nat_eq world number).mount_point
       by None e = root_stays world gone number e ∙ sym e
-      by (Some place) e =
-          place_kept world gone number place (stays number own) e
-          (stays place.mount (place_found world is task number place own e).0)
-          ∙ sym e
+      by (Some place) e = place_kept world gone number place (stays number own) e
+          (stays place.mount (place_found world is task number place own e).0) ∙ sym e
 
   -- what stands at an own place stands there, and nothing else
   child_own : (place : Location ℕ) → IsOn world is task place.mount → (child : Mount ℕ)
-      → child_at nat_eq world.mounts place ≡ Some child
-      → IsOn world is task child.number
+      → child_at nat_eq world.mounts place ≡ Some child → IsOn world is task child.number
   child_own place own child e =
       let found = found_in (stands_at nat_eq place) world.mounts child e in
       let itself = found_itself world.mounts is.mounts.one_number child found.0 in
@@ -229,8 +213,7 @@ module _ (world later : World ℕ) (is : IsWorld nat_eq world) (is_later : IsWor
   child_root w place = option_map root_of (child_at nat_eq w.mounts place)
 
   child_there : (place : Location ℕ) → IsOn world is task place.mount → (child : Mount ℕ)
-      → child_at nat_eq world.mounts place ≡ Some child
-      → child_root later place ≡ Some (root_of child)
+      → child_at nat_eq world.mounts place ≡ Some child → child_root later place ≡ Some (root_of child)
   child_there place own child e =
       let found = found_in (stands_at nat_eq place) world.mounts child e in
       let itself = found_itself world.mounts is.mounts.one_number child found.0 in
@@ -242,8 +225,7 @@ module _ (world later : World ℕ) (is : IsWorld nat_eq world) (is_later : IsWor
       let attached : is_some child.namespace ≡ true = in_namespace child found.0 (stands_there place child found.1) in
       let still : lives new ≡ true =
       attached_live new (ap is_some (kept.namespace ∙ ap (λ (m : Mount ℕ). m.namespace) itself) ∙ attached) in
-      let there : Among new later.mounts =
-      subst (Among new) (sym living)
+      let there : Among new later.mounts = subst (Among new) (sym living)
       (among-filter lives taken.mounts new (placed_among taken.mounts child.number place new_at) still) in
       ap (option_map root_of) (found_at_its_place later.mounts is_later.mounts.one_child new there place new_at)
       ∙ (λ i. Some (record {
@@ -257,9 +239,7 @@ module _ (world later : World ℕ) (is : IsWorld nat_eq world) (is_later : IsWor
         where
           by : (b : Bool) → is_some mount.namespace ≡ b → is_some mount.namespace ≡ true
           by true f = f
-          by false f =
-              absurd (true≢false (sym (ap is_some e)
-              ∙ (nowhere_parts mount
+          by false f = absurd (true≢false (sym (ap is_some e) ∙ (nowhere_parts mount
               (among_from_list_all is_nowhere_or_attached world.mounts is.mounts.nowhere mount m) f).0))
 
   none_there : (place : Location ℕ) → child_at nat_eq world.mounts place ≡ None → (new : Mount ℕ)
@@ -290,8 +270,7 @@ module _ (world later : World ℕ) (is : IsWorld nat_eq world) (is_later : IsWor
 
   pub topmost_same : (place : Location ℕ) → IsOn world is task place.mount
       → topmost nat_eq later.mounts place ≡ topmost nat_eq world.mounts place
-  topmost_same place own =
-      chains_agree (child_root world) (child_root later)
+  topmost_same place own = chains_agree (child_root world) (child_root later)
       (λ (here : Location ℕ). IsOn world is task here.mount) child_same own_on
       (length world.mounts) (length later.mounts) place own (free_top world is place) (free_top later is_later place)
     where
@@ -302,8 +281,7 @@ module _ (world later : World ℕ) (is : IsWorld nat_eq world) (is_later : IsWor
           by : (o : Option (Mount ℕ)) → child_at nat_eq world.mounts a ≡ o → option_map root_of o ≡ Some b
               → IsOn world is task b.mount
           by None f h = none_is_not None b refl h
-          by (Some child) f h =
-              subst (λ (l : Location ℕ). IsOn world is task l.mount) (same_Some (root_of child) b h)
+          by (Some child) f h = subst (λ (l : Location ℕ). IsOn world is task l.mount) (same_Some (root_of child) b h)
               (child_own a on child f)
 
   -- and `..` goes on from where it went on

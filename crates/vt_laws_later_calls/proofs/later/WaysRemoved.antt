@@ -55,8 +55,7 @@ module _ (files : FileTree ℕ) (directory : ℕ) (name : List ℕ) (object : �
       → ((o : Option (Node ℕ)) → part (node_with_parent object o) ≡ part o)
       → ((o : Option (Node ℕ)) → part (node_without_entry name o) ≡ part o) → (n : ℕ)
       → part (removed.tree.node n) ≡ part (files.tree.node n)
-  removed_part part parent entry n =
-      part_stays unnamed object (node_with_parent object) part parent n
+  removed_part part parent entry n = part_stays unnamed object (node_with_parent object) part parent n
       ∙ part_stays files directory (node_without_entry name) part entry n
 
   pub removed_kind : (n : ℕ) → is_directory_node (removed.tree.node n) ≡ is_directory_node (files.tree.node n)
@@ -71,8 +70,7 @@ module _ (files : FileTree ℕ) (directory : ℕ) (name : List ℕ) (object : �
       removed_part (node_allows who wanted) (allows_with_parent object who wanted) (allows_without name who wanted) n
 
   pub removed_parent : (n : ℕ) → n ≢ object → parent_in n (removed.tree.node n) ≡ parent_in n (files.tree.node n)
-  removed_parent n other =
-      ap (parent_in n) (elsewhere unnamed object (node_with_parent object) n other)
+  removed_parent n other = ap (parent_in n) (elsewhere unnamed object (node_with_parent object) n other)
       ∙ part_stays files directory (node_without_entry name) (parent_in n) (parent-node_without_entry name n) n
 
   -- its names
@@ -81,31 +79,25 @@ module _ (files : FileTree ℕ) (directory : ℕ) (name : List ℕ) (object : �
 
   entry_less : (other : List ℕ) → entry_at removed.tree directory other
       ≡ cond (not (bytes_eq other name)) (entry_at files.tree directory other) None
-  entry_less other =
-      ap (entry_named other) (removed_entries directory
+  entry_less other = ap (entry_named other) (removed_entries directory
       ∙ ap entries_in (there files directory (node_without_entry name))
       ∙ entries-node_without_entry name (files.tree.node directory))
       ∙ entry_named-without_entry other name (entries_in (files.tree.node directory))
 
   pub removed_name : entry_at removed.tree directory name ≡ None
-  removed_name =
-      entry_less name ∙ ap (λ b. cond (not b) (entry_at files.tree directory name) None)
+  removed_name = entry_less name ∙ ap (λ b. cond (not b) (entry_at files.tree directory name) None)
       ((bytes_decides name name).1 refl)
 
   pub removed_entry : (here : ℕ) (other : List ℕ) (next : ℕ) → entry_at files.tree here other ≡ Some next
       → (entry_at removed.tree here other ≡ Some next) ⊎ ((entry_at removed.tree here other ≡ None) × (next ≡ object))
-  removed_entry here other next e =
-      ⊎_elim
+  removed_entry here other next e = ⊎_elim
       (λ t. by (bytes_eq other name) refl (ap (λ m. entry_at removed.tree m other) t.1 ∙ entry_less other)
-      (ap (λ m. entry_at files.tree m other) (sym t.1) ∙ e))
-      (λ t. inl (ap (entry_named other) (removed_entries here
-      ∙ ap entries_in (elsewhere files directory (node_without_entry name) here t.1)) ∙ e))
-      (eqb_tells here directory)
+      (ap (λ m. entry_at files.tree m other) (sym t.1) ∙ e)) (λ t. inl (ap (entry_named other) (removed_entries here
+      ∙ ap entries_in (elsewhere files directory (node_without_entry name) here t.1)) ∙ e)) (eqb_tells here directory)
     where
       by : (b : Bool) → bytes_eq other name ≡ b
           → entry_at removed.tree here other ≡ cond (not b) (entry_at files.tree directory other) None
-          → entry_at files.tree directory other ≡ Some next
-          → (entry_at removed.tree here other ≡ Some next)
+          → entry_at files.tree directory other ≡ Some next → (entry_at removed.tree here other ≡ Some next)
           ⊎ ((entry_at removed.tree here other ≡ None) × (next ≡ object))
       by true same now was =
           let name_is : other ≡ name = (bytes_decides other name).0 same in
@@ -121,17 +113,14 @@ module _ (files : FileTree ℕ) (directory : ℕ) (name : List ℕ) (object : �
           (sym (sym (ap (λ list. is_some (entry_named {N = ℕ} other list)) empty) ∙ ap is_some f))
 
   removed_empty : entries_in (removed.tree.node object) ≡ []
-  removed_empty =
-      removed_entries object
-      ∙ ⊎_elim
+  removed_empty = removed_entries object ∙ ⊎_elim
       (λ t. absurd (nothing_in_it name object (ap (λ m. entry_at files.tree m name) t.1 ∙ may.named)))
       (λ t. ap entries_in (elsewhere files directory (node_without_entry name) object t.1) ∙ may.empty)
       (eqb_tells object directory)
 
   pub removed_alone : (tree : Tree ℕ) → tree.node object ≡ removed.tree.node object → object ≢ tree.root
       → is_removed nat_eq tree object ≡ true
-  removed_alone tree same other =
-      ap (λ b. not (b || is_some (cond b None
+  removed_alone tree same other = ap (λ b. not (b || is_some (cond b None
       (when (is_among nat_eq object (targets_in (tree.node (parent_in object (tree.node object)))))
       (parent_in object (tree.node object)))))) (ne_eqb object tree.root other)
       ∙ ap (λ p. not (is_some (when (is_among nat_eq object (targets_in (tree.node p))) p))) own
@@ -140,6 +129,5 @@ module _ (files : FileTree ℕ) (directory : ℕ) (name : List ℕ) (object : �
       (ap entries_in same ∙ removed_empty)
     where
       own : parent_in object (tree.node object) ≡ object
-      own =
-          ap (parent_in object) (same ∙ there unnamed object (node_with_parent object))
+      own = ap (parent_in object) (same ∙ there unnamed object (node_with_parent object))
           ∙ own_parent-node_with_parent object (unnamed.tree.node object)

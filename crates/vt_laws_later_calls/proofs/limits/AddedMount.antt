@@ -23,8 +23,7 @@ use Rattle.vt_laws_mounts.proofs.letting_go.leaving.PlacesLeft.{found_is_there}
 -- a mount that is in a namespace is one of the world's
 pub attached_is_mount : (world : World ℕ) (number : ℕ) → is_some (mount_numbered nat_eq world number).namespace ≡ true
     → is_mount world number ≡ true
-attached_is_mount world number attached =
-    subst (λ n. is_mount world n ≡ true) (number-mount_in world.mounts number)
+attached_is_mount world number attached = subst (λ n. is_mount world n ≡ true) (number-mount_in world.mounts number)
     (is_one_of world.mounts (mount_numbered nat_eq world number) (found_is_there world.mounts number attached))
 
 module _ (fresh : Fresh ℕ) (world : World ℕ) (place : Location ℕ) (flags : MountFlags) where
@@ -78,8 +77,7 @@ module _ (fresh : Fresh ℕ) (world : World ℕ) (place : Location ℕ) (flags :
 
   -- the attachment, where the destination is the only part
   abbrev alone_graft : Graft ℕ
-  alone_graft =
-      graft_of nat_eq larger (copies_from nat_eq (odds fresh) (destination ∷ []) (origin ∷ [])) place false
+  alone_graft = graft_of nat_eq larger (copies_from nat_eq (odds fresh) (destination ∷ []) (origin ∷ [])) place false
       (origin ∷ [])
 
   -- a mount that is not shared has no receivers
@@ -100,8 +98,7 @@ module _ (fresh : Fresh ℕ) (world : World ℕ) (place : Location ℕ) (flags :
 
   -- the new mount stands at the destination
   point_is_destination : copy_mount_point nat_eq alone_copies alone_graft destination.number origin ≡ place
-  point_is_destination =
-      ap (λ top. if top then (record { mount = destination.number; node = place.node }) else place)
+  point_is_destination = ap (λ top. if top then (record { mount = destination.number; node = place.node }) else place)
       (eq-eqb added_filesystem.number added_filesystem.number refl)
       ∙ (λ i. record { mount = number-mount_in world.mounts place.mount i; node = place.node })
 
@@ -111,8 +108,7 @@ module _ (fresh : Fresh ℕ) (world : World ℕ) (place : Location ℕ) (flags :
       (twig_of alone_copies (group_of destination.propagation) origin) ≡ Private
   type_is_private private = by (nat_eq destination.number place.mount)
     where
-      by : (b : Bool)
-          → (if b then type_at alone_copies (group_of destination.propagation) origin
+      by : (b : Bool) → (if b then type_at alone_copies (group_of destination.propagation) origin
           else copy_type nat_eq larger alone_copies (destination ∷ []) destination
           (twig_of alone_copies (group_of destination.propagation) origin) destination.propagation) ≡ Private
       by true = ap (λ kind. type_at alone_copies (group_of kind) origin) private
@@ -121,8 +117,7 @@ module _ (fresh : Fresh ℕ) (world : World ℕ) (place : Location ℕ) (flags :
   -- on a private mount one mount comes, the last one
   pub mounts-new_mount : destination.propagation ≡ Private → (task : Task ℕ)
       → (apply nat_eq fresh world task (ToMountPlain place flags)).world.mounts ≡ world.mounts ++ (added_mount ∷ [])
-  mounts-new_mount private task =
-      ap mounts_with (no_receivers (ap group_of private))
+  mounts-new_mount private task = ap mounts_with (no_receivers (ap group_of private))
       ∙ append-nil (mounts_with_copies (destination ∷ []))
       ∙ (λ i. nothing_is_pushed world.mounts i ++ (record added_mount {
         mount_point = Some (point_is_destination i);
@@ -132,13 +127,11 @@ module _ (fresh : Fresh ℕ) (world : World ℕ) (place : Location ℕ) (flags :
   -- no group is made
   pub master-new_mount : destination.propagation ≡ Private → (task : Task ℕ)
       → (apply nat_eq fresh world task (ToMountPlain place flags)).world.master ≡ world.master
-  master-new_mount private task =
-      ap master_with (no_receivers (ap group_of private))
+  master-new_mount private task = ap master_with (no_receivers (ap group_of private))
       ∙ ap (λ made. folded (masters_with nat_eq) world.master (cons_option made [] ++ []))
       (by (nat_eq destination.number place.mount))
     where
-      by : (b : Bool)
-          → (if b then twig_master (twig_of alone_copies (group_of destination.propagation) origin)
+      by : (b : Bool) → (if b then twig_master (twig_of alone_copies (group_of destination.propagation) origin)
           else then_some (group_of destination.propagation) (λ group.
           when (not (is_member_of nat_eq group destination)) (
             image nat_eq alone_copies destination
@@ -150,8 +143,7 @@ module _ (fresh : Fresh ℕ) (world : World ℕ) (place : Location ℕ) (flags :
       by false = cc private
 
       master_with : List (Mount ℕ) → ℕ → Option ℕ
-      master_with others =
-          folded (masters_with nat_eq) world.master (all_groups_made nat_eq larger
+      master_with others = folded (masters_with nat_eq) world.master (all_groups_made nat_eq larger
           (copies_from nat_eq (odds fresh) (destination ∷ others) (origin ∷ []))
           (graft_of nat_eq larger (copies_from nat_eq (odds fresh) (destination ∷ others) (origin ∷ [])) place false
           (origin ∷ [])) (destination ∷ others))

@@ -16,15 +16,13 @@ module _ (world : World ℕ) (fresh : Fresh ℕ) (name : TaskName) (task : Task 
     (called : task_called world name ≡ Some task) where
   -- a call of a task by its judgement
   abbrev pub outcome_by : Judgement ℕ → Outcome ℕ
-  outcome_by judgement =
-      finished nat_eq world name call (filesystems_changed_by nat_eq world judgement)
+  outcome_by judgement = finished nat_eq world name call (filesystems_changed_by nat_eq world judgement)
       (after world judgement (apply nat_eq fresh world task))
 
   -- the policy's outcome is that of the judgement
   pub policy_by_judgement : (judgement : Judgement ℕ) → judge_in nat_eq fresh world task call ≡ judgement
       → policy nat_eq fresh world name call ≡ outcome_by judgement
-  policy_by_judgement judgement judged =
-      policy_judges_then_applies fresh world name call
+  policy_by_judgement judgement judged = policy_judges_then_applies fresh world name call
       ∙ ap (λ found. after world (ok_or found (denial S2)) (λ one.
       finished nat_eq world name call (filesystems_changed_by nat_eq world (judge_in nat_eq fresh world one call))
       (after world (judge_in nat_eq fresh world one call) (apply nat_eq fresh world one)))) called

@@ -61,29 +61,24 @@ module _ (world : World ℕ) (task : Task ℕ) (from next : Location ℕ) (left 
 
   -- the word is walked
   word_is_walked : word_walked nat_eq world task here (Named word) ≡ Ok there
-  word_is_walked =
-      ap (λ step. stopped_by (steps_with nat_eq world task here (Named word)) (and_then step moved_on))
+  word_is_walked = ap (λ step. stopped_by (steps_with nat_eq world task here (Named word)) (and_then step moved_on))
       (passed (search_rules nat_eq world task from) (stepped nat_eq world task from (Named word)) (
         ap not way.searched,
         (
           ap not way.searches,
           (ap (λ overlay. not (mounter_allows overlay execute_right (node_at nat_eq world from))) way.plain, tt),
         ),
-      )
-      ∙ ap (λ found. ok_or (option_map (topmost nat_eq world.mounts)
+      ) ∙ ap (λ found. ok_or (option_map (topmost nat_eq world.mounts)
       (option_map (λ (number : ℕ). record { mount = from.mount; node = number }) found)) (denial W6)) way.entry
       ∙ ap (λ place. Ok place) way.leads)
 
   -- the word walked, and no symlink followed
   pub word_goes_on : then_walk (word_walked nat_eq world task here (Named word)) (λ reached.
       if_symlink reached (symlink_text (node_at nat_eq world reached.location))
-      (followed nat_eq world task from reached))
-      ≡ Ok there
-  word_goes_on =
-      ap (λ walk. then_walk walk (λ reached.
+      (followed nat_eq world task from reached)) ≡ Ok there
+  word_goes_on = ap (λ walk. then_walk walk (λ reached.
       if_symlink reached (symlink_text (node_at nat_eq world reached.location))
-      (followed nat_eq world task from reached)))
-      word_is_walked
+      (followed nat_eq world task from reached))) word_is_walked
       ∙ ap (λ text. if_symlink there text (followed nat_eq world task from there))
       (directory_no_link (node_at nat_eq world next) way.directory)
 
@@ -105,13 +100,11 @@ module _ (world : World ℕ) (task : Task ℕ) (path : List ℕ) (end : Here ℕ
 
   -- and as to a destination, where it is the topmost mount
   pub destination_is_walked : destination_walk nat_eq world task path ≡ Ok end
-  destination_is_walked =
-      ap (λ walk. then_walk walk (λ here.
+  destination_is_walked = ap (λ walk. then_walk walk (λ here.
       walk_unless here.steps ((is_removed_at nat_eq world (topmost nat_eq world.mounts here.location), W8) ∷ [])
       (record here { location = topmost nat_eq world.mounts here.location }))) source_is_walked
       ∙ ap (λ place. walk_unless end.steps ((is_removed_at nat_eq world place, W8) ∷ [])
-      (record end { location = place })) is.ends
-      ∙ ap (λ b. walk_unless end.steps ((b, W8) ∷ []) end) is.stays
+      (record end { location = place })) is.ends ∙ ap (λ b. walk_unless end.steps ((b, W8) ∷ []) end) is.stays
 
 module _ (world : World ℕ) (task : Task ℕ) where
   -- at the task's root
@@ -120,8 +113,7 @@ module _ (world : World ℕ) (task : Task ℕ) where
 
   -- what comes after a word: no symlink is followed at a directory
   abbrev after_word : Here ℕ → Here ℕ → Result (Here ℕ) (Stop ℕ)
-  after_word reached next =
-      if_symlink next (symlink_text (node_at nat_eq world next.location))
+  after_word reached next = if_symlink next (symlink_text (node_at nat_eq world next.location))
       (followed nat_eq world task reached.location next)
 
   -- words walked from somewhere, symlinks followed
@@ -149,8 +141,7 @@ module _ (world : World ℕ) (task : Task ℕ) where
 
     -- the word is walked from the task's root
     pub one_word_leads : path_walked nat_eq world task path ≡ Ok end_of_one
-    one_word_leads =
-        walked_from_root path (word ∷ []) one.parsed one.absolute one.words_are
+    one_word_leads = walked_from_root path (word ∷ []) one.parsed one.absolute one.words_are
         ∙ ap (λ last. then_walk (word_walked nat_eq world task start last) (after_word start)) one.named
         ∙ word_goes_on world task task.root top most_symlinks [] word object way
 
@@ -167,8 +158,7 @@ module _ (world : World ℕ) (task : Task ℕ) where
 
     -- the two words are walked one after the other
     pub two_words_lead : path_walked nat_eq world task path ≡ Ok end_of_two
-    two_words_lead =
-        walked_from_root path (second ∷ first ∷ []) two.parsed two.absolute two.words_are
+    two_words_lead = walked_from_root path (second ∷ first ∷ []) two.parsed two.absolute two.words_are
         ∙ ap (λ last. then_walk (then_walk (word_walked nat_eq world task start last) (after_word start)) (λ reached.
         then_walk (word_walked nat_eq world task reached (last_word second)) (after_word reached))) two.first_named
         ∙ ap (λ walk. then_walk walk (λ reached.

@@ -83,15 +83,13 @@ module _ (grammar : Grammar) (line : List ℕ) (name : TaskName) (call : Call)
   -- after the line the world has its numbers too
   pub numbers_go_on : (world : World ℕ) (last : ℕ) (outcome : Outcome ℕ) → HasNumbersUntil last world
       → policy nat_eq (numbers_for (suc last)) world name call ≡ outcome → HasNumbersUntil (suc last) outcome.world
-  numbers_go_on world last outcome has is =
-      subst (λ step. HasNumbersUntil (suc last) (step_world world step))
+  numbers_go_on world last outcome has is = subst (λ step. HasNumbersUntil (suc last) (step_world world step))
       (step_is_outcome world (numbers_for (suc last)) ∙ ap (λ o. Answered o) is)
       (line_adds_its_numbers grammar world last line has)
 
   -- a line that is refused in a world is refused each time that it comes again
   pub text_of_refusals : (world : World ℕ)
-      → ((fresh : Fresh ℕ) → policy nat_eq fresh world name call ≡ denied world (denial M9))
-      → (count last : ℕ)
+      → ((fresh : Fresh ℕ) → policy nat_eq fresh world name call ≡ denied world (denial M9)) → (count last : ℕ)
       → text_from grammar world (suc last) (lines_repeated count line []) []
       ≡ numbered (suc last) count (codes " deny 28 ENOSPC M9\n")
   unfolding numbered lines_repeated
@@ -141,8 +139,7 @@ module _ (grammar : Grammar) (line : List ℕ) (name : TaskName) (call : Call)
           later = rest.later;
           state = subst (λ n. State n rest.later) counted rest.state;
           has = subst (λ n. HasNumbersUntil n rest.later) reached rest.has;
-          text =
-              text_goes_on world last (granted Done next.0) (lines_repeated more line lines) next.1
+          text = text_goes_on world last (granted Done next.0) (lines_repeated more line lines) next.1
               ∙ (λ i. ok_is_printed (suc last) i ++ rest.text i)
               ∙ sym (append_assoc (decimal (suc last) ++ codes " ok\n") (numbered (suc (suc last)) more (codes " ok\n"))
               (text_from grammar rest.later (suc (suc last + more)) lines []))

@@ -10,13 +10,12 @@ use Rattle.vt_spec.specs.Language.Calls.{MountFlags, TaskName, same_name}
 use Rattle.vt_spec.specs.Language.Calls.Call.{MountPlain}
 use Rattle.vt_spec.specs.Language.Limits.{most_mounts}
 use Rattle.vt_spec.specs.Lists.{Fresh}
-use Rattle.vt_spec.specs.Machine.Filesystems.{raised_if_changed}
+use Rattle.vt_spec.specs.Machine.Filesystems.{raised_if_changed, raised}
 use Rattle.vt_spec.specs.Machine.Invariants.{IsWorld}
 use Rattle.vt_spec.specs.Machine.Mounts.{Mount, child_at, root_of, stands_at, topmost}
 use Rattle.vt_spec.specs.Machine.Outcomes.{denied, granted}
 use Rattle.vt_spec.specs.Machine.Permits.Permit.{ToMountPlain}
 use Rattle.vt_spec.specs.Machine.Policy.{numbers_raised, policy, raised_namespace, raised_task, same_mounts_in}
-use Rattle.vt_spec.specs.Machine.Filesystems.{raised}
 use Rattle.vt_spec.specs.Machine.Rightful.{node_allows}
 use Rattle.vt_spec.specs.Machine.Run.{Serves}
 use Rattle.vt_spec.specs.Machine.Settled.{settled}
@@ -58,8 +57,7 @@ filesystem_stays world added number node directory = by (find has_number world.f
     by : (found : Option (Filesystem ℕ)) → find has_number world.filesystems ≡ found
         → unwrap_or (find has_number (world.filesystems ++ (added ∷ []))) (no_filesystem number)
         ≡ unwrap_or (find has_number world.filesystems) (no_filesystem number)
-    by None e =
-        absurd (true≢false (sym directory
+    by None e = absurd (true≢false (sym directory
         ∙ ap (λ found. is_directory_node ((unwrap_or found (no_filesystem number)).files.tree.node node)) e))
     by (Some filesystem) e = cc (find-append has_number world.filesystems (added ∷ []))
 
@@ -97,8 +95,7 @@ module _ (world : World ℕ) (name : TaskName) (path word : List ℕ) (one : Has
   -- a full namespace refuses one more mount
   pub full_stack_refuses : most_mounts ≤ count
       → policy nat_eq fresh world name (MountPlain path flags) ≡ denied world (denial M9)
-  full_stack_refuses full =
-      refused_call world fresh name stack.task (MountPlain path flags) stack.called (denial M9)
+  full_stack_refuses full = refused_call world fresh name stack.task (MountPlain path flags) stack.called (denial M9)
       (judged_by_room world name path word one count stack fresh flags
       ∙ ap (λ b. unless ((b, M9) ∷ []) (Ok (ToMountPlain stack.top flags))) over)
     where
@@ -127,17 +124,13 @@ module _ (world : World ℕ) (name : TaskName) (path word : List ℕ) (one : Has
 
     -- the sweep takes nothing
     nothing_goes : settled nat_eq mounted ≡ mounted
-    nothing_goes =
-        new_mounts_of_trees_keep_all fresh world stack.task stack.top flags (all_in_use world stack.is)
-        (mounts_of_worlds_stand world stack.is) (locations_of_worlds_stand world stack.is)
-        (ap is_some stack.inside)
+    nothing_goes = new_mounts_of_trees_keep_all fresh world stack.task stack.top flags (all_in_use world stack.is)
+        (mounts_of_worlds_stand world stack.is) (locations_of_worlds_stand world stack.is) (ap is_some stack.inside)
 
     -- the call is granted
     pub stack_grows : policy nat_eq fresh world name (MountPlain path flags) ≡ granted Done stacked_world
-    stack_grows =
-        policy_by_judgement world fresh name stack.task (MountPlain path flags) stack.called
-        (Ok (ToMountPlain stack.top flags))
-        (judged_by_room world name path word one count stack fresh flags
+    stack_grows = policy_by_judgement world fresh name stack.task (MountPlain path flags) stack.called
+        (Ok (ToMountPlain stack.top flags)) (judged_by_room world name path word one count stack fresh flags
         ∙ ap (λ b. unless ((b, M9) ∷ []) (Ok (ToMountPlain stack.top flags))) below)
         ∙ ap (λ left. granted Done (numbers_raised nat_eq world name [] left)) nothing_goes
       where
@@ -146,8 +139,7 @@ module _ (world : World ℕ) (name : TaskName) (path word : List ℕ) (one : Has
 
     -- the invariants hold after the call
     kept : IsWorld nat_eq stacked_world × IsPlain stacked_world
-    kept =
-        subst (λ (left : World ℕ). IsWorld nat_eq left × IsPlain left) (ap (λ outcome. outcome.world) stack_grows)
+    kept = subst (λ (left : World ℕ). IsWorld nat_eq left × IsPlain left) (ap (λ outcome. outcome.world) stack_grows)
         (calls_keep_worlds world fresh name (MountPlain path flags) stack.is stack.plain serves refl refl)
 
     -- Mounts
@@ -168,21 +160,18 @@ module _ (world : World ℕ) (name : TaskName) (path word : List ℕ) (one : Has
 
     -- so is its filesystem
     added_is_found : filesystem_numbered nat_eq stacked_world added.number ≡ added
-    added_is_found =
-        found_filesystem stacked_world.filesystems kept.0.files.one_filesystem added
+    added_is_found = found_filesystem stacked_world.filesystems kept.0.files.one_filesystem added
         (subst (Among added) (sym filesystems_are) (among-append_right world.filesystems (added ∷ []) added (inl refl)))
 
     -- its root is that of its filesystem
     new_node : node_at nat_eq stacked_world (root_of new) ≡ added.files.tree.node new.root
     new_node =
         ap (λ (mount : Mount ℕ). (filesystem_numbered nat_eq stacked_world mount.filesystem).files.tree.node new.root)
-        new_is_found
-        ∙ ap (λ (filesystem : Filesystem ℕ). filesystem.files.tree.node new.root) added_is_found
+        new_is_found ∙ ap (λ (filesystem : Filesystem ℕ). filesystem.files.tree.node new.root) added_is_found
 
     -- the topmost mount
     top_is_free : child_at nat_eq world.mounts stack.top ≡ None
-    top_is_free =
-        ap (child_at nat_eq world.mounts) (sym stack.way.leads) ∙ topmost_is_free world _ stack.is.mounts
+    top_is_free = ap (child_at nat_eq world.mounts) (sym stack.way.leads) ∙ topmost_is_free world _ stack.is.mounts
 
     -- no mount stands on it
     nothing_on_new : child_at nat_eq world.mounts (root_of new) ≡ None
@@ -200,9 +189,7 @@ module _ (world : World ℕ) (name : TaskName) (path word : List ℕ) (one : Has
 
     -- nor does it stand on itself
     new_stands_apart : stands_at nat_eq (root_of new) new ≡ false
-    new_stands_apart =
-        ap (λ b. b && nat_eq new.root stack.top.node)
-        (nat_eq_false_turned stack.top.mount new.number
+    new_stands_apart = ap (λ b. b && nat_eq new.root stack.top.node) (nat_eq_false_turned stack.top.mount new.number
         (other_number fresh world stack.top flags serves stack.top.mount
         (attached_is_mount world stack.top.mount (ap is_some stack.inside))))
 
@@ -217,8 +204,7 @@ module _ (world : World ℕ) (name : TaskName) (path word : List ℕ) (one : Has
 
     -- and nothing covers it
     new_is_free : topmost nat_eq stacked_world.mounts (root_of new) ≡ root_of new
-    new_is_free =
-        topmost_of_free stacked_world.mounts (root_of new)
+    new_is_free = topmost_of_free stacked_world.mounts (root_of new)
         (ap (child_at nat_eq stacked_world.mounts) (sym new_is_topmost) ∙ topmost_is_free stacked_world _ kept.0.mounts)
 
     -- the task's root
@@ -231,11 +217,9 @@ module _ (world : World ℕ) (name : TaskName) (path word : List ℕ) (one : Has
 
     -- the root directory of the task stays
     root_stays : node_at nat_eq stacked_world stack.task.root ≡ node_at nat_eq world stack.task.root
-    root_stays =
-        ap (λ (mount : Mount ℕ).
+    root_stays = ap (λ (mount : Mount ℕ).
         (filesystem_numbered nat_eq stacked_world mount.filesystem).files.tree.node stack.task.root.node)
-        root_mount_stays
-        ∙ ap (λ filesystems. (filesystem_numbered nat_eq (record world { filesystems = filesystems })
+        root_mount_stays ∙ ap (λ filesystems. (filesystem_numbered nat_eq (record world { filesystems = filesystems })
         (mount_at nat_eq world stack.task.root).filesystem).files.tree.node stack.task.root.node) filesystems_are
         ∙ ap (λ (filesystem : Filesystem ℕ). filesystem.files.tree.node stack.task.root.node)
         (filesystem_stays world added (mount_at nat_eq world stack.task.root).filesystem stack.task.root.node
@@ -246,15 +230,12 @@ module _ (world : World ℕ) (name : TaskName) (path word : List ℕ) (one : Has
     grown_stack = by (raised_task_is name stack.task)
       where
         is_directory : is_directory_at nat_eq stacked_world (root_of new) ≡ true
-        is_directory =
-            ap is_directory_node new_node
-            ∙ ap (λ b. is_directory_node
+        is_directory = ap is_directory_node new_node ∙ ap (λ b. is_directory_node
             (cond b (Some (record { attr = root_attr; content = new_directory new.root })) None))
             (eq-eqb new.root new.root refl)
 
         is_not_removed : is_removed_at nat_eq stacked_world (root_of new) ≡ false
-        is_not_removed =
-            ap (λ (mount : Mount ℕ). is_removed nat_eq
+        is_not_removed = ap (λ (mount : Mount ℕ). is_removed nat_eq
             (filesystem_numbered nat_eq stacked_world mount.filesystem).files.tree new.root) new_is_found
             ∙ ap (λ (filesystem : Filesystem ℕ). is_removed nat_eq filesystem.files.tree new.root) added_is_found
             ∙ ap (λ b. not (b || is_some (named_parent nat_eq added.files.tree new.root)))

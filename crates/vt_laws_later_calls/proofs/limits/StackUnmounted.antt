@@ -69,22 +69,20 @@ module _ (world : World ℕ) (name : TaskName) (path word : List ℕ) (one : Has
 
   -- change numbers of tasks let nothing go
   given_back_in_use : AllInUse world_given_back
-  given_back_in_use =
-      subst AllInUse (λ i. record world_given_back {
-        filesystems = map-id world.filesystems i;
-        tasks = map (λ (task : Task ℕ). sym (raised_task_is name task).1 i) world.tasks;
-      }) (record {
-        mounts = counted_in_use.mounts;
-        filesystems = counted_in_use.filesystems;
-        inodes = counted_in_use.inodes;
-        groups = counted_in_use.groups;
-      })
+  given_back_in_use = subst AllInUse (λ i. record world_given_back {
+    filesystems = map-id world.filesystems i;
+    tasks = map (λ (task : Task ℕ). sym (raised_task_is name task).1 i) world.tasks;
+  }) (record {
+    mounts = counted_in_use.mounts;
+    filesystems = counted_in_use.filesystems;
+    inodes = counted_in_use.inodes;
+    groups = counted_in_use.groups;
+  })
     where
       counted_in_use : AllInUse (counted (λ (filesystem : Filesystem ℕ). filesystem.change)
           (λ (namespace : Namespace ℕ). namespace.change) (λ (task : Task ℕ). (raised_task_is name task).0) world.change
           world)
-      counted_in_use =
-          in_use_later (λ (filesystem : Filesystem ℕ). filesystem.change)
+      counted_in_use = in_use_later (λ (filesystem : Filesystem ℕ). filesystem.change)
           (λ (namespace : Namespace ℕ). namespace.change) (λ (task : Task ℕ). (raised_task_is name task).0) world.change
           world (all_in_use world stack.is)
 
@@ -105,11 +103,9 @@ module _ (world : World ℕ) (name : TaskName) (path word : List ℕ) (one : Has
 
   -- nothing stands on it, and no task uses it
   not_busy : (one : World ℕ) → one ≡ with_mount → is_busy nat_eq one new.number ≡ false
-  not_busy one same =
-      ap (λ (w : World ℕ). is_busy nat_eq w new.number) same
+  not_busy one same = ap (λ (w : World ℕ). is_busy nat_eq w new.number) same
       ∙ (λ i. none_on_new world fresh stack.top flags stack.is stack.plain serves stack.private
-      (ap is_some stack.inside)
-      stacked.tasks stacked.namespaces stacked.change same_locations given_back_in_use i
+      (ap is_some stack.inside) stacked.tasks stacked.namespaces stacked.change same_locations given_back_in_use i
       || none_uses_new world fresh stack.top flags stack.is stack.plain serves stack.private (ap is_some stack.inside)
       stacked.tasks stacked.namespaces stacked.change same_locations given_back_in_use i)
 
@@ -118,31 +114,24 @@ module _ (world : World ℕ) (name : TaskName) (path word : List ℕ) (one : Has
   unfolding umount_permit
   judged_unmount =
       ap (λ b. unless ((b, K1) ∷ []) (and_then (walk_end (directory_walk nat_eq stacked grown.task path)) judged_at))
-      grown.admin
-      ∙ ap (λ walk. and_then (walk_end walk) judged_at)
-      (directory_is_walked stacked grown.task path
+      grown.admin ∙ ap (λ walk. and_then (walk_end walk) judged_at) (directory_is_walked stacked grown.task path
       (end_of_one stacked grown.task path word one grown.object grown.top grown.way)
       (one_word_leads stacked grown.task path word one grown.object grown.top grown.way) grown.destination)
-      ∙ ap (λ namespace. judged_by namespace grown.top) grown.inside
-      ∙ ap (judged_by (Some grown.task.namespace))
+      ∙ ap (λ namespace. judged_by namespace grown.top) grown.inside ∙ ap (judged_by (Some grown.task.namespace))
       (grown_top world name path word one count stack fresh flags serves room)
       ∙ (λ i. unless ((not (eq-eqb grown.task.namespace grown.task.namespace refl i), M2)
-      ∷ (not (nat_eq new.root (top_is_in stacked stacked_is i).root), M7)
-      ∷ (not_busy stacked stacked_is i, M8)
+      ∷ (not (nat_eq new.root (top_is_in stacked stacked_is i).root), M7) ∷ (not_busy stacked stacked_is i, M8)
       ∷ (not (is_some (top_is_in stacked stacked_is i).mount_point), M10) ∷ []) (Ok permit))
       ∙ ap (λ b. unless ((false, M2) ∷ (not b, M7) ∷ (false, M8) ∷ (false, M10) ∷ []) (Ok permit))
       (eq-eqb new.root new.root refl)
     where
       judged_at : Here ℕ → Judgement ℕ
-      judged_at here =
-          unless (umount_rules nat_eq (looks_of nat_eq stacked) grown.task here.location)
+      judged_at here = unless (umount_rules nat_eq (looks_of nat_eq stacked) grown.task here.location)
           (Ok (ToUnmount here.location.mount))
 
       judged_by : Option ℕ → Location ℕ → Judgement ℕ
-      judged_by namespace top =
-          unless ((not (holds_of (nat_eq grown.task.namespace) namespace), M2)
-          ∷ (not (nat_eq top.node (mount_at nat_eq stacked top).root), M7)
-          ∷ (is_busy nat_eq stacked top.mount, M8)
+      judged_by namespace top = unless ((not (holds_of (nat_eq grown.task.namespace) namespace), M2)
+          ∷ (not (nat_eq top.node (mount_at nat_eq stacked top).root), M7) ∷ (is_busy nat_eq stacked top.mount, M8)
           ∷ (not (is_some (mount_at nat_eq stacked top).mount_point), M10) ∷ []) (Ok (ToUnmount top.mount))
 
       stacked_is : stacked ≡ with_mount
@@ -161,5 +150,4 @@ module _ (world : World ℕ) (name : TaskName) (path word : List ℕ) (one : Has
       (unmounted nat_eq w new.number)))) (stacked_world_is world name path word one count stack fresh flags serves room)
       ∙ ap (λ left. granted Done (numbers_raised nat_eq stacked name [] left))
       (unmount_gives_back world fresh stack.top flags stack.is stack.plain serves stack.private
-      (ap is_some stack.inside)
-      stacked.tasks stacked.namespaces stacked.change same_locations given_back_in_use)
+      (ap is_some stack.inside) stacked.tasks stacked.namespaces stacked.change same_locations given_back_in_use)

@@ -72,14 +72,12 @@ module _ (world : World ℕ) (name : TaskName) (path word : List ℕ) (one : Has
   -- Counts
   new_is_inside : list_all (λ (mount : Mount ℕ). holds_of (nat_eq stack.task.namespace) mount.namespace) (new ∷ [])
       ≡ true
-  new_is_inside =
-      ap (λ namespace. holds_of (nat_eq stack.task.namespace) namespace && true) stack.inside
+  new_is_inside = ap (λ namespace. holds_of (nat_eq stack.task.namespace) namespace && true) stack.inside
       ∙ ap (λ b. b && true) (eq-eqb stack.task.namespace stack.task.namespace refl)
 
   -- its namespace has one mount more
   pub one_more_mount : length (mounts_of nat_eq mounted_world stack.task.namespace) ≡ suc count
-  one_more_mount =
-      ap (λ mounts. length (mounts_of nat_eq (with_mounts world mounts) stack.task.namespace)) mounts_after
+  one_more_mount = ap (λ mounts. length (mounts_of nat_eq (with_mounts world mounts) stack.task.namespace)) mounts_after
       ∙ added_mounts_count world (new ∷ []) stack.task.namespace new_is_inside
       ∙ (let same = stack.counted in omega (arith, same))
 
@@ -94,16 +92,13 @@ module _ (world : World ℕ) (name : TaskName) (path word : List ℕ) (one : Has
 
   -- the namespace of the task is there
   namespace_is_listed : is_listed nat_eq world stack.task.namespace ≡ true
-  namespace_is_listed =
-      among_from_list_all (λ (one : Task ℕ). is_listed nat_eq world one.namespace) world.tasks
+  namespace_is_listed = among_from_list_all (λ (one : Task ℕ). is_listed nat_eq world one.namespace) world.tasks
       stack.is.namespaces.tasks_listed stack.task (found_among _ world.tasks stack.task stack.called)
 
   -- M9 fails where the namespace has as many mounts as it may have
   pub overfills_when_full : overfills nat_eq fresh world stack.task permit ≡ nat_lt most_mounts (suc count)
-  overfills_when_full =
-      too_many_is_of_one world mounted_world stack.task.namespace stack.is.namespaces.few_mounts refl
-      namespace_is_listed as_many_elsewhere
-      ∙ ap (nat_lt most_mounts) one_more_mount
+  overfills_when_full = too_many_is_of_one world mounted_world stack.task.namespace stack.is.namespaces.few_mounts refl
+      namespace_is_listed as_many_elsewhere ∙ ap (nat_lt most_mounts) one_more_mount
 
   -- the judgement
   pub judged_by_room : judge_in nat_eq fresh world stack.task (MountPlain path flags)
@@ -111,9 +106,7 @@ module _ (world : World ℕ) (name : TaskName) (path word : List ℕ) (one : Has
   unfolding mount_plain_permit
   judged_by_room =
       ap (λ b. unless ((b, K1) ∷ []) (and_then (walk_end (destination_walk nat_eq world stack.task path)) judged_at))
-      stack.admin
-      ∙ ap (λ walk. and_then (walk_end walk) judged_at)
-      (destination_is_walked world stack.task path
+      stack.admin ∙ ap (λ walk. and_then (walk_end walk) judged_at) (destination_is_walked world stack.task path
       (end_of_one world stack.task path word one stack.object stack.top stack.way)
       (one_word_leads world stack.task path word one stack.object stack.top stack.way) stack.destination)
       ∙ ap (λ namespace. unless ((not (holds_of (nat_eq stack.task.namespace) namespace), M2)
@@ -122,6 +115,5 @@ module _ (world : World ℕ) (name : TaskName) (path word : List ℕ) (one : Has
       ∷ (overfills_when_full i, M9) ∷ []) (Ok permit))
     where
       judged_at : Here ℕ → Judgement ℕ
-      judged_at here =
-          attach_permit (new_mount_rules nat_eq (looks_of nat_eq world) stack.task here.location)
+      judged_at here = attach_permit (new_mount_rules nat_eq (looks_of nat_eq world) stack.task here.location)
           (overfills nat_eq fresh world stack.task) (ToMountPlain here.location flags)

@@ -40,24 +40,20 @@ handed_in_row last place = cc (spread_for last place, row-spread (suc last) plac
 
 -- after the next line the world has the numbers of that line too
 pub line_adds_its_numbers : (grammar : Grammar) (world : World ℕ) (last : ℕ) (line : List ℕ)
-    → HasNumbersUntil last world
-    → HasNumbersUntil (suc last)
+    → HasNumbersUntil last world → HasNumbersUntil (suc last)
     (step_world world (line_step nat_eq grammar world line (Some (numbers_for (suc last)))))
 line_adds_its_numbers grammar world last line has =
     lines_keep_to_numbers (is_handed_until (suc last)) grammar (numbers_for (suc last)) world line
-    (λ renaming leaves. has renaming (λ number is. leaves number (more_are_handed last number is)))
-    (handed_in_row last)
+    (λ renaming leaves. has renaming (λ number is. leaves number (more_are_handed last number is))) (handed_in_row last)
 
 -- what the next line is handed is not in use
 pub next_numbers_serve : (world : World ℕ) (last : ℕ) → HasNumbersUntil last world
     → Serves nat_eq world (numbers_for (suc last))
 unfolding stage
-next_numbers_serve world last has =
-    subst (Serves nat_eq world) (sym (λ i place. spread_for last place i))
+next_numbers_serve world last has = subst (Serves nat_eq world) (sym (λ i place. spread_for last place i))
     (room_serves (is_handed_until last) world (stage last (is_handed_until last) early) (record {
       from_hand = λ number is. sym (stage_keeps last (is_handed_until last) early number) ∙ is;
-      keeps = λ renaming leaves.
-          has renaming (λ number is.
+      keeps = λ renaming leaves. has renaming (λ number is.
           leaves number (stage_keeps last (is_handed_until last) early number ∙ is));
     }))
   where

@@ -24,8 +24,7 @@ module _ {A : Type 0} (step grown : A → Option A) (end next : A)
       by : (o : Option A) → step a ≡ o
           → ((b f g : A) → last_or f (chain n step b) ≡ end → last_or g (chain (suc n) grown b) ≡ next)
           → last_or e (chain (suc (suc n)) grown a) ≡ next
-      by None found later =
-          one_more_step (suc n) a e (sym (ap (last_or d) (chain_ends step n a found)) ∙ is)
+      by None found later = one_more_step (suc n) a e (sym (ap (last_or d) (chain_ends step n a found)) ∙ is)
       by (Some b) found later = cc (
         chain_goes_on grown (suc n) a b (kept a b found),
         later b a a (sym (ap (last_or d) (chain_goes_on step n a b found)) ∙ is),
@@ -42,8 +41,7 @@ module _ (mounts : List (Mount ℕ)) (new : Mount ℕ) (top : Location ℕ) wher
 
   -- where no child was, the new mount is one if it stands there
   child_alone : (here : Location ℕ) (stands : Bool) → child_at nat_eq mounts here ≡ None
-      → stands_at nat_eq here new ≡ stands
-      → child_at nat_eq (mounts ++ (new ∷ [])) here ≡ cond stands (Some new) None
+      → stands_at nat_eq here new ≡ stands → child_at nat_eq (mounts ++ (new ∷ [])) here ≡ cond stands (Some new) None
   child_alone here stands none is = cc (find-append (stands_at nat_eq here) mounts (new ∷ []))
 
   -- a mount on the root of the topmost one is the topmost

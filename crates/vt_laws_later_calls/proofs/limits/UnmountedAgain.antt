@@ -82,15 +82,12 @@ module _ (world : World ℕ) (fresh : Fresh ℕ) (place : Location ℕ) (flags :
 
       by : (found : Option (Filesystem ℕ)) → find has_number world.filesystems ≡ found
           → nat_eq added.number mount.filesystem ≡ false
-      by None e =
-          absurd (true≢false (sym shows
-          ∙ ap (λ found. is_directory_node
+      by None e = absurd (true≢false (sym shows ∙ ap (λ found. is_directory_node
           ((unwrap_or found (no_filesystem mount.filesystem)).files.tree.node mount.root)) e))
-      by (Some filesystem) e =
-          cc (
-            eqb-true mount.filesystem filesystem.number (found_passes has_number world.filesystems filesystem e),
-            other_filesystem filesystem (found_among has_number world.filesystems filesystem e),
-          )
+      by (Some filesystem) e = cc (
+        eqb-true mount.filesystem filesystem.number (found_passes has_number world.filesystems filesystem e),
+        other_filesystem filesystem (found_among has_number world.filesystems filesystem e),
+      )
 
   -- The world with the new mount, of tasks that use the same locations
   module _ (tasks : List (Task ℕ)) (namespaces : List (Namespace ℕ)) (change : ℕ)
@@ -109,8 +106,7 @@ module _ (world : World ℕ) (fresh : Fresh ℕ) (place : Location ℕ) (flags :
 
     -- no mount stands on the new one
     pub none_on_new : has_child nat_eq (with_new new) new.number ≡ false
-    none_on_new =
-        none_from_among (stands_on nat_eq new.number) (world.mounts ++ (new ∷ [])) (λ mount m.
+    none_on_new = none_from_among (stands_on nat_eq new.number) (world.mounts ++ (new ∷ [])) (λ mount m.
         ⊎_elim (λ old. by mount old mount.mount_point refl)
         (λ last. ⊎_elim (λ same. ap (stands_on nat_eq new.number) same
         ∙ nat_eq_false_turned place.mount new.number (other_number fresh world place flags serves place.mount
@@ -126,8 +122,7 @@ module _ (world : World ℕ) (fresh : Fresh ℕ) (place : Location ℕ) (flags :
 
     -- it is found by its number
     pub new_is_found : mount_numbered nat_eq (with_new new) new.number ≡ new
-    new_is_found =
-        ap (λ found. unwrap_or found (no_mount new.number))
+    new_is_found = ap (λ found. unwrap_or found (no_mount new.number))
         (find-append (λ (mount : Mount ℕ). nat_eq new.number mount.number) world.mounts (new ∷ [])
         ∙ ap (λ found. option_or found (find (λ (mount : Mount ℕ). nat_eq new.number mount.number) (new ∷ [])))
         (find_none (λ (mount : Mount ℕ). nat_eq new.number mount.number) world.mounts
@@ -145,8 +140,7 @@ module _ (world : World ℕ) (fresh : Fresh ℕ) (place : Location ℕ) (flags :
 
     -- the mount alone is detached
     placed_nowhere : without_place (with_new new) new.number ≡ with_new (detached new)
-    placed_nowhere =
-        ap (λ mounts. record (with_new new) { mounts = mounts })
+    placed_nowhere = ap (λ mounts. record (with_new new) { mounts = mounts })
         (map-append (detached_if new.number) world.mounts (new ∷ [])
         ∙ (λ i. (map_alike (detached_if new.number) (λ mount. mount) world.mounts
         (λ mount m. ap (λ b. cond b (detached mount) mount) (other_mount mount m)) ∙ map-id world.mounts) i
@@ -163,8 +157,7 @@ module _ (world : World ℕ) (fresh : Fresh ℕ) (place : Location ℕ) (flags :
     -- each group of a mount has its members and its master
     no_group_is_lost : (mount : Mount ℕ) → Among mount (world.mounts ++ (detached new ∷ []))
         → lost_a_group nat_eq (with_new (detached new)) mount ≡ false
-    no_group_is_lost mount m =
-        ⊎_elim (λ old. by old (source_of mount.propagation) refl)
+    no_group_is_lost mount m = ⊎_elim (λ old. by old (source_of mount.propagation) refl)
         (λ last. ⊎_elim (λ same. ap (lost_a_group nat_eq (with_new (detached new))) same) (λ none. absurd none) last)
         (among-append world.mounts (detached new ∷ []) mount m)
       where
@@ -173,8 +166,7 @@ module _ (world : World ℕ) (fresh : Fresh ℕ) (place : Location ℕ) (flags :
             || is_lost_group nat_eq (with_new (detached new)) (world.master group)) ≡ false
         of_master group (has_no_master it members none) = λ i.
             not ((same_members it ∙ members) i) || is_lost_group nat_eq (with_new (detached new)) (none i)
-        of_master group (has_master it above members some lives) = λ i.
-            not ((same_members it ∙ members) i)
+        of_master group (has_master it above members some lives) = λ i. not ((same_members it ∙ members) i)
             || (ap (is_lost_group nat_eq (with_new (detached new))) some
             ∙ ap not (same_members above ∙ lives_has_members lives)) i
 
@@ -187,10 +179,8 @@ module _ (world : World ℕ) (fresh : Fresh ℕ) (place : Location ℕ) (flags :
 
     -- so the unmount detaches the new mount, and changes nothing else
     unmounted_is : unmounted nat_eq (with_new new) new.number ≡ with_new (detached new)
-    unmounted_is =
-        unmount_is_of_one (with_new new) new.number none_on_new stands_unshared
-        ∙ ap (regrouped nat_eq) placed_nowhere
-        ∙ ap (λ b. regrouped_by nat_eq b (with_new (detached new)))
+    unmounted_is = unmount_is_of_one (with_new new) new.number none_on_new stands_unshared
+        ∙ ap (regrouped nat_eq) placed_nowhere ∙ ap (λ b. regrouped_by nat_eq b (with_new (detached new)))
         (none_from_among (lost_a_group nat_eq (with_new (detached new))) (world.mounts ++ (detached new ∷ []))
         no_group_is_lost)
 
@@ -207,12 +197,10 @@ module _ (world : World ℕ) (fresh : Fresh ℕ) (place : Location ℕ) (flags :
     -- the sweep leaves the mounts that were there
     mounts_left : filter (mount_lives nat_eq (with_new (detached new))) (world.mounts ++ (detached new ∷ []))
         ≡ world.mounts
-    mounts_left =
-        filter-append (mount_lives nat_eq (with_new (detached new))) world.mounts (detached new ∷ [])
+    mounts_left = filter-append (mount_lives nat_eq (with_new (detached new))) world.mounts (detached new ∷ [])
         ∙ (λ i. filter_all (mount_lives nat_eq (with_new (detached new))) world.mounts
         (passes (mount_lives nat_eq before) world.mounts in_use.mounts) i
-        ++ cond (located_elsewhere i) (detached new ∷ []) [])
-        ∙ append-nil world.mounts
+        ++ cond (located_elsewhere i) (detached new ∷ []) []) ∙ append-nil world.mounts
 
     -- then the filesystem is left over
     abbrev without_new : World ℕ
@@ -224,8 +212,7 @@ module _ (world : World ℕ) (fresh : Fresh ℕ) (place : Location ℕ) (flags :
 
     -- none has one
     no_layers : (number : ℕ) → list_any (has_its_layer number) (world.filesystems ++ (added ∷ [])) ≡ false
-    no_layers number =
-        none_from_among (has_its_layer number) (world.filesystems ++ (added ∷ [])) (λ merged m.
+    no_layers number = none_from_among (has_its_layer number) (world.filesystems ++ (added ∷ [])) (λ merged m.
         ⊎_elim (λ old. ap (λ overlay. overlay_or false (λ one.
         list_any (λ (layer : Layer ℕ). nat_eq number layer.filesystem)
         (layers_of one)) overlay && is_mounted nat_eq without_new merged.number) (no_overlay world plain merged old))
@@ -235,13 +222,11 @@ module _ (world : World ℕ) (fresh : Fresh ℕ) (place : Location ℕ) (flags :
     -- each filesystem that was there stays
     filesystem_stays_alive : (filesystem : Filesystem ℕ) → Among filesystem world.filesystems
         → filesystem_lives nat_eq without_new filesystem ≡ true
-    filesystem_stays_alive filesystem m =
-        alive (is_mounted nat_eq world filesystem.number) _ _ _
+    filesystem_stays_alive filesystem m = alive (is_mounted nat_eq world filesystem.number) _ _ _
         (passes (filesystem_lives nat_eq before) world.filesystems in_use.filesystems filesystem m)
         (list_any-append (has_its_layer filesystem.number) world.filesystems (added ∷ []))
       where
-        alive : (shown old all last : Bool) → (shown || old) ≡ true → all ≡ (old || last)
-            → (shown || all) ≡ true
+        alive : (shown old all last : Bool) → (shown || old) ≡ true → all ≡ (old || last) → (shown || all) ≡ true
         alive true old all last e f = refl
         alive false old all last e f = f ∙ ap (λ b. b || last) e
 
@@ -254,17 +239,14 @@ module _ (world : World ℕ) (fresh : Fresh ℕ) (place : Location ℕ) (flags :
     -- the sweep leaves the filesystems that were there
     filesystems_left : filter (filesystem_lives nat_eq without_new) (world.filesystems ++ (added ∷ []))
         ≡ world.filesystems
-    filesystems_left =
-        filter-append (filesystem_lives nat_eq without_new) world.filesystems (added ∷ [])
+    filesystems_left = filter-append (filesystem_lives nat_eq without_new) world.filesystems (added ∷ [])
         ∙ (λ i. filter_all (filesystem_lives nat_eq without_new) world.filesystems filesystem_stays_alive i
-        ++ cond (added_is_dead i) (added ∷ []) [])
-        ∙ append-nil world.filesystems
+        ++ cond (added_is_dead i) (added ∷ []) []) ∙ append-nil world.filesystems
 
     -- no task uses the mount
     pub none_uses_new : is_used nat_eq (with_new new) (going nat_eq (with_new new)
         (mount_numbered nat_eq (with_new new) new.number)) ≡ false
-    none_uses_new =
-        ap (λ mount. is_used nat_eq (with_new new) (going nat_eq (with_new new) mount)) new_is_found
+    none_uses_new = ap (λ mount. is_used nat_eq (with_new new) (going nat_eq (with_new new) mount)) new_is_found
         ∙ ap (λ (mount : Mount ℕ). is_used nat_eq (with_new new)
         (going_from nat_eq (with_new new) new place (is_shared mount.propagation)))
         (found-append world.mounts (new ∷ []) place.mount (attached_is_mount world place.mount attached))
@@ -279,13 +261,11 @@ module _ (world : World ℕ) (fresh : Fresh ℕ) (place : Location ℕ) (flags :
 
     -- the sweep after the unmount leaves the world before, with these tasks
     pub unmount_gives_back : settled nat_eq (unmounted nat_eq (with_new new) new.number) ≡ before
-    unmount_gives_back =
-        ap (settled nat_eq) unmounted_is
+    unmount_gives_back = ap (settled nat_eq) unmounted_is
         ∙ ap (λ mounts. without_dead_groups nat_eq (without_dead_inodes nat_eq (without_dead_filesystems nat_eq
         (record (with_new (detached new)) { mounts = mounts })))) mounts_left
         ∙ ap (λ filesystems. without_dead_groups nat_eq (without_dead_inodes nat_eq
-        (record without_new { filesystems = filesystems }))) filesystems_left
-        ∙ ap (λ one. without_dead_groups nat_eq
+        (record without_new { filesystems = filesystems }))) filesystems_left ∙ ap (λ one. without_dead_groups nat_eq
         (without_dead_in nat_eq (λ filesystem. not (is_overlay filesystem)) one))
         (inodes_stay is_overlay before in_use.inodes)
         ∙ ap (without_dead_groups nat_eq) (inodes_stay (λ filesystem. not (is_overlay filesystem)) before in_use.inodes)

@@ -37,14 +37,11 @@ use Rattle.vt_laws_trees.proofs.trees.TreesTasks.{called_there}
 only_one : {A : Type 0} (test : A → A → Bool) (xs : List A) → any_pair test xs ≡ false → (a b : A) → Among a xs
     → Among b xs → test a b ≡ true → test b a ≡ true → a ≡ b
 only_one test [] apart a b m n e f = absurd m
-only_one test (first ∷ rest) apart a b m n e f =
-    ⊎_elim
-    (λ same. ⊎_elim (λ too. same ∙ sym too)
+only_one test (first ∷ rest) apart a b m n e f = ⊎_elim (λ same. ⊎_elim (λ too. same ∙ sym too)
     (λ later. absurd (true≢false (sym e ∙ ap (λ x. test x b) same ∙ none_among (test first) rest parts.0 b later))) n)
     (λ before. ⊎_elim
     (λ too. absurd (true≢false (sym f ∙ ap (λ x. test x a) too ∙ none_among (test first) rest parts.0 a before)))
-    (λ later. only_one test rest parts.1 a b before later e f) n)
-    m
+    (λ later. only_one test rest parts.1 a b before later e f) n) m
   where
     parts : (list_any (test first) rest ≡ false) × (any_pair test rest ≡ false)
     parts = or_parts (list_any (test first) rest) (any_pair test rest) apart
@@ -81,24 +78,20 @@ module _ (world : World ℕ) (fresh : Fresh ℕ) (task : Task ℕ) (is : IsWorld
   own_name = (bytes_decides task.name task.name).1 refl
 
   pub moved_there : Among moved base.tasks
-  moved_there =
-      subst (λ t. Among t base.tasks) (ap (λ b. cond b moved task) own_name)
+  moved_there = subst (λ t. Among t base.tasks) (ap (λ b. cond b moved task) own_name)
       (among-map (replaced_if_called moved) world.tasks task (called_there world.tasks task.name task called))
 
   -- a task of another name stays
   pub other_there : (other : Task ℕ) → Among other world.tasks → same_name task.name other.name ≡ false
       → Among other base.tasks
-  other_there other m e =
-      subst (λ t. Among t base.tasks) (ap (λ b. cond b moved other) e)
+  other_there other m e = subst (λ t. Among t base.tasks) (ap (λ b. cond b moved other) e)
       (among-map (replaced_if_called moved) world.tasks other m)
 
   pub that_task : (other : Task ℕ) → Among other world.tasks → same_name task.name other.name ≡ true → other ≡ task
-  that_task other m e =
-      only_one (λ (a b : Task ℕ). same_name a.name b.name) world.tasks is.tasks.one_task other task m
+  that_task other m e = only_one (λ (a b : Task ℕ). same_name a.name b.name) world.tasks is.tasks.one_task other task m
       (called_there world.tasks task.name task called)
       (ap (λ n. same_name other.name n) (same_task_name task.name other.name e)
-      ∙ (bytes_decides other.name other.name).1 refl)
-      e
+      ∙ (bytes_decides other.name other.name).1 refl) e
 
   -- Namespaces that end
 
@@ -114,8 +107,7 @@ module _ (world : World ℕ) (fresh : Fresh ℕ) (task : Task ℕ) (is : IsWorld
   pub not_ended : (namespace : Namespace ℕ) (other : Task ℕ) (mount : Mount ℕ) → Among namespace base.namespaces
       → Among other base.tasks → namespace.number ≡ other.namespace → mount.namespace ≡ Some namespace.number
       → is_in_ended nat_eq base mount ≡ false
-  not_ended namespace other mount m n e f =
-      ap ended_by f
+  not_ended namespace other mount m n e f = ap ended_by f
       ∙ ap not (any_passes (is_kept namespace.number) base.namespaces namespace m
       (ap (λ b. b && has_tasks nat_eq base namespace) (eq-eqb namespace.number namespace.number refl)
       ∙ any_passes (λ (t : Task ℕ). nat_eq namespace.number t.namespace) base.tasks other n
@@ -135,14 +127,12 @@ module _ (world : World ℕ) (fresh : Fresh ℕ) (task : Task ℕ) (is : IsWorld
       (among_numbers mount.number ended going) in
       let one = among-from_filter (is_in_ended nat_eq base) base.mounts from.0 from.1 in
       let same : from.0 ≡ mount = sym (found_itself base.mounts base_mounts.one_number from.0 one.0)
-      ∙ ap (mount_in nat_eq base.mounts) (sym from.2)
-      ∙ found_itself base.mounts base_mounts.one_number mount m in
+      ∙ ap (mount_in nat_eq base.mounts) (sym from.2) ∙ found_itself base.mounts base_mounts.one_number mount m in
       true≢false (sym one.1 ∙ ap (is_in_ended nat_eq base) same ∙ outside))
 
   goes_if : (mount : Mount ℕ) → Among mount base.mounts → is_in_ended nat_eq base mount ≡ true
       → is_going nat_eq ended mount.number ≡ true
-  goes_if mount m inside =
-      is_among_numbers mount.number ended
+  goes_if mount m inside = is_among_numbers mount.number ended
       (among-map (λ (x : Mount ℕ). x.number) (filter (is_in_ended nat_eq base) base.mounts) mount
       (among-filter (is_in_ended nat_eq base) base.mounts mount m inside))
 
@@ -163,33 +153,27 @@ module _ (world : World ℕ) (fresh : Fresh ℕ) (task : Task ℕ) (is : IsWorld
   -- what goes has a copy
   pub going_is_copied : (mount : Mount ℕ) → Among mount base.mounts → is_going nat_eq ended mount.number ≡ true
       → Among mount copied
-  going_is_copied mount m going =
-      ⊎_elim (λ old. by old mount.namespace refl)
+  going_is_copied mount m going = ⊎_elim (λ old. by old mount.namespace refl)
       (λ copy_m. let from = among-from_map copy copied mount copy_m in
       absurd (true≢false (sym going ∙ ap (λ (x : Mount ℕ). is_going nat_eq ended x.number) from.2
-      ∙ copy_stays from.0 from.1)))
-      (among-append world.mounts (map copy copied) mount m)
+      ∙ copy_stays from.0 from.1))) (among-append world.mounts (map copy copied) mount m)
     where
       inside : is_in_ended nat_eq base mount ≡ true
       inside = ⊎_elim (λ e. e) (λ e. absurd (true≢false (sym going ∙ stays_if mount m e)))
           (cases_Bool (is_in_ended nat_eq base mount))
 
       by : Among mount world.mounts → (o : Option ℕ) → mount.namespace ≡ o → Among mount copied
-      by old None e = absurd (true≢false (sym inside
-          ∙ ap ended_by e))
+      by old None e = absurd (true≢false (sym inside ∙ ap ended_by e))
       by old (Some number) e =
           let at = were.listed.of_mounts mount old number e in
           let live = were.live at.0 at.1 in
           let mine : mount.namespace ≡ Some at.0.number = e ∙ ap Some at.2 in
-          ⊎_elim
-          (λ same. among-filter (is_in task.namespace) world.mounts mount old
-          (ap (holds_of (nat_eq task.namespace)) mine
-          ∙ eq-eqb task.namespace at.0.number
+          ⊎_elim (λ same. among-filter (is_in task.namespace) world.mounts mount old
+          (ap (holds_of (nat_eq task.namespace)) mine ∙ eq-eqb task.namespace at.0.number
           (sym (live.2 ∙ ap (λ (t : Task ℕ). t.namespace) (that_task live.0 live.1 same)))))
           (λ another. absurd (true≢false (sym inside
           ∙ not_ended at.0 live.0 mount (among-append_left world.namespaces (new ∷ []) at.0 at.1)
-          (other_there live.0 live.1 another) live.2 mine)))
-          (cases_Bool (same_name task.name live.0.name))
+          (other_there live.0 live.1 another) live.2 mine))) (cases_Bool (same_name task.name live.0.name))
 
   -- The mounts after it
 
@@ -246,8 +230,7 @@ module _ (world : World ℕ) (fresh : Fresh ℕ) (task : Task ℕ) (is : IsWorld
   master_kept : (group : ℕ) → Lives (has_members nat_eq base.mounts) base.master group
       → is_lost_group nat_eq without (base.master group) ≡ false
   master_kept group (has_no_master it has e) = ap (is_lost_group nat_eq without) e
-  master_kept group (has_master it above has e later) =
-      ap (is_lost_group nat_eq without) e ∙ group_kept above later
+  master_kept group (has_master it above has e later) = ap (is_lost_group nat_eq without) e ∙ group_kept above later
 
   not_lost : (mount : Mount ℕ) → Among mount base.mounts → lost_a_group nat_eq without (change mount) ≡ false
   not_lost mount m = by (is_going nat_eq ended mount.number) refl
@@ -265,8 +248,7 @@ module _ (world : World ℕ) (fresh : Fresh ℕ) (task : Task ℕ) (is : IsWorld
 
       by : (b : Bool) → is_going nat_eq ended mount.number ≡ b → lost_a_group nat_eq without (change mount) ≡ false
       by true e = ap (lost_a_group nat_eq without) (goes mount e)
-      by false e =
-          ap (lost_a_group nat_eq without) (MountingTaken.stays base ended lasting mount e)
+      by false e = ap (lost_a_group nat_eq without) (MountingTaken.stays base ended lasting mount e)
           ∙ of_source (source_of mount.propagation) refl
 
   abbrev pub ended_world : World ℕ
@@ -288,21 +270,18 @@ module _ (world : World ℕ) (fresh : Fresh ℕ) (task : Task ℕ) (is : IsWorld
   Alive mount = mount_lives nat_eq ended_world (change mount) ≡ true
 
   pub alive_there : (mount : Mount ℕ) → Among mount base.mounts → Alive mount → Among (change mount) mounted.mounts
-  alive_there mount m lives =
-      among-filter (mount_lives nat_eq ended_world) (map change base.mounts) (change mount)
+  alive_there mount m lives = among-filter (mount_lives nat_eq ended_world) (map change base.mounts) (change mount)
       (among-map change base.mounts mount m) lives
 
   one_mounted : OneNumberAMount mounted.mounts
-  one_mounted =
-      pair-filter (λ (a b : Mount ℕ). nat_eq a.number b.number) (mount_lives nat_eq ended_world)
+  one_mounted = pair-filter (λ (a b : Mount ℕ). nat_eq a.number b.number) (mount_lives nat_eq ended_world)
       (map change base.mounts)
       (one_number_by_numbers base.mounts (map change base.mounts) (numbers-map change same_number base.mounts)
       base_mounts.one_number)
 
   pub shown : (mount : Mount ℕ) → Among mount base.mounts → Alive mount
       → mount_numbered nat_eq mounted mount.number ≡ change mount
-  shown mount m lives =
-      ap (mount_numbered nat_eq mounted) (sym (same_number mount))
+  shown mount m lives = ap (mount_numbered nat_eq mounted) (sym (same_number mount))
       ∙ found_itself mounted.mounts one_mounted (change mount) (alive_there mount m lives)
 
   pub lives_in : (mount : Mount ℕ) → is_going nat_eq ended mount.number ≡ false → is_some mount.namespace ≡ true
@@ -324,17 +303,13 @@ module _ (world : World ℕ) (fresh : Fresh ℕ) (task : Task ℕ) (is : IsWorld
   -- Locations
 
   -- a location is one still, or one on the copy is
-  still_located : (location : Location ℕ) → Among location (all_locations world)
-      → Among location (all_locations base)
-      ⊎ ((is_copied nat_eq copied location ≡ true)
-      × Among (location_on_copy new_number location) (all_locations base))
+  still_located : (location : Location ℕ) → Among location (all_locations world) → Among location (all_locations base)
+      ⊎ ((is_copied nat_eq copied location ≡ true) × Among (location_on_copy new_number location) (all_locations base))
   still_located location m =
       let from = among-from_flat_map locations_of world.tasks location m in
-      ⊎_elim
-      (λ same. mine (subst (λ t. Among location (locations_of t)) (that_task from.0 from.1 same) from.2))
+      ⊎_elim (λ same. mine (subst (λ t. Among location (locations_of t)) (that_task from.0 from.1 same) from.2))
       (λ another. inl (among-flat_map locations_of base.tasks from.0 location
-      (other_there from.0 from.1 another) from.2))
-      (cases_Bool (same_name task.name from.0.name))
+      (other_there from.0 from.1 another) from.2)) (cases_Bool (same_name task.name from.0.name))
     where
       Still : Location ℕ → Type 0
       Still at = Among at (all_locations base)
@@ -355,16 +330,11 @@ module _ (world : World ℕ) (fresh : Fresh ℕ) (task : Task ℕ) (is : IsWorld
       here at n = among-flat_map locations_of base.tasks moved at moved_there n
 
       mine : Among location (locations_of task) → Still location
-      mine n =
-          ⊎_elim
-          (λ root. subst Still (sym root)
-          (moves task.root (here (moved_location nat_eq copied new_number task.root) (inl refl))))
-          (λ rest. ⊎_elim
+      mine n = ⊎_elim (λ root. subst Still (sym root)
+          (moves task.root (here (moved_location nat_eq copied new_number task.root) (inl refl)))) (λ rest. ⊎_elim
           (λ directory. subst Still (sym directory)
           (moves task.directory (here (moved_location nat_eq copied new_number task.directory) (inr (inl refl)))))
-          (λ opened. inl (here location (inr (inr opened))))
-          rest)
-          n
+          (λ opened. inl (here location (inr (inr opened)))) rest) n
 
   -- the copied mount of a location
   copied_at : (location : Location ℕ) → is_copied nat_eq copied location ≡ true
@@ -399,18 +369,15 @@ module _ (world : World ℕ) (fresh : Fresh ℕ) (task : Task ℕ) (is : IsWorld
       record { image = mount; there = old_there mount m; alive = lives; filesystem = refl; root = refl }
 
   stand_in : (mount : Mount ℕ) → Among mount world.mounts → StandIn mount
-  stand_in mount m =
-      ⊎_elim (λ going. its_copy mount (going_is_copied mount (old_there mount m) going))
-      (λ isnt. ⊎_elim (λ inside. as_it_was mount m (lives_in mount isnt inside))
-      (λ located.
+  stand_in mount m = ⊎_elim (λ going. its_copy mount (going_is_copied mount (old_there mount m) going))
+      (λ isnt. ⊎_elim (λ inside. as_it_was mount m (lives_in mount isnt inside)) (λ located.
       let one = one_passes (λ (l : Location ℕ). nat_eq mount.number l.mount) (all_locations world) located in
       let number : mount.number ≡ one.0.mount = eqb-true mount.number one.0.mount one.2 in
       ⊎_elim (λ still. as_it_was mount m (lives_at mount one.0 still number))
       (λ moves. let at = copied_at one.0 moves.0 in
       its_copy mount (subst (λ x. Among x copied)
       (sym (itself at.0 (was_there at.0 at.1)) ∙ ap (mount_numbered nat_eq world) (sym (number ∙ at.2))
-      ∙ itself mount m) at.1))
-      (still_located one.0 one.1))
+      ∙ itself mount m) at.1)) (still_located one.0 one.1))
       (or_cases (is_some mount.namespace) (is_located nat_eq world mount.number)
       (passes (mount_lives nat_eq world) world.mounts (all_in_use world is).mounts mount m)))
       (cases_Bool (is_going nat_eq ended mount.number))
@@ -425,8 +392,7 @@ module _ (world : World ℕ) (fresh : Fresh ℕ) (task : Task ℕ) (is : IsWorld
 
   filesystems_live : FilesystemsInUse mounted
   filesystems_live = all_pass (filesystem_lives nat_eq mounted) world.filesystems (λ filesystem m.
-      by filesystem
-      (or_cases (is_mounted nat_eq world filesystem.number)
+      by filesystem (or_cases (is_mounted nat_eq world filesystem.number)
       (list_any (λ (merged : Filesystem ℕ). has_layer_on nat_eq filesystem.number merged
       && is_mounted nat_eq world merged.number) world.filesystems)
       (passes (filesystem_lives nat_eq world) world.filesystems (all_in_use world is).filesystems filesystem m)))
@@ -454,8 +420,7 @@ module _ (world : World ℕ) (fresh : Fresh ℕ) (task : Task ℕ) (is : IsWorld
 
   -- another place of the same inode
   abbrev SamePlace : Location ℕ → Type 0
-  SamePlace location =
-      (other : Location ℕ) × Among other (places_of mounted) × (other.node ≡ location.node)
+  SamePlace location = (other : Location ℕ) × Among other (places_of mounted) × (other.node ≡ location.node)
       × ((mount_at nat_eq mounted other).filesystem ≡ (mount_at nat_eq world location).filesystem)
 
   abbrev points : List (Mount ℕ) → List (Location ℕ)
@@ -482,36 +447,30 @@ module _ (world : World ℕ) (fresh : Fresh ℕ) (task : Task ℕ) (is : IsWorld
   of_copy : (mount : Mount ℕ) → Among mount copied → (location : Location ℕ) → mount.number ≡ location.mount
       → (mount_at nat_eq mounted (location_on_copy new_number location)).filesystem
       ≡ (mount_at nat_eq world location).filesystem
-  of_copy mount m location e =
-      ap (λ n. (mount_numbered nat_eq mounted (new_number n)).filesystem) (sym e)
+  of_copy mount m location e = ap (λ n. (mount_numbered nat_eq mounted (new_number n)).filesystem) (sym e)
       ∙ ap (λ (x : Mount ℕ). x.filesystem) (shown (copy mount) (copy_there mount m) (copy_lives mount m))
       ∙ same_filesystem (copy mount) ∙ shown_by mount (was_there mount m) location e
 
   of_itself : (mount : Mount ℕ) → Among mount world.mounts → Alive mount → (location : Location ℕ)
       → mount.number ≡ location.mount
       → (mount_at nat_eq mounted location).filesystem ≡ (mount_at nat_eq world location).filesystem
-  of_itself mount m lives location e =
-      ap (λ n. (mount_numbered nat_eq mounted n).filesystem) (sym e)
+  of_itself mount m lives location e = ap (λ n. (mount_numbered nat_eq mounted n).filesystem) (sym e)
       ∙ ap (λ (x : Mount ℕ). x.filesystem) (shown mount (old_there mount m) lives)
       ∙ same_filesystem mount ∙ shown_by mount m location e
 
   of_location : (location : Location ℕ) → Among location (places_of world) → Among location (all_locations world)
       → SamePlace location
-  of_location location m n =
-      ⊎_elim
-      (λ still. (
-        location,
-        location_place location still,
-        refl,
-        of_itself mount there (lives_at mount location still number) location number,
-      ))
-      (λ moves. let at = copied_at location moves.0 in (
-        location_on_copy new_number location,
-        location_place (location_on_copy new_number location) moves.1,
-        refl,
-        of_copy at.0 at.1 location (sym at.2),
-      ))
-      (still_located location n)
+  of_location location m n = ⊎_elim (λ still. (
+    location,
+    location_place location still,
+    refl,
+    of_itself mount there (lives_at mount location still number) location number,
+  )) (λ moves. let at = copied_at location moves.0 in (
+    location_on_copy new_number location,
+    location_place (location_on_copy new_number location) moves.1,
+    refl,
+    of_copy at.0 at.1 location (sym at.2),
+  )) (still_located location n)
     where
       mount : Mount ℕ
       mount = mount_numbered nat_eq world location.mount
@@ -532,8 +491,7 @@ module _ (world : World ℕ) (fresh : Fresh ℕ) (task : Task ℕ) (is : IsWorld
             (among-append_right (all_locations mounted) (map root_of mounted.mounts) (root_of (change other.image))
             (among-map root_of mounted.mounts (change other.image) (alive_there other.image other.there other.alive))),
         ap (λ (l : Location ℕ). l.node) (MountingTaken.same_root base ended lasting false other.image) ∙ other.root,
-        ap (λ (x : Mount ℕ). x.filesystem)
-            (found_itself mounted.mounts one_mounted (change other.image)
+        ap (λ (x : Mount ℕ). x.filesystem) (found_itself mounted.mounts one_mounted (change other.image)
             (alive_there other.image other.there other.alive))
             ∙ same_filesystem other.image ∙ other.filesystem ∙ shown_by mount m (root_of mount) refl,
       )
@@ -557,8 +515,7 @@ module _ (world : World ℕ) (fresh : Fresh ℕ) (task : Task ℕ) (is : IsWorld
       by true going =
           let c = going_is_copied mount (old_there mount m) going in
           let below_copied : Among below.parent copied = among-filter (is_in task.namespace) world.mounts below.parent
-          below.there
-          (ap (holds_of (nat_eq task.namespace)) (sym below.namespace)
+          below.there (ap (holds_of (nat_eq task.namespace)) (sym below.namespace)
           ∙ (among-from_filter (is_in task.namespace) world.mounts mount c).1) in
           let on : is_going nat_eq ended (new_number place.mount) ≡ false =
           ap (λ n. is_going nat_eq ended (new_number n)) (sym below.number) ∙ copy_stays below.parent below_copied in (
@@ -584,9 +541,7 @@ module _ (world : World ℕ) (fresh : Fresh ℕ) (task : Task ℕ) (is : IsWorld
           )
 
   same_place : (location : Location ℕ) → Among location (places_of world) → SamePlace location
-  same_place location m =
-      ⊎_elim
-      (λ front. ⊎_elim (λ at. of_location location m at)
+  same_place location m = ⊎_elim (λ front. ⊎_elim (λ at. of_location location m at)
       (λ root. let from = among-from_map root_of world.mounts location root in
       subst SamePlace (sym from.2) (of_root from.0 from.1))
       (among-append (all_locations world) (map root_of world.mounts) location front))
@@ -598,19 +553,12 @@ module _ (world : World ℕ) (fresh : Fresh ℕ) (task : Task ℕ) (is : IsWorld
 
   used_still : (filesystem : Filesystem ℕ) (number : ℕ) → is_inode_used world filesystem number ≡ true
       → is_inode_used mounted filesystem number ≡ true
-  used_still filesystem number used =
-      ⊎_elim (λ root. or_first (nat_eq number filesystem.files.tree.root) _ root)
-      (λ rest. ⊎_elim
-      (λ front. ⊎_elim
-      (λ first. ⊎_elim (λ name. later (is_among_left number (named ++ now) layers
-      (is_among_left number named now name)))
-      (λ there. located there)
-      (apart named was first))
-      (λ layer. later (is_among_right number (named ++ now) layers layer))
-      (apart (named ++ was) layers front))
+  used_still filesystem number used = ⊎_elim (λ root. or_first (nat_eq number filesystem.files.tree.root) _ root)
+      (λ rest. ⊎_elim (λ front. ⊎_elim (λ first. ⊎_elim (λ name. later (is_among_left number (named ++ now) layers
+      (is_among_left number named now name))) (λ there. located there) (apart named was first))
+      (λ layer. later (is_among_right number (named ++ now) layers layer)) (apart (named ++ was) layers front))
       (λ object. or_second (nat_eq number filesystem.files.tree.root) _
-      (is_among_right number (named ++ now ++ layers) objects object))
-      (apart (named ++ was ++ layers) objects rest))
+      (is_among_right number (named ++ now ++ layers) objects object)) (apart (named ++ was ++ layers) objects rest))
       (or_cases (nat_eq number filesystem.files.tree.root) _ used)
     where
       named : List ℕ
@@ -630,8 +578,7 @@ module _ (world : World ℕ) (fresh : Fresh ℕ) (task : Task ℕ) (is : IsWorld
 
       apart : (xs ys : List ℕ) → is_among nat_eq number (xs ++ ys) ≡ true
           → (is_among nat_eq number xs ≡ true) ⊎ (is_among nat_eq number ys ≡ true)
-      apart xs ys h =
-          or_cases (is_among nat_eq number xs) (is_among nat_eq number ys)
+      apart xs ys h = or_cases (is_among nat_eq number xs) (is_among nat_eq number ys)
           (sym (list_any-append (nat_eq number) xs ys) ∙ h)
 
       later : is_among nat_eq number (named ++ now ++ layers) ≡ true → is_inode_used mounted filesystem number ≡ true
@@ -647,23 +594,20 @@ module _ (world : World ℕ) (fresh : Fresh ℕ) (task : Task ℕ) (is : IsWorld
           (among_numbers number was there) in
           let here = among-from_filter shows (places_of world) from.0 from.1 in
           let other = same_place from.0 here.0 in
-          ap (is_inode_used mounted filesystem) (from.2 ∙ sym other.2)
-          ∙ used_at mounted filesystem other.0 other.1
+          ap (is_inode_used mounted filesystem) (from.2 ∙ sym other.2) ∙ used_at mounted filesystem other.0 other.1
           (eqb-true filesystem.number (mount_at nat_eq world from.0).filesystem here.1 ∙ sym other.3)
 
   inodes_live : InodesInUse mounted
   inodes_live = all_from_among (λ (f : Filesystem ℕ). list_all (is_inode_used mounted f) f.files.numbers ≡ true)
       world.filesystems (λ filesystem m.
       all_pass (is_inode_used mounted filesystem) filesystem.files.numbers (λ number n.
-      used_still filesystem number
-      (passes (is_inode_used world filesystem) filesystem.files.numbers
+      used_still filesystem number (passes (is_inode_used world filesystem) filesystem.files.numbers
       (among_from_all (λ (f : Filesystem ℕ). list_all (is_inode_used world f) f.files.numbers ≡ true) world.filesystems
       (all_in_use world is).inodes filesystem m) number n)))
 
   -- No filesystem and no inode goes.
   pub settles_so : settled nat_eq (namespaces_ended nat_eq base) ≡ without_dead_groups nat_eq mounted
-  settles_so =
-      ap (settled nat_eq) ends_so
+  settles_so = ap (settled nat_eq) ends_so
       ∙ ap (λ w. without_dead_groups nat_eq (without_dead_inodes nat_eq w)) (filesystems_stay mounted filesystems_live)
       ∙ ap (λ w. without_dead_groups nat_eq (without_dead_in nat_eq (λ filesystem. not (is_overlay filesystem)) w))
       (inodes_stay is_overlay mounted inodes_live)

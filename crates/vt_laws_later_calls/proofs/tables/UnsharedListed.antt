@@ -52,8 +52,7 @@ use Rattle.vt_spec.specs.Machine.Looks.{Looks}
 -- a list that is changed and then shortened, of which those that pass a test stay as they are
 filter_left : {A : Type 0} (p q : A → Bool) (f : A → A) (xs : List A)
     → ((x : A) → Among x xs → p x ≡ true → (f x ≡ x) × (q (f x) ≡ true))
-    → ((x : A) → Among x xs → p x ≡ false → p (f x) ≡ false)
-    → filter p (filter q (map f xs)) ≡ filter p xs
+    → ((x : A) → Among x xs → p x ≡ false → p (f x) ≡ false) → filter p (filter q (map f xs)) ≡ filter p xs
 filter_left p q f [] same out = refl
 filter_left p q f (y ∷ ys) same out =
     by (p y) refl (filter_left p q f ys (λ x m. same x (inr m)) (λ x m. out x (inr m)))
@@ -67,10 +66,8 @@ filter_left p q f (y ∷ ys) same out =
         → filter p (filter q (f y ∷ map f ys)) ≡ filter p (y ∷ ys)
     by true e rest =
         let it = same y (inl refl) e in
-        ap (filter p) (filter_here q (f y) (map f ys) it.1)
-        ∙ filter_here p (f y) (filter q (map f ys)) (ap p it.0 ∙ e)
-        ∙ ap (λ x. x ∷ filter p (filter q (map f ys))) it.0
-        ∙ ap (λ l. y ∷ l) rest ∙ sym (filter_here p y ys e)
+        ap (filter p) (filter_here q (f y) (map f ys) it.1) ∙ filter_here p (f y) (filter q (map f ys)) (ap p it.0 ∙ e)
+        ∙ ap (λ x. x ∷ filter p (filter q (map f ys))) it.0 ∙ ap (λ l. y ∷ l) rest ∙ sym (filter_here p y ys e)
     by false e rest = skipped (q (f y)) refl (out y (inl refl) e) ∙ rest ∙ sym (filter_skip p y ys e)
 
 -- A list of mounts reads the same where its mounts, what they stand on, filesystems and masters are the same.
@@ -127,8 +124,7 @@ module _ (before later : World ℕ) (namespace : ℕ) (filesystems : later.files
       → option_map (cell later) mount.mount_point ≡ option_map (cell before) mount.mount_point
   place_alike mount m = by mount.mount_point refl
     where
-      by : (o : Option (Location ℕ)) → mount.mount_point ≡ o
-          → option_map (cell later) o ≡ option_map (cell before) o
+      by : (o : Option (Location ℕ)) → mount.mount_point ≡ o → option_map (cell later) o ≡ option_map (cell before) o
       by None e = refl
       by (Some place) e =
           ap (λ s. Some (number_among nat_eq (map (λ (other : Mount ℕ). other.number) list) place.mount, s))
@@ -148,8 +144,7 @@ module _ (before later : World ℕ) (namespace : ℕ) (filesystems : later.files
   }
 
   lines_alike : mount_lines nat_eq later namespace ≡ mount_lines nat_eq before namespace
-  lines_alike =
-      ap (λ (l : List (Mount ℕ)). map (mount_line nat_eq later l) l) mounts
+  lines_alike = ap (λ (l : List (Mount ℕ)). map (mount_line nat_eq later l) l) mounts
       ∙ map_alike (mount_line nat_eq later list) (mount_line nat_eq before list) list line_alike
 
 -- a task is found by its name where each has the name that it had
@@ -159,11 +154,9 @@ find_named : (f : Task ℕ → Task ℕ) → ((t : Task ℕ) → (f t).name ≡ 
 find_named f names name [] = refl
 find_named f names name (t ∷ tasks) =
     ap (λ n. cond (same_name name n) (Some (f t)) (find (λ (x : Task ℕ). same_name name x.name) (map f tasks)))
-    (names t)
-    ∙ by (same_name name t.name) (find_named f names name tasks)
+    (names t) ∙ by (same_name name t.name) (find_named f names name tasks)
   where
-    by : (b : Bool)
-        → find (λ (x : Task ℕ). same_name name x.name) (map f tasks)
+    by : (b : Bool) → find (λ (x : Task ℕ). same_name name x.name) (map f tasks)
         ≡ option_map f (find (λ (x : Task ℕ). same_name name x.name) tasks)
         → cond b (Some (f t)) (find (λ (x : Task ℕ). same_name name x.name) (map f tasks))
         ≡ option_map f (cond b (Some t) (find (λ (x : Task ℕ). same_name name x.name) tasks))
@@ -234,14 +227,11 @@ module _ (world : World ℕ) (fresh : Fresh ℕ) (task : Task ℕ) (is : IsWorld
       where
         by : (o : Option ℕ) → mount.namespace ≡ o → IsInside mount
         by None f = absurd (true≢false (sym e ∙ ap (holds_of (nat_eq namespace.number)) f))
-        by (Some number) f =
-            f ∙ ap Some (sym (eqb-true namespace.number number
+        by (Some number) f = f ∙ ap Some (sym (eqb-true namespace.number number
             (sym (ap (holds_of (nat_eq namespace.number)) f) ∙ e)))
 
-    stays : (mount : Mount ℕ) → Among mount base.mounts → IsInside mount
-        → is_going nat_eq ended mount.number ≡ false
-    stays mount m e =
-        UnsharedLeft.stays_if world fresh task is serves called mount m
+    stays : (mount : Mount ℕ) → Among mount base.mounts → IsInside mount → is_going nat_eq ended mount.number ≡ false
+    stays mount m e = UnsharedLeft.stays_if world fresh task is serves called mount m
         (UnsharedLeft.not_ended world fresh task is serves called namespace other mount known there same e)
 
     below : (mount : Mount ℕ) → Among mount base.mounts → (place : Location ℕ) → mount.mount_point ≡ Some place
@@ -249,8 +239,7 @@ module _ (world : World ℕ) (fresh : Fresh ℕ) (task : Task ℕ) (is : IsWorld
     below mount m place e = parent_of base base_is mount m place e
 
     unchanged : (mount : Mount ℕ) → Among mount base.mounts → IsInside mount → change mount ≡ mount
-    unchanged mount m e =
-        MountingTaken.stays base ended lasting mount isnt
+    unchanged mount m e = MountingTaken.stays base ended lasting mount isnt
         ∙ (λ i. record mount { mount_point = points mount.mount_point refl i })
       where
         isnt : is_going nat_eq ended mount.number ≡ false
@@ -263,16 +252,14 @@ module _ (world : World ℕ) (fresh : Fresh ℕ) (task : Task ℕ) (is : IsWorld
             let on = below mount m place f in
             sym (ap (λ (x : Mount ℕ). x.mount_point) (MountingTaken.stays base ended lasting mount isnt))
             ∙ MountingTaken.same_place base ended lasting false mount place f isnt
-            (ap (is_going nat_eq ended) (sym on.number) ∙ stays on.parent on.there (sym on.namespace ∙ e))
-            ∙ sym f
+            (ap (is_going nat_eq ended) (sym on.number) ∙ stays on.parent on.there (sym on.namespace ∙ e)) ∙ sym f
 
     lives : (mount : Mount ℕ) → Among mount base.mounts → IsInside mount
         → UnsharedLeft.Alive world fresh task is serves called mount
     lives mount m e = UnsharedLeft.lives_in world fresh task is serves called mount (stays mount m e) (ap is_some e)
 
     mounts_same : mounts_of nat_eq last namespace.number ≡ mounts_of nat_eq base namespace.number
-    mounts_same =
-        filter_left (is_in namespace.number)
+    mounts_same = filter_left (is_in namespace.number)
         (mount_lives nat_eq (UnsharedLeft.ended_world world fresh task is serves called)) change base.mounts
         (λ mount m e. (unchanged mount m (inside mount e), lives mount m (inside mount e)))
         (λ mount m e. by mount e (is_going nat_eq ended mount.number) refl)
@@ -292,8 +279,7 @@ module _ (world : World ℕ) (fresh : Fresh ℕ) (task : Task ℕ) (is : IsWorld
         let too : IsInside on.parent = sym on.namespace ∙ inside mount from.1 in
         ap (mount_numbered nat_eq mounted) (sym on.number)
         ∙ UnsharedLeft.shown world fresh task is serves called on.parent on.there (lives on.parent on.there too)
-        ∙ unchanged on.parent on.there too
-        ∙ sym (found_itself base.mounts base_is.one_number on.parent on.there)
+        ∙ unchanged on.parent on.there too ∙ sym (found_itself base.mounts base_is.one_number on.parent on.there)
         ∙ ap (mount_numbered nat_eq base) on.number
 
     masters_same : (mount : Mount ℕ) → Among mount (mounts_of nat_eq base namespace.number) → (group : ℕ)
@@ -301,14 +287,12 @@ module _ (world : World ℕ) (fresh : Fresh ℕ) (task : Task ℕ) (is : IsWorld
     masters_same mount m group e =
         let from = among-from_filter (is_in namespace.number) base.mounts mount m in
         let it = inside mount from.1 in
-        ap (λ b. cond b (base.master group) None)
-        (any_passes (is_member_of nat_eq group) mounted.mounts (change mount)
+        ap (λ b. cond b (base.master group) None) (any_passes (is_member_of nat_eq group) mounted.mounts (change mount)
         (UnsharedLeft.alive_there world fresh task is serves called mount from.0 (lives mount from.0 it))
         (ap (is_member_of nat_eq group) (unchanged mount from.0 it) ∙ shared_member group mount e))
 
     reads_so : mount_lines nat_eq last namespace.number ≡ mount_lines nat_eq base namespace.number
-    reads_so =
-        lines_alike base last namespace.number
+    reads_so = lines_alike base last namespace.number
         (map_same (raised_if_changed nat_eq []) base.filesystems (λ filesystem m. refl))
         mounts_same found_same masters_same
 
@@ -327,10 +311,8 @@ module _ (world : World ℕ) (fresh : Fresh ℕ) (task : Task ℕ) (is : IsWorld
   after_it t = raised_task name (replaced_if_called moved t)
 
   called_last : (other : TaskName) → task_called last other ≡ option_map after_it (task_called world other)
-  called_last other =
-      find_named (raised_task name) (λ t. raised_name t (same_name name t.name)) other
-      (map (replaced_if_called moved) world.tasks)
-      ∙ ap (option_map (raised_task name))
+  called_last other = find_named (raised_task name) (λ t. raised_name t (same_name name t.name)) other
+      (map (replaced_if_called moved) world.tasks) ∙ ap (option_map (raised_task name))
       (find_named (replaced_if_called moved) (λ t. moved_name t (same_name task.name t.name) refl) other world.tasks)
       ∙ twice (task_called world other)
     where
@@ -356,19 +338,15 @@ module _ (world : World ℕ) (fresh : Fresh ℕ) (task : Task ℕ) (is : IsWorld
 
   -- the caller is in the new namespace, and each other task where it was
   namespace_of_caller : (t : Task ℕ) → same_name task.name t.name ≡ true → (after_it t).namespace ≡ evens fresh 0
-  namespace_of_caller t e =
-      raised_namespace (replaced_if_called moved t) ∙ ap (λ b. (cond b moved t).namespace) e
+  namespace_of_caller t e = raised_namespace (replaced_if_called moved t) ∙ ap (λ b. (cond b moved t).namespace) e
 
   namespace_of_other : (t : Task ℕ) → same_name task.name t.name ≡ false → (after_it t).namespace ≡ t.namespace
-  namespace_of_other t e =
-      raised_namespace (replaced_if_called moved t) ∙ ap (λ b. (cond b moved t).namespace) e
+  namespace_of_other t e = raised_namespace (replaced_if_called moved t) ∙ ap (λ b. (cond b moved t).namespace) e
 
   module _ (lists_caller : UnshareListsTheSame) (lists_others : UnshareListsOthersTheSame) where
     lines_stay : (t : Task ℕ) → Among t world.tasks
         → mount_lines nat_eq last (after_it t).namespace ≡ mount_lines nat_eq world t.namespace
-    lines_stay t m =
-        ⊎_elim
-        (λ e. ap (mount_lines nat_eq last) (namespace_of_caller t e)
+    lines_stay t m = ⊎_elim (λ e. ap (mount_lines nat_eq last) (namespace_of_caller t e)
         ∙ reads_so new moved (UnsharedLeft.new_there world fresh task is serves called)
         (UnsharedLeft.moved_there world fresh task is serves called) refl
         ∙ lists_caller world fresh task serves is.mounts
@@ -389,11 +367,9 @@ module _ (world : World ℕ) (fresh : Fresh ℕ) (task : Task ℕ) (is : IsWorld
       where
         by : (o : Option (Task ℕ)) → task_called world other ≡ o
             → (policy nat_eq later last other ListMounts).answer ≡ (policy nat_eq later world other ListMounts).answer
-        by None e =
-            told last later other None (called_last other ∙ ap (option_map after_it) e)
+        by None e = told last later other None (called_last other ∙ ap (option_map after_it) e)
             ∙ sym (told world later other None e)
-        by (Some t) e =
-            told last later other (Some (after_it t)) (called_last other ∙ ap (option_map after_it) e)
+        by (Some t) e = told last later other (Some (after_it t)) (called_last other ∙ ap (option_map after_it) e)
             ∙ ap (λ l. Ok (MountList l)) (lines_stay t (called_there world.tasks other t e))
             ∙ sym (told world later other (Some t) e)
 
@@ -404,11 +380,8 @@ module _ (world : World ℕ) (fresh : Fresh ℕ) (name : TaskName) (is : IsWorld
   called_own = ap (task_called world) (sym (name_found world name did.task did.called)) ∙ did.called
 
   left_so : (policy nat_eq fresh world name Unshare).world ≡ last world fresh did.task is serves called_own name
-  left_so =
-      did.left
-      ∙ ap (λ permit. numbers_raised nat_eq world name (filesystems_changed nat_eq world permit)
-      (settled nat_eq (apply nat_eq fresh world did.task permit).world))
-      (permit_is _ _ did.task did.permit did.granted)
+  left_so = did.left ∙ ap (λ permit. numbers_raised nat_eq world name (filesystems_changed nat_eq world permit)
+      (settled nat_eq (apply nat_eq fresh world did.task permit).world)) (permit_is _ _ did.task did.permit did.granted)
       ∙ ap (numbers_raised nat_eq world name []) (UnsharedLeft.settles_so world fresh did.task is serves called_own)
 
 pub unshare_then_mounts : UnshareListsTheSame → UnshareListsOthersTheSame → UnshareThenMounts
@@ -426,8 +399,7 @@ unshare_gives_a_namespace world fresh name task is serves granted called =
     sym (called_last world fresh did.task is serves own name name
     ∙ ap (option_map (after_it world fresh did.task is serves own name)) did.called)
     ∙ ap (λ w. task_called w name) (sym (left_so world fresh name is serves did)) ∙ called in
-    let number : task.namespace ≡ evens fresh 0 =
-    ap (λ (t : Task ℕ). t.namespace) (sym (same_Some _ task now))
+    let number : task.namespace ≡ evens fresh 0 = ap (λ (t : Task ℕ). t.namespace) (sym (same_Some _ task now))
     ∙ namespace_of_caller world fresh did.task is serves own name did.task
     ((bytes_decides did.task.name did.task.name).1 refl) in
     false_from_ne_true (is_listed nat_eq world task.namespace) (λ e.

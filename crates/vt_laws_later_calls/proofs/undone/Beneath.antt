@@ -43,8 +43,7 @@ use Rattle.vt_laws_mounts.proofs.propagation.OneAttached.{one_of, later_number, 
 -- a mount that does not stand on itself is the topmost one over its root, where it is alone
 top_alone : (mount : Mount ℕ) → stands_at nat_eq (root_of mount) mount ≡ false
     → topmost nat_eq (mount ∷ []) (root_of mount) ≡ root_of mount
-top_alone mount e =
-    ap (last_or (root_of mount))
+top_alone mount e = ap (last_or (root_of mount))
     (chain_ends (λ here. option_map root_of (child_at nat_eq (mount ∷ []) here)) zero (root_of mount)
     (ap (λ b. option_map root_of (cond b (Some mount) None)) e))
 
@@ -53,8 +52,7 @@ only_one : (mount : Mount ℕ) (list : List (Mount ℕ)) → OneMountAMountPoint
     → ((x : Mount ℕ) → Among x list → x.mount_point ≡ Some (root_of mount)) → only_cover nat_eq mount list ≡ true
 only_one mount [] apart all = refl
 only_one mount (x ∷ []) apart all = stands_at_its_place (root_of mount) x (all x (inl refl))
-only_one mount (x ∷ y ∷ rest) apart all =
-    absurd (true≢false
+only_one mount (x ∷ y ∷ rest) apart all = absurd (true≢false
     (sym (one_place_of_two (root_of mount) x y (all x (inl refl)) (all y (inr (inl refl))))
     ∙ none_among (share_a_mount_point nat_eq x) (y ∷ rest)
     (or_parts (list_any (share_a_mount_point nat_eq x) (y ∷ rest))
@@ -63,8 +61,7 @@ only_one mount (x ∷ y ∷ rest) apart all =
 module _ (world : World ℕ) (fresh : Fresh ℕ) (place : Location ℕ) (first : Mount ℕ)
     (can : CanAttach (one_of world fresh place first)) (there : is_mount world place.mount ≡ true)
     (on_old : (mount : Mount ℕ) → Among mount world.mounts → (at : Location ℕ) → mount.mount_point ≡ Some at
-    → is_mount world at.mount ≡ true)
-    (ends : ChainsEnd (world_after (one_of world fresh place first)))
+    → is_mount world at.mount ≡ true) (ends : ChainsEnd (world_after (one_of world fresh place first)))
     (one_place : OneMountAMountPoint (world_after (one_of world fresh place first)).mounts) where
   abbrev it : Attachment
   it = one_of world fresh place first
@@ -103,8 +100,7 @@ module _ (world : World ℕ) (fresh : Fresh ℕ) (place : Location ℕ) (first :
   keeps : (mount : Mount ℕ) → KeepsAllButMountPoint mount (push_it mount)
   keeps mount = push_keeps world (copies_from nat_eq fresh (parts_of nat_eq world place) (first ∷ []))
       (graft_of nat_eq world (copies_from nat_eq fresh (parts_of nat_eq world place) (first ∷ [])) place false
-      (first ∷ []))
-      (parts_of nat_eq world place) mount
+      (first ∷ [])) (parts_of nat_eq world place) mount
 
   kept : (number : ℕ) → is_mount world number ≡ true
       → mount_numbered nat_eq after number ≡ push_it (mount_numbered nat_eq world number)
@@ -112,28 +108,20 @@ module _ (world : World ℕ) (fresh : Fresh ℕ) (place : Location ℕ) (first :
       found_attached world (copies_from nat_eq fresh (parts_of nat_eq world place) (first ∷ [])) place false
       (first ∷ []) number is
 
-  kept_itself : (mount : Mount ℕ) → Among mount world.mounts
-      → mount_numbered nat_eq after mount.number ≡ push_it mount
-  kept_itself mount m =
-      kept mount.number (is_one_of world.mounts mount m)
+  kept_itself : (mount : Mount ℕ) → Among mount world.mounts → mount_numbered nat_eq after mount.number ≡ push_it mount
+  kept_itself mount m = kept mount.number (is_one_of world.mounts mount m)
       ∙ ap push_it (found_itself world.mounts can.one_number mount m)
 
   -- a mount was there, or is a copy
   abbrev IsOldOrNew : Mount ℕ → Type 0
-  IsOldOrNew mount =
-      ((old : Mount ℕ) × Among old world.mounts × (mount ≡ push_it old))
+  IsOldOrNew mount = ((old : Mount ℕ) × Among old world.mounts × (mount ≡ push_it old))
       ⊎ ((part : Mount ℕ) × IsPart it part × (mount ≡ copy part))
 
   old_or_new : (mount : Mount ℕ) → Among mount after.mounts → IsOldOrNew mount
-  old_or_new mount m =
-      ⊎_elim
-      (λ front.
-      ⊎_elim
-      (λ pushed.
-      inl (among-from_map push_it world.mounts mount pushed))
+  old_or_new mount m = ⊎_elim (λ front.
+      ⊎_elim (λ pushed. inl (among-from_map push_it world.mounts mount pushed))
       (λ arrived. of_copies destination arrived (inl refl))
-      (among-append (map push_it world.mounts) (copies_of destination) mount front))
-      (λ rest.
+      (among-append (map push_it world.mounts) (copies_of destination) mount front)) (λ rest.
       let from = among-from_flat_map copies_of (rest_of parts) mount rest in
       of_copies from.0 from.2 (inr from.1))
       (among-append (map push_it world.mounts ++ copies_of destination) (flat_map copies_of (rest_of parts)) mount m)
@@ -144,15 +132,13 @@ module _ (world : World ℕ) (fresh : Fresh ℕ) (place : Location ℕ) (first :
 
       of_copies : (part : Mount ℕ)
           → Among mount (copies world (copies_from nat_eq fresh (parts_of nat_eq world place) (first ∷ [])) place false
-          (first ∷ []) part)
-          → Among part (parts_of nat_eq world place) → IsOldOrNew mount
-      of_copies part n p =
-          inr (
-            part,
-            contains_from_among (parts_of nat_eq world place) part p,
-            ⊎_elim (λ e. e) (λ none. absurd none) n
-                ∙ sym (is_copy it can part first (contains_from_among (parts_of nat_eq world place) part p) of_first),
-          )
+          (first ∷ []) part) → Among part (parts_of nat_eq world place) → IsOldOrNew mount
+      of_copies part n p = inr (
+        part,
+        contains_from_among (parts_of nat_eq world place) part p,
+        ⊎_elim (λ e. e) (λ none. absurd none) n
+            ∙ sym (is_copy it can part first (contains_from_among (parts_of nat_eq world place) part p) of_first),
+      )
 
   copy_number : (part : Mount ℕ) → (copy part).number ≡ new part
   copy_number part = number-mount_in after.mounts (new part)
@@ -172,8 +158,7 @@ module _ (world : World ℕ) (fresh : Fresh ℕ) (place : Location ℕ) (first :
       → nat_eq (copy part).number other.number ≡ false
   new_apart part c other m = false_from_ne_true (nat_eq (copy part).number other.number) (λ same.
       true≢false (sym (is_one_of world.mounts other m)
-      ∙ ap (is_mount world) (sym (eqb-true (copy part).number other.number same) ∙ copy_number part)
-      ∙ copy_new part c))
+      ∙ ap (is_mount world) (sym (eqb-true (copy part).number other.number same) ∙ copy_number part) ∙ copy_new part c))
 
   destination_later : (mount_numbered nat_eq after destination.number).propagation ≡ destination.propagation
   destination_later =
@@ -184,9 +169,7 @@ module _ (world : World ℕ) (fresh : Fresh ℕ) (place : Location ℕ) (first :
   -- a mount stands where it stood, at the place of no receiver that takes part, or on the root of the copy that came
   -- beneath it
   abbrev StaysOrRises : Mount ℕ → Type 0
-  StaysOrRises mount =
-      ((push_it mount ≡ mount)
-      × ((part : Mount ℕ) → Among part (rest_of parts)
+  StaysOrRises mount = ((push_it mount ≡ mount) × ((part : Mount ℕ) → Among part (rest_of parts)
       → stands_at nat_eq (record { mount = part.number; node = place.node }) mount ≡ false))
       ⊎ ((part : Mount ℕ) × IsPart it part
       × (mount.mount_point ≡ Some (record { mount = part.number; node = place.node }))
@@ -197,8 +180,7 @@ module _ (world : World ℕ) (fresh : Fresh ℕ) (place : Location ℕ) (first :
     where
       by : (o : Option (Mount ℕ)) → receiver_stood_on nat_eq (graft_of nat_eq world
           (copies_from nat_eq fresh (parts_of nat_eq world place) (first ∷ [])) place false (first ∷ [])) parts mount
-          ≡ o
-          → StaysOrRises mount
+          ≡ o → StaysOrRises mount
       by None e = inl (
         ap (pushed_onto nat_eq world (copies_from nat_eq fresh (parts_of nat_eq world place) (first ∷ []))
             (graft_of nat_eq world (copies_from nat_eq fresh (parts_of nat_eq world place) (first ∷ [])) place false
@@ -219,8 +201,7 @@ module _ (world : World ℕ) (fresh : Fresh ℕ) (place : Location ℕ) (first :
             part,
             contained,
             stands_there (record { mount = part.number; node = place.node }) mount found.1,
-            ap (λ o. (pushed_onto nat_eq world
-                (copies_from nat_eq fresh (parts_of nat_eq world place) (first ∷ []))
+            ap (λ o. (pushed_onto nat_eq world (copies_from nat_eq fresh (parts_of nat_eq world place) (first ∷ []))
                 (graft_of nat_eq world (copies_from nat_eq fresh (parts_of nat_eq world place) (first ∷ [])) place false
                 (first ∷ [])) parts mount o).mount_point) e
                 ∙ ap (λ (x : Mount ℕ). Some (topmost nat_eq (x ∷ []) (root_of x))) (sym made_is)
@@ -228,22 +209,19 @@ module _ (world : World ℕ) (fresh : Fresh ℕ) (place : Location ℕ) (first :
           )
 
   push_among : (mount : Mount ℕ) → Among mount world.mounts → Among (push_it mount) after.mounts
-  push_among mount m =
-      subst (λ x. Among x after.mounts) (kept_itself mount m)
+  push_among mount m = subst (λ x. Among x after.mounts) (kept_itself mount m)
       (found_there after.mounts mount.number (later_number world fresh place first there mount.number
       (is_one_of world.mounts mount m)))
 
   copy_among : (part : Mount ℕ) → IsPart it part → Among (copy part) after.mounts
-  copy_among part c =
-      among_from_contains after.mounts (copy part) (each_is_copied it part first can c of_first).there
+  copy_among part c = among_from_contains after.mounts (copy part) (each_is_copied it part first can c of_first).there
 
   hears_later : (part : Mount ℕ) → IsPart it part → (group : ℕ) → destination.propagation ≡ Shared group
       → receives nat_eq after group (push_it part) ≡ true
   hears_later part c group e =
       let t = heard world part group (hears_group world fresh place first there part c group e) in
       hears after groups_later (push_it part) (push_among part (part_old world fresh place first there part c)) t.0
-      group
-      (ap source_of (keeps part).propagation ∙ t.1)
+      group (ap source_of (keeps part).propagation ∙ t.1)
       (old_up_after world (supply it can) place false (first ∷ []) (serve_images it can) can.each_once t.0 group
       (lives_in world can.groups part (part_old world fresh place first there part c) t.0 t.1) t.2)
 
@@ -263,35 +241,27 @@ module _ (world : World ℕ) (fresh : Fresh ℕ) (place : Location ℕ) (first :
           let on_part : record { mount = copied.0.number; node = place.node } ≡ at =
           same_Some (record { mount = copied.0.number; node = place.node }) at
           (sym (copy_stands copied.0 copied.1) ∙ ap (λ (x : Mount ℕ). x.mount_point) (sym copied.2) ∙ e) in
-          absurd (no_old at same
-          (ap (λ (l : Location ℕ). is_mount world l.mount) (sym on_part)
+          absurd (no_old at same (ap (λ (l : Location ℕ). is_mount world l.mount) (sym on_part)
           ∙ is_one_of world.mounts copied.0 (part_old world fresh place first there copied.0 copied.1)))
-      at_place at e same (inl old) =
-          ⊎_elim
-          (λ stayed. absurd (no_old at same (on_old old.0 old.1 at
-          (ap (λ (x : Mount ℕ). x.mount_point) (sym stayed.0 ∙ sym old.2) ∙ e))))
-          (λ risen.
-          let here : at ≡ root_of (copy risen.0) =
-          same_Some at (root_of (copy risen.0))
+      at_place at e same (inl old) = ⊎_elim (λ stayed. absurd (no_old at same (on_old old.0 old.1 at
+          (ap (λ (x : Mount ℕ). x.mount_point) (sym stayed.0 ∙ sym old.2) ∙ e)))) (λ risen.
+          let here : at ≡ root_of (copy risen.0) = same_Some at (root_of (copy risen.0))
           (sym e ∙ ap (λ (x : Mount ℕ). x.mount_point) old.2 ∙ risen.3) in
           let one : copy risen.0 ≡ copy part =
           sym (found_itself after.mounts one_after (copy risen.0) (copy_among risen.0 risen.1))
           ∙ ap (mount_numbered nat_eq after)
           (ap (λ (l : Location ℕ). l.mount) (sym here) ∙ sym (eqb-true (copy part).number at.mount same))
           ∙ found_itself after.mounts one_after (copy part) (copy_among part c) in
-          e ∙ ap Some here ∙ ap (λ x. Some (root_of x)) one)
-          (rises_or_stays old.0)
+          e ∙ ap Some here ∙ ap (λ x. Some (root_of x)) one) (rises_or_stays old.0)
 
       by : (o : Option (Location ℕ)) → mount.mount_point ≡ o → mount.mount_point ≡ Some (root_of (copy part))
-      by None e = absurd (true≢false
-          (sym on ∙ ap (holds_of (λ (l : Location ℕ). nat_eq (copy part).number l.mount)) e))
+      by None e = absurd (true≢false (sym on ∙ ap (holds_of (λ (l : Location ℕ). nat_eq (copy part).number l.mount)) e))
       by (Some at) e =
           at_place at e (sym (ap (holds_of (λ (l : Location ℕ). nat_eq (copy part).number l.mount)) e) ∙ on)
           (old_or_new mount m)
 
   may_leave : (part : Mount ℕ) → IsPart it part → may_go nat_eq after (copy part) ≡ true
-  may_leave part c =
-      only_one (copy part) (filter (stands_on nat_eq (copy part).number) after.mounts)
+  may_leave part c = only_one (copy part) (filter (stands_on nat_eq (copy part).number) after.mounts)
       (pair-filter (share_a_mount_point nat_eq) (stands_on nat_eq (copy part).number) after.mounts one_place)
       (λ mount m. let from = among-from_filter (stands_on nat_eq (copy part).number) after.mounts mount m in
       covers part c mount from.0 from.1)
@@ -305,24 +275,20 @@ module _ (world : World ℕ) (fresh : Fresh ℕ) (place : Location ℕ) (first :
     where
       only : is_shared destination.propagation ≡ false → group_of destination.propagation ≡ None
           → Goes after (copy destination) (copy part).number
-      only e f =
-          subst (λ x. Goes after (copy destination) (copy x).number) (sym (only_part it can f part c))
+      only e f = subst (λ x. Goes after (copy destination) (copy x).number) (sym (only_part it can f part c))
           (alone (record { mount = destination.number; node = place.node }) (copy_stands destination destination_part)
           (ap is_shared destination_later ∙ e))
 
       by : (kind : Propagation ℕ) → destination.propagation ≡ kind → Goes after (copy destination) (copy part).number
       by (Shared group) e =
           at_receiver (record { mount = destination.number; node = place.node }) group (push_it part) (copy part)
-          (copy_stands destination destination_part)
-          (destination_later ∙ e)
+          (copy_stands destination destination_part) (destination_later ∙ e)
           (contains_from_among after.mounts (push_it part) (push_among part
           (part_old world fresh place first there part c)))
           (receives_soundly after group (push_it part) (hears_later part c group e))
           (found_at_its_place after.mounts one_place (copy part) (copy_among part c)
-          (record { mount = (push_it part).number; node = place.node })
-          (copy_stands part c
-          ∙ ap (λ n. Some (record { mount = n; node = place.node })) (sym (keeps part).number)))
-          (may_leave part c)
+          (record { mount = (push_it part).number; node = place.node }) (copy_stands part c
+          ∙ ap (λ n. Some (record { mount = n; node = place.node })) (sym (keeps part).number))) (may_leave part c)
       by (Slave master) e = only (ap is_shared e) (ap group_of e)
       by Private e = only (ap is_shared e) (ap group_of e)
       by Unbindable e = only (ap is_shared e) (ap group_of e)
@@ -338,18 +304,15 @@ module _ (world : World ℕ) (fresh : Fresh ℕ) (place : Location ℕ) (first :
       → receives nat_eq world group first ≡ true → nat_eq first.root place.node ≡ true
       → may_go nat_eq after (mount_numbered nat_eq after mount.number) ≡ true
       → mount_left after gone mount.number ≡ detached (mount_numbered nat_eq after mount.number)
-  taken_along group part mount e p m stood hearing root may =
-      what_goes_is_detached after gone mount.number
+  taken_along group part mount e p m stood hearing root may = what_goes_is_detached after gone mount.number
       ((what_goes_is_named after gone mount.number groups_later).1
       (subst (Goes after (copy destination)) (keeps mount).number
       (at_receiver (record { mount = destination.number; node = place.node }) group (copy part) (push_it mount)
       (copy_stands destination destination_part) (destination_later ∙ e)
-      (contains_from_among after.mounts (copy part) (copy_among part c))
-      (receives_soundly after group (copy part)
+      (contains_from_among after.mounts (copy part) (copy_among part c)) (receives_soundly after group (copy part)
       (copies_hear_as_their_origins it part first group can c of_first
       (any_from_among (is_member_of nat_eq group) world.mounts destination destination_among
-      (shared_member group destination e))
-      ∙ hearing))
+      (shared_member group destination e)) ∙ hearing))
       (found_at_its_place after.mounts one_place (push_it mount) (push_among mount m)
       (record { mount = (copy part).number; node = place.node }) (⊎_elim stays_not rises (rises_or_stays mount)))
       (ap (may_go nat_eq after) (sym (kept_itself mount m)) ∙ may))))
@@ -367,8 +330,7 @@ module _ (world : World ℕ) (fresh : Fresh ℕ) (place : Location ℕ) (first :
 
       rises : (other : Mount ℕ) × IsPart it other
           × (mount.mount_point ≡ Some (record { mount = other.number; node = place.node }))
-          × ((push_it mount).mount_point ≡ Some (root_of (copy other)))
-          → (push_it mount).mount_point ≡ at_place
+          × ((push_it mount).mount_point ≡ Some (root_of (copy other))) → (push_it mount).mount_point ≡ at_place
       rises risen =
           let here : record { mount = risen.0.number; node = place.node }
           ≡ record { mount = part.number; node = place.node } =
@@ -377,8 +339,7 @@ module _ (world : World ℕ) (fresh : Fresh ℕ) (place : Location ℕ) (first :
           (sym risen.2 ∙ stands_there (record { mount = part.number; node = place.node }) mount stood) in
           let one : risen.0 ≡ part =
           sym (found_itself world.mounts can.one_number risen.0 (part_old world fresh place first there risen.0
-          risen.1))
-          ∙ ap (λ (l : Location ℕ). mount_numbered nat_eq world l.mount) here
+          risen.1)) ∙ ap (λ (l : Location ℕ). mount_numbered nat_eq world l.mount) here
           ∙ found_itself world.mounts can.one_number part (part_old world fresh place first there part c) in
           risen.3 ∙ ap (λ x. Some (root_of (copy x))) one
           ∙ ap (λ n. Some (record { mount = (copy part).number; node = n }))
@@ -404,8 +365,7 @@ module _ (world : World ℕ) (fresh : Fresh ℕ) (place : Location ℕ) (first :
       → takes_part nat_eq world place receiver ≡ false
       → may_go nat_eq after (mount_numbered nat_eq after mount.number) ≡ true
       → mount_left after gone mount.number ≡ detached (mount_numbered nat_eq after mount.number)
-  taken_beside free group receiver mount e r hearing m stood apart may =
-      what_goes_is_detached after gone mount.number
+  taken_beside free group receiver mount e r hearing m stood apart may = what_goes_is_detached after gone mount.number
       ((what_goes_is_named after gone mount.number groups_later).1
       (subst (Goes after (copy destination)) (keeps mount).number
       (at_receiver (record { mount = destination.number; node = place.node }) group (push_it receiver) (push_it mount)
@@ -413,8 +373,7 @@ module _ (world : World ℕ) (fresh : Fresh ℕ) (place : Location ℕ) (first :
       (contains_from_among after.mounts (push_it receiver) (push_among receiver r))
       (receives_soundly after group (push_it receiver) (hears_after receiver r group hearing))
       (found_at_its_place after.mounts one_place (push_it mount) (push_among mount m)
-      (record { mount = (push_it receiver).number; node = place.node })
-      (⊎_elim still risen (rises_or_stays mount)
+      (record { mount = (push_it receiver).number; node = place.node }) (⊎_elim still risen (rises_or_stays mount)
       ∙ ap (λ n. Some (record { mount = n; node = place.node })) (sym (keeps receiver).number)))
       (ap (may_go nat_eq after) (sym (kept_itself mount m)) ∙ may))))
     where
@@ -430,24 +389,18 @@ module _ (world : World ℕ) (fresh : Fresh ℕ) (place : Location ℕ) (first :
           × (mount.mount_point ≡ Some (record { mount = part.number; node = place.node }))
           × ((push_it mount).mount_point ≡ Some (root_of (copy part)))
           → (push_it mount).mount_point ≡ Some (record { mount = receiver.number; node = place.node })
-      risen up =
-          ⊎_elim
-          (λ same. absurd (true≢false
-          (sym (stands_at_its_place place mount
+      risen up = ⊎_elim (λ same. absurd (true≢false (sym (stands_at_its_place place mount
           (up.2 ∙ ap (λ (x : Mount ℕ). Some (record { mount = x.number; node = place.node })) same
           ∙ ap (λ n. Some (record { mount = n; node = place.node })) (number-mount_in world.mounts place.mount)))
-          ∙ unfound (stands_at nat_eq place) world.mounts free mount m)))
-          (λ rest. absurd (true≢false
+          ∙ unfound (stands_at nat_eq place) world.mounts free mount m))) (λ rest. absurd (true≢false
           (sym (among-from_filter (takes_part nat_eq world place) (receivers_of nat_eq world destination) up.0 rest).1
-          ∙ ap (takes_part nat_eq world place) one ∙ apart)))
-          (among_from_contains parts up.0 up.1)
+          ∙ ap (takes_part nat_eq world place) one ∙ apart))) (among_from_contains parts up.0 up.1)
         where
           here : place_on up.0.number ≡ place_on receiver.number
           here = same_Some (place_on up.0.number) (place_on receiver.number) (sym up.2 ∙ stands)
 
           one : up.0 ≡ receiver
-          one =
-              sym (found_itself world.mounts can.one_number up.0 (part_old world fresh place first there up.0 up.1))
+          one = sym (found_itself world.mounts can.one_number up.0 (part_old world fresh place first there up.0 up.1))
               ∙ ap (λ (l : Location ℕ). mount_numbered nat_eq world l.mount) here
               ∙ found_itself world.mounts can.one_number receiver r
 
@@ -458,23 +411,17 @@ module _ (world : World ℕ) (fresh : Fresh ℕ) (place : Location ℕ) (first :
       (apart_from : (group : ℕ) (receiver mount : Mount ℕ) → (mount_at nat_eq world place).propagation ≡ Shared group
       → Among receiver world.mounts → receives nat_eq world group receiver ≡ true → Among mount world.mounts
       → stands_at nat_eq (record { mount = receiver.number; node = place.node }) mount ≡ true
-      → (receives nat_eq world group first ≡ false)
-      ⊎ ((nat_eq first.root place.node ≡ false)
+      → (receives nat_eq world group first ≡ false) ⊎ ((nat_eq first.root place.node ≡ false)
       ⊎ (may_go nat_eq after (mount_numbered nat_eq after mount.number) ≡ false))) where
     -- a copy that came beneath a mount, and hears the destination's group, has another root, or the mount stays
     off_root : (part : Mount ℕ) → IsPart it part → (group : ℕ) → destination.propagation ≡ Shared group
         → receives nat_eq after group (copy part) ≡ true → (mount : Mount ℕ) → Among mount world.mounts
         → mount.mount_point ≡ Some (record { mount = part.number; node = place.node })
         → (nat_eq (copy part).root place.node ≡ false) ⊎ (may_go nat_eq after (push_it mount) ≡ false)
-    off_root part c group e hearing mount m at =
-        ⊎_elim
-        (λ quiet. absurd (true≢false (sym hearing
+    off_root part c group e hearing mount m at = ⊎_elim (λ quiet. absurd (true≢false (sym hearing
         ∙ copies_hear_as_their_origins it part first group can c of_first
         (any_from_among (is_member_of nat_eq group) world.mounts destination destination_among
-        (shared_member group destination e))
-        ∙ quiet)))
-        (λ rest.
-        ⊎_elim
+        (shared_member group destination e)) ∙ quiet))) (λ rest. ⊎_elim
         (λ other. inl (ap (λ n. nat_eq n place.node) (each_is_copied it part first can c of_first).root ∙ other))
         (λ stays_on. inr (ap (may_go nat_eq after) (sym (kept_itself mount m)) ∙ stays_on)) rest)
         (apart_from group part mount e (part_old world fresh place first there part c)
@@ -507,24 +454,19 @@ module _ (world : World ℕ) (fresh : Fresh ℕ) (place : Location ℕ) (first :
             → stands_at nat_eq (record { mount = part.number; node = place.node }) old ≡ false)
             → IsOldOrNew receiver → ⊥
         still stayed (inl was) =
-            let number : receiver.number ≡ was.0.number =
-            ap (λ (x : Mount ℕ). x.number) was.2 ∙ (keeps was.0).number in
+            let number : receiver.number ≡ was.0.number = ap (λ (x : Mount ℕ). x.number) was.2 ∙ (keeps was.0).number in
             let there_still : stands_at nat_eq (record { mount = was.0.number; node = place.node }) old ≡ true =
             (λ i. stands_at nat_eq (record { mount = sym number i; node = place.node })
             ((sym stayed.0 ∙ sym child_is) i)) ∙ stood in
-            let heard_before : receives nat_eq world group was.0 ≡ true =
-            still_hears group was.0 was.1
+            let heard_before : receives nat_eq world group was.0 ≡ true = still_hears group was.0 was.1
             (ap (λ k. holds_of (λ source. is_among nat_eq group (groups_up after source)) (source_of k))
             (sym (keeps was.0).propagation ∙ ap (λ (x : Mount ℕ). x.propagation) (sym was.2)) ∙ hearing) in
-            true≢false
-            (sym there_still
-            ∙ stayed.1 was.0
+            true≢false (sym there_still ∙ stayed.1 was.0
             (among-filter (takes_part nat_eq world place) (receivers_of nat_eq world destination) was.0
             (subst (λ k. Among was.0 (unwrap_or (option_map (receivers nat_eq world) (group_of k)) [])) (sym shared)
             (among-filter (receives nat_eq world group) world.mounts was.0 was.1 heard_before))
             (takes group was.0 old shared was.1 heard_before old_m there_still)))
-        still stayed (inr copied) =
-            true≢false
+        still stayed (inr copied) = true≢false
             (sym (on_old old old_m (record { mount = receiver.number; node = place.node })
             (ap (λ (x : Mount ℕ). x.mount_point) (sym stayed.0 ∙ sym child_is) ∙ stands))
             ∙ ap (λ (x : Mount ℕ). is_mount world x.number) copied.2
@@ -537,12 +479,10 @@ module _ (world : World ℕ) (fresh : Fresh ℕ) (place : Location ℕ) (first :
             let here : record { mount = receiver.number; node = place.node } ≡ root_of (copy part) =
             same_Some (record { mount = receiver.number; node = place.node }) (root_of (copy part))
             (sym stands ∙ ap (λ (x : Mount ℕ). x.mount_point) child_is ∙ risen) in
-            let it_is : receiver ≡ copy part =
-            sym (found_itself after.mounts one_after receiver m)
+            let it_is : receiver ≡ copy part = sym (found_itself after.mounts one_after receiver m)
             ∙ ap (mount_numbered nat_eq after) (ap (λ (l : Location ℕ). l.mount) here)
             ∙ found_itself after.mounts one_after (copy part) (copy_among part c) in
-            ⊎_elim
-            (λ other. true≢false
+            ⊎_elim (λ other. true≢false
             (sym (eq-eqb (copy part).root place.node (sym (ap (λ (l : Location ℕ). l.node) here))) ∙ other))
             (λ stays_on. true≢false (sym may ∙ ap (may_go nat_eq after) child_is ∙ stays_on))
             (off_root part c group shared (ap (receives nat_eq after group) (sym it_is) ∙ hearing) old old_m was)
@@ -563,19 +503,14 @@ module _ (world : World ℕ) (fresh : Fresh ℕ) (place : Location ℕ) (first :
         let stood : stands_at nat_eq (record { mount = receiver.number; node = place.node }) child ≡ true =
         ap (λ (l : Location ℕ). stands_at nat_eq (record { mount = receiver.number; node = l.node }) child) at_is
         ∙ t.1 in
-        let shared : destination.propagation ≡ Shared group =
-        sym destination_later
+        let shared : destination.propagation ≡ Shared group = sym destination_later
         ∙ ap (λ (l : Location ℕ). (mount_at nat_eq after l).propagation) at_is ∙ f in
-        ⊎_elim
-        (λ old. no_old_there group receiver child shared (among_from_contains after.mounts receiver contained)
+        ⊎_elim (λ old. no_old_there group receiver child shared (among_from_contains after.mounts receiver contained)
         (receives_completely after groups_later group receiver
-        (among_from_contains after.mounts receiver contained) hears_it)
-        old.0 old.1 old.2 stood may)
-        (λ copied.
+        (among_from_contains after.mounts receiver contained) hears_it) old.0 old.1 old.2 stood may) (λ copied.
         true≢false
         (sym is ∙ ap (is_mount world) (sym same ∙ ap (λ (x : Mount ℕ). x.number) copied.2 ∙ copy_number copied.0)
-        ∙ copy_new copied.0 copied.1))
-        (old_or_new child t.0)
+        ∙ copy_new copied.0 copied.1)) (old_or_new child t.0)
 
     stays : (number : ℕ) → is_mount world number ≡ true → goes_with after gone number ≡ false
     stays number is = false_from_ne_true (goes_with after gone number) (λ h.
@@ -586,8 +521,7 @@ module _ (world : World ℕ) (fresh : Fresh ℕ) (place : Location ℕ) (first :
     undone = unmounted nat_eq after gone
 
     left_among : (number : ℕ) → is_mount world number ≡ true → Among (mount_left after gone number) undone.mounts
-    left_among number is =
-        found_there undone.mounts number
+    left_among number is = found_there undone.mounts number
         (ap (is_among nat_eq number) (unmount_keeps_the_order after gone)
         ∙ later_number world fresh place first there number is)
 
@@ -599,10 +533,8 @@ module _ (world : World ℕ) (fresh : Fresh ℕ) (place : Location ℕ) (first :
     type_stays : (number : ℕ) → is_mount world number ≡ true
         → has_its_master undone (mount_numbered nat_eq world number).propagation ≡ true
         → (mount_left after gone number).propagation ≡ (mount_numbered nat_eq world number).propagation
-    type_stays number is e =
-        what_stays_keeps_its_type after gone number (stays number is)
-        (ap (has_its_master undone) (same_type number is) ∙ e)
-        ∙ same_type number is
+    type_stays number is e = what_stays_keeps_its_type after gone number (stays number is)
+        (ap (has_its_master undone) (same_type number is) ∙ e) ∙ same_type number is
 
     -- groups keep members
     still_members : (group : ℕ) → has_members nat_eq world.mounts group ≡ true
@@ -614,8 +546,7 @@ module _ (world : World ℕ) (fresh : Fresh ℕ) (place : Location ℕ) (first :
         ap (λ (x : Mount ℕ). x.propagation) (found_itself world.mounts can.one_number member.0 member.1)
         ∙ member_shared group member.0 member.2 in
         any_from_among (is_member_of nat_eq group) undone.mounts (mount_left after gone member.0.number)
-        (left_among member.0.number is)
-        (shared_member group (mount_left after gone member.0.number)
+        (left_among member.0.number is) (shared_member group (mount_left after gone member.0.number)
         (type_stays member.0.number is (ap (has_its_master undone) shared) ∙ shared))
 
     master_there : (number : ℕ) → is_mount world number ≡ true
@@ -625,9 +556,7 @@ module _ (world : World ℕ) (fresh : Fresh ℕ) (place : Location ℕ) (first :
         by : (kind : Propagation ℕ) → (mount_numbered nat_eq world number).propagation ≡ kind
             → has_its_master undone (mount_numbered nat_eq world number).propagation ≡ true
         by (Shared group) e = ap (has_its_master undone) e
-        by (Slave master) e =
-            ap (has_its_master undone) e
-            ∙ still_members master
+        by (Slave master) e = ap (has_its_master undone) e ∙ still_members master
             (live_members world.master (has_members nat_eq world.mounts) master
             (lives_in world can.groups (mount_numbered nat_eq world number) (found_there world.mounts number is) master
             (ap source_of e)))
@@ -640,13 +569,10 @@ module _ (world : World ℕ) (fresh : Fresh ℕ) (place : Location ℕ) (first :
         → (mount_left after gone number).mount_point ≡ Some (record { mount = part.number; node = place.node })
     falls_back number is part c e =
         what_covered_falls after gone number (root_of (copy part)) (record { mount = part.number; node = place.node })
-        ends (stays number is) e
-        (falls (root_of (copy part)) (record { mount = part.number; node = place.node })
-        (record { mount = part.number; node = place.node })
-        (goes part c)
+        ends (stays number is) e (falls (root_of (copy part)) (record { mount = part.number; node = place.node })
+        (record { mount = part.number; node = place.node }) (goes part c)
         (ap (λ (x : Mount ℕ). x.mount_point) (found_itself after.mounts one_after (copy part) (copy_among part c))
-        ∙ copy_stands part c)
-        (rests (record { mount = part.number; node = place.node })
+        ∙ copy_stands part c) (rests (record { mount = part.number; node = place.node })
         (stays part.number (is_one_of world.mounts part (part_old world fresh place first there part c)))))
 
     place_stays : (number : ℕ) → is_mount world number ≡ true
@@ -656,8 +582,7 @@ module _ (world : World ℕ) (fresh : Fresh ℕ) (place : Location ℕ) (first :
         same : (push_it (mount_numbered nat_eq world number) ≡ mount_numbered nat_eq world number)
             × ((part : Mount ℕ) → Among part (rest_of parts)
             → stands_at nat_eq (record { mount = part.number; node = place.node }) (mount_numbered nat_eq world number)
-            ≡ false)
-            → (mount_left after gone number).mount_point ≡ (mount_numbered nat_eq world number).mount_point
+            ≡ false) → (mount_left after gone number).mount_point ≡ (mount_numbered nat_eq world number).mount_point
         same stayed = by (mount_numbered nat_eq world number).mount_point refl
           where
             as_before : (mount_numbered nat_eq after number).mount_point
@@ -667,14 +592,11 @@ module _ (world : World ℕ) (fresh : Fresh ℕ) (place : Location ℕ) (first :
             by : (found : Option (Location ℕ)) → (mount_numbered nat_eq world number).mount_point ≡ found
                 → (mount_left after gone number).mount_point ≡ (mount_numbered nat_eq world number).mount_point
             by None e = root_mounts_stay after gone number (as_before ∙ e) ∙ sym e
-            by (Some at) e =
-                what_stays_keeps_its_place after gone number at (stays number is) (as_before ∙ e)
-                (stays at.mount
-                (on_old (mount_numbered nat_eq world number) (found_there world.mounts number is) at e))
+            by (Some at) e = what_stays_keeps_its_place after gone number at (stays number is) (as_before ∙ e)
+                (stays at.mount (on_old (mount_numbered nat_eq world number) (found_there world.mounts number is) at e))
                 ∙ sym e
 
-        risen : (part : Mount ℕ) × IsPart it part
-            × ((mount_numbered nat_eq world number).mount_point
+        risen : (part : Mount ℕ) × IsPart it part × ((mount_numbered nat_eq world number).mount_point
             ≡ Some (record { mount = part.number; node = place.node }))
             × ((push_it (mount_numbered nat_eq world number)).mount_point ≡ Some (root_of (copy part)))
             → (mount_left after gone number).mount_point ≡ (mount_numbered nat_eq world number).mount_point
@@ -698,8 +620,7 @@ module _ (world : World ℕ) (fresh : Fresh ℕ) (place : Location ℕ) (first :
         }
 
     pub copy_is_gone : (part : Mount ℕ) → IsPart it part → mount_left after gone (new part) ≡ detached (copy part)
-    copy_is_gone part c =
-        what_goes_is_detached after gone (new part)
+    copy_is_gone part c = what_goes_is_detached after gone (new part)
         (ap (goes_with after gone) (sym (copy_number part)) ∙ goes part c)
 
     pub masters_back : (group : ℕ) → has_members nat_eq world.mounts group ≡ true
@@ -707,22 +628,17 @@ module _ (world : World ℕ) (fresh : Fresh ℕ) (place : Location ℕ) (first :
     masters_back group has = by (world.master group) refl
       where
         by : (found : Option ℕ) → world.master group ≡ found → undone.master group ≡ world.master group
-        by None e =
-            master-regrouped_by (list_any (lost_a_group nat_eq (middle after (going nat_eq after
+        by None e = master-regrouped_by (list_any (lost_a_group nat_eq (middle after (going nat_eq after
             (mount_numbered nat_eq after gone))))
             (middle after (going nat_eq after (mount_numbered nat_eq after gone))).mounts)
             (middle after (going nat_eq after (mount_numbered nat_eq after gone))) group
             (old_master world (supply it can) place false (first ∷ []) (serve_images it can) can.each_once group has
-            ∙ e)
-            ∙ sym e
+            ∙ e) ∙ sym e
         by (Some master) e =
             let one = any_among (is_member_of nat_eq group) world.mounts has in
             let life = lives_in world can.groups one.0 one.1 group (ap source_of (member_shared group one.0 one.2)) in
             groups_keep_their_masters after gone group master
             (old_master world (supply it can) place false (first ∷ []) (serve_images it can) can.each_once group has
-            ∙ e)
-            (still_members master
-            (live_members world.master (has_members nat_eq world.mounts) master
+            ∙ e) (still_members master (live_members world.master (has_members nat_eq world.mounts) master
             (lives_up world.master (has_members nat_eq world.mounts) group master life (above group master master e
-            (here master)))))
-            ∙ sym e
+            (here master))))) ∙ sym e

@@ -53,19 +53,16 @@ module _ (world : World ℕ) (names : List TaskName) (is : IsWorld nat_eq world)
   of_world = part_grown world names change added new_ones master grows
 
   of_part : part_of nat_eq u_part names ≡ grown_by part (part_of_master nat_eq u_part names)
-  of_part =
-      part_grown part names change added new_ones master_too
+  of_part = part_grown part names change added new_ones master_too
       (part_grows world names is change added new_ones master master_too grows)
       ∙ ap (λ (w : World ℕ). grown_by w (part_of_master nat_eq u_part names)) (part_again world names is)
 
   pub own_alike : own_mounts nat_eq u_part names ≡ own_mounts nat_eq u names
-  own_alike =
-      sym (same_own u_part names)
+  own_alike = sym (same_own u_part names)
       ∙ ap (λ ts. filter (is_own world names ts) (part_of nat_eq u_part names).mounts)
       (same_members u_part names ∙ same_members world names ∙ sym (same_members u names))
       ∙ ap (filter (is_own world names (members (part_of nat_eq u names) names)))
-      (ap (λ (w : World ℕ). w.mounts) of_part ∙ sym (ap (λ (w : World ℕ). w.mounts) of_world))
-      ∙ same_own u names
+      (ap (λ (w : World ℕ). w.mounts) of_part ∙ sym (ap (λ (w : World ℕ). w.mounts) of_world)) ∙ same_own u names
 
   pub masters_alike : part_of_master nat_eq u_part names ≡ part_of_master nat_eq u names
   masters_alike =
@@ -104,8 +101,7 @@ module _ (world : World ℕ) (names : List TaskName) (is : IsWorld nat_eq world)
     → list_any (λ (f : Filesystem ℕ). nat_eq n f.number) new_ones ≡ false)
     (place : Location ℕ) (there : Among (mount_at nat_eq world place) world.mounts)
     (own : is_own world names (members world names) (mount_at nat_eq world place) ≡ true)
-    (new : Copies ℕ) (origins : List (Mount ℕ))
-    (new_groups : (a b : ℕ) → world.master (new.image a b) ≡ None)
+    (new : Copies ℕ) (origins : List (Mount ℕ)) (new_groups : (a b : ℕ) → world.master (new.image a b) ≡ None)
     (sources : (o : Mount ℕ) → Among o origins → (g : ℕ) → source_of o.propagation ≡ Some g
     → (part_of nat_eq world names).master g ≡ world.master g)
     (shows : ShowTheirs world names is sealed_off new_ones unused place there own new false origins) where
@@ -121,17 +117,14 @@ module _ (world : World ℕ) (names : List TaskName) (is : IsWorld nat_eq world)
       origins)
 
   pub grows : Grows world names up added new_ones (with_made world.master)
-  grows =
-      copies_grow world names is sealed_off new_ones unused place there own new false origins shows
+  grows = copies_grow world names is sealed_off new_ones unused place there own new false origins shows
       (with_made world.master)
 
   known : (y : Mount ℕ) → Among y (map up world.mounts ++ added)
       → is_own world names (members world names) y ≡ true → (g : ℕ) → source_of y.propagation ≡ Some g
       → with_made (part_of nat_eq world names).master g ≡ with_made world.master g
-  known y m mine g e =
-      masters_agree (made world names is sealed_off new_ones unused place there own new false origins)
-      (part_of nat_eq world names).master world.master g
-      (⊎_elim
+  known y m mine g e = masters_agree (made world names is sealed_off new_ones unused place there own new false origins)
+      (part_of nat_eq world names).master world.master g (⊎_elim
       (λ old. master_same world names is sealed_off g (heard_by_own world names is sealed_off old.0
       (among-filter (is_own_mount nat_eq world names) world.mounts old.0 old.1 old.2) g
       (sym (ap (λ (x : Mount ℕ). source_of x.propagation) old.3
@@ -139,31 +132,24 @@ module _ (world : World ℕ) (names : List TaskName) (is : IsWorld nat_eq world)
       (λ (x : Mount ℕ). source_of x.propagation) (λ x at. refl) old.0) ∙ e)))
       (λ more. let of = of_copies world names is sealed_off new_ones unused place there own new false origins y more in
       copy_known world names is sealed_off new_ones unused place there own new false origins new_groups sources of.0
-      of.2
-      of.3 g (ap (λ (x : Mount ℕ). source_of x.propagation) (sym of.4) ∙ e))
+      of.2 of.3 g (ap (λ (x : Mount ℕ). source_of x.propagation) (sym of.4) ∙ e))
       (own_how world names up added new_ones (with_made world.master) grows y m mine))
 
   -- the worlds that are left
-  as_grown : (w : World ℕ)
-      → attached_as world names is sealed_off new_ones unused place there own new false origins w
+  as_grown : (w : World ℕ) → attached_as world names is sealed_off new_ones unused place there own new false origins w
       ≡ grown_world w names up added new_ones (with_made w.master)
-  as_grown w =
-      ap (λ l. record w { mounts = l; master = with_made w.master; filesystems = w.filesystems ++ new_ones })
+  as_grown w = ap (λ l. record w { mounts = l; master = with_made w.master; filesystems = w.filesystems ++ new_ones })
       (append_assoc (map up w.mounts)
       (copies world names is sealed_off new_ones unused place there own new false origins (mount_at nat_eq world place))
       (flat_map (copies world names is sealed_off new_ones unused place there own new false origins)
       (rest_of (parts world names is sealed_off new_ones unused place there own))))
 
-  pub copies_alike : (name : TaskName)
-      → part_of nat_eq (numbers_raised nat_eq world name []
+  pub copies_alike : (name : TaskName) → part_of nat_eq (numbers_raised nat_eq world name []
       (attached_by nat_eq (base world names is sealed_off new_ones unused place there own) new place false origins))
-      names
-      ≡ part_of nat_eq (numbers_raised nat_eq (part_of nat_eq world names) name []
+      names ≡ part_of nat_eq (numbers_raised nat_eq (part_of nat_eq world names) name []
       (attached_by nat_eq (base_part world names is sealed_off new_ones unused place there own) new place false
-      origins))
-      names
-  copies_alike name =
-      ap (λ w. part_of nat_eq (numbers_raised nat_eq world name [] w) names) (as_grown world)
+      origins)) names
+  copies_alike name = ap (λ w. part_of nat_eq (numbers_raised nat_eq world name [] w) names) (as_grown world)
       ∙ grown_alike world names is sealed_off up added new_ones (with_made world.master)
       (with_made (part_of nat_eq world names).master) grows known name
       ∙ sym (ap (λ w. part_of nat_eq (numbers_raised nat_eq (part_of nat_eq world names) name [] w) names)

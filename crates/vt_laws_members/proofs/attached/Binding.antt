@@ -56,37 +56,30 @@ module _ (world : World ℕ) (names : List TaskName) (is : IsWorld nat_eq world)
   own_at here = is_own world names (members world names) (mount_at nat_eq world here) ≡ true
 
   abbrev pub Binds : Permit ℕ → Type 0
-  Binds permit =
-      (from : Location ℕ) × (here : Location ℕ) × (permit ≡ ToBind from here recursive)
+  Binds permit = (from : Location ℕ) × (here : Location ℕ) × (permit ≡ ToBind from here recursive)
       × (is_theirs world names from.mount ≡ true) × own_at from × (is_theirs world names here.mount ≡ true)
       × own_at here
 
   pub binds_there : (fresh : Fresh ℕ) (source path : List ℕ) → IfOk
       (bind_permit nat_eq (one world names is sealed_off task member)
-      (overfills nat_eq fresh world task) task source path
-      recursive) Binds
+      (overfills nat_eq fresh world task) task source path recursive) Binds
   unfolding bind_permit
-  binds_there fresh source path =
-      of_rules Binds (admin_rules task) _
+  binds_there fresh source path = of_rules Binds (admin_rules task) _
       (of_walk (StandsHere world names is sealed_off task member) Binds
       (source_walk nat_eq (one world names is sealed_off task member) task source)
       (λ from. and_then (walk_end (destination_walk nat_eq (one world names is sealed_off task member) task path))
       (λ here. attach_permit
       (bind_rules nat_eq (one world names is sealed_off task member) task from.location here.location)
       (overfills nat_eq fresh world task) (ToBind from.location here.location recursive)))
-      (at_source world names is sealed_off task member source)
-      (λ from at.
+      (at_source world names is sealed_off task member source) (λ from at.
       of_walk (StandsHere world names is sealed_off task member) Binds
-      (destination_walk nat_eq (one world names is sealed_off task member) task path)
-      (λ here. attach_permit
+      (destination_walk nat_eq (one world names is sealed_off task member) task path) (λ here. attach_permit
       (bind_rules nat_eq (one world names is sealed_off task member) task from.location here.location)
       (overfills nat_eq fresh world task) (ToBind from.location here.location recursive))
-      (at_destination world names is sealed_off task member path)
-      (λ here on. of_passed Binds
+      (at_destination world names is sealed_off task member path) (λ here on. of_passed Binds
       (bind_rules nat_eq (one world names is sealed_off task member) task from.location here.location
       (overfills nat_eq fresh world task (ToBind from.location here.location recursive)))
-      (Ok (ToBind from.location here.location recursive))
-      (λ passed.
+      (Ok (ToBind from.location here.location recursive)) (λ passed.
       let both = or_parts (is_elsewhere nat_eq (one world names is sealed_off task member) task from.location)
       (is_elsewhere nat_eq (one world names is sealed_off task member) task here.location) passed.0 in (
         from.location,
@@ -104,17 +97,14 @@ module _ (world : World ℕ) (names : List TaskName) (is : IsWorld nat_eq world)
   mine m = Among m world.mounts × (is_own world names (members world names) m ≡ true)
 
   child_mine : (m child : Mount ℕ) → mine m → Among child (bindable_children nat_eq world.mounts m.number) → mine child
-  child_mine m child its n =
-      children_own world names is m.number child (own_theirs world names is m its.0 its.1)
+  child_mine m child its n = children_own world names is m.number child (own_theirs world names is m its.0 its.1)
       (among-from_filter (λ (x : Mount ℕ). not (is_unbindable x.propagation))
       (children nat_eq world.mounts m.number) child n).0
 
   tree_mine : (depth : ℕ) (m : Mount ℕ) → mine m → (o : Mount ℕ) → Among o (bindable_tree nat_eq depth world.mounts m)
       → mine o
   tree_mine zero m its o n = ⊎_elim (λ same. subst mine (sym same) its) (λ none. absurd none) n
-  tree_mine (suc depth) m its o n =
-      ⊎_elim (λ same. subst mine (sym same) its)
-      (λ below.
+  tree_mine (suc depth) m its o n = ⊎_elim (λ same. subst mine (sym same) its) (λ below.
       let child = among-from_flat_map (bindable_tree nat_eq depth world.mounts)
       (bindable_children nat_eq world.mounts m.number) o below in
       tree_mine depth child.0 (child_mine m child.0 its child.1) o child.2) n
@@ -125,29 +115,25 @@ module _ (world : World ℕ) (names : List TaskName) (is : IsWorld nat_eq world)
 
   pub all_copied : (source : Location ℕ) (recursive : Bool) → mine (mount_at nat_eq world source) → (o : Mount ℕ)
       → Among o (bind_tree nat_eq world source recursive) → IsCopied o
-  all_copied source false its o n =
-      ⊎_elim (λ same. (
-        mount_at nat_eq world source,
-        its,
-        ap (λ (x : Mount ℕ). x.filesystem) same,
-        ap (λ (x : Mount ℕ). x.propagation) same,
-      )) (λ none. absurd none) n
-  all_copied source true its o n =
-      ⊎_elim (λ same. (
-        mount_at nat_eq world source,
-        its,
-        ap (λ (x : Mount ℕ). x.filesystem) same,
-        ap (λ (x : Mount ℕ). x.propagation) same,
-      ))
-      (λ below.
+  all_copied source false its o n = ⊎_elim (λ same. (
+    mount_at nat_eq world source,
+    its,
+    ap (λ (x : Mount ℕ). x.filesystem) same,
+    ap (λ (x : Mount ℕ). x.propagation) same,
+  )) (λ none. absurd none) n
+  all_copied source true its o n = ⊎_elim (λ same. (
+    mount_at nat_eq world source,
+    its,
+    ap (λ (x : Mount ℕ). x.filesystem) same,
+    ap (λ (x : Mount ℕ). x.propagation) same,
+  )) (λ below.
       let top = among-from_flat_map (bindable_tree nat_eq (length world.mounts) world.mounts)
       (filter (stands_under nat_eq world source) (bindable_children nat_eq world.mounts source.mount)) o below in
       let child = among-from_filter (stands_under nat_eq world source)
       (bindable_children nat_eq world.mounts source.mount) top.0 top.1 in
       let same : (mount_at nat_eq world source).number ≡ source.mount = number-mount_in world.mounts source.mount in (
         o,
-        tree_mine (length world.mounts) top.0
-            (child_mine (mount_at nat_eq world source) top.0 its
+        tree_mine (length world.mounts) top.0 (child_mine (mount_at nat_eq world source) top.0 its
             (subst (λ k. Among top.0 (bindable_children nat_eq world.mounts k)) (sym same) child.0)) o top.2,
         refl,
         refl,
@@ -208,8 +194,7 @@ module _ (world : World ℕ) (names : List TaskName) (name : TaskName) (source p
   sources o m g e =
       let x = all_copied world names it.is from recursive from_mine o m in
       master_same world names it.is it.sealed_off g (heard_by_own world names it.is it.sealed_off x.0
-      (among-filter (is_own_mount nat_eq world names) world.mounts x.0 x.1.0 x.1.1) g
-      (ap source_of (sym x.3) ∙ e))
+      (among-filter (is_own_mount nat_eq world names) world.mounts x.0 x.1.0 x.1.1) g (ap source_of (sym x.3) ∙ e))
 
   new_groups : (a b : ℕ) → world.master (new.image a b) ≡ None
   new_groups a b = group_new world names it.is fresh serves _
@@ -222,8 +207,7 @@ module _ (world : World ℕ) (names : List TaskName) (name : TaskName) (source p
 
   first : policy nat_eq fresh world name (Bind source path recursive)
       ≡ granted Done (numbers_raised nat_eq world name [] now)
-  first =
-      ap (ran name (Bind source path recursive) world fresh) called
+  first = ap (ran name (Bind source path recursive) world fresh) called
       ∙ ap (run_by world names name (Bind source path recursive) it fresh fresh world fresh task) judged
       ∙ ap (λ w. granted Done (numbers_raised nat_eq world name [] w))
       (binds_keep_all fresh world task from here recursive (all_in_use world it.is)
@@ -232,8 +216,7 @@ module _ (world : World ℕ) (names : List TaskName) (name : TaskName) (source p
 
   second : policy nat_eq fresh part name (Bind source path recursive)
       ≡ granted Done (numbers_raised nat_eq part name [] now_there)
-  second =
-      ap (ran name (Bind source path recursive) part fresh)
+  second = ap (ran name (Bind source path recursive) part fresh)
       (same_caller world names it.is it.sealed_off name it.theirs ∙ called)
       ∙ ap (run_by world names name (Bind source path recursive) it fresh fresh part fresh task)
       (sym (same_judgement world names name (Bind source path recursive) it fresh fresh task called) ∙ judged)
@@ -250,10 +233,8 @@ module _ (world : World ℕ) (names : List TaskName) (name : TaskName) (source p
   now_so = ap (attached_to origins) (no_new_ones world)
 
   there_so : now_there ≡ attached_by nat_eq
-      (base_part world names it.is it.sealed_off [] unused here here_there own) new
-      here false origins
-  there_so =
-      ap (λ l. attached_to l part) (bind_alike world names it.is from recursive from_theirs)
+      (base_part world names it.is it.sealed_off [] unused here here_there own) new here false origins
+  there_so = ap (λ l. attached_to l part) (bind_alike world names it.is from recursive from_theirs)
       ∙ ap (attached_to origins) (no_new_ones part)
       ∙ ap (λ l. attached_by nat_eq (base_part world names it.is it.sealed_off [] unused here here_there own)
       (copies_from nat_eq fresh l origins) here false origins)
@@ -261,16 +242,12 @@ module _ (world : World ℕ) (names : List TaskName) (name : TaskName) (source p
 
   parts_same : part_of nat_eq (numbers_raised nat_eq world name [] now) names
       ≡ part_of nat_eq (numbers_raised nat_eq part name [] now_there) names
-  parts_same =
-      ap (λ w. part_of nat_eq (numbers_raised nat_eq world name [] w) names) now_so
+  parts_same = ap (λ w. part_of nat_eq (numbers_raised nat_eq world name [] w) names) now_so
       ∙ copies_alike world names it.is it.sealed_off [] unused here here_there own new origins new_groups sources shows
-      name
-      ∙ sym (ap (λ w. part_of nat_eq (numbers_raised nat_eq part name [] w) names) there_so)
+      name ∙ sym (ap (λ w. part_of nat_eq (numbers_raised nat_eq part name [] w) names) there_so)
 
   bind_ends : EndsAlike world names name (Bind source path recursive) fresh fresh
-  bind_ends =
-      subst (λ p. EndAlike
-      (grown names name (Bind source path recursive) (policy nat_eq fresh world name
+  bind_ends = subst (λ p. EndAlike (grown names name (Bind source path recursive) (policy nat_eq fresh world name
       (Bind source path recursive)).answer)
       (policy nat_eq fresh world name (Bind source path recursive)) p) (sym second)
       (subst (λ o. EndAlike (grown names name (Bind source path recursive) o.answer) o
@@ -289,8 +266,7 @@ binds_end_alike world names name source path recursive it fresh serves = by (tas
         (judged ∙ ap Ok its.2)
     judged_by task member e (Err deny) judged its =
         denial_ends_alike world names name (Bind source path recursive) it fresh fresh
-        (ap (λ o. is_ok (ran name (Bind source path recursive) world fresh o).answer) e
-        ∙ ap (λ j. is_ok
+        (ap (λ o. is_ok (ran name (Bind source path recursive) world fresh o).answer) e ∙ ap (λ j. is_ok
         (run_by world names name (Bind source path recursive) it fresh fresh world fresh task j).answer) judged)
 
     by : (o : Option (Task ℕ)) → task_called world name ≡ o

@@ -42,8 +42,7 @@ no_new_ones w = sym (ap (λ l. record w { filesystems = l }) (append-nil w.files
 pub masters_agree : (made : List (ℕ × Option ℕ)) (m n : ℕ → Option ℕ) (g : ℕ) → m g ≡ n g
     → folded (masters_with nat_eq) m made g ≡ folded (masters_with nat_eq) n made g
 masters_agree [] m n g e = e
-masters_agree (one ∷ made) m n g e =
-    masters_agree made (masters_with nat_eq m one) (masters_with nat_eq n one) g
+masters_agree (one ∷ made) m n g e = masters_agree made (masters_with nat_eq m one) (masters_with nat_eq n one) g
     (ap (cond (nat_eq g one.0) one.1) e)
 
 module _ (world : World ℕ) (names : List TaskName) (is : IsWorld nat_eq world)
@@ -89,24 +88,20 @@ module _ (world : World ℕ) (names : List TaskName) (is : IsWorld nat_eq world)
       ap (λ (x : Mount ℕ). is_among nat_eq x.filesystem (used_filesystems nat_eq world names))
       (sym (numbered world names is.mounts m n))
       ∙ theirs_used world names is (record { mount = m.number; node = m.root }) (own_theirs world names is m n its) in
-      found_before part new_ones m.filesystem (unused m.filesystem used)
-      ∙ found world names m.filesystem used
+      found_before part new_ones m.filesystem (unused m.filesystem used) ∙ found world names m.filesystem used
       ∙ sym (found_before world new_ones m.filesystem (unused m.filesystem used))
 
   abbrev takes : World ℕ → Mount ℕ → Mount ℕ → Bool
-  takes w to m =
-      not (nat_eq place.mount m.number) && is_some m.namespace && nat_eq to.filesystem m.filesystem
+  takes w to m = not (nat_eq place.mount m.number) && is_some m.namespace && nat_eq to.filesystem m.filesystem
       && is_directory_under nat_eq (filesystem_numbered nat_eq w m.filesystem).files m.root place.node
 
   abbrev pub parts : List (Mount ℕ)
   parts = parts_of nat_eq base place
 
   pub parts_alike : parts_of nat_eq base_part place ≡ parts
-  parts_alike =
-      ap (λ to. to ∷ filter (takes base_part to) (receivers_of nat_eq part to)) same_destination
+  parts_alike = ap (λ to. to ∷ filter (takes base_part to) (receivers_of nat_eq part to)) same_destination
       ∙ ap (λ l. destination ∷ filter (takes base_part destination) l)
-      (receivers_alike world names is sealed_off destination there own)
-      ∙ ap (λ l. destination ∷ l)
+      (receivers_alike world names is sealed_off destination there own) ∙ ap (λ l. destination ∷ l)
       (filter_alike (takes base_part destination) (takes base destination) (receivers_of nat_eq world destination)
       (λ m n.
       let its = receivers_own world names is sealed_off destination m there own n in
@@ -115,9 +110,7 @@ module _ (world : World ℕ) (names : List TaskName) (is : IsWorld nat_eq world)
       (files_alike m its.0 its.1)))
 
   pub parts_own : (m : Mount ℕ) → Among m parts → Among m world.mounts × (owns m ≡ true)
-  parts_own m n =
-      ⊎_elim
-      (λ same. (subst (λ x. Among x world.mounts) (sym same) there, ap owns same ∙ own))
+  parts_own m n = ⊎_elim (λ same. (subst (λ x. Among x world.mounts) (sym same) there, ap owns same ∙ own))
       (λ receiver. receivers_own world names is sealed_off destination m there own
       (among-from_filter (takes_part nat_eq base place) (receivers_of nat_eq world destination) m receiver).0) n
 
@@ -154,8 +147,7 @@ module _ (world : World ℕ) (names : List TaskName) (is : IsWorld nat_eq world)
         ≡ copy_type nat_eq base new parts destination twig p.propagation
     type_alike p n twig = by p.propagation refl
       where
-        by : (kind : Propagation ℕ) → p.propagation ≡ kind
-            → copy_type nat_eq base_part new parts destination twig kind
+        by : (kind : Propagation ℕ) → p.propagation ≡ kind → copy_type nat_eq base_part new parts destination twig kind
             ≡ copy_type nat_eq base new parts destination twig kind
         by (Shared g) e = refl
         by (Slave g) e = ap slave_of_heir (nearest_alike twig g (heard_part p n g (ap source_of e)))
@@ -187,8 +179,7 @@ module _ (world : World ℕ) (names : List TaskName) (is : IsWorld nat_eq world)
         by : (o : Option (Mount ℕ)) → receiver_stood_on nat_eq tree parts m ≡ o
             → pushed_onto nat_eq base_part new tree parts m o ≡ pushed_onto nat_eq base new tree parts m o
         by None e = refl
-        by (Some p) e =
-            ap (λ l. record m { mount_point = Some (top_of_copies nat_eq l place) })
+        by (Some p) e = ap (λ l. record m { mount_point = Some (top_of_copies nat_eq l place) })
             (copies_alike p (inr (found_among
             (λ (x : Mount ℕ). stands_at nat_eq (record { mount = x.number; node = place.node }) m)
             (rest_of parts) p e)))
@@ -196,8 +187,7 @@ module _ (world : World ℕ) (names : List TaskName) (is : IsWorld nat_eq world)
     -- groups that copies form
     made_alike : (p : Mount ℕ) → Among p parts → (twig : Twig ℕ)
         → group_made nat_eq base_part new tree parts p twig ≡ group_made nat_eq base new tree parts p twig
-    made_alike p n twig =
-        ap (λ d. cond (is_destination nat_eq tree p.number) (twig_master twig)
+    made_alike p n twig = ap (λ d. cond (is_destination nat_eq tree p.number) (twig_master twig)
         (then_some (group_of p.propagation) (λ group. when (not (is_member_of nat_eq group d)) (
           image nat_eq new d twig group,
           nearest_image nat_eq base_part new parts d twig (part.master group),
@@ -223,12 +213,10 @@ module _ (world : World ℕ) (names : List TaskName) (is : IsWorld nat_eq world)
             let heard = heard_part p n g (group_source p.propagation g e) in
             ap (λ k. when (not (is_member_of nat_eq g destination)) (image nat_eq new destination twig g, k))
             (ap (nearest_image nat_eq base_part new parts destination twig)
-            (master_same world names is sealed_off g heard)
-            ∙ above g heard (world.master g) refl)
+            (master_same world names is sealed_off g heard) ∙ above g heard (world.master g) refl)
 
     pub all_made_alike : all_groups_made nat_eq base_part new tree parts ≡ made
-    all_made_alike =
-        flat_map_alike (λ p. filter_map (group_made nat_eq base_part new tree parts p) tree.twigs)
+    all_made_alike = flat_map_alike (λ p. filter_map (group_made nat_eq base_part new tree parts p) tree.twigs)
         (λ p. filter_map (group_made nat_eq base new tree parts p) tree.twigs) parts
         (λ p n. filter_map_same (group_made nat_eq base_part new tree parts p)
         (group_made nat_eq base new tree parts p) tree.twigs (λ twig m. made_alike p n twig))
@@ -247,21 +235,17 @@ module _ (world : World ℕ) (names : List TaskName) (is : IsWorld nat_eq world)
         map up (with_moved_mounts nat_eq moves part.mounts first) ++ added_mounts moves first ++ rest
 
     pub attached_there : attached_by nat_eq base_part new place moves origins ≡ attached_as part
-    attached_there =
-        ap (λ (m : Mount ℕ). attached_at nat_eq base_part new (record {
-          destination = place;
-          twigs = map (twig_of new (group_of m.propagation)) origins;
-          moves = moves;
-        }) (parts_of nat_eq base_part place)) same_destination
-        ∙ ap (attached_at nat_eq base_part new tree) parts_alike
+    attached_there = ap (λ (m : Mount ℕ). attached_at nat_eq base_part new (record {
+      destination = place;
+      twigs = map (twig_of new (group_of m.propagation)) origins;
+      moves = moves;
+    }) (parts_of nat_eq base_part place)) same_destination ∙ ap (attached_at nat_eq base_part new tree) parts_alike
         ∙ ap (λ (d : Mount ℕ). record base_part {
           mounts = mounts_by (pushed_up nat_eq base_part new tree parts) (copies_at nat_eq base_part new tree parts d)
               (flat_map (copies_at nat_eq base_part new tree parts) (rest_of parts));
           master = folded (masters_with nat_eq) part.master (all_groups_made nat_eq base_part new tree parts);
-        }) same_destination
-        ∙ (λ i. record base_part {
-          mounts = mounts_by (λ m. push_alike m i)
-              (copies_alike destination (inl refl) i)
+        }) same_destination ∙ (λ i. record base_part {
+          mounts = mounts_by (λ m. push_alike m i) (copies_alike destination (inl refl) i)
               (flat_map_alike (copies_at nat_eq base_part new tree parts) copies (rest_of parts)
               (λ p n. copies_alike p (inr n)) i);
           master = folded (masters_with nat_eq) part.master (all_made_alike i);

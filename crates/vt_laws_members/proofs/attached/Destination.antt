@@ -48,18 +48,15 @@ module _ (world : World ℕ) (names : List TaskName) (is : IsWorld nat_eq world)
       let x = among-from_map (λ (x : Mount ℕ). x.number) world.mounts l.mount number in
       let y = shown_at world names x.0 (any_from_among (λ (k : Location ℕ). nat_eq k.mount x.0.number)
       (locations (members world names)) l m (eq-eqb l.mount x.0.number x.2)) in
-      let same : y.0.number ≡ l.mount =
-      ⊎_elim (λ same. ap (λ (z : Mount ℕ). z.number) (sym same) ∙ sym x.2)
+      let same : y.0.number ≡ l.mount = ⊎_elim (λ same. ap (λ (z : Mount ℕ). z.number) (sym same) ∙ sym x.2)
       (λ stub. ap (λ (z : Mount ℕ). z.number) (sym stub.0) ∙ sym x.2)
       (kept_how world names (members world names) x.0 y.0 y.1) in
-      is_among_numbers (numbers part) l.mount
-      (subst (λ n. Among n (numbers part)) same
+      is_among_numbers (numbers part) l.mount (subst (λ n. Among n (numbers part)) same
       (among-map (λ (z : Mount ℕ). z.number) part.mounts y.0
       (among-filter_map (keep world names (members world names)) world.mounts x.0 y.0 x.1 y.1)))
 
   pub locations_stand_there : LocationsStand part
-  locations_stand_there =
-      list_all_from_among (λ (l : Location ℕ). is_among nat_eq l.mount (numbers part))
+  locations_stand_there = list_all_from_among (λ (l : Location ℕ). is_among nat_eq l.mount (numbers part))
       (all_locations part) located_there
 
   module _ (sealed_off : sealed nat_eq world names ≡ true) where
@@ -86,8 +83,7 @@ module _ (world : World ℕ) (names : List TaskName) (is : IsWorld nat_eq world)
 -- where a task of theirs gets for the source and the destination of a mount
 module _ (world : World ℕ) (names : List TaskName) (is : IsWorld nat_eq world)
     (sealed_off : sealed nat_eq world names ≡ true) (task : Task ℕ) (member : Among task (members world names)) where
-  pub at_source : (path : List ℕ) → IfOk
-      (source_walk nat_eq (one world names is sealed_off task member) task path)
+  pub at_source : (path : List ℕ) → IfOk (source_walk nat_eq (one world names is sealed_off task member) task path)
       (StandsHere world names is sealed_off task member)
   at_source path =
       let it = alike world names is sealed_off task member in

@@ -26,8 +26,7 @@ use Rattle.vt_laws_sealed.proofs.part.part.PartOfPart.{is_own, keep, kept_how, k
 filter_map_changed : {A : Type 0} (k : A → Option A) (f : A → A) (xs : List A)
     → ((x : A) → Among x xs → k (f x) ≡ option_map f (k x)) → filter_map k (map f xs) ≡ map f (filter_map k xs)
 filter_map_changed k f [] same = refl
-filter_map_changed {A} k f (x ∷ xs) same =
-    ap (λ o. cons_option o (filter_map k (map f xs))) (same x (inl refl))
+filter_map_changed {A} k f (x ∷ xs) same = ap (λ o. cons_option o (filter_map k (map f xs))) (same x (inl refl))
     ∙ by (k x) (filter_map_changed k f xs (λ y m. same y (inr m)))
   where
     by : (o : Option A) → filter_map k (map f xs) ≡ map f (filter_map k xs)
@@ -38,8 +37,7 @@ filter_map_changed {A} k f (x ∷ xs) same =
 filter_map_all : {A : Type 0} (k : A → Option A) (xs : List A) → ((x : A) → Among x xs → k x ≡ Some x)
     → filter_map k xs ≡ xs
 filter_map_all k [] same = refl
-filter_map_all k (x ∷ xs) same =
-    ap (λ o. cons_option o (filter_map k xs)) (same x (inl refl))
+filter_map_all k (x ∷ xs) same = ap (λ o. cons_option o (filter_map k xs)) (same x (inl refl))
     ∙ ap (λ l. x ∷ l) (filter_map_all k xs (λ y m. same y (inr m)))
 
 or_none : {A : Type 0} (o p : Option A) → p ≡ None → option_or o p ≡ o
@@ -63,24 +61,19 @@ pub found_before : (w : World ℕ) (new : List (Filesystem ℕ)) (n : ℕ)
     → list_any (λ (f : Filesystem ℕ). nat_eq n f.number) new ≡ false
     → unwrap_or (find (λ (f : Filesystem ℕ). nat_eq n f.number) (w.filesystems ++ new)) (no_filesystem n)
     ≡ filesystem_numbered nat_eq w n
-found_before w new n other =
-    ap (λ o. unwrap_or o (no_filesystem n))
+found_before w new n other = ap (λ o. unwrap_or o (no_filesystem n))
     (find-append (λ (f : Filesystem ℕ). nat_eq n f.number) w.filesystems new
     ∙ or_none (find (λ (f : Filesystem ℕ). nat_eq n f.number) w.filesystems)
-    (find (λ (f : Filesystem ℕ). nat_eq n f.number) new)
-    (find_none (λ (f : Filesystem ℕ). nat_eq n f.number) new
+    (find (λ (f : Filesystem ℕ). nat_eq n f.number) new) (find_none (λ (f : Filesystem ℕ). nat_eq n f.number) new
     (none_among (λ (f : Filesystem ℕ). nat_eq n f.number) new other)))
 
 -- what is used, by what is used directly
 pub used_how : (w : World ℕ) (names : List TaskName) (n : ℕ) → is_among nat_eq n (used_filesystems nat_eq w names)
-    ≡ true
-    → Among n (used_directly nat_eq w names)
+    ≡ true → Among n (used_directly nat_eq w names)
     ⊎ ((d : ℕ) × Among d (used_directly nat_eq w names) × Among n (change_layers (filesystem_numbered nat_eq w d)))
-used_how w names n h =
-    ⊎_elim inl
+used_how w names n h = ⊎_elim inl
     (λ m. let from = among-from_flat_map (λ d. change_layers (filesystem_numbered nat_eq w d))
-    (used_directly nat_eq w names) n m in inr (from.0, from.1, from.2))
-    (among-append (used_directly nat_eq w names) _ n
+    (used_directly nat_eq w names) n m in inr (from.0, from.1, from.2)) (among-append (used_directly nat_eq w names) _ n
     (among-from_each_once (used_directly nat_eq w names
     ++ flat_map (λ d. change_layers (filesystem_numbered nat_eq w d)) (used_directly nat_eq w names)) n
     (among_numbers (used_filesystems nat_eq w names) n h)))
@@ -88,8 +81,7 @@ used_how w names n h =
 used_by_layer : (w : World ℕ) (names : List TaskName) (n d : ℕ) → Among d (used_directly nat_eq w names)
     → Among n (change_layers (filesystem_numbered nat_eq w d))
     → is_among nat_eq n (used_filesystems nat_eq w names) ≡ true
-used_by_layer w names n d m on =
-    is_among_numbers (used_filesystems nat_eq w names) n
+used_by_layer w names n d m on = is_among_numbers (used_filesystems nat_eq w names) n
     (among-each_once (used_directly nat_eq w names
     ++ flat_map (λ d. change_layers (filesystem_numbered nat_eq w d)) (used_directly nat_eq w names)) n
     (among-append_right (used_directly nat_eq w names) _ n
@@ -152,27 +144,22 @@ module _ (v : World ℕ) (names : List TaskName) (change : Mount ℕ → Mount �
 
   -- Mounts
   own_kept : (x : Mount ℕ) → owns x ≡ true → kept x ≡ Some x
-  own_kept x own =
-      kept_whole v names theirs x (or_left (owns x) (is_at nat_eq (roots_and_directories theirs) x) own)
+  own_kept x own = kept_whole v names theirs x (or_left (owns x) (is_at nat_eq (roots_and_directories theirs) x) own)
 
   kept_changed : (x : Mount ℕ) → Among x v.mounts → kept (change x) ≡ option_map change (kept x)
   kept_changed x m = by (owns x) refl
     where
       still : owns x ≡ false → (o : Option (Mount ℕ)) → kept x ≡ o → o ≡ option_map change o
       still other None e = refl
-      still other (Some y) e =
-          ap Some (⊎_elim
-          (λ same. subst (λ z. z ≡ change z) same (sym (it.others x m other).0))
-          (λ stub. subst (λ z. z ≡ change z) stub.0 (sym (it.others x m other).1))
-          (kept_how v names theirs x y e))
+      still other (Some y) e = ap Some (⊎_elim (λ same. subst (λ z. z ≡ change z) same (sym (it.others x m other).0))
+          (λ stub. subst (λ z. z ≡ change z) stub.0 (sym (it.others x m other).1)) (kept_how v names theirs x y e))
 
       by : (b : Bool) → owns x ≡ b → kept (change x) ≡ option_map change (kept x)
       by true own = own_kept (change x) (it.kept x m own).0 ∙ sym (ap (option_map change) (own_kept x own))
       by false other = ap kept (it.others x m other).0 ∙ still other (kept x) refl
 
   mounts_grown : filter_map kept u.mounts ≡ map change (filter_map kept v.mounts) ++ added
-  mounts_grown =
-      filter_map-append kept (map change v.mounts) added
+  mounts_grown = filter_map-append kept (map change v.mounts) added
       ∙ ap (λ l. l ++ filter_map kept added) (filter_map_changed kept change v.mounts kept_changed)
       ∙ ap (λ l. map change (filter_map kept v.mounts) ++ l)
       (filter_map_all kept added (λ x m. own_kept x (it.ours x m)))
@@ -190,16 +177,13 @@ module _ (v : World ℕ) (names : List TaskName) (change : Mount ℕ → Mount �
   -- a mount of theirs afterwards
   pub own_how : (y : Mount ℕ) → Among y u.mounts → owns y ≡ true
       → ((x : Mount ℕ) × Among x v.mounts × (owns x ≡ true) × (y ≡ change x)) ⊎ Among y added
-  own_how y m own =
-      ⊎_elim
-      (λ old. let from = among-from_map change v.mounts y old in
+  own_how y m own = ⊎_elim (λ old. let from = among-from_map change v.mounts y old in
       inl (from.0, from.1, by from.0 from.1 from.2 (owns from.0) refl, from.2))
       inr (among-append (map change v.mounts) added y m)
     where
       by : (x : Mount ℕ) → Among x v.mounts → y ≡ change x → (b : Bool) → owns x ≡ b → owns x ≡ true
       by x n e true f = f
-      by x n e false f =
-          absurd (true≢false (sym own ∙ ap owns (e ∙ (it.others x n f).0) ∙ f))
+      by x n e false f = absurd (true≢false (sym own ∙ ap owns (e ∙ (it.others x n f).0) ∙ f))
 
   -- a mount of before is found, and shows what it showed
   pub shows_still : (number : ℕ) → is_among nat_eq number (map (λ (m : Mount ℕ). m.number) v.mounts) ≡ true
@@ -210,8 +194,7 @@ module _ (v : World ℕ) (names : List TaskName) (change : Mount ℕ → Mount �
           → is_among nat_eq number (map (λ (m : Mount ℕ). m.number) list) ≡ true
           → (mount_in nat_eq (map change list ++ added) number).filesystem ≡ (mount_in nat_eq list number).filesystem
       search [] sub h = absurd (true≢false (sym h))
-      search (x ∷ rest) sub h =
-          ap (λ n. (unwrap_or (cond (nat_eq number n) (Some (change x))
+      search (x ∷ rest) sub h = ap (λ n. (unwrap_or (cond (nat_eq number n) (Some (change x))
           (find (λ (m : Mount ℕ). nat_eq number m.number) (map change rest ++ added)))
           (no_mount number)).filesystem) (as_before x (sub x (inl refl))).0
           ∙ by (nat_eq number x.number) h (search rest (λ y m. sub y (inr m)))
@@ -219,10 +202,8 @@ module _ (v : World ℕ) (names : List TaskName) (change : Mount ℕ → Mount �
           by : (b : Bool) → (b || is_among nat_eq number (map (λ (m : Mount ℕ). m.number) rest)) ≡ true
               → (is_among nat_eq number (map (λ (m : Mount ℕ). m.number) rest) ≡ true
               → (mount_in nat_eq (map change rest ++ added) number).filesystem
-              ≡ (mount_in nat_eq rest number).filesystem)
-              → (unwrap_or (cond b (Some (change x))
-              (find (λ (m : Mount ℕ). nat_eq number m.number) (map change rest ++ added)))
-              (no_mount number)).filesystem
+              ≡ (mount_in nat_eq rest number).filesystem) → (unwrap_or (cond b (Some (change x))
+              (find (λ (m : Mount ℕ). nat_eq number m.number) (map change rest ++ added))) (no_mount number)).filesystem
               ≡ (unwrap_or (cond b (Some x) (find (λ (m : Mount ℕ). nat_eq number m.number) rest))
               (no_mount number)).filesystem
           by true g later = (as_before x (sub x (inl refl))).1
@@ -237,10 +218,8 @@ module _ (v : World ℕ) (names : List TaskName) (change : Mount ℕ → Mount �
 
   direct_of_own : (w : World ℕ) → members w names ≡ theirs → (x : Mount ℕ) → Among x w.mounts → owns x ≡ true
       → Among x.filesystem (mounted_in w)
-  direct_of_own w same x m own =
-      among-map (λ (m : Mount ℕ). m.filesystem) (own_mounts nat_eq w names) x
-      (among-filter (is_own_mount nat_eq w names) w.mounts x m
-      (ap (λ ts. is_own v names ts x) same ∙ own))
+  direct_of_own w same x m own = among-map (λ (m : Mount ℕ). m.filesystem) (own_mounts nat_eq w names) x
+      (among-filter (is_own_mount nat_eq w names) w.mounts x m (ap (λ ts. is_own v names ts x) same ∙ own))
 
   direct_from : (n : ℕ) → Among n (used_directly nat_eq u names)
       → Among n (used_directly nat_eq v names) ⊎ (fresh_one n ≡ true)
@@ -250,14 +229,11 @@ module _ (v : World ℕ) (names : List TaskName) (change : Mount ℕ → Mount �
       by_mount shown =
           let y = among-from_map (λ (m : Mount ℕ). m.filesystem) (own_mounts nat_eq u names) n shown in
           let own = among-from_filter (is_own_mount nat_eq u names) u.mounts y.0 y.1 in
-          ⊎_elim
-          (λ old. inl (among-append_left (mounted_in v) (located_in v) n
-          (subst (λ k. Among k (mounted_in v))
+          ⊎_elim (λ old. inl (among-append_left (mounted_in v) (located_in v) n (subst (λ k. Among k (mounted_in v))
           (sym (y.2 ∙ ap (λ (z : Mount ℕ). z.filesystem) old.3 ∙ (as_before old.0 old.1).1))
           (direct_of_own v refl old.0 old.1 old.2))))
           (λ more. subst (λ k. Among k (used_directly nat_eq v names) ⊎ (fresh_one k ≡ true)) (sym y.2)
-          (it.shown y.0 more))
-          (own_how y.0 own.0 own.1)
+          (it.shown y.0 more)) (own_how y.0 own.0 own.1)
 
       by_location : Among n (located_in u) → Among n (used_directly nat_eq v names) ⊎ (fresh_one n ≡ true)
       by_location at =
@@ -290,8 +266,7 @@ module _ (v : World ℕ) (names : List TaskName) (change : Mount ℕ → Mount �
   new_used : (f : Filesystem ℕ) → Among f new → is_among nat_eq f.number (used_filesystems nat_eq u names) ≡ true
   new_used f m =
       let x = it.mounted f m in
-      used_directly_used u names f.number
-      (subst (λ k. Among k (used_directly nat_eq u names)) x.2
+      used_directly_used u names f.number (subst (λ k. Among k (used_directly nat_eq u names)) x.2
       (among-append_left (mounted_in u) (located_in u) x.0.filesystem
       (direct_of_own u refl x.0 (among-append_right (map change v.mounts) added x.0 x.1) (it.ours x.0 x.1))))
 
@@ -304,17 +279,14 @@ module _ (v : World ℕ) (names : List TaskName) (change : Mount ℕ → Mount �
       let its = first_found (λ (f : Filesystem ℕ). nat_eq n f.number) new is in (
         its.0,
         its.1,
-        ap (λ o. unwrap_or o (no_filesystem n))
-            (find-append (λ (f : Filesystem ℕ). nat_eq n f.number) v.filesystems new
+        ap (λ o. unwrap_or o (no_filesystem n)) (find-append (λ (f : Filesystem ℕ). nat_eq n f.number) v.filesystems new
             ∙ ap (λ o. option_or o (find (λ (f : Filesystem ℕ). nat_eq n f.number) new))
             (find_none (λ (f : Filesystem ℕ). nat_eq n f.number) v.filesystems
-            (λ f m. not_old f m (nat_eq n f.number) refl))
-            ∙ its.2),
+            (λ f m. not_old f m (nat_eq n f.number) refl)) ∙ its.2),
       )
     where
       not_old : (f : Filesystem ℕ) → Among f v.filesystems → (b : Bool) → nat_eq n f.number ≡ b → b ≡ false
-      not_old f m true e =
-          absurd (true≢false (sym is ∙ ap fresh_one (eqb-true n f.number e) ∙ it.unlisted f m))
+      not_old f m true e = absurd (true≢false (sym is ∙ ap fresh_one (eqb-true n f.number e) ∙ it.unlisted f m))
       not_old f m false e = refl
 
   -- what is used is not new
@@ -368,28 +340,21 @@ module _ (v : World ℕ) (names : List TaskName) (change : Mount ℕ → Mount �
           → Among layer (overlay_or [] (λ (overlay : Overlay ℕ). overlay.lowers) o)
           → is_among nat_eq layer.filesystem (used_filesystems nat_eq v names) ≡ true
       by None e m = absurd m
-      by (Some overlay) e m =
-          layer_used f at layer (subst (Among layer) (sym (ap (overlay_or [] layers_of) e))
+      by (Some overlay) e m = layer_used f at layer (subst (Among layer) (sym (ap (overlay_or [] layers_of) e))
           (among-append_right (option_to_list overlay.upper ++ option_to_list overlay.work) overlay.lowers layer m))
 
   pub used_same : (n : ℕ) → fresh_one n ≡ false → is_among nat_eq n (used_filesystems nat_eq u names)
       ≡ is_among nat_eq n (used_filesystems nat_eq v names)
-  used_same n other =
-      same_truth (is_among nat_eq n (used_filesystems nat_eq u names))
-      (is_among nat_eq n (used_filesystems nat_eq v names))
-      (λ h. ⊎_elim
+  used_same n other = same_truth (is_among nat_eq n (used_filesystems nat_eq u names))
+      (is_among nat_eq n (used_filesystems nat_eq v names)) (λ h. ⊎_elim
       (λ direct. ⊎_elim (used_directly_used v names n) (λ is. absurd (true≢false (sym is ∙ other)))
-      (direct_from n direct))
-      (λ layer. ⊎_elim
+      (direct_from n direct)) (λ layer. ⊎_elim
       (λ old. used_by_layer v names n layer.0 old (subst (Among n) (of_same changes layer.0 old) layer.2))
       (λ is. let f = new_found layer.0 is in
-      new_changes f.0 f.1 n (subst (Among n) (ap (of_overlay [] changes) f.2) layer.2))
-      (direct_from layer.0 layer.1))
-      (used_how u names n h))
-      (λ h. ⊎_elim (λ direct. used_directly_used u names n (direct_to n direct))
+      new_changes f.0 f.1 n (subst (Among n) (ap (of_overlay [] changes) f.2) layer.2)) (direct_from layer.0 layer.1))
+      (used_how u names n h)) (λ h. ⊎_elim (λ direct. used_directly_used u names n (direct_to n direct))
       (λ layer. used_by_layer u names n layer.0 (direct_to layer.0 layer.1)
-      (subst (Among n) (sym (of_same changes layer.0 layer.1)) layer.2))
-      (used_how v names n h))
+      (subst (Among n) (sym (of_same changes layer.0 layer.1)) layer.2)) (used_how v names n h))
 
   -- Lower layers are the same where no filesystem is new.
   pub lowers_stay : ((f : Filesystem ℕ) → ¬ Among f new) → (test : Layer ℕ → Bool)
@@ -398,12 +363,10 @@ module _ (v : World ℕ) (names : List TaskName) (change : Mount ℕ → Mount �
       same_truth (list_any test (own_lowers nat_eq u names)) (list_any test (own_lowers nat_eq v names))
       (λ h. let at = any_among test (own_lowers nat_eq u names) h in
       let from = among-from_flat_map (lowers_at u) (used_directly nat_eq u names) at.0 at.1 in
-      ⊎_elim
-      (λ old. any_from_among test (own_lowers nat_eq v names) at.0
+      ⊎_elim (λ old. any_from_among test (own_lowers nat_eq v names) at.0
       (among-flat_map (lowers_at v) (used_directly nat_eq v names) from.0 at.0 old
       (subst (Among at.0) (of_same (λ (overlay : Overlay ℕ). overlay.lowers) from.0 old) from.2)) at.2)
-      (λ is. let new_one = new_found from.0 is in absurd (none new_one.0 new_one.1))
-      (direct_from from.0 from.1))
+      (λ is. let new_one = new_found from.0 is in absurd (none new_one.0 new_one.1)) (direct_from from.0 from.1))
       (λ h. let at = any_among test (own_lowers nat_eq v names) h in
       let from = among-from_flat_map (lowers_at v) (used_directly nat_eq v names) at.0 at.1 in
       any_from_among test (own_lowers nat_eq u names) at.0
@@ -420,41 +383,33 @@ module _ (v : World ℕ) (names : List TaskName) (change : Mount ℕ → Mount �
         same_truth (list_any test (own_lowers nat_eq u names)) (list_any test (own_lowers nat_eq v names))
         (λ h. let at = any_among test (own_lowers nat_eq u names) h in
         let from = among-from_flat_map (lowers_at u) (used_directly nat_eq u names) at.0 at.1 in
-        ⊎_elim
-        (λ old. any_from_among test (own_lowers nat_eq v names) at.0
+        ⊎_elim (λ old. any_from_among test (own_lowers nat_eq v names) at.0
         (among-flat_map (lowers_at v) (used_directly nat_eq v names) from.0 at.0 old
         (subst (Among at.0) (of_same (λ (overlay : Overlay ℕ). overlay.lowers) from.0 old) from.2)) at.2)
         (λ is. let new_one = new_found from.0 is in
         absurd (true≢false (sym (new_lowers new_one.0 new_one.1 at.0
         (subst (Among at.0) (ap (of_overlay [] (λ (overlay : Overlay ℕ). overlay.lowers)) new_one.2) from.2))
         ∙ ap (λ n. is_among nat_eq n (used_filesystems nat_eq v names)) (sym (on at.0 at.2)) ∙ outside)))
-        (direct_from from.0 from.1))
-        (λ h. let at = any_among test (own_lowers nat_eq v names) h in
+        (direct_from from.0 from.1)) (λ h. let at = any_among test (own_lowers nat_eq v names) h in
         let from = among-from_flat_map (lowers_at v) (used_directly nat_eq v names) at.0 at.1 in
         any_from_among test (own_lowers nat_eq u names) at.0
         (among-flat_map (lowers_at u) (used_directly nat_eq u names) from.0 at.0 (direct_to from.0 from.1)
         (subst (Among at.0) (sym (of_same (λ (overlay : Overlay ℕ). overlay.lowers) from.0 from.1)) from.2)) at.2)
 
     lower_part_same : part_of_lower nat_eq u names f ≡ part_of_lower nat_eq v names f
-    lower_part_same =
-        ap (λ l. record f { files = only_among nat_eq l f.files; change = 0 })
+    lower_part_same = ap (λ l. record f { files = only_among nat_eq l f.files; change = 0 })
         (filter_alike (lies_in_own_lower nat_eq u names f.number) (lies_in_own_lower nat_eq v names f.number)
-        f.files.numbers
-        (λ object n.
+        f.files.numbers (λ object n.
         ap (λ (g : Filesystem ℕ). list_any (λ (layer : Layer ℕ). nat_eq f.number layer.filesystem
         && is_under nat_eq g.files layer.directory object) (own_lowers nat_eq u names))
-        (old_found f.number (it.unlisted f m))
-        ∙ lowers_same (lies_in_layer nat_eq v f.number object)
-        (λ layer h. eqb-true f.number layer.filesystem
-        (and_parts (nat_eq f.number layer.filesystem) _ h).0)))
+        (old_found f.number (it.unlisted f m)) ∙ lowers_same (lies_in_layer nat_eq v f.number object)
+        (λ layer h. eqb-true f.number layer.filesystem (and_parts (nat_eq f.number layer.filesystem) _ h).0)))
 
     outside_same : part_of_filesystem nat_eq u names f ≡ part_of_filesystem nat_eq v names f
-    outside_same =
-        ap (λ b. cond b (Some f) (when (has_lower (own_lowers nat_eq u names) f.number)
+    outside_same = ap (λ b. cond b (Some f) (when (has_lower (own_lowers nat_eq u names) f.number)
         (part_of_lower nat_eq u names f))) (used_same f.number (it.unlisted f m))
         ∙ ap (λ b. cond (is_among nat_eq f.number (used_filesystems nat_eq v names)) (Some f)
-        (when b (part_of_lower nat_eq u names f)))
-        (lowers_same (λ (layer : Layer ℕ). nat_eq f.number layer.filesystem)
+        (when b (part_of_lower nat_eq u names f))) (lowers_same (λ (layer : Layer ℕ). nat_eq f.number layer.filesystem)
         (λ layer h. eqb-true f.number layer.filesystem h))
         ∙ ap (λ g. cond (is_among nat_eq f.number (used_filesystems nat_eq v names)) (Some f)
         (when (has_lower (own_lowers nat_eq v names) f.number) g)) lower_part_same
@@ -465,8 +420,7 @@ module _ (v : World ℕ) (names : List TaskName) (change : Mount ℕ → Mount �
     where
       by : (b : Bool) → is_among nat_eq f.number (used_filesystems nat_eq v names) ≡ b
           → part_of_filesystem nat_eq u names f ≡ part_of_filesystem nat_eq v names f
-      by true e =
-          ap (λ b. cond b (Some f) (when (has_lower (own_lowers nat_eq u names) f.number)
+      by true e = ap (λ b. cond b (Some f) (when (has_lower (own_lowers nat_eq u names) f.number)
           (part_of_lower nat_eq u names f))) (used_same f.number (it.unlisted f m) ∙ e)
           ∙ sym (ap (λ b. cond b (Some f) (when (has_lower (own_lowers nat_eq v names) f.number)
           (part_of_lower nat_eq v names f))) e)
@@ -474,12 +428,10 @@ module _ (v : World ℕ) (names : List TaskName) (change : Mount ℕ → Mount �
 
   filesystems_grown : filter_map (part_of_filesystem nat_eq u names) u.filesystems
       ≡ filter_map (part_of_filesystem nat_eq v names) v.filesystems ++ new
-  filesystems_grown =
-      filter_map-append (part_of_filesystem nat_eq u names) v.filesystems new
+  filesystems_grown = filter_map-append (part_of_filesystem nat_eq u names) v.filesystems new
       ∙ ap (λ l. l ++ filter_map (part_of_filesystem nat_eq u names) new)
       (filter_map_same (part_of_filesystem nat_eq u names) (part_of_filesystem nat_eq v names) v.filesystems
-      filesystem_same)
-      ∙ ap (λ l. filter_map (part_of_filesystem nat_eq v names) v.filesystems ++ l)
+      filesystem_same) ∙ ap (λ l. filter_map (part_of_filesystem nat_eq v names) v.filesystems ++ l)
       (filter_map_all (part_of_filesystem nat_eq u names) new
       (λ f m. ap (λ b. cond b (Some f) (when (has_lower (own_lowers nat_eq u names) f.number)
       (part_of_lower nat_eq u names f))) (new_used f m)))

@@ -42,16 +42,12 @@ module _ (v : World ℕ) (names : List TaskName) (change : Mount ℕ → Mount �
   without_new = sym (no_new_ones grown)
 
   used_now : (n : ℕ) → is_among nat_eq n (used_filesystems nat_eq grown names) ≡ is_among nat_eq n used
-  used_now n =
-      sym (ap (λ w. is_among nat_eq n (used_filesystems nat_eq w names)) without_new)
-      ∙ used_same v names change added [] master grows n refl
-      ∙ ap (is_among nat_eq n) ready.used_are
+  used_now n = sym (ap (λ w. is_among nat_eq n (used_filesystems nat_eq w names)) without_new)
+      ∙ used_same v names change added [] master grows n refl ∙ ap (is_among nat_eq n) ready.used_are
 
   lowers_now : (test : Layer ℕ → Bool) → list_any test (own_lowers nat_eq grown names) ≡ list_any test lowers
-  lowers_now test =
-      sym (ap (λ w. list_any test (own_lowers nat_eq w names)) without_new)
-      ∙ lowers_stay v names change added [] master grows (λ f m. m) test
-      ∙ ap (list_any test) ready.lowers_are
+  lowers_now test = sym (ap (λ w. list_any test (own_lowers nat_eq w names)) without_new)
+      ∙ lowers_stay v names change added [] master grows (λ f m. m) test ∙ ap (list_any test) ready.lowers_are
 
   -- a mount afterwards is theirs, or as it was
   grown_how : (y : Mount ℕ) → Among y grown.mounts → (owns y ≡ true) ⊎ (Among y v.mounts × (owns y ≡ false))
@@ -74,8 +70,7 @@ module _ (v : World ℕ) (names : List TaskName) (change : Mount ℕ → Mount �
       by (Some n) h = refl
 
   lives_now : (y : Mount ℕ) → Among y grown.mounts → mount_lives nat_eq grown y ≡ true
-  lives_now y m =
-      ⊎_elim (λ own. or_left (is_some y.namespace) (is_located nat_eq grown y.number) (own_placed y own))
+  lives_now y m = ⊎_elim (λ own. or_left (is_some y.namespace) (is_located nat_eq grown y.number) (own_placed y own))
       (λ still. ready.lives y still.0) (grown_how y m)
 
   located_now : (l : Location ℕ) → Among l (locations (members v names))
@@ -131,12 +126,9 @@ module _ (v : World ℕ) (names : List TaskName) (change : Mount ℕ → Mount �
       parents_now y l m point = by y.namespace refl
         where
           below : y.namespace ≡ (mount_at nat_eq grown l).namespace
-          below =
-              ap (λ (z : Mount ℕ). z.namespace) (sym (found_itself grown.mounts one y m))
-              ∙ namespace_below grown y.number l
-              (among_from_all (λ (z : Mount ℕ). Stands nat_eq grown z.number)
-              grown.mounts stands y m)
-              (ap (λ (z : Mount ℕ). z.mount_point) (found_itself grown.mounts one y m) ∙ point)
+          below = ap (λ (z : Mount ℕ). z.namespace) (sym (found_itself grown.mounts one y m))
+              ∙ namespace_below grown y.number l (among_from_all (λ (z : Mount ℕ). Stands nat_eq grown z.number)
+              grown.mounts stands y m) (ap (λ (z : Mount ℕ). z.mount_point) (found_itself grown.mounts one y m) ∙ point)
 
           attached : is_some y.namespace ≡ true
           attached = placed_is_attached y (passes is_nowhere_or_attached grown.mounts nowhere y m) l point
@@ -149,8 +141,7 @@ module _ (v : World ℕ) (names : List TaskName) (change : Mount ℕ → Mount �
             n,
             e,
             mount_at nat_eq grown l,
-            ⊎_elim (λ found. found)
-                (λ none. absurd (true≢false
+            ⊎_elim (λ found. found) (λ none. absurd (true≢false
                 (sym (ap is_some (sym below ∙ e)) ∙ ap (λ (z : Mount ℕ). is_some z.namespace) none)))
                 (found_or_none grown.mounts l.mount),
             sym (number-mount_in grown.mounts l.mount),
@@ -170,8 +161,7 @@ module _ (v : World ℕ) (names : List TaskName) (change : Mount ℕ → Mount �
         plain = ready.plain;
         free = λ x m is. ⊎_elim (λ alone. inl (alone_now x.number alone)) inr
             (ready.free x m (sym (used_now x.number) ∙ is));
-        cut = λ x m unused low. cut_now x
-            (ready.cut x m (sym (used_now x.number) ∙ unused)
+        cut = λ x m unused low. cut_now x (ready.cut x m (sym (used_now x.number) ∙ unused)
             (sym (lowers_now (λ (layer : Layer ℕ). nat_eq x.number layer.filesystem)) ∙ low));
       }
 
@@ -180,7 +170,6 @@ module _ (v : World ℕ) (names : List TaskName) (change : Mount ℕ → Mount �
       all_live = filter_all (mount_lives nat_eq grown) grown.mounts lives_now
 
       pub grown_settled : part_of nat_eq (settled nat_eq grown) names ≡ swept_of names (part_of nat_eq grown names)
-      grown_settled =
-          part_of_settled grown names (used_filesystems nat_eq grown names) (own_lowers nat_eq grown names)
+      grown_settled = part_of_settled grown names (used_filesystems nat_eq grown names) (own_lowers nat_eq grown names)
           (subst (λ l. Ready (with_mounts grown l) names (used_filesystems nat_eq grown names)
           (own_lowers nat_eq grown names)) (sym all_live) grown_ready)

@@ -64,20 +64,15 @@ module _ (world : World ℕ) (names : List TaskName) (is : IsWorld nat_eq world)
       by : (at : Option ℕ) (kind : Propagation ℕ) → o.propagation ≡ kind → source_of (type_at new at o) ≡ Some g
           → Known g
       by None kind e h = sources o m g h
-      by (Some group) (Shared k) e h =
-          sources o m g (ap source_of e
-          ∙ sym (ap (λ kind. source_of (type_on_shared (new.image group o.number) kind))
-          e) ∙ h)
-      by (Some group) (Slave k) e h =
-          subst Known (same_Some (new.image group o.number) g
+      by (Some group) (Shared k) e h = sources o m g (ap source_of e
+          ∙ sym (ap (λ kind. source_of (type_on_shared (new.image group o.number) kind)) e) ∙ h)
+      by (Some group) (Slave k) e h = subst Known (same_Some (new.image group o.number) g
           (sym (ap (λ kind. source_of (type_on_shared (new.image group o.number) kind))
           e) ∙ h)) (new_known group o.number)
-      by (Some group) Private e h =
-          subst Known (same_Some (new.image group o.number) g
+      by (Some group) Private e h = subst Known (same_Some (new.image group o.number) g
           (sym (ap (λ kind. source_of (type_on_shared (new.image group o.number) kind))
           e) ∙ h)) (new_known group o.number)
-      by (Some group) Unbindable e h =
-          subst Known (same_Some (new.image group o.number) g
+      by (Some group) Unbindable e h = subst Known (same_Some (new.image group o.number) g
           (sym (ap (λ kind. source_of (type_on_shared (new.image group o.number) kind))
           e) ∙ h)) (new_known group o.number)
 
@@ -104,8 +99,7 @@ module _ (world : World ℕ) (names : List TaskName) (is : IsWorld nat_eq world)
   type_known o m (Slave master) g h = by (find (has_members nat_eq at_parts) (groups_up at_base master)) h
     where
       by : (k : Option ℕ) → source_of (slave_of_heir (option_map (image nat_eq new destination (its_twig o)) k))
-          ≡ Some g
-          → Known g
+          ≡ Some g → Known g
       by None e = none_is_some g e
       by (Some group) e =
           subst Known (same_Some (image nat_eq new destination (its_twig o) group) g e) (image_known o m group)
@@ -114,8 +108,7 @@ module _ (world : World ℕ) (names : List TaskName) (is : IsWorld nat_eq world)
 
   pub copy_known : (p o : Mount ℕ) → Among o origins → (g : ℕ)
       → source_of (copy world names is sealed_off new_ones unused place there own new moves origins p o).propagation
-      ≡ Some g
-      → Known g
+      ≡ Some g → Known g
   copy_known p o m g = by (is_destination nat_eq
       (tree world names is sealed_off new_ones unused place there own new moves origins) p.number)
     where

@@ -49,30 +49,23 @@ module _ (world : World ℕ) (names : List TaskName) (is : IsWorld nat_eq world)
     own = λ n. refl;
     roots = λ l m.
         let t = among-from_flat_map (λ (t : Task ℕ). t.root ∷ t.directory ∷ []) (members world names) l m in
-        ⊎_elim
+        ⊎_elim (λ e. subst (λ (k : Location ℕ). IsTheirs world names is.mounts k.mount) (sym e)
+        (root_theirs world names is t.0 t.1)) (λ rest. ⊎_elim
         (λ e. subst (λ (k : Location ℕ). IsTheirs world names is.mounts k.mount) (sym e)
-        (root_theirs world names is t.0 t.1))
-        (λ rest. ⊎_elim
-        (λ e. subst (λ (k : Location ℕ). IsTheirs world names is.mounts k.mount) (sym e)
-        (directory_theirs world names is t.0 t.1))
-        (λ none. absurd none) rest) t.2;
+        (directory_theirs world names is t.0 t.1)) (λ none. absurd none) rest) t.2;
     places = λ l m. inl m;
     others = λ l m. m;
   }
 
   pub ready_here : Ready world names (used_filesystems nat_eq world names) (own_lowers nat_eq world names)
-  ready_here =
-      subst (λ l. Ready (with_mounts world l) names (used_filesystems nat_eq world names)
-      (own_lowers nat_eq world names))
-      (filter_all (mount_lives nat_eq world) world.mounts
+  ready_here = subst (λ l. Ready (with_mounts world l) names (used_filesystems nat_eq world names)
+      (own_lowers nat_eq world names)) (filter_all (mount_lives nat_eq world) world.mounts
       (among_from_list_all (mount_lives nat_eq world) world.mounts (all_in_use world is).mounts))
       (world_ready world names is sealed_off names world.tasks world.change lets)
 
   pub ready_there : Ready part names (used_filesystems nat_eq world names) (own_lowers nat_eq world names)
-  ready_there =
-      subst (λ l. Ready (with_mounts part l) names (used_filesystems nat_eq world names)
-      (own_lowers nat_eq world names))
-      (filter_all (mount_lives nat_eq part) part.mounts
+  ready_there = subst (λ l. Ready (with_mounts part l) names (used_filesystems nat_eq world names)
+      (own_lowers nat_eq world names)) (filter_all (mount_lives nat_eq part) part.mounts
       (among_from_list_all (mount_lives nat_eq part) part.mounts (part_in_use world names is sealed_off).mounts))
       (part_ready world names is sealed_off names world.tasks part.tasks world.change part.change lets
       (same_members world names) (λ t m. (among-from_filter (is_member_task names) world.tasks t m).1))
@@ -99,18 +92,15 @@ module _ (world : World ℕ) (names : List TaskName) (is : IsWorld nat_eq world)
   grows_there = part_grows world names is change added [] master master_too grows
 
   abbrev pub left_there : World ℕ
-  left_there =
-      grown (part_of nat_eq world names) names change added master_too (used_filesystems nat_eq world names)
+  left_there = grown (part_of nat_eq world names) names change added master_too (used_filesystems nat_eq world names)
       (own_lowers nat_eq world names) (ready_there world names is sealed_off) grows_there
 
   module _ (stays : Stays left_here) (stays_there : Stays left_there) where
     settled_here : part_of nat_eq (settled nat_eq left_here) names ≡ swept_of names (part_of nat_eq left_here names)
-    settled_here =
-        grown_settled world names change added master (used_filesystems nat_eq world names)
+    settled_here = grown_settled world names change added master (used_filesystems nat_eq world names)
         (own_lowers nat_eq world names) (ready_here world names is sealed_off) grows
         (among_from_list_all (λ (l : Location ℕ). is_among nat_eq l.mount (map (λ
-        (m : Mount ℕ). m.number) world.mounts))
-        (all_locations world) (locations_of_worlds_stand world is))
+        (m : Mount ℕ). m.number) world.mounts)) (all_locations world) (locations_of_worlds_stand world is))
         stays.one stays.stands stays.nowhere
 
     settled_there : part_of nat_eq (settled nat_eq left_there) names ≡ swept_of names (part_of nat_eq left_there names)
@@ -120,8 +110,7 @@ module _ (world : World ℕ) (names : List TaskName) (is : IsWorld nat_eq world)
         (located_there world names is) stays_there.one stays_there.stands stays_there.nowhere
 
     same_part : part_of nat_eq left_there names ≡ part_of nat_eq left_here names
-    same_part =
-        sym (ap (λ w. part_of nat_eq w names)
+    same_part = sym (ap (λ w. part_of nat_eq w names)
         (without_new (part_of nat_eq world names) names change added master_too (used_filesystems nat_eq world names)
         (own_lowers nat_eq world names) (ready_there world names is sealed_off) grows_there))
         ∙ one_part world names is sealed_off change added [] master master_too grows known
@@ -134,12 +123,10 @@ module _ (world : World ℕ) (names : List TaskName) (is : IsWorld nat_eq world)
 
     -- all mounts stay
     mounts_here : filter (mount_lives nat_eq left_here) left_here.mounts ≡ left_here.mounts
-    mounts_here =
-        all_live world names change added master (used_filesystems nat_eq world names)
+    mounts_here = all_live world names change added master (used_filesystems nat_eq world names)
         (own_lowers nat_eq world names) (ready_here world names is sealed_off) grows
         (among_from_list_all (λ (l : Location ℕ). is_among nat_eq l.mount (map (λ
-        (m : Mount ℕ). m.number) world.mounts))
-        (all_locations world) (locations_of_worlds_stand world is))
+        (m : Mount ℕ). m.number) world.mounts)) (all_locations world) (locations_of_worlds_stand world is))
         stays.one stays.stands stays.nowhere
 
     mounts_there : filter (mount_lives nat_eq left_there) left_there.mounts ≡ left_there.mounts
@@ -158,24 +145,21 @@ module _ (world : World ℕ) (names : List TaskName) (is : IsWorld nat_eq world)
         here = (among-from_filter (mount_lives nat_eq left_here) left_here.mounts m n).0
 
         there : Among m left_there.mounts
-        there =
-            (among-from_filter (is_own_mount nat_eq left_there names) left_there.mounts m
+        there = (among-from_filter (is_own_mount nat_eq left_there names) left_there.mounts m
             (subst (Among m) (sym (own_alike world names is sealed_off change added [] master master_too grows known))
             (among-filter (is_own_mount nat_eq left_here names) left_here.mounts m here own))).0
 
         members_in : (w : World ℕ) → Stays w → filter (mount_lives nat_eq w) w.mounts ≡ w.mounts → Among m w.mounts
             → (g : ℕ) → source_of m.propagation ≡ Some g
             → has_members nat_eq (filter (mount_lives nat_eq w) w.mounts) g ≡ true
-        members_in w it all at g e =
-            ap (λ l. has_members nat_eq l g) all
+        members_in w it all at g e = ap (λ l. has_members nat_eq l g) all
             ∙ lives_so (has_members nat_eq w.mounts) w.master g
             (among_from_all (HasLivingGroups nat_eq w) w.mounts it.groups m at g e)
 
         by : (o : Option ℕ) → source_of m.propagation ≡ o
             → then_some o (settled nat_eq left_there).master ≡ then_some o (settled nat_eq left_here).master
         by None e = refl
-        by (Some g) e =
-            ap (λ b. cond b (master_too g) None) (members_in left_there stays_there mounts_there there g e)
+        by (Some g) e = ap (λ b. cond b (master_too g) None) (members_in left_there stays_there mounts_there there g e)
             ∙ known m here own g e
             ∙ sym (ap (λ b. cond b (master g) None) (members_in left_here stays mounts_here here g e))
 

@@ -28,20 +28,16 @@ swapped copied mount = folded (λ old copy. replaced_if_same nat_eq copy old) mo
 
 swapped_all : (copied mounts : List (Mount ℕ)) → folded (with_mount nat_eq) mounts copied ≡ map (swapped copied) mounts
 swapped_all [] mounts = sym (map-id mounts)
-swapped_all (copy ∷ copied) mounts =
-    swapped_all copied (with_mount nat_eq mounts copy)
+swapped_all (copy ∷ copied) mounts = swapped_all copied (with_mount nat_eq mounts copy)
     ∙ map_twice (swapped copied) (replaced_if_same nat_eq copy) mounts
 
 -- a mount is as it was, or it is one of its number
-swapped_is : (copied : List (Mount ℕ)) (mount : Mount ℕ)
-    → (swapped copied mount ≡ mount)
+swapped_is : (copied : List (Mount ℕ)) (mount : Mount ℕ) → (swapped copied mount ≡ mount)
     ⊎ ((copy : Mount ℕ) × Among copy copied × (swapped copied mount ≡ copy) × (copy.number ≡ mount.number))
 swapped_is [] mount = inl refl
-swapped_is (copy ∷ copied) mount =
-    by (nat_eq copy.number mount.number) refl (λ m. swapped_is copied m)
+swapped_is (copy ∷ copied) mount = by (nat_eq copy.number mount.number) refl (λ m. swapped_is copied m)
   where
-    by : (b : Bool) → nat_eq copy.number mount.number ≡ b
-        → ((m : Mount ℕ) → (swapped copied m ≡ m)
+    by : (b : Bool) → nat_eq copy.number mount.number ≡ b → ((m : Mount ℕ) → (swapped copied m ≡ m)
         ⊎ ((c : Mount ℕ) × Among c copied × (swapped copied m ≡ c) × (c.number ≡ m.number)))
         → (swapped copied (cond (nat_eq copy.number mount.number) copy mount) ≡ mount)
         ⊎ ((c : Mount ℕ) × Among c (copy ∷ copied)
@@ -98,8 +94,7 @@ module _ (world : World ℕ) (names : List TaskName) (is : IsWorld nat_eq world)
   at_receivers = flat_map made_at (rest_of at_parts)
 
   abbrev pub moved_master : (ℕ → Option ℕ) → ℕ → Option ℕ
-  moved_master above =
-      folded (masters_with nat_eq) above
+  moved_master above = folded (masters_with nat_eq) above
       (made world names is sealed_off [] (none_new world names) place there own new true origins)
 
   -- the tree is theirs
@@ -109,9 +104,7 @@ module _ (world : World ℕ) (names : List TaskName) (is : IsWorld nat_eq world)
   tree_mine : (depth : ℕ) (m : Mount ℕ) → Mine m → (o : Mount ℕ) → Among o (tree_from nat_eq depth world.mounts m)
       → Mine o
   tree_mine zero m its o n = ⊎_elim (λ same. subst Mine (sym same) its) (λ none. absurd none) n
-  tree_mine (suc depth) m its o n =
-      ⊎_elim (λ same. subst Mine (sym same) its)
-      (λ below.
+  tree_mine (suc depth) m its o n = ⊎_elim (λ same. subst Mine (sym same) its) (λ below.
       let child = among-from_flat_map (tree_from nat_eq depth world.mounts) (children nat_eq world.mounts m.number) o
       below in
       tree_mine depth child.0
@@ -122,8 +115,7 @@ module _ (world : World ℕ) (names : List TaskName) (is : IsWorld nat_eq world)
 
   -- at the destination mounts that move keep their numbers
   keeps_number : (o : Mount ℕ) → (copied destination o).number ≡ o.number
-  keeps_number o =
-      ap (λ b. cond b o.number (new.copy destination.number o.number))
+  keeps_number o = ap (λ b. cond b o.number (new.copy destination.number o.number))
       (eq-eqb destination.number place.mount (number-mount_in world.mounts place.mount))
 
   one_of_its_number : (a b : Mount ℕ) → Among a world.mounts → Among b world.mounts → a.number ≡ b.number → a ≡ b
@@ -133,9 +125,7 @@ module _ (world : World ℕ) (names : List TaskName) (is : IsWorld nat_eq world)
   -- a mount of the world is as it was, or moved; so is what a descriptor shows of it
   pub went_how : (x y : Mount ℕ) → Among x world.mounts → y.number ≡ x.number
       → (went y ≡ y) ⊎ (Among x origins × (went y ≡ copied destination x))
-  went_how x y m e =
-      ⊎_elim inl
-      (λ some.
+  went_how x y m e = ⊎_elim inl (λ some.
       let of = copy_of world names is sealed_off [] (none_new world names) place there own new true origins destination
       some.0 some.1 in
       let same : of.0 ≡ x = one_of_its_number of.0 x (origin_mine of.0 of.1).0 m
@@ -157,8 +147,7 @@ module _ (world : World ℕ) (names : List TaskName) (is : IsWorld nat_eq world)
       (p.0, inr p.1, of.0, of.1, of.2)
 
   mine_shown : (o : Mount ℕ) → Mine o → Among o.filesystem (used_directly nat_eq world names)
-  mine_shown o its =
-      subst (λ (k : Mount ℕ). Among k.filesystem (used_directly nat_eq world names))
+  mine_shown o its = subst (λ (k : Mount ℕ). Among k.filesystem (used_directly nat_eq world names))
       (numbered world names is.mounts o its.0)
       (theirs_directly world names is (record { mount = o.number; node = o.root })
       (own_theirs world names is o its.0 its.1))
@@ -181,32 +170,24 @@ module _ (world : World ℕ) (names : List TaskName) (is : IsWorld nat_eq world)
     where
       kept : (x : Mount ℕ) → Among x world.mounts → owns x ≡ true
           → (owns (moved x) ≡ true) × ((moved x).number ≡ x.number) × ((moved x).filesystem ≡ x.filesystem)
-      kept x m mine =
-          ⊎_elim
-          (λ same. (
-            keeps owns (λ y at. refl) (went x) ∙ ap owns same ∙ mine,
-            keeps (λ (y : Mount ℕ). y.number) (λ y at. refl) (went x) ∙ ap (λ (y : Mount ℕ). y.number) same,
-            keeps (λ (y : Mount ℕ). y.filesystem) (λ y at. refl) (went x) ∙ ap (λ (y : Mount ℕ). y.filesystem) same,
-          ))
-          (λ moves. (
-            keeps owns (λ y at. refl) (went x) ∙ ap owns moves.1 ∙ own,
-            keeps (λ (y : Mount ℕ). y.number) (λ y at. refl) (went x) ∙ ap (λ (y : Mount ℕ). y.number) moves.1
-                ∙ keeps_number x,
-            keeps (λ (y : Mount ℕ). y.filesystem) (λ y at. refl) (went x) ∙ ap (λ (y : Mount ℕ). y.filesystem) moves.1,
-          ))
-          (went_how x x m refl)
+      kept x m mine = ⊎_elim (λ same. (
+        keeps owns (λ y at. refl) (went x) ∙ ap owns same ∙ mine,
+        keeps (λ (y : Mount ℕ). y.number) (λ y at. refl) (went x) ∙ ap (λ (y : Mount ℕ). y.number) same,
+        keeps (λ (y : Mount ℕ). y.filesystem) (λ y at. refl) (went x) ∙ ap (λ (y : Mount ℕ). y.filesystem) same,
+      )) (λ moves. (
+        keeps owns (λ y at. refl) (went x) ∙ ap owns moves.1 ∙ own,
+        keeps (λ (y : Mount ℕ). y.number) (λ y at. refl) (went x) ∙ ap (λ (y : Mount ℕ). y.number) moves.1
+            ∙ keeps_number x,
+        keeps (λ (y : Mount ℕ). y.filesystem) (λ y at. refl) (went x) ∙ ap (λ (y : Mount ℕ). y.filesystem) moves.1,
+      )) (went_how x x m refl)
 
       others : (x : Mount ℕ) → Among x world.mounts → owns x ≡ false
           → (moved x ≡ x) × (moved (seen_by_descriptor x) ≡ seen_by_descriptor x)
       others x m other = (
-        ⊎_elim
-            (λ same. ap up same
-            ∙ other_stays world names is sealed_off []
+        ⊎_elim (λ same. ap up same ∙ other_stays world names is sealed_off []
             (none_new world names) place there own new true origins x m other)
-            (λ moves. absurd (true≢false (sym (origin_mine x moves.0).1 ∙ other)))
-            (went_how x x m refl),
-        ⊎_elim
-            (λ same. ap up same
+            (λ moves. absurd (true≢false (sym (origin_mine x moves.0).1 ∙ other))) (went_how x x m refl),
+        ⊎_elim (λ same. ap up same
             ∙ stub_stays world names is sealed_off [] (none_new world names) place there own new true origins x)
             (λ moves. absurd (true≢false (sym (origin_mine x moves.0).1 ∙ other)))
             (went_how x (seen_by_descriptor x) m refl),
@@ -232,8 +213,7 @@ module _ (world : World ℕ) (names : List TaskName) (is : IsWorld nat_eq world)
         → moved_master (part_of nat_eq world names).master g ≡ moved_master world.master g
     moved_known y m mine g e =
         masters_agree (made world names is sealed_off [] (none_new world names) place there own new true origins)
-        (part_of nat_eq world names).master world.master g
-        (⊎_elim
+        (part_of nat_eq world names).master world.master g (⊎_elim
         (λ old. by old.0 old.1 old.2 (sym (ap (λ (x : Mount ℕ). source_of x.propagation) old.3
         ∙ keeps (λ (x : Mount ℕ). source_of x.propagation) (λ x at. refl) (went old.0)) ∙ e))
         (λ more. let of = at_receiver y more in
@@ -243,21 +223,18 @@ module _ (world : World ℕ) (names : List TaskName) (is : IsWorld nat_eq world)
       where
         by : (x : Mount ℕ) → Among x world.mounts → owns x ≡ true → source_of (went x).propagation ≡ Some g
             → (part_of nat_eq world names).master g ≡ world.master g
-        by x n own_one s =
-            ⊎_elim
+        by x n own_one s = ⊎_elim
             (λ same. master_same world names is sealed_off g (heard_by_own world names is sealed_off x
             (among-filter (is_own_mount nat_eq world names) world.mounts x n own_one) g
             (ap (λ (z : Mount ℕ). source_of z.propagation) (sym same) ∙ s)))
             (λ moves. known_copy destination x moves.0 g
-            (ap (λ (z : Mount ℕ). source_of z.propagation) (sym moves.1) ∙ s))
-            (went_how x x n refl)
+            (ap (λ (z : Mount ℕ). source_of z.propagation) (sym moves.1) ∙ s)) (went_how x x n refl)
 
   -- the world that is left
   pub moved_as : (w : World ℕ)
       → attached_as world names is sealed_off [] (none_new world names) place there own new true origins w
       ≡ grown_world w names moved at_receivers [] (moved_master w.master)
-  moved_as w =
-      ap (λ l. left ((map up l ++ []) ++ at_receivers)) (swapped_all (made_at destination) w.mounts)
+  moved_as w = ap (λ l. left ((map up l ++ []) ++ at_receivers)) (swapped_all (made_at destination) w.mounts)
       ∙ ap (λ l. left (l ++ at_receivers)) (append-nil (map up (map went w.mounts)))
       ∙ ap (λ l. left (l ++ at_receivers)) (map_twice up went w.mounts)
     where

@@ -84,27 +84,22 @@ module _ (world : World ℕ) (names : List TaskName) (is : IsWorld nat_eq world)
       (move_permit nat_eq (one world names is sealed_off task member) (overfills nat_eq fresh world task) task source
       path) Moves
   unfolding move_permit
-  moves_there fresh source path =
-      of_rules Moves (admin_rules task) _
+  moves_there fresh source path = of_rules Moves (admin_rules task) _
       (of_walk (StandsHere world names is sealed_off task member) Moves
       (source_walk nat_eq (one world names is sealed_off task member) task source)
       (λ from. and_then (walk_end (destination_walk nat_eq (one world names is sealed_off task member) task path))
       (λ here. attach_permit
       (move_rules nat_eq (one world names is sealed_off task member) task from.location here.location)
       (overfills nat_eq fresh world task) (ToMove from.location.mount here.location)))
-      (at_source world names is sealed_off task member source)
-      (λ from at.
+      (at_source world names is sealed_off task member source) (λ from at.
       of_walk (StandsHere world names is sealed_off task member) Moves
-      (destination_walk nat_eq (one world names is sealed_off task member) task path)
-      (λ here. attach_permit
+      (destination_walk nat_eq (one world names is sealed_off task member) task path) (λ here. attach_permit
       (move_rules nat_eq (one world names is sealed_off task member) task from.location here.location)
       (overfills nat_eq fresh world task) (ToMove from.location.mount here.location))
-      (at_destination world names is sealed_off task member path)
-      (λ here on. of_passed Moves
+      (at_destination world names is sealed_off task member path) (λ here on. of_passed Moves
       (move_rules nat_eq (one world names is sealed_off task member) task from.location here.location
       (overfills nat_eq fresh world task (ToMove from.location.mount here.location)))
-      (Ok (ToMove from.location.mount here.location))
-      (λ passed.
+      (Ok (ToMove from.location.mount here.location)) (λ passed.
       let both = or_parts (is_elsewhere nat_eq (one world names is sealed_off task member) task from.location)
       (is_elsewhere nat_eq (one world names is sealed_off task member) task here.location) passed.0 in (
         from.location,
@@ -165,20 +160,16 @@ module _ (world : World ℕ) (names : List TaskName) (name : TaskName) (source p
       (parts world names it.is it.sealed_off [] (none_new world names) here here_there to.own) origins
 
   abbrev change : Mount ℕ → Mount ℕ
-  change =
-      moved world names it.is it.sealed_off here here_there to.own new from.mount from_there to.from_own
+  change = moved world names it.is it.sealed_off here here_there to.own new from.mount from_there to.from_own
 
   abbrev added : List (Mount ℕ)
-  added =
-      at_receivers world names it.is it.sealed_off here here_there to.own new from.mount from_there to.from_own
+  added = at_receivers world names it.is it.sealed_off here here_there to.own new from.mount from_there to.from_own
 
   abbrev with_made : (ℕ → Option ℕ) → ℕ → Option ℕ
-  with_made =
-      moved_master world names it.is it.sealed_off here here_there to.own new from.mount from_there to.from_own
+  with_made = moved_master world names it.is it.sealed_off here here_there to.own new from.mount from_there to.from_own
 
   grows : Grows world names change added [] (with_made world.master)
-  grows =
-      moved_grows world names it.is it.sealed_off here here_there to.own new from.mount from_there to.from_own
+  grows = moved_grows world names it.is it.sealed_off here here_there to.own new from.mount from_there to.from_own
       (with_made world.master)
 
   abbrev now : World ℕ
@@ -188,8 +179,7 @@ module _ (world : World ℕ) (names : List TaskName) (name : TaskName) (source p
   now_there = moved_to nat_eq fresh part from.mount here
 
   abbrev left : World ℕ
-  left =
-      left_here world names it.is it.sealed_off change added (with_made world.master) (with_made part.master) grows
+  left = left_here world names it.is it.sealed_off change added (with_made world.master) (with_made part.master) grows
       (moved_known world names it.is it.sealed_off here here_there to.own new from.mount from_there to.from_own
       (λ a b. group_new world names it.is fresh serves _))
 
@@ -203,22 +193,18 @@ module _ (world : World ℕ) (names : List TaskName) (name : TaskName) (source p
   attached_to mounts w = attach nat_eq w fresh here true mounts
 
   now_so : now ≡ left
-  now_so =
-      ap (attached_to origins) (no_new_ones world)
+  now_so = ap (attached_to origins) (no_new_ones world)
       ∙ moved_as world names it.is it.sealed_off here here_there to.own new from.mount from_there to.from_own world
       ∙ without_new world names change added (with_made world.master) (used_filesystems nat_eq world names)
       (own_lowers nat_eq world names) (ready_here world names it.is it.sealed_off) grows
 
   same_tree : moved_tree nat_eq part from.mount ≡ origins
-  same_tree =
-      ap (mount_tree nat_eq part.mounts) (same_mount world names it.is.mounts from.mount from_theirs)
+  same_tree = ap (mount_tree nat_eq part.mounts) (same_mount world names it.is.mounts from.mount from_theirs)
       ∙ tree_alike world names it.is (mount_at nat_eq world from)
       (own_theirs world names it.is (mount_at nat_eq world from) from_there to.from_own)
 
   there_so : now_there ≡ left_too
-  there_so =
-      ap (λ l. attached_to l part) same_tree
-      ∙ ap (attached_to origins) (no_new_ones part)
+  there_so = ap (λ l. attached_to l part) same_tree ∙ ap (attached_to origins) (no_new_ones part)
       ∙ ap (λ l. attached_by nat_eq
       (base_part world names it.is it.sealed_off [] (none_new world names) here here_there to.own)
       (copies_from nat_eq fresh l origins) here true origins)
@@ -233,14 +219,12 @@ module _ (world : World ℕ) (names : List TaskName) (name : TaskName) (source p
 
   -- what moves exists, in both
   is_there : is_mount world from.mount ≡ true
-  is_there =
-      subst (λ n. is_mount world n ≡ true) (number-mount_in world.mounts from.mount)
+  is_there = subst (λ n. is_mount world n ≡ true) (number-mount_in world.mounts from.mount)
       (is_among_numbers (numbers_of world.mounts) (mount_at nat_eq world from).number
       (among-map (λ (m : Mount ℕ). m.number) world.mounts (mount_at nat_eq world from) from_there))
 
   is_there_too : is_mount part from.mount ≡ true
-  is_there_too =
-      subst (λ n. is_mount part n ≡ true) (number-mount_in world.mounts from.mount)
+  is_there_too = subst (λ n. is_mount part n ≡ true) (number-mount_in world.mounts from.mount)
       (is_among_numbers (numbers_of part.mounts) (mount_at nat_eq world from).number
       (among-map (λ (m : Mount ℕ). m.number) part.mounts (mount_at nat_eq world from)
       (own_in_part world names it.is it.sealed_off (mount_at nat_eq world from)
@@ -258,20 +242,17 @@ module _ (world : World ℕ) (names : List TaskName) (name : TaskName) (source p
   }
 
   stays : Stays left
-  stays =
-      subst Stays now_so (moves_stay world fresh from here serves it.is.mounts to.can
+  stays = subst Stays now_so (moves_stay world fresh from here serves it.is.mounts to.can
       (placed world names it.is it.sealed_off here here_theirs to.own) is_there)
 
   stays_too : Stays left_too
-  stays_too =
-      subst Stays there_so (moves_stay part fresh from here (serves_there world names fresh serves)
+  stays_too = subst Stays there_so (moves_stay part fresh from here (serves_there world names fresh serves)
       (part_mounts world names it.is it.sealed_off) can_there
       (placed_there world names it.is it.sealed_off here here_theirs to.own) is_there_too)
 
   parts_same : part_of nat_eq (numbers_raised nat_eq world name [] (settled nat_eq now)) names
       ≡ part_of nat_eq (numbers_raised nat_eq part name [] (settled nat_eq now_there)) names
-  parts_same =
-      ap (λ w. part_of nat_eq (numbers_raised nat_eq world name [] (settled nat_eq w)) names) now_so
+  parts_same = ap (λ w. part_of nat_eq (numbers_raised nat_eq world name [] (settled nat_eq w)) names) now_so
       ∙ moved_alike world names it.is it.sealed_off change added (with_made world.master) (with_made part.master) grows
       (moved_known world names it.is it.sealed_off here here_there to.own new from.mount from_there to.from_own
       (λ a b. group_new world names it.is fresh serves _)) stays stays_too name
@@ -279,21 +260,18 @@ module _ (world : World ℕ) (names : List TaskName) (name : TaskName) (source p
 
   first : policy nat_eq fresh world name (MoveMount source path)
       ≡ granted Done (numbers_raised nat_eq world name [] (settled nat_eq now))
-  first =
-      ap (ran name (MoveMount source path) world fresh) called
+  first = ap (ran name (MoveMount source path) world fresh) called
       ∙ ap (run_by world names name (MoveMount source path) it fresh fresh world fresh task) judged
 
   second : policy nat_eq fresh part name (MoveMount source path)
       ≡ granted Done (numbers_raised nat_eq part name [] (settled nat_eq now_there))
-  second =
-      ap (ran name (MoveMount source path) part fresh)
+  second = ap (ran name (MoveMount source path) part fresh)
       (same_caller world names it.is it.sealed_off name it.theirs ∙ called)
       ∙ ap (run_by world names name (MoveMount source path) it fresh fresh part fresh task)
       (sym (same_judgement world names name (MoveMount source path) it fresh fresh task called) ∙ judged)
 
   move_ends : EndsAlike world names name (MoveMount source path) fresh fresh
-  move_ends =
-      subst (λ p. EndAlike
+  move_ends = subst (λ p. EndAlike
       (grown names name (MoveMount source path) (policy nat_eq fresh world name (MoveMount source path)).answer)
       (policy nat_eq fresh world name (MoveMount source path)) p) (sym second)
       (subst (λ o. EndAlike (grown names name (MoveMount source path) o.answer) o
@@ -311,8 +289,7 @@ moves_end_alike world names name source path it fresh serves = by (task_called w
         move_ends world names name source path it task e fresh serves its.0 its.1 its.3 (judged ∙ ap Ok its.2)
     judged_by task member e (Err deny) judged its =
         denial_ends_alike world names name (MoveMount source path) it fresh fresh
-        (ap (λ o. is_ok (ran name (MoveMount source path) world fresh o).answer) e
-        ∙ ap (λ j. is_ok
+        (ap (λ o. is_ok (ran name (MoveMount source path) world fresh o).answer) e ∙ ap (λ j. is_ok
         (run_by world names name (MoveMount source path) it fresh fresh world fresh task j).answer) judged)
 
     by : (o : Option (Task ℕ)) → task_called world name ≡ o

@@ -12,8 +12,7 @@ use Rattle.vt_laws_members.proofs.attached.Destination.{located_there}
 use Rattle.vt_laws_members.proofs.attached.GrownPart.{Grows, is_new}
 
 module _ (world : World ℕ) (names : List TaskName) (is : IsWorld nat_eq world) (change : Mount ℕ → Mount ℕ)
-    (added : List (Mount ℕ))
-    (new : List (Filesystem ℕ)) (master master_too : ℕ → Option ℕ)
+    (added : List (Mount ℕ)) (new : List (Filesystem ℕ)) (master master_too : ℕ → Option ℕ)
     (it : Grows world names change added new master) where
   abbrev part : World ℕ
   part = part_of nat_eq world names
@@ -43,8 +42,7 @@ module _ (world : World ℕ) (names : List TaskName) (is : IsWorld nat_eq world)
       → (change y ≡ y) × (change (seen_by_descriptor y) ≡ seen_by_descriptor y)
   others_there y n other =
       let from = among-from_filter_map kept world.mounts y n in
-      ⊎_elim
-      (λ same. it.others y (subst (λ z. Among z world.mounts) same from.1) other)
+      ⊎_elim (λ same. it.others y (subst (λ z. Among z world.mounts) same from.1) other)
       (λ stub. let still = (it.others from.0 from.1 stub.1).1 in
       subst (λ z. (change z ≡ z) × (change (seen_by_descriptor z) ≡ seen_by_descriptor z)) stub.0 (still, still))
       (whole from.0 y from.1 from.2)
@@ -53,8 +51,7 @@ module _ (world : World ℕ) (names : List TaskName) (is : IsWorld nat_eq world)
       → is_new world names change added new master f.number ≡ false
   unlisted_there f n =
       let from = among-from_filter_map (part_of_filesystem nat_eq world names) world.filesystems f n in
-      ap (is_new world names change added new master)
-      (⊎_elim (λ same. ap (λ (g : Filesystem ℕ). g.number) (sym same.0))
+      ap (is_new world names change added new master) (⊎_elim (λ same. ap (λ (g : Filesystem ℕ). g.number) (sym same.0))
       (λ low. ap (λ (g : Filesystem ℕ). g.number) (sym low.0)) (shown_how world names from.0 f from.2))
       ∙ it.unlisted from.0 from.1
 
@@ -69,7 +66,6 @@ module _ (world : World ℕ) (names : List TaskName) (is : IsWorld nat_eq world)
     located = λ l m. located_there world names is l (subst (λ ts. Among l (locations ts)) (same_members world names) m);
     unused = λ n is. ap (is_among nat_eq n) (same_used world names) ∙ it.unused n is;
     unlisted = unlisted_there;
-    layers = λ f m layer n.
-        subst (Among layer.filesystem) (sym (same_directly world names)) (it.layers f m layer n);
+    layers = λ f m layer n. subst (Among layer.filesystem) (sym (same_directly world names)) (it.layers f m layer n);
     mounted = it.mounted;
   }

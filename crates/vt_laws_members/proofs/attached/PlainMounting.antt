@@ -48,32 +48,22 @@ module _ (world : World ℕ) (names : List TaskName) (is : IsWorld nat_eq world)
     (sealed_off : sealed nat_eq world names ≡ true) (task : Task ℕ) (member : Among task (members world names))
     (flags : MountFlags) where
   abbrev pub Mounts : Permit ℕ → Type 0
-  Mounts permit =
-      (here : Location ℕ) × (permit ≡ ToMountPlain here flags) × (is_theirs world names here.mount ≡ true)
+  Mounts permit = (here : Location ℕ) × (permit ≡ ToMountPlain here flags) × (is_theirs world names here.mount ≡ true)
       × (is_own world names (members world names) (mount_at nat_eq world here) ≡ true)
 
   pub mounts_there : (fresh : Fresh ℕ) (path : List ℕ) → IfOk
       (mount_plain_permit nat_eq (one world names is sealed_off task member)
-      (overfills nat_eq fresh world task) task path
-      flags) Mounts
+      (overfills nat_eq fresh world task) task path flags) Mounts
   unfolding mount_plain_permit
-  mounts_there fresh path =
-      of_rules Mounts (admin_rules task) _
+  mounts_there fresh path = of_rules Mounts (admin_rules task) _
       (of_walk (StandsHere world names is sealed_off task member) Mounts
       (destination_walk nat_eq (one world names is sealed_off task member) task path)
       (λ here. attach_permit (new_mount_rules nat_eq (one world names is sealed_off task member) task here.location)
       (overfills nat_eq fresh world task) (ToMountPlain here.location flags))
-      (at_destination world names is sealed_off task member path)
-      (λ here on. of_passed Mounts
+      (at_destination world names is sealed_off task member path) (λ here on. of_passed Mounts
       (new_mount_rules nat_eq (one world names is sealed_off task member) task here.location
-      (overfills nat_eq fresh world task (ToMountPlain here.location flags)))
-      (Ok (ToMountPlain here.location flags))
-      (λ passed. (
-        here.location,
-        refl,
-        on,
-        owned world names is sealed_off task member here.location passed.0,
-      ))))
+      (overfills nat_eq fresh world task (ToMountPlain here.location flags))) (Ok (ToMountPlain here.location flags))
+      (λ passed. (here.location, refl, on, owned world names is sealed_off task member here.location passed.0))))
 
 -- A granted mount of a plain filesystem
 module _ (world : World ℕ) (names : List TaskName) (name : TaskName) (path : List ℕ) (flags : MountFlags)
@@ -121,8 +111,7 @@ module _ (world : World ℕ) (names : List TaskName) (name : TaskName) (path : L
 
   sources : (o : Mount ℕ) → Among o origins → (g : ℕ) → source_of o.propagation ≡ Some g
       → part.master g ≡ world.master g
-  sources o m g e =
-      ⊎_elim (λ same. none_is_some g (sym (ap (λ (x : Mount ℕ). source_of x.propagation) same) ∙ e))
+  sources o m g e = ⊎_elim (λ same. none_is_some g (sym (ap (λ (x : Mount ℕ). source_of x.propagation) same) ∙ e))
       (λ none. absurd none) m
 
   new_groups : (a b : ℕ) → world.master (new.image a b) ≡ None
@@ -136,8 +125,7 @@ module _ (world : World ℕ) (names : List TaskName) (name : TaskName) (path : L
 
   first : policy nat_eq fresh world name (MountPlain path flags)
       ≡ granted Done (numbers_raised nat_eq world name [] now)
-  first =
-      ap (ran name (MountPlain path flags) world fresh) called
+  first = ap (ran name (MountPlain path flags) world fresh) called
       ∙ ap (run_by world names name (MountPlain path flags) it fresh fresh world fresh task) judged
       ∙ ap (λ w. granted Done (numbers_raised nat_eq world name [] w))
       (new_mounts_of_trees_keep_all fresh world task here flags (all_in_use world it.is)
@@ -146,8 +134,7 @@ module _ (world : World ℕ) (names : List TaskName) (name : TaskName) (path : L
 
   second : policy nat_eq fresh part name (MountPlain path flags)
       ≡ granted Done (numbers_raised nat_eq part name [] now_there)
-  second =
-      ap (ran name (MountPlain path flags) part fresh)
+  second = ap (ran name (MountPlain path flags) part fresh)
       (same_caller world names it.is it.sealed_off name it.theirs ∙ called)
       ∙ ap (run_by world names name (MountPlain path flags) it fresh fresh part fresh task)
       (sym (same_judgement world names name (MountPlain path flags) it fresh fresh task called) ∙ judged)
@@ -159,23 +146,19 @@ module _ (world : World ℕ) (names : List TaskName) (name : TaskName) (path : L
   -- the numbers are handed out to the same parts
   same_numbers : now_there ≡ attached_by nat_eq
       (base_part world names it.is it.sealed_off (new_one ∷ []) unused here here_there own) new here false origins
-  same_numbers =
-      ap (λ l. attached_by nat_eq
+  same_numbers = ap (λ l. attached_by nat_eq
       (base_part world names it.is it.sealed_off (new_one ∷ []) unused here here_there own)
       (copies_from nat_eq (odds fresh) l origins) here false origins)
       (parts_alike world names it.is it.sealed_off (new_one ∷ []) unused here here_there own)
 
   parts_same : part_of nat_eq (numbers_raised nat_eq world name [] now) names
       ≡ part_of nat_eq (numbers_raised nat_eq part name [] now_there) names
-  parts_same =
-      copies_alike world names it.is it.sealed_off
-      (new_one ∷ []) unused here here_there own new origins new_groups sources
-      shows name
+  parts_same = copies_alike world names it.is it.sealed_off
+      (new_one ∷ []) unused here here_there own new origins new_groups sources shows name
       ∙ sym (ap (λ w. part_of nat_eq (numbers_raised nat_eq part name [] w) names) same_numbers)
 
   mount_alike : EndsAlike world names name (MountPlain path flags) fresh fresh
-  mount_alike =
-      subst (λ p. EndAlike
+  mount_alike = subst (λ p. EndAlike
       (grown names name (MountPlain path flags) (policy nat_eq fresh world name (MountPlain path flags)).answer)
       (policy nat_eq fresh world name (MountPlain path flags)) p) (sym second)
       (subst (λ o. EndAlike (grown names name (MountPlain path flags) o.answer) o
@@ -193,8 +176,7 @@ plain_mounts_end_alike world names name path flags it fresh serves = by (task_ca
         mount_alike world names name path flags it task e fresh serves its.0 its.2 its.3 (judged ∙ ap Ok its.1)
     judged_by task member e (Err deny) judged its =
         denial_ends_alike world names name (MountPlain path flags) it fresh fresh
-        (ap (λ o. is_ok (ran name (MountPlain path flags) world fresh o).answer) e
-        ∙ ap (λ j. is_ok
+        (ap (λ o. is_ok (ran name (MountPlain path flags) world fresh o).answer) e ∙ ap (λ j. is_ok
         (run_by world names name (MountPlain path flags) it fresh fresh world fresh task j).answer) judged)
 
     by : (o : Option (Task ℕ)) → task_called world name ≡ o

@@ -48,8 +48,7 @@ module _ (world : World ℕ) (names : List TaskName) (is : IsWorld nat_eq world)
   twig = twig_of new (group_of destination.propagation)
 
   abbrev pub copy : Mount ℕ → Mount ℕ → Mount ℕ
-  copy p origin =
-      copy_at nat_eq (base world names is sealed_off new_ones unused place there own) new
+  copy p origin = copy_at nat_eq (base world names is sealed_off new_ones unused place there own) new
       (tree world names is sealed_off new_ones unused place there own new moves origins) at_parts p (twig origin)
 
   -- what is pushed up keeps all but its mount point
@@ -69,8 +68,7 @@ module _ (world : World ℕ) (names : List TaskName) (is : IsWorld nat_eq world)
   -- what stands elsewhere stays there
   stays_put : (m : Mount ℕ) → ((p : Mount ℕ) → Among p (rest_of at_parts)
       → stands_at nat_eq (record { mount = p.number; node = place.node }) m ≡ false) → up m ≡ m
-  stays_put m none =
-      ap (pushed_onto nat_eq (base world names is sealed_off new_ones unused place there own) new
+  stays_put m none = ap (pushed_onto nat_eq (base world names is sealed_off new_ones unused place there own) new
       (tree world names is sealed_off new_ones unused place there own new moves origins) at_parts m)
       (find_none (λ (p : Mount ℕ). stands_at nat_eq (record { mount = p.number; node = place.node }) m)
       (rest_of at_parts) none)
@@ -105,8 +103,7 @@ module _ (world : World ℕ) (names : List TaskName) (is : IsWorld nat_eq world)
       )
 
   pub copy_there : (p o : Mount ℕ) → Among o origins → Among (copy p o) (made_at p)
-  copy_there p o m =
-      among-map (copy_at nat_eq (base world names is sealed_off new_ones unused place there own) new
+  copy_there p o m = among-map (copy_at nat_eq (base world names is sealed_off new_ones unused place there own) new
       (tree world names is sealed_off new_ones unused place there own new moves origins) at_parts p)
       (map twig origins) (twig o) (among-map twig origins o m)
 

@@ -30,14 +30,11 @@ has_one tasks n = list_any (λ (t : Task ℕ). nat_eq n t.namespace) tasks
 -- the part has the mounts of a namespace of theirs
 shown_in : (w : World ℕ) (names : List TaskName) (n : ℕ) → has_one (members w names) n ≡ true
     → mounts_of nat_eq (part_of nat_eq w names) n ≡ mounts_of nat_eq w n
-shown_in w names n own =
-    filter_both (keep w names theirs) (its_in n) (its_in n) w.mounts
-    (λ m at h. (
-      kept_whole w names theirs m
-          (or_left (is_own w names theirs m) (is_at nat_eq (roots_and_directories theirs) m) (its m h)),
-      h,
-    ))
-    (λ m y at h e. ⊎_elim (λ same. ap (its_in n) (sym same) ∙ h) (λ stub. ap (its_in n) (sym stub.0))
+shown_in w names n own = filter_both (keep w names theirs) (its_in n) (its_in n) w.mounts (λ m at h. (
+  kept_whole w names theirs m
+      (or_left (is_own w names theirs m) (is_at nat_eq (roots_and_directories theirs) m) (its m h)),
+  h,
+)) (λ m y at h e. ⊎_elim (λ same. ap (its_in n) (sym same) ∙ h) (λ stub. ap (its_in n) (sym stub.0))
     (kept_how w names theirs m y e))
   where
     theirs : List (Task ℕ)
@@ -73,53 +70,43 @@ module _ (world : World ℕ) (names : List TaskName) (is : IsWorld nat_eq world)
       where
         by : (o : Option ℕ) → source_of m.propagation ≡ o → then_some o part.master ≡ then_some o world.master
         by None e = refl
-        by (Some g) e =
-            master_same world names is sealed_off g (heard_by_own world names is sealed_off m n g e)
+        by (Some g) e = master_same world names is sealed_off g (heard_by_own world names is sealed_off m n g e)
 
     module _ (n : ℕ) (space : has_one theirs n ≡ true) where
       later_alike : mounts_of nat_eq later_part n ≡ mounts_of nat_eq later n
-      later_alike =
-          sym (shown_in later_part names n (ap (λ ts. has_one ts n) (same_members world names) ∙ space))
-          ∙ ap (λ (w : World ℕ). mounts_of nat_eq w n) same
-          ∙ shown_in later names n space
+      later_alike = sym (shown_in later_part names n (ap (λ ts. has_one ts n) (same_members world names) ∙ space))
+          ∙ ap (λ (w : World ℕ). mounts_of nat_eq w n) same ∙ shown_in later names n space
 
       -- the mounts of a namespace of theirs changed in both, or in none
       spaces_alike : same_mounts_in nat_eq part later_part n ≡ same_mounts_in nat_eq world later n
-      spaces_alike =
-          ap (λ l. same_list (same_mount nat_eq part later_part) l (mounts_of nat_eq later_part n))
+      spaces_alike = ap (λ l. same_list (same_mount nat_eq part later_part) l (mounts_of nat_eq later_part n))
           (space_in_part world names is sealed_off n space)
           ∙ ap (same_list (same_mount nat_eq part later_part) (mounts_of nat_eq world n)) later_alike
           ∙ same_list_alike (same_mount nat_eq part later_part) (same_mount nat_eq world later)
-          (mounts_of nat_eq world n) (mounts_of nat_eq later n)
-          (λ x y m l.
+          (mounts_of nat_eq world n) (mounts_of nat_eq later n) (λ x y m l.
           let first = among-from_filter (its_in n) world.mounts x m in
           let second = among-from_filter (its_in n) mounts y l in
-          compared x y
-          (above x (among-filter (is_own_mount nat_eq world names) world.mounts x first.0
+          compared x y (above x (among-filter (is_own_mount nat_eq world names) world.mounts x first.0
           (own_in world names is sealed_off n space x first.1)))
           (masters y second.0 (own_in world names is sealed_off n space y second.1)))
         where
           same_ones : Mount ℕ → Mount ℕ → Bool
-          same_ones x y =
-              nat_eq x.number y.number && same_option (same_location nat_eq) x.mount_point y.mount_point
+          same_ones x y = nat_eq x.number y.number && same_option (same_location nat_eq) x.mount_point y.mount_point
               && same_flags x.flags y.flags && same_propagation nat_eq x.propagation y.propagation
 
           compared : (x y : Mount ℕ) → master_above part x ≡ master_above world x
               → master_above later_part y ≡ master_above later y
               → same_mount nat_eq part later_part x y ≡ same_mount nat_eq world later x y
-          compared x y e f =
-              ap (λ o. same_ones x y && same_option nat_eq o (master_above later_part y)) e
+          compared x y e f = ap (λ o. same_ones x y && same_option nat_eq o (master_above later_part y)) e
               ∙ ap (λ o. same_ones x y && same_option nat_eq (master_above world x) o) f
 
     raised_alike : filter (spaces theirs) (map (raised_namespace nat_eq part later_part) part.namespaces)
         ≡ filter (spaces theirs) (map (raised_namespace nat_eq world later) world.namespaces)
-    raised_alike =
-        filter-map (spaces theirs) (raised_namespace nat_eq part later_part) part.namespaces
+    raised_alike = filter-map (spaces theirs) (raised_namespace nat_eq part later_part) part.namespaces
         (λ n. ap (has_one theirs) (raised_number part later_part n))
         ∙ ap (map (raised_namespace nat_eq part later_part)) (filter_again (spaces theirs) world.namespaces)
         ∙ map_alike (raised_namespace nat_eq part later_part) (raised_namespace nat_eq world later)
-        (filter (spaces theirs) world.namespaces)
-        (λ n m. ap (λ c. cond c n (record n { change = raised n.change }))
+        (filter (spaces theirs) world.namespaces) (λ n m. ap (λ c. cond c n (record n { change = raised n.change }))
         (spaces_alike n.number (among-from_filter (spaces theirs) world.namespaces n m).1))
         ∙ sym (filter-map (spaces theirs) (raised_namespace nat_eq world later) world.namespaces
         (λ n. ap (has_one theirs) (raised_number world later n)))
@@ -145,17 +132,14 @@ module _ (world : World ℕ) (names : List TaskName) (is : IsWorld nat_eq world)
 
       pub parts_left : part_of nat_eq (numbers_raised nat_eq world name [] later) names
           ≡ part_of nat_eq (numbers_raised nat_eq part name [] later_part) names
-      parts_left =
-          ap (λ w. part_of nat_eq w names) (left_so world later)
+      parts_left = ap (λ w. part_of nat_eq w names) (left_so world later)
           ∙ part_respaced later names name (map (raised_namespace nat_eq world later) world.namespaces)
           ∙ (λ i. record (sym same i) {
             namespaces = sym raised_alike i;
             tasks = raised_members_alike world names name i;
-          })
-          ∙ (λ i. record (part_of nat_eq later_part names) {
+          }) ∙ (λ i. record (part_of nat_eq later_part names) {
             namespaces = filter (spaces (sym (same_members world names) i))
                 (map (raised_namespace nat_eq part later_part) part.namespaces);
             tasks = filter (is_member_task names) (map (raised_task name) part.tasks);
-          })
-          ∙ sym (part_respaced later_part names name (map (raised_namespace nat_eq part later_part) part.namespaces))
+          }) ∙ sym (part_respaced later_part names name (map (raised_namespace nat_eq part later_part) part.namespaces))
           ∙ sym (ap (λ w. part_of nat_eq w names) (left_so part later_part))

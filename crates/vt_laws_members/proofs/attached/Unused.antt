@@ -42,8 +42,7 @@ module _ (world : World ℕ) (names : List TaskName) (is : IsWorld nat_eq world)
       )
 
   listed_mount : (m : Mount ℕ) → Among m world.mounts → IsListed m.filesystem
-  listed_mount m n =
-      listed_by m.filesystem m.root
+  listed_mount m n = listed_by m.filesystem m.root
       (and_parts (is_directory_node ((filesystem_numbered nat_eq world m.filesystem).files.tree.node m.root)) _
       (among_from_list_all (has_its_root nat_eq world) world.mounts is.roots m n)).0
 
@@ -53,12 +52,10 @@ module _ (world : World ℕ) (names : List TaskName) (is : IsWorld nat_eq world)
       let at = among-from_map (λ (x : Mount ℕ). x.number) world.mounts l.mount
       (among_numbers (map (λ (x : Mount ℕ). x.number) world.mounts) l.mount (located_well world names is l m)) in
       subst (λ (x : Mount ℕ). IsListed x.filesystem)
-      (sym (ap (mount_numbered nat_eq world) at.2 ∙ numbered world names is.mounts at.0 at.1))
-      (listed_mount at.0 at.1)
+      (sym (ap (mount_numbered nat_eq world) at.2 ∙ numbered world names is.mounts at.0 at.1)) (listed_mount at.0 at.1)
 
   listed_directly : (n : ℕ) → Among n (used_directly nat_eq world names) → IsListed n
-  listed_directly n m =
-      ⊎_elim
+  listed_directly n m = ⊎_elim
       (λ shown. let x = among-from_map (λ (x : Mount ℕ). x.filesystem) (own_mounts nat_eq world names) n shown in
       subst IsListed (sym x.2)
       (listed_mount x.0 (among-from_filter (is_own_mount nat_eq world names) world.mounts x.0 x.1).0))
@@ -80,11 +77,9 @@ module _ (world : World ℕ) (names : List TaskName) (is : IsWorld nat_eq world)
       by (Some overlay) e h =
           let layer = among-from_map (λ (layer : Layer ℕ). layer.filesystem)
           (option_to_list overlay.upper ++ option_to_list overlay.work) n h in
-          subst IsListed (sym layer.2)
-          (listed_by layer.0.filesystem layer.0.directory
+          subst IsListed (sym layer.2) (listed_by layer.0.filesystem layer.0.directory
           (layer_directory world names is (filesystem_numbered nat_eq world d)
-          (overlay_there world names is d overlay e)
-          layer.0
+          (overlay_there world names is d overlay e) layer.0
           (subst (λ o. Among layer.0 (overlay_or [] layers_of o)) (sym e)
           (among-append_left (option_to_list overlay.upper ++ option_to_list overlay.work) overlay.lowers layer.0
           layer.1))))
@@ -98,17 +93,14 @@ module _ (world : World ℕ) (names : List TaskName) (is : IsWorld nat_eq world)
     filesystem_unlike f m k = by (nat_eq f.number (fresh k)) refl
       where
         in_use : is_among nat_eq f.number (numbers_in_use world) ≡ true
-        in_use =
-            is_among_numbers (numbers_in_use world) f.number
+        in_use = is_among_numbers (numbers_in_use world) f.number
             (among-append_left (flat_map used_by_mount world.mounts ++ flat_map used_by_filesystem world.filesystems)
             (map (λ (n : Namespace ℕ). n.number) world.namespaces) f.number
             (among-append_right (flat_map used_by_mount world.mounts) (flat_map used_by_filesystem world.filesystems)
-            f.number
-            (among-flat_map used_by_filesystem world.filesystems f f.number m (inl refl))))
+            f.number (among-flat_map used_by_filesystem world.filesystems f f.number m (inl refl))))
 
         by : (b : Bool) → nat_eq f.number (fresh k) ≡ b → b ≡ false
-        by true e =
-            absurd (true≢false (sym in_use ∙ ap (λ n. is_among nat_eq n (numbers_in_use world))
+        by true e = absurd (true≢false (sym in_use ∙ ap (λ n. is_among nat_eq n (numbers_in_use world))
             (eqb-true f.number (fresh k) e) ∙ serves.unused k))
         by false e = refl
 
@@ -119,8 +111,7 @@ module _ (world : World ℕ) (names : List TaskName) (is : IsWorld nat_eq world)
         ap (λ m. nat_eq m (fresh k)) (sym f.2) ∙ filesystem_unlike f.0 f.1 k
 
     pub group_new : (k : ℕ) → world.master (fresh k) ≡ None
-    group_new k =
-        (all_in_use world is).groups (fresh k)
+    group_new k = (all_in_use world is).groups (fresh k)
         (none_from_among (is_member_of nat_eq (fresh k)) world.mounts (λ m n. by m n (is_member_of nat_eq
         (fresh k) m) refl))
       where
@@ -128,14 +119,10 @@ module _ (world : World ℕ) (names : List TaskName) (is : IsWorld nat_eq world)
         sourced m e = inr (subst (λ o. Among (fresh k) (option_to_list o)) (sym e) (inl refl))
 
         by : (m : Mount ℕ) → Among m world.mounts → (b : Bool) → is_member_of nat_eq (fresh k) m ≡ b → b ≡ false
-        by m n true e =
-            absurd (true≢false
-            (sym (is_among_numbers (numbers_in_use world) (fresh k)
+        by m n true e = absurd (true≢false (sym (is_among_numbers (numbers_in_use world) (fresh k)
             (among-append_left (flat_map used_by_mount world.mounts ++ flat_map used_by_filesystem world.filesystems)
             (map (λ (n : Namespace ℕ). n.number) world.namespaces) (fresh k)
             (among-append_left (flat_map used_by_mount world.mounts) (flat_map used_by_filesystem world.filesystems)
-            (fresh k)
-            (among-flat_map used_by_mount world.mounts m (fresh k) n
-            (sourced m (group_source m.propagation (fresh k) (member_group (fresh k) m e)))))))
-            ∙ serves.unused k))
+            (fresh k) (among-flat_map used_by_mount world.mounts m (fresh k) n
+            (sourced m (group_source m.propagation (fresh k) (member_group (fresh k) m e))))))) ∙ serves.unused k))
         by m n false e = refl

@@ -69,12 +69,9 @@ module _ (world : World ℕ) (names : List TaskName) (name : TaskName) (call : C
   -- by its permit
   fit_ends : only_looks call ≡ false → ((task : Task ℕ) → task_called world name ≡ Some task → (permit : Permit ℕ)
       → judge_in nat_eq fresh world task call ≡ Ok permit → Fits call permit
-      → EndsAlike world names name call fresh fresh)
-      → EndsAlike world names name call fresh fresh
-  fit_ends looks ends =
-      by_permit world names name call it fresh fresh looks (λ task called permit judged.
-      ends task called permit judged
-      (permits_fit world fresh task call permit
+      → EndsAlike world names name call fresh fresh) → EndsAlike world names name call fresh fresh
+  fit_ends looks ends = by_permit world names name call it fresh fresh looks (λ task called permit judged.
+      ends task called permit judged (permits_fit world fresh task call permit
       (calls_are_granted nat_eq (looks_of nat_eq world) (overfills nat_eq fresh world task) task call permit judged)))
 
 -- on a plain filesystem, or through an overlay
@@ -152,8 +149,7 @@ each_call_ends_alike world names name (LinkTo old new) it fresh serves =
     each_link_ends_alike world names name old new it fresh serves
 each_call_ends_alike world names name (Unlink path) it fresh serves =
     each_unlink_ends_alike world names name path it fresh serves
-each_call_ends_alike world names name (Rmdir path) it fresh serves =
-    each_rmdir world names name path it fresh serves
+each_call_ends_alike world names name (Rmdir path) it fresh serves = each_rmdir world names name path it fresh serves
 each_call_ends_alike world names name (Rename old new) it fresh serves =
     each_rename world names name old new it fresh serves
 each_call_ends_alike world names name (Chmod path mode) it fresh serves =
@@ -176,11 +172,9 @@ each_call_ends_alike world names name (Umask mode) it fresh serves =
     umasks_end_alike world names name mode it fresh fresh
 each_call_ends_alike world names name (Drop which) it fresh serves =
     drops_end_alike world names name which it fresh fresh
-each_call_ends_alike world names name (Fork words) it fresh serves =
-    each_fork world names name words it fresh serves
+each_call_ends_alike world names name (Fork words) it fresh serves = each_fork world names name words it fresh serves
 each_call_ends_alike world names name Exit it fresh serves = exits_end_alike world names name it fresh fresh
-each_call_ends_alike world names name Unshare it fresh serves =
-    unshares_end_alike world names name it fresh serves
+each_call_ends_alike world names name Unshare it fresh serves = unshares_end_alike world names name it fresh serves
 each_call_ends_alike world names name (Setns member) it fresh serves =
     setns_ends_alike world names name member it fresh fresh
 each_call_ends_alike world names name (MountPlain path flags) it fresh serves =

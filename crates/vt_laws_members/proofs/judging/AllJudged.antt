@@ -50,8 +50,7 @@ use Rattle.vt_laws_members.proofs.judging.SeenInPart.{OnTheirs, directory_theirs
 
 -- who has a name of theirs is one of them
 pub called_alike : (names : List TaskName) (name : TaskName) → is_among same_name name names ≡ true
-    → (tasks : List (Task ℕ))
-    → find (λ (task : Task ℕ). same_name name task.name) (filter (is_member_task names) tasks)
+    → (tasks : List (Task ℕ)) → find (λ (task : Task ℕ). same_name name task.name) (filter (is_member_task names) tasks)
     ≡ find (λ (task : Task ℕ). same_name name task.name) tasks
 called_alike names name theirs [] = refl
 called_alike names name theirs (task ∷ rest) =
@@ -59,12 +58,10 @@ called_alike names name theirs (task ∷ rest) =
   where
     by : (a b : Bool) → same_name name task.name ≡ a → is_member_task names task ≡ b
         → find (λ (t : Task ℕ). same_name name t.name) (filter (is_member_task names) rest)
-        ≡ find (λ (t : Task ℕ). same_name name t.name) rest
-        → find (λ (t : Task ℕ). same_name name t.name)
+        ≡ find (λ (t : Task ℕ). same_name name t.name) rest → find (λ (t : Task ℕ). same_name name t.name)
         (cond b (task ∷ filter (is_member_task names) rest) (filter (is_member_task names) rest))
         ≡ cond a (Some task) (find (λ (t : Task ℕ). same_name name t.name) rest)
-    by true true e f later =
-        ap (λ b. cond b (Some task)
+    by true true e f later = ap (λ b. cond b (Some task)
         (find (λ (t : Task ℕ). same_name name t.name) (filter (is_member_task names) rest))) e
     by true false e f later =
         absurd (true≢false (sym theirs ∙ ap (λ n. is_among same_name n names) (same_task_name name task.name e) ∙ f))
@@ -115,8 +112,7 @@ module _ (world : World ℕ) (names : List TaskName) (is : IsWorld nat_eq world)
 
   pub walks : Alike one other task (λ number. own number ≡ true)
   walks =
-      let alike = members_see_alike world names task is
-      (contains_from_among (members world names) task member) in
+      let alike = members_see_alike world names task is (contains_from_among (members world names) task member) in
       record {
         root = alike.root;
         node = alike.node;
@@ -132,8 +128,7 @@ module _ (world : World ℕ) (names : List TaskName) (is : IsWorld nat_eq world)
   pub judges : JudgesAlike one other task own uses
   judges = record {
     walks = walks;
-    directory = theirs_test world names is.mounts task.directory.mount
-        (directory_theirs world names is task member);
+    directory = theirs_test world names is.mounts task.directory.mount (directory_theirs world names is task member);
     rules = rules;
     seen = λ number e. theirs_used world names is (record { mount = number; node = 0 })
         (theirs_from world names is.mounts number e);
@@ -155,8 +150,7 @@ module _ (world : World ℕ) (names : List TaskName) (is : IsWorld nat_eq world)
   pwrite_alike number offset bytes = by (descriptor_numbered task number) refl
     where
       wrote : Looks ℕ → Descriptor ℕ → Judgement ℕ
-      wrote looks descriptor =
-          unless (pwrite_rules looks descriptor.location offset bytes)
+      wrote looks descriptor = unless (pwrite_rules looks descriptor.location offset bytes)
           (Ok (ToWritePart descriptor.location offset bytes))
 
       of_found : Looks ℕ → Option (Descriptor ℕ) → Judgement ℕ
@@ -182,8 +176,7 @@ module _ (world : World ℕ) (names : List TaskName) (is : IsWorld nat_eq world)
   unfolding setns_permit
   setns_alike name theirs =
       ap (λ o. and_then (ok_or (option_map (λ (t : Task ℕ). t.namespace) o) (denial S2)) (λ namespace.
-      unless ((lacks task cap_sys_admin || lacks task cap_sys_chroot, K1) ∷ [])
-      (Ok (ToEnterNamespace namespace))))
+      unless ((lacks task cap_sys_admin || lacks task cap_sys_chroot, K1) ∷ []) (Ok (ToEnterNamespace namespace))))
       (sym (called_alike names name theirs world.tasks))
 
   renames : RenamesAlike one other own
@@ -198,8 +191,7 @@ module _ (world : World ℕ) (names : List TaskName) (is : IsWorld nat_eq world)
   -- a mount of the task's namespace is theirs
   pub owned : (here : Location ℕ) → is_elsewhere nat_eq one task here ≡ false
       → is_own world names (members world names) (mount_at nat_eq world here) ≡ true
-  owned here e =
-      in_own world names is task member (mount_at nat_eq world here)
+  owned here e = in_own world names is task member (mount_at nat_eq world here)
       (by (holds_of (nat_eq task.namespace) (mount_at nat_eq world here).namespace) e)
     where
       by : (b : Bool) → not b ≡ false → b ≡ true
@@ -209,8 +201,7 @@ module _ (world : World ℕ) (names : List TaskName) (is : IsWorld nat_eq world)
   trees : TreesAlike one other task own
   trees = record {
     busy = λ here e apart. let at = on here e in
-        subst (λ n. is_busy nat_eq world n ≡ is_busy nat_eq part n) at.2
-        (busy_alike world names is sealed_off at.0 at.1
+        subst (λ n. is_busy nat_eq world n ≡ is_busy nat_eq part n) at.2 (busy_alike world names is sealed_off at.0 at.1
         (ap (is_own world names (members world names)) (sym (its_mount world names is.mounts here.mount at))
         ∙ owned here apart));
     tree = λ here e. let at = on here e in
@@ -282,7 +273,5 @@ module _ (world : World ℕ) (names : List TaskName) (is : IsWorld nat_eq world)
   judged overfills ListMounts t = refl
 
 pub members_are_judged_alike : MembersAreJudgedAlike
-members_are_judged_alike world names task call is overfills =
-    judged world names is.is is.sealed_off task
-    (among_from_contains (members world names) task is.member) overfills call
-    is.among_them
+members_are_judged_alike world names task call is overfills = judged world names is.is is.sealed_off task
+    (among_from_contains (members world names) task is.member) overfills call is.among_them

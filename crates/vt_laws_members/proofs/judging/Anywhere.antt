@@ -43,15 +43,13 @@ module _ (world : World ℕ) (names : List TaskName) (is : IsWorld nat_eq world)
     shows = (mount_at nat_eq world point).filesystem
 
     below_placed : (mount_at nat_eq world point).namespace ≡ Some n
-    below_placed =
-        sym (namespace_below world mount.number point
+    below_placed = sym (namespace_below world mount.number point
         (among_from_all (λ (x : Mount ℕ). Stands nat_eq world x.number) world.mounts is.mounts.standing mount there)
         (ap (λ (x : Mount ℕ). x.mount_point) (numbered world names is.mounts mount there) ∙ at))
         ∙ ap (λ (x : Mount ℕ). x.namespace) (numbered world names is.mounts mount there) ∙ placed
 
     below_there : Among (mount_at nat_eq world point) world.mounts
-    below_there =
-        ⊎_elim (λ found. found)
+    below_there = ⊎_elim (λ found. found)
         (λ none. none_is_some n (sym (ap (λ (x : Mount ℕ). x.namespace) none) ∙ below_placed))
         (found_or_none world.mounts point.mount)
 
@@ -63,18 +61,15 @@ module _ (world : World ℕ) (names : List TaskName) (is : IsWorld nat_eq world)
         (and_parts (not (list_any (λ (m : Mount ℕ). nat_eq shows m.filesystem) (other_mounts nat_eq world names)))
         (not (list_any (λ (l : Location ℕ). nat_eq shows (mount_at nat_eq world l).filesystem)
         (locations (outsiders world names)))) free.0).0 in
-        true≢false
-        (sym (any_from_among (λ (m : Mount ℕ). nat_eq shows m.filesystem) (other_mounts nat_eq world names)
+        true≢false (sym (any_from_among (λ (m : Mount ℕ). nat_eq shows m.filesystem) (other_mounts nat_eq world names)
         (mount_at nat_eq world point)
         (among-filter (λ (m : Mount ℕ). holds_of (λ k. not (is_own_namespace nat_eq world names k)) m.namespace)
         world.mounts (mount_at nat_eq world point) below_there
         (ap (holds_of (λ k. not (is_own_namespace nat_eq world names k))) below_placed ∙ ap not outside))
-        (eq-eqb shows shows refl))
-        ∙ none)
+        (eq-eqb shows shows refl)) ∙ none)
 
     whole : uses shows ≡ true → wholly_locked nat_eq world names shows ≡ true
-    whole used =
-        ⊎_elim (λ alone. absurd (not_alone alone)) (λ locked. locked)
+    whole used = ⊎_elim (λ alone. absurd (not_alone alone)) (λ locked. locked)
         (or_cases (used_alone nat_eq world names shows) (wholly_locked nat_eq world names shows)
         (used_are_free world names sealed_off shows (among_numbers (used_filesystems nat_eq world names) shows used)))
 
@@ -89,19 +84,15 @@ module _ (world : World ℕ) (names : List TaskName) (is : IsWorld nat_eq world)
   module _ (merged : Filesystem ℕ) (there : Among merged world.filesystems) (overlay : Overlay ℕ)
       (e : merged.overlay ≡ Some overlay) (upper : Layer ℕ) (its : Among upper (upper_and_work overlay)) where
     upper_apart : overlaps_one_of nat_eq world (live_lowers nat_eq world) upper ≡ false
-    upper_apart =
-        none_among (overlaps_one_of nat_eq world (live_lowers nat_eq world))
-        (live_upper_and_work world) is.overlays.lowers_apart
-        upper
+    upper_apart = none_among (overlaps_one_of nat_eq world (live_lowers nat_eq world))
+        (live_upper_and_work world) is.overlays.lowers_apart upper
         (among-flat_map (of_overlay [] upper_and_work) (overlays world) merged upper
         (among-filter is_overlay world.filesystems merged there (ap is_some e))
         (subst (λ o. Among upper (overlay_or [] upper_and_work o)) (sym e) its))
 
     upper_directory : is_directory_node
-        ((filesystem_numbered nat_eq world upper.filesystem).files.tree.node upper.directory)
-        ≡ true
-    upper_directory =
-        layer_directory world names is merged there upper
+        ((filesystem_numbered nat_eq world upper.filesystem).files.tree.node upper.directory) ≡ true
+    upper_directory = layer_directory world names is merged there upper
         (subst (λ o. Among upper (overlay_or [] layers_of o)) (sym e)
         (among-append_left (option_to_list overlay.upper ++ option_to_list overlay.work) overlay.lowers upper its))
 
@@ -111,8 +102,7 @@ module _ (world : World ℕ) (names : List TaskName) (is : IsWorld nat_eq world)
         let tree = tree_there world names is sealed_off upper.filesystem upper.directory upper_directory in
         let object = directory_used (filesystem_numbered nat_eq world upper.filesystem).files.tree upper.directory
         upper_directory in
-        true≢false
-        (sym (any_from_among (λ object. lies_or_counts_under nat_eq world upper.filesystem object upper
+        true≢false (sym (any_from_among (λ object. lies_or_counts_under nat_eq world upper.filesystem object upper
         && list_any (lies_or_counts_under nat_eq world upper.filesystem object) (live_lowers nat_eq world))
         (filesystem_numbered nat_eq world upper.filesystem).files.numbers upper.directory
         (among_numbers (filesystem_numbered nat_eq world upper.filesystem).files.numbers upper.directory
@@ -127,14 +117,12 @@ module _ (world : World ℕ) (names : List TaskName) (is : IsWorld nat_eq world)
         (any_from_among (lies_or_counts_under nat_eq world upper.filesystem upper.directory)
         (live_lowers nat_eq world) how.layer
         (among-flat_map (of_overlay [] (λ (o : Overlay ℕ). o.lowers)) (overlays world) how.merged how.layer how.overlaid
-        how.lower)
-        (or_left (lies_in_layer nat_eq world upper.filesystem upper.directory how.layer) _
+        how.lower) (or_left (lies_in_layer nat_eq world upper.filesystem upper.directory how.layer) _
         (and_from (nat_eq upper.filesystem how.layer.filesystem)
         (is_under nat_eq (filesystem_numbered nat_eq world upper.filesystem).files how.layer.directory upper.directory)
         (eq-eqb upper.filesystem how.layer.filesystem how.inside)
         (subst (λ d. is_under nat_eq (filesystem_numbered nat_eq world upper.filesystem).files d upper.directory ≡ true)
-        how.at_root (how.under upper.directory object)))))))
-        ∙ upper_apart)
+        how.at_root (how.under upper.directory object))))))) ∙ upper_apart)
 
   module _ (here : Location ℕ) (own : OnTheirs world names is here)
       (free : is_locked_at nat_eq world here ≡ false) where
@@ -169,12 +157,9 @@ module _ (world : World ℕ) (names : List TaskName) (is : IsWorld nat_eq world)
       not_here filesystem node f k h =
           let at = at_point filesystem node h in
           let same : (mount_at nat_eq world at.0).filesystem ≡ number = at.3 ∙ f in
-          true≢false
-          (sym (ap (λ a. is_locked nat_eq world number a) (sym (at.2 ∙ k))
-          ∙ ap (λ g. is_locked nat_eq world g at.0.node) (sym same)
-          ∙ locked mount there n placed outside at.0 at.1
-          (ap uses same ∙ theirs_used world names is here own))
-          ∙ free)
+          true≢false (sym (ap (λ a. is_locked nat_eq world number a) (sym (at.2 ∙ k))
+          ∙ ap (λ g. is_locked nat_eq world g at.0.node) (sym same) ∙ locked mount there n placed outside at.0 at.1
+          (ap uses same ∙ theirs_used world names is here own)) ∙ free)
 
       not_above : (overlay : Overlay ℕ) → (filesystem_at nat_eq world here).overlay ≡ Some overlay
           → (p : ℕ × ℕ) → Among p (upper_points world (filesystem_at nat_eq world here) overlay here.node)
@@ -194,8 +179,7 @@ module _ (world : World ℕ) (names : List TaskName) (is : IsWorld nat_eq world)
               (among-append_left (option_to_list overlay.upper) (option_to_list overlay.work) upper
               (subst (λ o. Among upper (option_to_list o)) (sym u) (inl refl)))
               (subst (λ g. wholly_locked nat_eq world names g ≡ true) shows
-              (whole mount there n placed outside at.0 at.1
-              (ap uses shows
+              (whole mount there n placed outside at.0 at.1 (ap uses shows
               ∙ upper_used world names is here own overlay e upper
               (subst (λ o. Among upper (option_to_list o)) (sym u) (inl refl)))))
 
@@ -208,18 +192,15 @@ module _ (world : World ℕ) (names : List TaskName) (is : IsWorld nat_eq world)
       none_stands : stands_on_one world names is world (points_of nat_eq world here) mount ≡ true → ⊥
       none_stands h =
           let at = any_among (λ (p : ℕ × ℕ). is_point nat_eq world p.0 p.1 mount) (points_of nat_eq world here) h in
-          ⊎_elim
-          (λ first. not_here at.0.0 at.0.1
+          ⊎_elim (λ first. not_here at.0.0 at.0.1
           (ap (λ (p : ℕ × ℕ). p.0) first ∙ number_of_filesystem world number) (ap (λ (p : ℕ × ℕ). p.1) first) at.2)
           (λ rest. by (filesystem_at nat_eq world here).overlay refl at.0 rest at.2) at.1
         where
           by : (o : Option (Overlay ℕ)) → (filesystem_at nat_eq world here).overlay ≡ o → (p : ℕ × ℕ)
               → Among p (of_overlay []
               (λ (overlay : Overlay ℕ). upper_points world (filesystem_at nat_eq world here) overlay
-              here.node) (filesystem_at nat_eq world here))
-              → is_point nat_eq world p.0 p.1 mount ≡ true → ⊥
-          by None e p m h =
-              absurd (subst (λ o. Among p (overlay_or [] (λ (overlay : Overlay ℕ).
+              here.node) (filesystem_at nat_eq world here)) → is_point nat_eq world p.0 p.1 mount ≡ true → ⊥
+          by None e p m h = absurd (subst (λ o. Among p (overlay_or [] (λ (overlay : Overlay ℕ).
               upper_points world (filesystem_at nat_eq world here) overlay here.node) o)) e m)
           by (Some overlay) e p m h =
               not_above overlay e p (subst (λ o. Among p (overlay_or [] (λ (overlay : Overlay ℕ).
@@ -227,10 +208,8 @@ module _ (world : World ℕ) (names : List TaskName) (is : IsWorld nat_eq world)
 
     pub anywhere_alike : list_any (λ (mount : Mount ℕ). is_some mount.namespace) (mounts_on nat_eq world here)
         ≡ list_any (λ (mount : Mount ℕ). is_some mount.namespace) (mounts_on nat_eq (part_of nat_eq world names) here)
-    anywhere_alike =
-        found_alike world names is (λ (mount : Mount ℕ). is_some mount.namespace)
-        (λ mount none. ap is_some none) here own
-        (λ mount m on attached. by mount m on mount.namespace refl attached)
+    anywhere_alike = found_alike world names is (λ (mount : Mount ℕ). is_some mount.namespace)
+        (λ mount none. ap is_some none) here own (λ mount m on attached. by mount m on mount.namespace refl attached)
       where
         by : (mount : Mount ℕ) → Among mount world.mounts
             → stands_on_one world names is world (points_of nat_eq world here) mount ≡ true → (o : Option ℕ)

@@ -64,8 +64,7 @@ module _ (world : World ℕ) (names : List TaskName) (is : IsWorld nat_eq world)
         where
           which : (b : Bool) → is_own_namespace nat_eq world names n ≡ b → owns receiver ≡ true
           which true its = ap (holds_of (is_own_namespace nat_eq world names)) f ∙ its
-          which false other =
-              absurd (true≢false
+          which false other = absurd (true≢false
               (sym hears ∙ no_event_of_theirs_reaches_others world names mount receiver group apart
               (contains_from_among (own_mounts nat_eq world names) mount
               (among-filter (is_own_mount nat_eq world names) world.mounts mount m own))
@@ -89,8 +88,7 @@ module _ (world : World ℕ) (names : List TaskName) (is : IsWorld nat_eq world)
       by : (o : Option ℕ) → group_of mount.propagation ≡ o
           → unwrap_or (option_map (receivers nat_eq part) o) [] ≡ unwrap_or (option_map (receivers nat_eq world) o) []
       by None e = refl
-      by (Some group) e =
-          their_groups_receive_alike world names mount group apart
+      by (Some group) e = their_groups_receive_alike world names mount group apart
           (contains_from_among (own_mounts nat_eq world names) mount
           (among-filter (is_own_mount nat_eq world names) world.mounts mount m own)) e
 
@@ -149,19 +147,16 @@ module _ (world : World ℕ) (names : List TaskName) (is : IsWorld nat_eq world)
       let below = below_own mount point m own e in
       let parent : Mount ℕ = mount_at nat_eq world point in
       ap (λ (x : Mount ℕ). by_parent part x (is_shared x.propagation))
-      (same_mount world names is.mounts point.mount below.0)
-      ∙ by parent below.1 below.2 (is_shared parent.propagation)
+      (same_mount world names is.mounts point.mount below.0) ∙ by parent below.1 below.2 (is_shared parent.propagation)
     where
       by_parent : World ℕ → Mount ℕ → Bool → List ℕ
-      by_parent w parent true =
-          map (λ (gone : Mount ℕ). gone.number)
+      by_parent w parent true = map (λ (gone : Mount ℕ). gone.number)
           (filter_map (goes_at nat_eq w point.node) (receivers_of nat_eq w parent))
       by_parent w parent false = mount.number ∷ []
 
       by : (parent : Mount ℕ) → Among parent world.mounts → owns parent ≡ true → (b : Bool)
           → by_parent part parent b ≡ by_parent world parent b
-      by parent there its true =
-          ap (map (λ (gone : Mount ℕ). gone.number))
+      by parent there its true = ap (map (λ (gone : Mount ℕ). gone.number))
           (ap (filter_map (goes_at nat_eq part point.node)) (receivers_alike parent there its)
           ∙ filter_map_same (goes_at nat_eq part point.node) (goes_at nat_eq world point.node)
           (receivers_of nat_eq world parent) (λ receiver at.
@@ -182,8 +177,7 @@ module _ (world : World ℕ) (names : List TaskName) (is : IsWorld nat_eq world)
 
       which : (child : Mount ℕ) → child_at nat_eq world.mounts at ≡ Some child → (b : Bool) → when b child ≡ Some gone
           → Among gone world.mounts × (owns gone ≡ true)
-      which child f true e =
-          subst (λ (x : Mount ℕ). Among x world.mounts × (owns x ≡ true)) (same_Some child gone e)
+      which child f true e = subst (λ (x : Mount ℕ). Among x world.mounts × (owns x ≡ true)) (same_Some child gone e)
           (standing_own at child (own_theirs world names is receiver m own) f)
       which child f false e = none_is_some gone e
 
@@ -206,8 +200,7 @@ module _ (world : World ℕ) (names : List TaskName) (is : IsWorld nat_eq world)
           → Among number (going_from nat_eq world mount point b)
           → (gone : Mount ℕ) × Among gone world.mounts × (owns gone ≡ true) × (gone.number ≡ number)
       which point e true at =
-          let from = among-from_map (λ (gone : Mount ℕ). gone.number)
-          (filter_map (goes_at nat_eq world point.node)
+          let from = among-from_map (λ (gone : Mount ℕ). gone.number) (filter_map (goes_at nat_eq world point.node)
           (receivers_of nat_eq world (mount_at nat_eq world point))) number at in
           let gone = among-from_filter_map (goes_at nat_eq world point.node)
           (receivers_of nat_eq world (mount_at nat_eq world point)) from.0 from.1 in
@@ -227,22 +220,17 @@ module _ (world : World ℕ) (names : List TaskName) (is : IsWorld nat_eq world)
   -- no other task uses a location on a mount of theirs
   pub none_located : (location : Location ℕ) → Among location (locations (outsiders world names))
       → owns (mount_at nat_eq world location) ≡ false
-  none_located location m =
-      not-true (is_on_own_mount nat_eq world names location)
+  none_located location m = not-true (is_on_own_mount nat_eq world names location)
       (among_from_list_all (λ l. not (is_on_own_mount nat_eq world names l)) (locations (outsiders world names))
       (apart_if_sealed world names is sealed_off).locations location m)
 
-  used_alike : (gone : List ℕ)
-      → ((number : ℕ) → Among number gone
+  used_alike : (gone : List ℕ) → ((number : ℕ) → Among number gone
       → (mount : Mount ℕ) × Among mount world.mounts × (owns mount ≡ true) × (mount.number ≡ number))
       → is_used nat_eq world gone ≡ is_used nat_eq part gone
-  used_alike gone own =
-      same_truth (is_used nat_eq world gone) (is_used nat_eq part gone)
-      (λ h.
+  used_alike gone own = same_truth (is_used nat_eq world gone) (is_used nat_eq part gone) (λ h.
       let at = any_among (λ (l : Location ℕ). is_among nat_eq l.mount gone) (all_locations world) h in
       let from = among-from_flat_map locations_of world.tasks at.0 at.1 in
-      by at.0 from.0 from.1 from.2 at.2 (is_member_task names from.0) refl)
-      (λ h.
+      by at.0 from.0 from.1 from.2 at.2 (is_member_task names from.0) refl) (λ h.
       let at = any_among (λ (l : Location ℕ). is_among nat_eq l.mount gone) (all_locations part) h in
       let from = among-from_flat_map locations_of theirs at.0 at.1 in
       any_from_among (λ (l : Location ℕ). is_among nat_eq l.mount gone) (all_locations world) at.0
@@ -258,22 +246,17 @@ module _ (world : World ℕ) (names : List TaskName) (is : IsWorld nat_eq world)
           (among-filter (is_member_task names) world.tasks task there member) at) on
       by location task there at on false member =
           let its = own location.mount (among_numbers gone location.mount on) in
-          absurd (true≢false
-          (sym its.2 ∙ ap owns (sym (numbered world names is.mounts its.0 its.1))
-          ∙ ap (λ n. owns (mount_numbered nat_eq world n)) its.3
-          ∙ none_located location
+          absurd (true≢false (sym its.2 ∙ ap owns (sym (numbered world names is.mounts its.0 its.1))
+          ∙ ap (λ n. owns (mount_numbered nat_eq world n)) its.3 ∙ none_located location
           (among-flat_map locations_of (outsiders world names) task location
           (among-filter (λ t. not (is_member_task names t)) world.tasks task there (ap not member)) at)))
 
   child_alike : (number : ℕ) → On number → has_child nat_eq world number ≡ has_child nat_eq part number
-  child_alike number own =
-      same_truth (has_child nat_eq world number) (has_child nat_eq part number)
-      (λ h.
+  child_alike number own = same_truth (has_child nat_eq world number) (has_child nat_eq part number) (λ h.
       let at = any_among (stands_on nat_eq number) world.mounts h in
       any_from_among (stands_on nat_eq number) part.mounts at.0
       (among-filter_map (keep world names theirs) world.mounts at.0 at.0 at.1
-      (own_whole world names is at.0 (child_own world names is number at.0 own at.1 at.2))) at.2)
-      (λ h.
+      (own_whole world names is at.0 (child_own world names is number at.0 own at.1 at.2))) at.2) (λ h.
       let at = any_among (stands_on nat_eq number) part.mounts h in
       let from = among-from_filter_map (keep world names theirs) world.mounts at.0 at.1 in
       any_from_among (stands_on nat_eq number) world.mounts from.0 from.1
@@ -287,10 +270,8 @@ module _ (world : World ℕ) (names : List TaskName) (is : IsWorld nat_eq world)
       let it = own_theirs world names is mount m own in
       let itself = numbered world names is.mounts mount m in
       ap (λ b. b || is_used nat_eq world (going nat_eq world (mount_numbered nat_eq world mount.number)))
-      (child_alike mount.number it)
-      ∙ ap (λ b. has_child nat_eq part mount.number || b)
+      (child_alike mount.number it) ∙ ap (λ b. has_child nat_eq part mount.number || b)
       (ap (λ x. is_used nat_eq world (going nat_eq world x)) itself
       ∙ used_alike (going nat_eq world mount) (λ number at. going_own mount number m own at)
-      ∙ ap (is_used nat_eq part) (sym (going_alike mount m own))
-      ∙ ap (λ x. is_used nat_eq part (going nat_eq part x))
+      ∙ ap (is_used nat_eq part) (sym (going_alike mount m own)) ∙ ap (λ x. is_used nat_eq part (going nat_eq part x))
       (sym (same_mount world names is.mounts mount.number it ∙ itself)))

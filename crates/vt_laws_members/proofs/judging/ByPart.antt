@@ -71,8 +71,7 @@ module _ (world : World ℕ) (names : List TaskName) (is : IsWorld nat_eq world)
       → Agree StandsThere (destination_walk nat_eq one task path) (destination_walk nat_eq one task path)
   at_destination path = (
     refl,
-    (destination_agrees one
-        (looks_of nat_eq part) task On alike.walks alike.directory alike.rules.removed path).1,
+    (destination_agrees one (looks_of nat_eq part) task On alike.walks alike.directory alike.rules.removed path).1,
   )
 
   theirs : (here : Location ℕ) → On here.mount → IsTheirs world names is.mounts here.mount
@@ -90,35 +89,28 @@ module _ (world : World ℕ) (names : List TaskName) (is : IsWorld nat_eq world)
   plain_limited : (path : List ℕ) (flags : MountFlags)
       → mount_plain_permit nat_eq one full task path flags ≡ mount_plain_permit nat_eq one full_too task path flags
   unfolding mount_plain_permit
-  plain_limited path flags =
-      ap (unless (admin_rules task))
+  plain_limited path flags = ap (unless (admin_rules task))
       (judged_alike StandsThere (destination_walk nat_eq one task path) (destination_walk nat_eq one task path)
       (λ here. attach_permit (new_mount_rules nat_eq one task here.location) full (ToMountPlain here.location flags))
       (λ here. attach_permit (new_mount_rules nat_eq one task here.location) full_too
-      (ToMountPlain here.location flags))
-      (at_destination path)
-      (λ here on.
+      (ToMountPlain here.location flags)) (at_destination path) (λ here on.
       asked_later (is_elsewhere nat_eq one task here.location) (full (ToMountPlain here.location flags))
       (full_too (ToMountPlain here.location flags)) (λ b. (b, M9) ∷ []) (Ok (ToMountPlain here.location flags))
       (λ apart. plain_overfills world names is sealed_off here.location (there here.location on)
-      (its here.location apart)
-      fresh other task flags)))
+      (its here.location apart) fresh other task flags)))
 
   overlay_limited_by : (here : Location ℕ) → On here.mount → (options : Option OverlayWords) (flags : MountFlags)
       → overlay_permit_by nat_eq one full task here options flags
       ≡ overlay_permit_by nat_eq one full_too task here options flags
   overlay_limited_by here on None flags = refl
-  overlay_limited_by here on (Some words) flags =
-      λ i. and_then (layers_walked nat_eq one task words) (λ layers.
+  overlay_limited_by here on (Some words) flags = λ i. and_then (layers_walked nat_eq one task words) (λ layers.
       unless (layer_rules nat_eq one layers (overlay_at one task layers)) (same layers i))
     where
-      same : (layers : LayerLocations ℕ)
-          → attach_permit (new_mount_rules nat_eq one task here) full
+      same : (layers : LayerLocations ℕ) → attach_permit (new_mount_rules nat_eq one task here) full
           (ToMountOverlay here (overlay_at one task layers) flags)
           ≡ attach_permit (new_mount_rules nat_eq one task here) full_too
           (ToMountOverlay here (overlay_at one task layers) flags)
-      same layers =
-          asked_later (is_elsewhere nat_eq one task here)
+      same layers = asked_later (is_elsewhere nat_eq one task here)
           (full (ToMountOverlay here (overlay_at one task layers) flags))
           (full_too (ToMountOverlay here (overlay_at one task layers) flags)) (λ b. (b, M9) ∷ [])
           (Ok (ToMountOverlay here (overlay_at one task layers) flags))
@@ -129,27 +121,22 @@ module _ (world : World ℕ) (names : List TaskName) (is : IsWorld nat_eq world)
       → mount_overlay_permit nat_eq one full task path options flags
       ≡ mount_overlay_permit nat_eq one full_too task path options flags
   unfolding mount_overlay_permit
-  overlay_limited path options flags =
-      ap (unless (admin_rules task))
+  overlay_limited path options flags = ap (unless (admin_rules task))
       (judged_alike StandsThere (destination_walk nat_eq one task path) (destination_walk nat_eq one task path)
       (λ here. overlay_permit_by nat_eq one full task here.location options flags)
       (λ here. overlay_permit_by nat_eq one full_too task here.location options flags)
       (at_destination path) (λ here on. overlay_limited_by here.location on options flags))
 
-  bind_limited : (source path : List ℕ) (recursive : Bool)
-      → bind_permit nat_eq one full task source path recursive
+  bind_limited : (source path : List ℕ) (recursive : Bool) → bind_permit nat_eq one full task source path recursive
       ≡ bind_permit nat_eq one full_too task source path recursive
   unfolding bind_permit
-  bind_limited source path recursive =
-      ap (unless (admin_rules task))
+  bind_limited source path recursive = ap (unless (admin_rules task))
       (judged_alike StandsThere (source_walk nat_eq one task source) (source_walk nat_eq one task source)
       (λ from. and_then (walk_end (destination_walk nat_eq one task path)) (bound_by full from))
-      (λ from. and_then (walk_end (destination_walk nat_eq one task path)) (bound_by full_too from))
-      (at_source source)
+      (λ from. and_then (walk_end (destination_walk nat_eq one task path)) (bound_by full_too from)) (at_source source)
       (λ from at.
       judged_alike StandsThere (destination_walk nat_eq one task path) (destination_walk nat_eq one task path)
-      (bound_by full from) (bound_by full_too from) (at_destination path)
-      (λ here on.
+      (bound_by full from) (bound_by full_too from) (at_destination path) (λ here on.
       asked_later (is_elsewhere nat_eq one task from.location || is_elsewhere nat_eq one task here.location)
       (full (ToBind from.location here.location recursive)) (full_too (ToBind from.location here.location recursive))
       (λ b. (is_unbindable (mount_at one from.location).propagation, M3) ∷ (b, M9) ∷ [])
@@ -160,47 +147,38 @@ module _ (world : World ℕ) (names : List TaskName) (is : IsWorld nat_eq world)
       (theirs from.location at)))))
     where
       bound_by : (Permit ℕ → Bool) → Here ℕ → Here ℕ → Judgement ℕ
-      bound_by overfull from here =
-          attach_permit (bind_rules nat_eq one task from.location here.location) overfull
+      bound_by overfull from here = attach_permit (bind_rules nat_eq one task from.location here.location) overfull
           (ToBind from.location here.location recursive)
 
   move_limited : (source path : List ℕ)
       → move_permit nat_eq one full task source path ≡ move_permit nat_eq one full_too task source path
   unfolding move_permit
-  move_limited source path =
-      ap (unless (admin_rules task))
+  move_limited source path = ap (unless (admin_rules task))
       (judged_alike StandsThere (source_walk nat_eq one task source) (source_walk nat_eq one task source)
       (λ from. and_then (walk_end (destination_walk nat_eq one task path)) (moved_by full from))
-      (λ from. and_then (walk_end (destination_walk nat_eq one task path)) (moved_by full_too from))
-      (at_source source)
+      (λ from. and_then (walk_end (destination_walk nat_eq one task path)) (moved_by full_too from)) (at_source source)
       (λ from at.
       judged_alike StandsThere (destination_walk nat_eq one task path) (destination_walk nat_eq one task path)
-      (moved_by full from) (moved_by full_too from) (at_destination path)
-      (λ here on.
+      (moved_by full from) (moved_by full_too from) (at_destination path) (λ here on.
       asked_later (is_elsewhere nat_eq one task from.location || is_elsewhere nat_eq one task here.location)
       (full (ToMove from.location.mount here.location)) (full_too (ToMove from.location.mount here.location))
-      (λ b. (has_shared_parent one from.location, M4)
-      ∷ (
+      (λ b. (has_shared_parent one from.location, M4) ∷ (
         is_shared (mount_at one here.location).propagation
             && list_any (λ (mount : Mount ℕ). is_unbindable mount.propagation) (one.mount_tree from.location.mount),
         M5,
-      )
-      ∷ (
+      ) ∷ (
         list_any (λ (mount : Mount ℕ). nat_eq mount.number here.location.mount) (one.mount_tree from.location.mount),
         M6,
-      )
-      ∷ (is_no_root nat_eq one from.location, M7) ∷ (b, M9)
+      ) ∷ (is_no_root nat_eq one from.location, M7) ∷ (b, M9)
       ∷ (not (is_some (mount_at one from.location).mount_point), M10) ∷ [])
-      (Ok (ToMove from.location.mount here.location))
-      (λ apart.
+      (Ok (ToMove from.location.mount here.location)) (λ apart.
       let both = or_parts (is_elsewhere nat_eq one task from.location)
       (is_elsewhere nat_eq one task here.location) apart in
       move_overfills world names is sealed_off here.location (there here.location on) (its here.location both.1)
       from.location.mount (there from.location at) (its from.location both.0) fresh other task))))
     where
       moved_by : (Permit ℕ → Bool) → Here ℕ → Here ℕ → Judgement ℕ
-      moved_by overfull from here =
-          attach_permit (move_rules nat_eq one task from.location here.location) overfull
+      moved_by overfull from here = attach_permit (move_rules nat_eq one task from.location here.location) overfull
           (ToMove from.location.mount here.location)
 
   -- the limit of mounts is the same, and no other call asks for it
@@ -246,7 +224,6 @@ module _ (world : World ℕ) (names : List TaskName) (is : IsWorld nat_eq world)
   limited ListMounts = refl
 
 pub members_are_judged_by_their_part : MembersAreJudgedByTheirPart
-members_are_judged_by_their_part world names task call is fresh other =
-    limited world names is.is is.sealed_off task
+members_are_judged_by_their_part world names task call is fresh other = limited world names is.is is.sealed_off task
     (among_from_contains (members world names) task is.member) fresh other call
     ∙ members_are_judged_alike world names task call is (overfills nat_eq other (part_of nat_eq world names) task)

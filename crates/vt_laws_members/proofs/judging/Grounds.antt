@@ -52,8 +52,7 @@ module _ (world : World ℕ) (names : List TaskName) (is : MountInvariants nat_e
 
   -- a mount that members get to
   abbrev pub IsGround : Mount ℕ → Type 0
-  IsGround mount =
-      (is_own world names theirs mount ≡ true)
+  IsGround mount = (is_own world names theirs mount ≡ true)
       ⊎ ((mount.namespace ≡ None) × (is_at nat_eq (roots_and_directories theirs) mount ≡ true))
 
   abbrev pub IsTheirs : ℕ → Type 0
@@ -70,12 +69,10 @@ module _ (world : World ℕ) (names : List TaskName) (is : MountInvariants nat_e
         at.0,
         at.1,
         sym (eqb-true number at.0.number both.0),
-        ⊎_elim inl
-            (λ stood.
+        ⊎_elim inl (λ stood.
             let two = and_parts (not (is_some at.0.namespace))
             (is_at nat_eq (roots_and_directories theirs) at.0) stood in
-            inr (nowhere at.0.namespace two.0, two.1))
-            (or_cases (is_own world names theirs at.0)
+            inr (nowhere at.0.namespace two.0, two.1)) (or_cases (is_own world names theirs at.0)
             (not (is_some at.0.namespace) && is_at nat_eq (roots_and_directories theirs) at.0) both.1),
       )
     where
@@ -150,8 +147,7 @@ module _ (world : World ℕ) (names : List TaskName) (is : MountInvariants nat_e
   pub child_theirs : (a : Location ℕ) (child : Mount ℕ) → IsTheirs a.mount → Among child world.mounts
       → child.mount_point ≡ Some a → is_own world names theirs child ≡ true
   child_theirs a child (mount, m, number, ground) there at =
-      let same : child.namespace ≡ mount.namespace =
-      sym (ap (λ (x : Mount ℕ). x.namespace) (numbered child there))
+      let same : child.namespace ≡ mount.namespace = sym (ap (λ (x : Mount ℕ). x.namespace) (numbered child there))
       ∙ namespace_below world child.number a (stands_itself child there)
       (ap (λ (x : Mount ℕ). x.mount_point) (numbered child there) ∙ at)
       ∙ ap (λ n. (mount_numbered nat_eq world n).namespace) (sym number)
@@ -184,16 +180,14 @@ module _ (world : World ℕ) (names : List TaskName) (is : MountInvariants nat_e
       let below : mount.namespace ≡ (mount_numbered nat_eq world point.mount).namespace =
       ap (λ (x : Mount ℕ). x.namespace) (sym it)
       ∙ namespace_below world number point (subst (Stands nat_eq world) same (stands_itself mount m)) e in
-      ⊎_elim
-      (λ own.
+      ⊎_elim (λ own.
       let there : is_own world names theirs (mount_numbered nat_eq world point.mount) ≡ true =
       own_by (mount_numbered nat_eq world point.mount) mount (sym below) own in
       ⊎_elim
       (λ found. (mount_numbered nat_eq world point.mount, found, number-mount_in world.mounts point.mount, inl there))
       (λ none. absurd (true≢false (sym there ∙ ap (is_own world names theirs) none)))
       (found_or_none world.mounts point.mount))
-      (λ stood. absurd (nowhere_stands mount point m stood.0 (ap (λ (x : Mount ℕ). x.mount_point) (sym it) ∙ e)))
-      ground
+      (λ stood. absurd (nowhere_stands mount point m stood.0 (ap (λ (x : Mount ℕ). x.mount_point) (sym it) ∙ e))) ground
 
   pub over_alike : (here : Location ℕ) → IsTheirs here.mount
       → mounts_over nat_eq part.mounts here ≡ mounts_over nat_eq world.mounts here
@@ -253,8 +247,7 @@ module _ (world : World ℕ) (names : List TaskName) (is : MountInvariants nat_e
     pub up_alike : (here : Location ℕ) → IsTheirs here.mount
         → chain (length part.mounts) other here ≡ chain (length world.mounts) next here
     up_alike here own =
-        let size : length there ≡ length part.mounts =
-        length-map part.mounts (λ (mount : Mount ℕ). suc mount.number) in
+        let size : length there ≡ length part.mounts = length-map part.mounts (λ (mount : Mount ℕ). suc mount.number) in
         let less : length part.mounts ≤ length world.mounts = length-filter_map kept world.mounts in
         sym (chains_alike next other key there by_key (length world.mounts) (length part.mounts) here
         (way (length world.mounts) here own (rank_bounded world is.one_number is.standing here.mount))

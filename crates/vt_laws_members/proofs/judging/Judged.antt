@@ -32,8 +32,7 @@ module _ (one other : Looks ℕ) (task : Task ℕ) (own uses : ℕ → Bool) (al
 
   pub list_alike : (path : List ℕ) → list_permit nat_eq one task path ≡ list_permit nat_eq other task path
   unfolding list_permit
-  list_alike path =
-      judged_alike Stands (directory_walk nat_eq one task path) (directory_walk nat_eq other task path)
+  list_alike path = judged_alike Stands (directory_walk nat_eq one task path) (directory_walk nat_eq other task path)
       (λ here. unless (list_rules one task here.location) (Ok (ToList here.location)))
       (λ here. unless (list_rules other task here.location) (Ok (ToList here.location)))
       (directory_agrees one other task On alike.walks alike.directory alike.rules.removed path)
@@ -42,22 +41,19 @@ module _ (one other : Looks ℕ) (task : Task ℕ) (own uses : ℕ → Bool) (al
 
   pub stat_alike : (path : List ℕ) → stat_permit nat_eq one task path ≡ stat_permit nat_eq other task path
   unfolding stat_permit
-  stat_alike path =
-      judged_alike Stands (object_walk nat_eq one task path) (object_walk nat_eq other task path)
+  stat_alike path = judged_alike Stands (object_walk nat_eq one task path) (object_walk nat_eq other task path)
       (λ here. Ok (ToStat here.location)) (λ here. Ok (ToStat here.location))
       (object_agrees one other task On alike.walks alike.directory alike.rules.removed path) (λ here on. refl)
 
   pub lstat_alike : (path : List ℕ) → lstat_permit nat_eq one task path ≡ lstat_permit nat_eq other task path
   unfolding lstat_permit
-  lstat_alike path =
-      judged_alike Stands (symlink_walk nat_eq one task path) (symlink_walk nat_eq other task path)
+  lstat_alike path = judged_alike Stands (symlink_walk nat_eq one task path) (symlink_walk nat_eq other task path)
       (λ here. Ok (ToStat here.location)) (λ here. Ok (ToStat here.location))
       (symlink_agrees one other task On alike.walks alike.directory alike.rules.removed path) (λ here on. refl)
 
   pub readlink_alike : (path : List ℕ) → readlink_permit nat_eq one task path ≡ readlink_permit nat_eq other task path
   unfolding readlink_permit
-  readlink_alike path =
-      judged_alike Stands (symlink_walk nat_eq one task path) (symlink_walk nat_eq other task path)
+  readlink_alike path = judged_alike Stands (symlink_walk nat_eq one task path) (symlink_walk nat_eq other task path)
       (λ here. unless (readlink_rules one here.location) (Ok (ToRead here.location)))
       (λ here. unless (readlink_rules other here.location) (Ok (ToRead here.location)))
       (symlink_agrees one other task On alike.walks alike.directory alike.rules.removed path)
@@ -66,8 +62,7 @@ module _ (one other : Looks ℕ) (task : Task ℕ) (own uses : ℕ → Bool) (al
 
   pub read_alike : (path : List ℕ) → read_permit nat_eq one task path ≡ read_permit nat_eq other task path
   unfolding read_permit
-  read_alike path =
-      judged_alike Stands (object_walk nat_eq one task path) (object_walk nat_eq other task path)
+  read_alike path = judged_alike Stands (object_walk nat_eq one task path) (object_walk nat_eq other task path)
       (λ here. unless (read_rules one task here.location) (Ok (ToRead here.location)))
       (λ here. unless (read_rules other task here.location) (Ok (ToRead here.location)))
       (object_agrees one other task On alike.walks alike.directory alike.rules.removed path)
@@ -76,8 +71,7 @@ module _ (one other : Looks ℕ) (task : Task ℕ) (own uses : ℕ → Bool) (al
 
   pub exec_alike : (path : List ℕ) → exec_permit nat_eq one task path ≡ exec_permit nat_eq other task path
   unfolding exec_permit
-  exec_alike path =
-      judged_alike Stands (object_walk nat_eq one task path) (object_walk nat_eq other task path)
+  exec_alike path = judged_alike Stands (object_walk nat_eq one task path) (object_walk nat_eq other task path)
       (λ here. unless (exec_rules one task here.location) (Ok Allowed))
       (λ here. unless (exec_rules other task here.location) (Ok Allowed))
       (object_agrees one other task On alike.walks alike.directory alike.rules.removed path)
@@ -86,8 +80,7 @@ module _ (one other : Looks ℕ) (task : Task ℕ) (own uses : ℕ → Bool) (al
 
   pub chdir_alike : (path : List ℕ) → chdir_permit nat_eq one task path ≡ chdir_permit nat_eq other task path
   unfolding chdir_permit
-  chdir_alike path =
-      judged_alike Stands (directory_walk nat_eq one task path) (directory_walk nat_eq other task path)
+  chdir_alike path = judged_alike Stands (directory_walk nat_eq one task path) (directory_walk nat_eq other task path)
       (λ here. unless (enter_rules one task here.location) (Ok (ToSetDirectory here.location)))
       (λ here. unless (enter_rules other task here.location) (Ok (ToSetDirectory here.location)))
       (directory_agrees one other task On alike.walks alike.directory alike.rules.removed path)
@@ -97,8 +90,7 @@ module _ (one other : Looks ℕ) (task : Task ℕ) (own uses : ℕ → Bool) (al
 
   pub chroot_alike : (path : List ℕ) → chroot_permit nat_eq one task path ≡ chroot_permit nat_eq other task path
   unfolding chroot_permit
-  chroot_alike path =
-      ap (unless ((lacks task cap_sys_chroot, K1) ∷ []))
+  chroot_alike path = ap (unless ((lacks task cap_sys_chroot, K1) ∷ []))
       (judged_alike Stands (directory_walk nat_eq one task path) (directory_walk nat_eq other task path)
       (λ here. unless (enter_rules one task here.location) (Ok (ToSetRoot here.location)))
       (λ here. unless (enter_rules other task here.location) (Ok (ToSetRoot here.location)))

@@ -54,21 +54,18 @@ module _ (one other : Looks ℕ) (task : Task ℕ) (own uses : ℕ → Bool) (al
   pub mkdir_alike : (path : List ℕ) (mode : Option ℕ)
       → mkdir_permit nat_eq one task path mode ≡ mkdir_permit nat_eq other task path mode
   unfolding mkdir_permit
-  mkdir_alike path mode =
-      judged_alike IsPlaced (new_walk nat_eq one task path) (new_walk nat_eq other task path)
+  mkdir_alike path mode = judged_alike IsPlaced (new_walk nat_eq one task path) (new_walk nat_eq other task path)
       (λ place. made_permit nat_eq one task place
       (record { attr = new_attr task (unwrap_or mode directory_mode); content = new_directory place.parent.node }))
       (λ place. made_permit nat_eq other task place
       (record { attr = new_attr task (unwrap_or mode directory_mode); content = new_directory place.parent.node }))
-      (new_agrees one other task On alike.walks alike.directory alike.rules.removed path)
-      (λ place at. made_alike place
+      (new_agrees one other task On alike.walks alike.directory alike.rules.removed path) (λ place at. made_alike place
       (record { attr = new_attr task (unwrap_or mode directory_mode); content = new_directory place.parent.node }) at.0)
 
   pub symlink_alike : (text path : List ℕ)
       → symlink_permit nat_eq one task text path ≡ symlink_permit nat_eq other task text path
   unfolding symlink_permit
-  symlink_alike text path =
-      ap (unless (symlink_text_rules text))
+  symlink_alike text path = ap (unless (symlink_text_rules text))
       (judged_alike IsPlaced (new_leaf_walk nat_eq one task path) (new_leaf_walk nat_eq other task path)
       (λ place. made_permit nat_eq one task place
       (record { attr = exact_attr task symlink_mode; content = Symlink text }))
@@ -78,8 +75,7 @@ module _ (one other : Looks ℕ) (task : Task ℕ) (own uses : ℕ → Bool) (al
       (λ place at. made_alike place (record { attr = exact_attr task symlink_mode; content = Symlink text }) at.0))
 
   abbrev whiteout_by : Place ℕ → Looks ℕ → Judgement ℕ
-  whiteout_by place looks =
-      unless (whiteout_rules looks task place)
+  whiteout_by place looks = unless (whiteout_rules looks task place)
       (Ok (make_permit place (record { attr = exact_attr task 0; content = Whiteout })))
 
   pub whiteout_alike : (path : List ℕ) → whiteout_permit nat_eq one task path ≡ whiteout_permit nat_eq other task path
@@ -92,8 +88,7 @@ module _ (one other : Looks ℕ) (task : Task ℕ) (own uses : ℕ → Bool) (al
       asked_alike (whiteout_by place) (λ looks. rw (is_read_only, on) refl))
 
   abbrev link_by : Location ℕ → Place ℕ → Looks ℕ → Judgement ℕ
-  link_by from place looks =
-      unless ((is_special place.last, E1) ∷ [])
+  link_by from place looks = unless ((is_special place.last, E1) ∷ [])
       (unless (hard_link_rules nat_eq looks task from place (linking from place))
       (Ok (ToChange place.parent (linking from place))))
 
@@ -104,8 +99,7 @@ module _ (one other : Looks ℕ) (task : Task ℕ) (own uses : ℕ → Bool) (al
       judged_alike StandsHere (symlink_walk nat_eq one task old) (symlink_walk nat_eq other task old)
       (λ from. and_then (walk_end (new_leaf_walk nat_eq one task new)) (λ place. link_by from.location place one))
       (λ from. and_then (walk_end (new_leaf_walk nat_eq other task new)) (λ place. link_by from.location place other))
-      (symlink_agrees one other task On alike.walks alike.directory alike.rules.removed old)
-      (λ from there.
+      (symlink_agrees one other task On alike.walks alike.directory alike.rules.removed old) (λ from there.
       judged_alike IsPlaced (new_leaf_walk nat_eq one task new) (new_leaf_walk nat_eq other task new)
       (λ place. link_by from.location place one) (λ place. link_by from.location place other)
       (new_leaf_agrees one other task On alike.walks alike.directory alike.rules.removed new)
@@ -121,8 +115,7 @@ module _ (one other : Looks ℕ) (task : Task ℕ) (own uses : ℕ → Bool) (al
   pub write_alike : (path bytes : List ℕ)
       → write_permit nat_eq one task path bytes ≡ write_permit nat_eq other task path bytes
   unfolding write_permit
-  write_alike path bytes =
-      judged_alike IsPlaced (file_walk nat_eq one task path) (file_walk nat_eq other task path)
+  write_alike path bytes = judged_alike IsPlaced (file_walk nat_eq one task path) (file_walk nat_eq other task path)
       (λ place. unless (file_word_rules place) (written_permit nat_eq one task place bytes place.object))
       (λ place. unless (file_word_rules place) (written_permit nat_eq other task place bytes place.object))
       (file_agrees one other task On alike.walks alike.directory alike.rules.removed path)
@@ -136,8 +129,7 @@ module _ (one other : Looks ℕ) (task : Task ℕ) (own uses : ℕ → Bool) (al
       by (Some object) found = found object refl
 
   abbrev unlink_by : Place ℕ → Location ℕ → Looks ℕ → Judgement ℕ
-  unlink_by place object looks =
-      unless ((is_special place.last, E2) ∷ [])
+  unlink_by place object looks = unless ((is_special place.last, E2) ∷ [])
       (unless (unlink_rules looks task place object) (Ok (ToChange place.parent (removing place object))))
 
   unlink_same : (place : Place ℕ) (object : Location ℕ) → On place.parent.mount → On object.mount
@@ -146,8 +138,7 @@ module _ (one other : Looks ℕ) (task : Task ℕ) (own uses : ℕ → Bool) (al
 
   pub unlink_alike : (path : List ℕ) → unlink_permit nat_eq one task path ≡ unlink_permit nat_eq other task path
   unfolding unlink_permit
-  unlink_alike path =
-      judged_alike IsPlaced (old_leaf_walk nat_eq one task path) (old_leaf_walk nat_eq other task path)
+  unlink_alike path = judged_alike IsPlaced (old_leaf_walk nat_eq one task path) (old_leaf_walk nat_eq other task path)
       (λ place. unlink_by place (object_there place) one) (λ place. unlink_by place (object_there place) other)
       (old_leaf_agrees one other task On alike.walks alike.directory alike.rules.removed path)
       (λ place at. unlink_same place (object_there place) at.0 (there_own place at))
@@ -164,8 +155,7 @@ module _ (one other : Looks ℕ) (task : Task ℕ) (own uses : ℕ → Bool) (al
       (λ here on. asked_alike (by here.location) (λ looks. rw (is_read_only, on) refl))
     where
       by : Location ℕ → Looks ℕ → Judgement ℕ
-      by here looks =
-          attr_permit nat_eq looks here (owns task.credentials (attr_at looks here))
+      by here looks = attr_permit nat_eq looks here (owns task.credentials (attr_at looks here))
           (attr_with_mode (attr_at looks here) mode)
 
   pub chown_alike : (path : List ℕ) (uid gid : Option ℕ)
@@ -178,16 +168,14 @@ module _ (one other : Looks ℕ) (task : Task ℕ) (own uses : ℕ → Bool) (al
       (λ here on. asked_alike (by here.location) (λ looks. rw (is_read_only, on) refl))
     where
       by : Location ℕ → Looks ℕ → Judgement ℕ
-      by here looks =
-          attr_permit nat_eq looks here
+      by here looks = attr_permit nat_eq looks here
           (may_chown task.credentials (attr_at looks here) (attr_with_owner (attr_at looks here) uid gid))
           (attr_with_owner (attr_at looks here) uid gid)
 
   pub opaque_alike : (path : List ℕ) (mark : Bool)
       → opaque_permit nat_eq one task path mark ≡ opaque_permit nat_eq other task path mark
   unfolding opaque_permit
-  opaque_alike path mark =
-      ap (unless (admin_rules task))
+  opaque_alike path mark = ap (unless (admin_rules task))
       (judged_alike StandsHere (directory_walk nat_eq one task path) (directory_walk nat_eq other task path)
       (λ here. by here.location one) (λ here. by here.location other)
       (directory_agrees one other task On alike.walks alike.directory alike.rules.removed path)
@@ -208,13 +196,11 @@ module _ (one other : Looks ℕ) (task : Task ℕ) (own uses : ℕ → Bool) (al
 
   create_same : (place : Place ℕ) (access : Access) (mode : ℕ) → On place.parent.mount
       → create_file_permit nat_eq one task place access mode ≡ create_file_permit nat_eq other task place access mode
-  create_same place access mode on =
-      asked_alike (λ looks. create_file_permit nat_eq looks task place access mode)
+  create_same place access mode on = asked_alike (λ looks. create_file_permit nat_eq looks task place access mode)
       (λ looks. rw (is_read_only, on) refl)
 
   opened_by : (place : Place ℕ) → On place.parent.mount → (access : Access) (mode : ℕ) (o : Option (Location ℕ))
-      → IsFound o
-      → opened_or_created_permit nat_eq one task place access mode o
+      → IsFound o → opened_or_created_permit nat_eq one task place access mode o
       ≡ opened_or_created_permit nat_eq other task place access mode o
   opened_by place on access mode None found = create_same place access mode on
   opened_by place on access mode (Some file) found = open_file_same file access (found file refl)

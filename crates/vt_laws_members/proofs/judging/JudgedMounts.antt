@@ -28,15 +28,12 @@ module _ (one other : Looks ℕ) (task : Task ℕ) (own uses : ℕ → Bool) (al
   same_asked asked covered = by_mask own uses one other alike.rules asked covered
 
   abbrev plain_by : MountFlags → Location ℕ → Looks ℕ → Judgement ℕ
-  plain_by flags here looks =
-      attach_permit (new_mount_rules nat_eq looks task here) overfills (ToMountPlain here flags)
+  plain_by flags here looks = attach_permit (new_mount_rules nat_eq looks task here) overfills (ToMountPlain here flags)
 
-  pub plain_alike : (path : List ℕ) (flags : MountFlags)
-      → mount_plain_permit nat_eq one overfills task path flags
+  pub plain_alike : (path : List ℕ) (flags : MountFlags) → mount_plain_permit nat_eq one overfills task path flags
       ≡ mount_plain_permit nat_eq other overfills task path flags
   unfolding mount_plain_permit
-  plain_alike path flags =
-      ap (unless (admin_rules task))
+  plain_alike path flags = ap (unless (admin_rules task))
       (judged_alike StandsThere (destination_walk nat_eq one task path) (destination_walk nat_eq other task path)
       (λ here. plain_by flags here.location one) (λ here. plain_by flags here.location other)
       (destination_agrees one other task On alike.walks alike.directory alike.rules.removed path)
@@ -50,15 +47,13 @@ module _ (one other : Looks ℕ) (task : Task ℕ) (own uses : ℕ → Bool) (al
       → bind_permit nat_eq one overfills task source path recursive
       ≡ bind_permit nat_eq other overfills task source path recursive
   unfolding bind_permit
-  bind_alike source path recursive =
-      ap (unless (admin_rules task))
+  bind_alike source path recursive = ap (unless (admin_rules task))
       (judged_alike StandsThere (source_walk nat_eq one task source) (source_walk nat_eq other task source)
       (λ from. and_then (walk_end (destination_walk nat_eq one task path)) (λ here.
       bind_by recursive from.location here.location one))
       (λ from. and_then (walk_end (destination_walk nat_eq other task path)) (λ here.
       bind_by recursive from.location here.location other))
-      (source_agrees one other task On alike.walks alike.directory alike.rules.removed source)
-      (λ from there.
+      (source_agrees one other task On alike.walks alike.directory alike.rules.removed source) (λ from there.
       judged_alike StandsThere (destination_walk nat_eq one task path) (destination_walk nat_eq other task path)
       (λ here. bind_by recursive from.location here.location one)
       (λ here. bind_by recursive from.location here.location other)
@@ -71,8 +66,7 @@ module _ (one other : Looks ℕ) (task : Task ℕ) (own uses : ℕ → Bool) (al
 
   pub lazy_alike : (path : List ℕ) → lazy_permit nat_eq one task path ≡ lazy_permit nat_eq other task path
   unfolding lazy_permit
-  lazy_alike path =
-      ap (unless (admin_rules task))
+  lazy_alike path = ap (unless (admin_rules task))
       (judged_alike StandsThere (directory_walk nat_eq one task path) (directory_walk nat_eq other task path)
       (λ here. lazy_by here.location one) (λ here. lazy_by here.location other)
       (directory_agrees one other task On alike.walks alike.directory alike.rules.removed path)
@@ -85,8 +79,7 @@ module _ (one other : Looks ℕ) (task : Task ℕ) (own uses : ℕ → Bool) (al
   pub type_alike : (path : List ℕ) (word : TypeWord) (recursive : Bool)
       → type_permit nat_eq one task path word recursive ≡ type_permit nat_eq other task path word recursive
   unfolding type_permit
-  type_alike path word recursive =
-      ap (unless (admin_rules task))
+  type_alike path word recursive = ap (unless (admin_rules task))
       (judged_alike StandsThere (directory_walk nat_eq one task path) (directory_walk nat_eq other task path)
       (λ here. type_by word recursive here.location one) (λ here. type_by word recursive here.location other)
       (directory_agrees one other task On alike.walks alike.directory alike.rules.removed path)

@@ -21,8 +21,7 @@ use Rattle.vt_laws_members.proofs.judging.WalksLead.{destination_agrees, directo
 pub record TreesAlike (one other : Looks ℕ) (task : Task ℕ) (own : ℕ → Bool) : Type 0 where
   pub busy : (here : Location ℕ) → own here.mount ≡ true → is_elsewhere nat_eq one task here ≡ false
       → one.is_busy here.mount ≡ other.is_busy here.mount
-  pub tree : (here : Location ℕ) → own here.mount ≡ true
-      → one.mount_tree here.mount ≡ other.mount_tree here.mount
+  pub tree : (here : Location ℕ) → own here.mount ≡ true → one.mount_tree here.mount ≡ other.mount_tree here.mount
 
 module _ (one other : Looks ℕ) (task : Task ℕ) (own uses : ℕ → Bool) (alike : JudgesAlike one other task own uses)
     (parents : ParentsAlike one other task own) (trees : TreesAlike one other task own) where
@@ -38,13 +37,8 @@ module _ (one other : Looks ℕ) (task : Task ℕ) (own uses : ℕ → Bool) (al
 
   -- the rules of umount(2), with whether the mount is busy
   abbrev unmount_by : Location ℕ → Bool → Looks ℕ → Judgement ℕ
-  unmount_by here busy looks =
-      unless ((is_elsewhere nat_eq looks task here, M2)
-      ∷ (is_no_root nat_eq looks here, M7)
-      ∷ (busy, M8)
-      ∷ (not (is_some (mount_at looks here).mount_point), M10)
-      ∷ [])
-      (Ok (ToUnmount here.mount))
+  unmount_by here busy looks = unless ((is_elsewhere nat_eq looks task here, M2) ∷ (is_no_root nat_eq looks here, M7)
+      ∷ (busy, M8) ∷ (not (is_some (mount_at looks here).mount_point), M10) ∷ []) (Ok (ToUnmount here.mount))
 
   busy_by : (here : Location ℕ) → On here.mount → (b : Bool) → is_elsewhere nat_eq one task here ≡ b
       → unmount_by here (one.is_busy here.mount) one ≡ unmount_by here (other.is_busy here.mount) one
@@ -53,13 +47,11 @@ module _ (one other : Looks ℕ) (task : Task ℕ) (own uses : ℕ → Bool) (al
 
   pub umount_alike : (path : List ℕ) → umount_permit nat_eq one task path ≡ umount_permit nat_eq other task path
   unfolding umount_permit
-  umount_alike path =
-      ap (unless (admin_rules task))
+  umount_alike path = ap (unless (admin_rules task))
       (judged_alike StandsThere (directory_walk nat_eq one task path) (directory_walk nat_eq other task path)
       (λ here. unmount_by here.location (one.is_busy here.location.mount) one)
       (λ here. unmount_by here.location (other.is_busy here.location.mount) other)
-      (directory_agrees one other task On alike.walks alike.directory alike.rules.removed path)
-      (λ here on.
+      (directory_agrees one other task On alike.walks alike.directory alike.rules.removed path) (λ here on.
       busy_by here.location on (is_elsewhere nat_eq one task here.location) refl
       ∙ same_asked (unmount_by here.location (other.is_busy here.location.mount))
       (λ looks. rw (is_elsewhere, is_no_root, mount_at, on) refl)))
@@ -67,15 +59,10 @@ module _ (one other : Looks ℕ) (task : Task ℕ) (own uses : ℕ → Bool) (al
   -- the rules of a move, with the tree that moves and whether it has a shared parent
   abbrev move_by : Bool → Location ℕ → Location ℕ → (parent : Bool) → List (Mount ℕ) → Looks ℕ → Judgement ℕ
   move_by overfull from here parent tree looks =
-      unless ((is_elsewhere nat_eq looks task from || is_elsewhere nat_eq looks task here, M2)
-      ∷ (parent, M4)
+      unless ((is_elsewhere nat_eq looks task from || is_elsewhere nat_eq looks task here, M2) ∷ (parent, M4)
       ∷ (is_shared (mount_at looks here).propagation && list_any (λ mount. is_unbindable mount.propagation) tree, M5)
-      ∷ (list_any (λ mount. nat_eq mount.number here.mount) tree, M6)
-      ∷ (is_no_root nat_eq looks from, M7)
-      ∷ (overfull, M9)
-      ∷ (not (is_some (mount_at looks from).mount_point), M10)
-      ∷ [])
-      (Ok (ToMove from.mount here))
+      ∷ (list_any (λ mount. nat_eq mount.number here.mount) tree, M6) ∷ (is_no_root nat_eq looks from, M7)
+      ∷ (overfull, M9) ∷ (not (is_some (mount_at looks from).mount_point), M10) ∷ []) (Ok (ToMove from.mount here))
 
   abbrev move_of : Bool → Location ℕ → Location ℕ → Looks ℕ → Looks ℕ → Judgement ℕ
   move_of overfull from here asked looks =
@@ -83,30 +70,26 @@ module _ (one other : Looks ℕ) (task : Task ℕ) (own uses : ℕ → Bool) (al
 
   move_same : (overfull : Bool) (from here : Location ℕ) → On from.mount → On here.mount
       → move_of overfull from here one one ≡ move_of overfull from here other other
-  move_same overfull from here there on =
-      cc (
-        parents.parent from there,
-        trees.tree from there,
-        same_asked (move_of overfull from here other)
-            (λ looks. rw (is_elsewhere, is_no_root, mount_at, there, on) refl),
-      )
+  move_same overfull from here there on = cc (
+    parents.parent from there,
+    trees.tree from there,
+    same_asked (move_of overfull from here other)
+        (λ looks. rw (is_elsewhere, is_no_root, mount_at, there, on) refl),
+  )
 
   pub move_alike : (overfills : Permit ℕ → Bool) (source path : List ℕ)
       → move_permit nat_eq one overfills task source path ≡ move_permit nat_eq other overfills task source path
   unfolding move_permit
-  move_alike overfills source path =
-      ap (unless (admin_rules task))
+  move_alike overfills source path = ap (unless (admin_rules task))
       (judged_alike StandsThere (source_walk nat_eq one task source) (source_walk nat_eq other task source)
       (λ from. and_then (walk_end (destination_walk nat_eq one task path))
       (λ here. moved from.location here.location one))
       (λ from. and_then (walk_end (destination_walk nat_eq other task path))
       (λ here. moved from.location here.location other))
-      (source_agrees one other task On alike.walks alike.directory alike.rules.removed source)
-      (λ from there.
+      (source_agrees one other task On alike.walks alike.directory alike.rules.removed source) (λ from there.
       judged_alike StandsThere (destination_walk nat_eq one task path) (destination_walk nat_eq other task path)
       (λ here. moved from.location here.location one) (λ here. moved from.location here.location other)
-      (destination_agrees one other task On alike.walks alike.directory alike.rules.removed path)
-      (λ here on.
+      (destination_agrees one other task On alike.walks alike.directory alike.rules.removed path) (λ here on.
       move_same (overfills (ToMove from.location.mount here.location)) from.location here.location there on)))
     where
       moved : Location ℕ → Location ℕ → Looks ℕ → Judgement ℕ

@@ -32,15 +32,13 @@ any_same p q (x ∷ xs) same = cc (same x (inl refl), any_same p q xs (λ y m. s
 pair_same : {A : Type 0} (p q : A → A → Bool) (xs : List A)
     → ((x y : A) → Among x xs → Among y xs → p x y ≡ q x y) → any_pair p xs ≡ any_pair q xs
 pair_same p q [] same = refl
-pair_same p q (x ∷ xs) same =
-    cc (
-      any_same (p x) (q x) xs (λ y m. same x y (inl refl) (inr m)),
-      pair_same p q xs (λ y z m n. same y z (inr m) (inr n)),
-    )
+pair_same p q (x ∷ xs) same = cc (
+  any_same (p x) (q x) xs (λ y m. same x y (inl refl) (inr m)),
+  pair_same p q xs (λ y z m n. same y z (inr m) (inr n)),
+)
 
 and_agree : {A B : Type 0} (Q : A → Type 0) (R : B → Type 0) (a b : Result A Deny) (f g : A → Result B Deny)
-    → Agree Q a b
-    → ((x : A) → Q x → Agree R (f x) (g x)) → Agree R (and_then a f) (and_then b g)
+    → Agree Q a b → ((x : A) → Q x → Agree R (f x) (g x)) → Agree R (and_then a f) (and_then b g)
 and_agree Q R (Ok x) b f g (e, q) next = let n = next x q in (n.0 ∙ ap (λ r. and_then r g) e, n.1)
 and_agree Q R (Err deny) b f g (e, q) next = (ap (λ r. and_then r g) e, tt)
 
@@ -74,8 +72,7 @@ module _ (one other : Looks ℕ) (task : Task ℕ) (own uses : ℕ → Bool) (al
 
   walked_one : (path : List ℕ)
       → Agree StandsThere (walk_end (source_walk nat_eq one task path)) (walk_end (source_walk nat_eq other task path))
-  walked_one path =
-      end_agrees StandsThere (source_walk nat_eq one task path) (source_walk nat_eq other task path)
+  walked_one path = end_agrees StandsThere (source_walk nat_eq one task path) (source_walk nat_eq other task path)
       (source_agrees one other task On alike.walks alike.directory alike.rules.removed path)
 
   each_agrees : (paths : List (List ℕ))
@@ -99,24 +96,20 @@ module _ (one other : Looks ℕ) (task : Task ℕ) (own uses : ℕ → Bool) (al
   given_agrees (Some path) =
       and_agree StandsThere (λ o. Each At (option_to_list o)) (walk_end (source_walk nat_eq one task path))
       (walk_end (source_walk nat_eq other task path)) (λ here. Ok (Some here.location))
-      (λ here. Ok (Some here.location))
-      (walked_one path)
+      (λ here. Ok (Some here.location)) (walked_one path)
       (λ here on. (refl, λ l m. ⊎_elim (λ first. subst At (sym first) on) (λ none. absurd none) m))
 
   layers_agree : (words : OverlayWords)
       → Agree AreAt (layers_walked nat_eq one task words) (layers_walked nat_eq other task words)
-  layers_agree words =
-      and_agree (λ list. Each At list) AreAt (each_walked nat_eq one task words.lowers)
+  layers_agree words = and_agree (λ list. Each At list) AreAt (each_walked nat_eq one task words.lowers)
       (each_walked nat_eq other task words.lowers) (after_lowers one) (after_lowers other) (each_agrees words.lowers)
       (λ lowers below.
       and_agree (λ o. Each At (option_to_list o)) AreAt (walked_if_given nat_eq one task words.upper)
       (walked_if_given nat_eq other task words.upper) (after_upper one lowers) (after_upper other lowers)
-      (given_agrees words.upper)
-      (λ upper above.
+      (given_agrees words.upper) (λ upper above.
       and_agree (λ o. Each At (option_to_list o)) AreAt (walked_if_given nat_eq one task (work_walked words))
       (walked_if_given nat_eq other task (work_walked words)) (made lowers upper) (made lowers upper)
-      (given_agrees (work_walked words))
-      (λ work beside. (
+      (given_agrees (work_walked words)) (λ work beside. (
         refl,
         λ l m.
             ⊎_elim (λ some. ⊎_elim (below l) (above l) (among-append lowers (option_to_list upper) l some)) (beside l)
@@ -136,8 +129,7 @@ module _ (one other : Looks ℕ) (task : Task ℕ) (own uses : ℕ → Bool) (al
   -- Rules of the layers
 
   same_layer : (here : Location ℕ) → At here → layer_at one here ≡ layer_at other here
-  same_layer here on =
-      ap (λ (m : Mount ℕ). record { filesystem = m.filesystem; directory = here.node })
+  same_layer here on = ap (λ (m : Mount ℕ). record { filesystem = m.filesystem; directory = here.node })
       (alike.rules.mount here.mount on)
 
   same_given : (o : Option (Location ℕ)) → Each At (option_to_list o)
@@ -190,8 +182,7 @@ module _ (one other : Looks ℕ) (task : Task ℕ) (own uses : ℕ → Bool) (al
         subst IsUsed (sym from.2) (used_at from.0 (at_lower from.0 from.1))
 
     written_used : Each IsUsed (upper_and_work wanted)
-    written_used layer m =
-        ⊎_elim (given_used layers.upper at_upper layer) (given_used layers.work at_work layer)
+    written_used layer m = ⊎_elim (given_used layers.upper at_upper layer) (given_used layers.work at_work layer)
         (among-append (option_to_list wanted.upper) (option_to_list wanted.work) layer m)
 
     all_used : Each IsUsed (upper_and_work wanted ++ wanted.lowers)
@@ -199,50 +190,38 @@ module _ (one other : Looks ℕ) (task : Task ℕ) (own uses : ℕ → Bool) (al
         ⊎_elim (written_used layer) (lower_used layer) (among-append (upper_and_work wanted) wanted.lowers layer m)
 
     same_pair : (a b : Layer ℕ) → IsUsed a → one_under_another nat_eq one a b ≡ one_under_another nat_eq other a b
-    same_pair a b used i =
-        nat_eq a.filesystem b.filesystem
+    same_pair a b used i = nat_eq a.filesystem b.filesystem
         && (alike.rules.under a.filesystem a.directory b.directory used i
         || alike.rules.under a.filesystem b.directory a.directory used i)
 
     same_rules : layer_rules nat_eq one layers wanted ≡ layer_rules nat_eq other layers wanted
-    same_rules i =
-        (is_empty_list layers.lowers, O2)
+    same_rules i = (is_empty_list layers.lowers, O2)
         ∷ (has_single_lower layers.lowers && not (is_some layers.upper), O2)
-        ∷ (is_some layers.upper && not (is_some layers.work), O2)
-        ∷ (nat_lt most_lowers (length layers.lowers), O2)
-        ∷ (
+        ∷ (is_some layers.upper && not (is_some layers.work), O2) ∷ (nat_lt most_lowers (length layers.lowers), O2) ∷ (
           any_same (is_overlay_at one) (is_overlay_at other) (layer_locations layers)
               (λ l m. ap is_some (alike.rules.overlay l (all l m))) i,
           O2,
-        )
-        ∷ (lie_apart nat_eq one wanted, O2)
-        ∷ (
+        ) ∷ (lie_apart nat_eq one wanted, O2) ∷ (
           any_same (one.overlaps_one_of (option_to_list wanted.work))
-              (other.overlaps_one_of (option_to_list wanted.work))
-              (option_to_list wanted.upper)
+              (other.overlaps_one_of (option_to_list wanted.work)) (option_to_list wanted.upper)
               (λ layer m. layers_alike.overlaps layer (given_used layers.upper at_upper layer m)
               (option_to_list wanted.work)) i,
           O2,
-        )
-        ∷ (
+        ) ∷ (
           any_same (is_read_only one) (is_read_only other) (upper_and_work_locations layers)
               (λ l m. ap (λ (mount : Mount ℕ). mount.flags.read_only)
               (alike.rules.mount l.mount (⊎_elim (at_upper l) (at_work l)
               (among-append (option_to_list layers.upper) (option_to_list layers.work) l m)))) i,
           O2,
-        )
-        ∷ (layers_alike.in_use wanted all_used i, O3)
-        ∷ (
+        ) ∷ (layers_alike.in_use wanted all_used i, O3) ∷ (
           pair_same (one_under_another nat_eq one) (one_under_another nat_eq other) wanted.lowers
               (λ a b m n. same_pair a b (lower_used a m)) i,
           O5,
-        )
-        ∷ (
+        ) ∷ (
           any_same (one.overlaps_one_of wanted.lowers) (other.overlaps_one_of wanted.lowers) (upper_and_work wanted)
               (λ layer m. layers_alike.overlaps layer (written_used layer m) wanted.lowers) i,
           O5,
-        )
-        ∷ []
+        ) ∷ []
 
   same_asked : {R : Type 0} (asked : Looks ℕ → R)
       → ((looks : Looks ℕ) → asked (masked own uses looks) ≡ asked looks) → asked one ≡ asked other
@@ -250,8 +229,7 @@ module _ (one other : Looks ℕ) (task : Task ℕ) (own uses : ℕ → Bool) (al
 
   abbrev mount_by : (Permit ℕ → Bool) → Location ℕ → MountFlags → LayerLocations ℕ → Overlay ℕ → Looks ℕ → Looks ℕ
       → Judgement ℕ
-  mount_by overfills here flags layers overlay asked looks =
-      unless (layer_rules nat_eq asked layers overlay)
+  mount_by overfills here flags layers overlay asked looks = unless (layer_rules nat_eq asked layers overlay)
       (attach_permit (new_mount_rules nat_eq looks task here) overfills (ToMountOverlay here overlay flags))
 
   permit_by : (overfills : Permit ℕ → Bool) (here : Location ℕ) → At here
@@ -279,8 +257,7 @@ module _ (one other : Looks ℕ) (task : Task ℕ) (own uses : ℕ → Bool) (al
       → mount_overlay_permit nat_eq one overfills task path options flags
       ≡ mount_overlay_permit nat_eq other overfills task path options flags
   unfolding mount_overlay_permit
-  overlay_alike overfills path options flags =
-      ap (unless (admin_rules task))
+  overlay_alike overfills path options flags = ap (unless (admin_rules task))
       (judged_alike StandsThere (destination_walk nat_eq one task path) (destination_walk nat_eq other task path)
       (λ here. overlay_permit_by nat_eq one overfills task here.location options flags)
       (λ here. overlay_permit_by nat_eq other overfills task here.location options flags)

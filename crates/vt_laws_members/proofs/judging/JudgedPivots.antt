@@ -40,16 +40,11 @@ module _ (one other : Looks ℕ) (task : Task ℕ) (own uses : ℕ → Bool) (al
 
   -- the rules of a change of flags, with whether a file is open for writing through the mount
   abbrev flags_by : MountFlags → Location ℕ → Bool → Looks ℕ → Judgement ℕ
-  flags_by flags here written looks =
-      unless ((is_elsewhere nat_eq looks task here, M2)
-      ∷ (is_no_root nat_eq looks here, M7)
-      ∷ (flags.read_only && written, M8)
-      ∷ [])
-      (Ok (ToSetFlags here.mount flags))
+  flags_by flags here written looks = unless ((is_elsewhere nat_eq looks task here, M2)
+      ∷ (is_no_root nat_eq looks here, M7) ∷ (flags.read_only && written, M8) ∷ []) (Ok (ToSetFlags here.mount flags))
 
   by_namespace : (flags : MountFlags) (here : Location ℕ) → On here.mount → (b : Bool)
-      → is_elsewhere nat_eq one task here ≡ b
-      → flags_by flags here (one.is_written_through here.mount) one
+      → is_elsewhere nat_eq one task here ≡ b → flags_by flags here (one.is_written_through here.mount) one
       ≡ flags_by flags here (other.is_written_through here.mount) one
   by_namespace flags here on true e = cc (e)
   by_namespace flags here on false e = ap (λ b. flags_by flags here b one) (parents.written here on e)
@@ -57,13 +52,11 @@ module _ (one other : Looks ℕ) (task : Task ℕ) (own uses : ℕ → Bool) (al
   pub remount_alike : (path : List ℕ) (flags : MountFlags)
       → remount_permit nat_eq one task path flags ≡ remount_permit nat_eq other task path flags
   unfolding remount_permit
-  remount_alike path flags =
-      ap (unless (admin_rules task))
+  remount_alike path flags = ap (unless (admin_rules task))
       (judged_alike StandsThere (directory_walk nat_eq one task path) (directory_walk nat_eq other task path)
       (λ here. flags_by flags here.location (one.is_written_through here.location.mount) one)
       (λ here. flags_by flags here.location (other.is_written_through here.location.mount) other)
-      (directory_agrees one other task On alike.walks alike.directory alike.rules.removed path)
-      (λ here on.
+      (directory_agrees one other task On alike.walks alike.directory alike.rules.removed path) (λ here on.
       by_namespace flags here.location on (is_elsewhere nat_eq one task here.location) refl
       ∙ same_asked (flags_by flags here.location (other.is_written_through here.location.mount))
       (λ looks. rw (is_elsewhere, is_no_root, mount_at, on) refl)))
@@ -74,8 +67,7 @@ module _ (one other : Looks ℕ) (task : Task ℕ) (own uses : ℕ → Bool) (al
       unless ((list_any (is_elsewhere nat_eq looks task) (task.root ∷ new ∷ put ∷ []), M2)
       ∷ (is_no_root nat_eq looks new || is_no_root nat_eq looks task.root, M7)
       ∷ (nat_eq new.mount task.root.mount || nat_eq put.mount task.root.mount, M11)
-      ∷ (not descends || not below || parent || root || is_shared (mount_at looks put).propagation, M12)
-      ∷ [])
+      ∷ (not descends || not below || parent || root || is_shared (mount_at looks put).propagation, M12) ∷ [])
       (Ok (ToPivot new.mount put))
 
   abbrev pivot_of : Looks ℕ → Location ℕ → Location ℕ → Looks ℕ → Judgement ℕ
@@ -100,15 +92,13 @@ module _ (one other : Looks ℕ) (task : Task ℕ) (own uses : ℕ → Bool) (al
 
   pub pivot_alike : (new put : List ℕ) → pivot_permit nat_eq one task new put ≡ pivot_permit nat_eq other task new put
   unfolding pivot_permit
-  pivot_alike new put =
-      ap (unless (admin_rules task))
+  pivot_alike new put = ap (unless (admin_rules task))
       (judged_alike StandsThere (source_walk nat_eq one task new) (source_walk nat_eq other task new)
       (λ root. and_then (walk_end (destination_walk nat_eq one task put)) (λ here.
       pivot_of one root.location here.location one))
       (λ root. and_then (walk_end (destination_walk nat_eq other task put)) (λ here.
       pivot_of other root.location here.location other))
-      (source_agrees one other task On alike.walks alike.directory alike.rules.removed new)
-      (λ root there.
+      (source_agrees one other task On alike.walks alike.directory alike.rules.removed new) (λ root there.
       judged_alike StandsThere (destination_walk nat_eq one task put) (destination_walk nat_eq other task put)
       (λ here. pivot_of one root.location here.location one) (λ here. pivot_of other root.location here.location other)
       (destination_agrees one other task On alike.walks alike.directory alike.rules.removed put)

@@ -23,8 +23,7 @@ use Rattle.vt_laws_members.proofs.judging.WalksLead.{judged_alike, old_agrees, o
 
 -- P1, as two worlds have to show it alike
 abbrev pub PointsAlike : Looks ℕ → Looks ℕ → Task ℕ → (ℕ → Bool) → Type 0
-PointsAlike one other task own =
-    (here : Location ℕ) → own here.mount ≡ true
+PointsAlike one other task own = (here : Location ℕ) → own here.mount ≡ true
     → is_mount_point_in nat_eq one task.namespace here ≡ is_mount_point_in nat_eq other task.namespace here
 
 -- P1 and O1 of rename(2): of what is not locked, mount points of other namespaces too
@@ -51,17 +50,11 @@ module _ (one other : Looks ℕ) (task : Task ℕ) (own uses : ℕ → Bool) (al
 
   -- the rules of rmdir(2), with P1 given
   abbrev rmdir_by : Place ℕ → Location ℕ → Bool → Looks ℕ → Judgement ℕ
-  rmdir_by place object point looks =
-      unless ((not (is_directory_at looks object), E3)
-      ∷ (is_nonempty looks object, E4)
-      ∷ (is_read_only looks place.parent, F1)
-      ∷ (has_no_upper looks place.parent, F2)
-      ∷ (looks.is_locked object || looks.is_locked place.parent, L1)
-      ∷ (point, P1)
-      ∷ (may_not looks task place.parent write_right, C1)
-      ∷ (is_kept looks task place.parent object, C3)
-      ∷ (mounter_may_not looks place.parent write_right, B1)
-      ∷ looks.mounter_rules place.parent (removing place object))
+  rmdir_by place object point looks = unless ((not (is_directory_at looks object), E3) ∷ (is_nonempty looks object, E4)
+      ∷ (is_read_only looks place.parent, F1) ∷ (has_no_upper looks place.parent, F2)
+      ∷ (looks.is_locked object || looks.is_locked place.parent, L1) ∷ (point, P1)
+      ∷ (may_not looks task place.parent write_right, C1) ∷ (is_kept looks task place.parent object, C3)
+      ∷ (mounter_may_not looks place.parent write_right, B1) ∷ looks.mounter_rules place.parent (removing place object))
       (Ok (ToRemoveDirectory place.parent (name_of place.last) object))
 
   rmdir_same : (place : Place ℕ) (object : Location ℕ) → On place.parent.mount → On object.mount
@@ -69,13 +62,11 @@ module _ (one other : Looks ℕ) (task : Task ℕ) (own uses : ℕ → Bool) (al
       ≡ rmdir_by place object (is_mount_point_in nat_eq other task.namespace object) other
   rmdir_same place object on there =
       same_asked (rmdir_by place object (is_mount_point_in nat_eq one task.namespace object))
-      (λ looks. rw (is_read_only, there, on) refl)
-      ∙ ap (λ b. rmdir_by place object b other) (same_points object there)
+      (λ looks. rw (is_read_only, there, on) refl) ∙ ap (λ b. rmdir_by place object b other) (same_points object there)
 
   pub rmdir_alike : (path : List ℕ) → rmdir_permit nat_eq one task path ≡ rmdir_permit nat_eq other task path
   unfolding rmdir_permit
-  rmdir_alike path =
-      judged_alike IsAt (old_walk nat_eq one task path) (old_walk nat_eq other task path)
+  rmdir_alike path = judged_alike IsAt (old_walk nat_eq one task path) (old_walk nat_eq other task path)
       (λ place. unless (rmdir_word_rules place) (rmdir_by place (object_there place)
       (is_mount_point_in nat_eq one task.namespace (object_there place)) one))
       (λ place. unless (rmdir_word_rules place) (rmdir_by place (object_there place)
@@ -93,42 +84,33 @@ module _ (one other : Looks ℕ) (task : Task ℕ) (own uses : ℕ → Bool) (al
   stops ((false, first) ∷ front) rest others rule r = stops front rest others rule r
 
   abbrev rename_front : Place ℕ → Place ℕ → Location ℕ → Option (Location ℕ) → Looks ℕ → Rules
-  rename_front from to old o looks =
-      (not (is_directory_at looks old) && holds_of (is_directory_at looks) o, E2)
+  rename_front from to old o looks = (not (is_directory_at looks old) && holds_of (is_directory_at looks) o, E2)
       ∷ (is_directory_at looks old && holds_of (λ new. not (is_directory_at looks new)) o, E3)
-      ∷ (is_directory_at looks old && holds_of (is_nonempty looks) o, E4)
-      ∷ (
+      ∷ (is_directory_at looks old && holds_of (is_nonempty looks) o, E4) ∷ (
         is_directory_at looks old && same_filesystem nat_eq looks old to.parent
             && looks.is_under (mount_at looks old).filesystem old.node to.parent.node,
         E5,
-      )
-      ∷ (is_read_only looks from.parent || is_read_only looks to.parent, F1)
-      ∷ (has_no_upper looks from.parent || has_no_upper looks to.parent, F2)
-      ∷ []
+      ) ∷ (is_read_only looks from.parent || is_read_only looks to.parent, F1)
+      ∷ (has_no_upper looks from.parent || has_no_upper looks to.parent, F2) ∷ []
 
   abbrev rename_rest : Place ℕ → Place ℕ → Location ℕ → Option (Location ℕ) → (point stuck : Bool) → Looks ℕ → Rules
-  rename_rest from to old o point stuck looks =
-      (point, P1)
-      ∷ (not (nat_eq from.parent.mount to.parent.mount), P2)
+  rename_rest from to old o point stuck looks = (point, P1) ∷ (not (nat_eq from.parent.mount to.parent.mount), P2)
       ∷ (may_not looks task from.parent write_right || may_not looks task to.parent write_right, C1)
       ∷ (changes_parent nat_eq looks from to old && may_not looks task old write_right, C1)
-      ∷ (is_kept looks task from.parent old || holds_of (is_kept looks task to.parent) o, C3)
-      ∷ (stuck, O1)
+      ∷ (is_kept looks task from.parent old || holds_of (is_kept looks task to.parent) o, C3) ∷ (stuck, O1)
       ∷ (mounter_may_not looks from.parent write_right || mounter_may_not looks to.parent write_right, B1)
       ∷ (changes_parent nat_eq looks from to old && mounter_may_not looks old write_right, B1)
       ∷ looks.mounter_rules from.parent (moving from to old)
 
   -- the rules of rename(2), with P1 and O1 given
   abbrev rename_by : Place ℕ → Place ℕ → Location ℕ → Option (Location ℕ) → (point stuck : Bool) → Looks ℕ → Judgement ℕ
-  rename_by from to old o point stuck looks =
-      unless (rename_front from to old o looks
+  rename_by from to old o point stuck looks = unless (rename_front from to old o looks
       ++ (list_any looks.is_locked (from.parent ∷ to.parent ∷ old ∷ option_to_list o), L1)
       ∷ rename_rest from to old o point stuck looks)
       (Ok (ToRename from.parent (name_of from.last) to.parent (name_of to.last) old o))
 
   abbrev point_by : Looks ℕ → Location ℕ → Option (Location ℕ) → Bool
-  point_by looks old o =
-      is_mount_point_anywhere looks old || holds_of (is_mount_point_in nat_eq looks task.namespace) o
+  point_by looks old o = is_mount_point_anywhere looks old || holds_of (is_mount_point_in nat_eq looks task.namespace) o
 
   module _ (renames : RenamesAlike one other own) (from to : Place ℕ) (old : Location ℕ)
       (on_from : On from.parent.mount) (on_to : On to.parent.mount) (on_old : On old.mount) where
@@ -143,8 +125,7 @@ module _ (one other : Looks ℕ) (task : Task ℕ) (own uses : ℕ → Bool) (al
         let on_new : own new.mount ≡ true = found new refl in
         rw (is_read_only, on_from, on_to, on_old, on_new, used) refl
 
-    points : (o : Option (Location ℕ)) → IsFoundAt o
-        → holds_of (is_mount_point_in nat_eq one task.namespace) o
+    points : (o : Option (Location ℕ)) → IsFoundAt o → holds_of (is_mount_point_in nat_eq one task.namespace) o
         ≡ holds_of (is_mount_point_in nat_eq other task.namespace) o
     points None found = refl
     points (Some new) found = same_points new (found new refl)
@@ -184,15 +165,12 @@ module _ (one other : Looks ℕ) (task : Task ℕ) (own uses : ℕ → Bool) (al
     nothing_by looks = unless (same_object_rules nat_eq looks from to) (Ok Allowed)
 
     nothing_same : nothing_by one ≡ nothing_by other
-    nothing_same =
-        same_asked nothing_by
-        (λ looks. rw (is_read_only, on_from, on_to) refl)
+    nothing_same = same_asked nothing_by (λ looks. rw (is_read_only, on_from, on_to) refl)
 
     one_object : (o : Option (Location ℕ)) → IsFoundAt o
         → is_one_object nat_eq one old o ≡ is_one_object nat_eq other old o
     one_object None found = refl
-    one_object (Some new) found =
-        cc (alike.rules.mount old.mount on_old, alike.rules.mount new.mount (found new refl))
+    one_object (Some new) found = cc (alike.rules.mount old.mount on_old, alike.rules.mount new.mount (found new refl))
 
     renamed_by : IsFoundAt to.object → (b : Bool)
         → renamed_permit nat_eq b one task from to old ≡ renamed_permit nat_eq b other task from to old
@@ -205,8 +183,7 @@ module _ (one other : Looks ℕ) (task : Task ℕ) (own uses : ℕ → Bool) (al
     renamed_alike found = cc (renamed_by found (is_one_object nat_eq one old to.object), one_object to.object found)
 
   abbrev to_rename : Place ℕ → Looks ℕ → Place ℕ → Judgement ℕ
-  to_rename from looks to =
-      unless (old_word_rules to)
+  to_rename from looks to = unless (old_word_rules to)
       (renamed_permit nat_eq (is_one_object nat_eq looks (object_there from) to.object) looks task from to
       (object_there from))
 
@@ -217,18 +194,15 @@ module _ (one other : Looks ℕ) (task : Task ℕ) (own uses : ℕ → Bool) (al
       judged_alike IsAt (old_leaf_walk nat_eq one task old) (old_leaf_walk nat_eq other task old)
       (λ from. unless (old_word_rules from)
       (and_then (walk_end (rename_new_walk nat_eq one task new (is_directory_there nat_eq one from)))
-      (to_rename from one)))
-      (λ from. unless (old_word_rules from)
+      (to_rename from one))) (λ from. unless (old_word_rules from)
       (and_then (walk_end (rename_new_walk nat_eq other task new (is_directory_there nat_eq other from)))
-      (to_rename from other)))
-      (old_leaf_agrees one other task On alike.walks alike.directory alike.rules.removed old)
+      (to_rename from other))) (old_leaf_agrees one other task On alike.walks alike.directory alike.rules.removed old)
       (λ from at. ap (unless (old_word_rules from))
       (judged_alike IsAt (rename_new_walk nat_eq one task new (is_directory_there nat_eq one from))
       (rename_new_walk nat_eq other task new (is_directory_there nat_eq one from))
       (to_rename from one) (to_rename from other)
       (rename_new_agrees one other task On alike.walks alike.directory alike.rules.removed new
-      (is_directory_there nat_eq one from))
-      (λ to stands. ap (unless (old_word_rules to))
+      (is_directory_there nat_eq one from)) (λ to stands. ap (unless (old_word_rules to))
       (renamed_alike renames from to (object_there from) at.0 stands.0
       (there_own one other task own uses alike from at) stands.1))
       ∙ ap (λ b. and_then (walk_end (rename_new_walk nat_eq other task new b)) (to_rename from other))

@@ -53,16 +53,14 @@ counts_how world number object layer merged h = by merged.overlay refl h
       upper = upper;
       is = e;
       has = f;
-      inside = eqb-true number upper.filesystem
-          (sym (ap (holds_of (λ (l : Layer ℕ). nat_eq number l.filesystem)) f)
+      inside = eqb-true number upper.filesystem (sym (ap (holds_of (λ (l : Layer ℕ). nat_eq number l.filesystem)) f)
           ∙ (and_parts (holds_of (λ (l : Layer ℕ). nat_eq number l.filesystem) overlay.upper)
           (list_any (is_real_upper nat_eq overlay object) merged.files.numbers) k).0);
       lies = h;
       object_of = k;
     }
 
-    by : (o : Option (Overlay ℕ)) → merged.overlay ≡ o
-        → overlay_or false (λ overlay.
+    by : (o : Option (Overlay ℕ)) → merged.overlay ≡ o → overlay_or false (λ overlay.
         holds_of (λ upper. lies_in_layer nat_eq world upper.filesystem upper.directory layer) overlay.upper
         && is_object_of nat_eq number object merged overlay) o ≡ true → Counts world number object layer merged
     by None e h = absurd (true≢false (sym h))
@@ -73,8 +71,7 @@ counts_how world number object layer merged h = by merged.overlay refl h
         by_upper overlay e overlay.upper refl both.0 both.1
 
 -- What is locked stays so where each overlay with a layer in the filesystem is.
-module _ (a b : World ℕ) (number : ℕ)
-    (same : filesystem_numbered nat_eq b number ≡ filesystem_numbered nat_eq a number)
+module _ (a b : World ℕ) (number : ℕ) (same : filesystem_numbered nat_eq b number ≡ filesystem_numbered nat_eq a number)
     (within : (merged : Filesystem ℕ) → Among merged (overlays a) → has_layer_on nat_eq number merged ≡ true
     → Among merged (overlays b)) where
   pub lies_at : (object : ℕ) (layer : Layer ℕ) → lies_in_layer nat_eq a number object layer ≡ true
@@ -111,22 +108,18 @@ module _ (a b : World ℕ) (number : ℕ)
 
   pub under_at : (object : ℕ) (layer : Layer ℕ) → lies_or_counts_under nat_eq a number object layer ≡ true
       → (lies_or_counts_under nat_eq b number object layer ≡ true) × (nat_eq number layer.filesystem ≡ true)
-  under_at object layer h =
-      ⊎_elim
-      (λ lies. (
-        or_left (lies_in_layer nat_eq b number object layer) _ (lies_at object layer lies),
-        (and_parts (nat_eq number layer.filesystem)
-            (is_under nat_eq (filesystem_numbered nat_eq a number).files layer.directory object) lies).0,
-      ))
-      (λ counts.
+  under_at object layer h = ⊎_elim (λ lies. (
+    or_left (lies_in_layer nat_eq b number object layer) _ (lies_at object layer lies),
+    (and_parts (nat_eq number layer.filesystem)
+        (is_under nat_eq (filesystem_numbered nat_eq a number).files layer.directory object) lies).0,
+  )) (λ counts.
       let at = any_among (counts_in_layer nat_eq a number object layer) (overlays a) counts in
       let there = counts_at object layer at.0 at.1 at.2 in (
         or_right (lies_in_layer nat_eq b number object layer)
             (list_any (counts_in_layer nat_eq b number object layer) (overlays b))
             (any_from_among (counts_in_layer nat_eq b number object layer) (overlays b) at.0 there.0 there.1),
         there.2,
-      ))
-      (or_cases (lies_in_layer nat_eq a number object layer)
+      )) (or_cases (lies_in_layer nat_eq a number object layer)
       (list_any (counts_in_layer nat_eq a number object layer) (overlays a)) h)
 
   pub locked_at : (object : ℕ) → is_locked nat_eq a number object ≡ true → is_locked nat_eq b number object ≡ true
@@ -136,8 +129,7 @@ module _ (a b : World ℕ) (number : ℕ)
       let under = under_at object at.0 at.2 in
       any_from_among (lies_or_counts_under nat_eq b number object) (live_layers b) at.0
       (among-flat_map (of_overlay [] layers_of) (overlays b) from.0 at.0
-      (within from.0 from.1 (has_layer number from.0 at.0 from.2 under.1)) from.2)
-      under.0
+      (within from.0 from.1 (has_layer number from.0 at.0 from.2 under.1)) from.2) under.0
 
 -- In a world, and in the part of a sealed set
 module _ (world : World ℕ) (names : List TaskName) (is : IsWorld nat_eq world)
@@ -152,15 +144,13 @@ module _ (world : World ℕ) (names : List TaskName) (is : IsWorld nat_eq world)
       among-filter is_overlay part.filesystems merged
       (among-filter_map (part_of_filesystem nat_eq world names) world.filesystems merged merged from.0
       (ap (λ b. cond b (Some merged) (when (list_any (λ layer. nat_eq merged.number layer.filesystem)
-      (own_lowers nat_eq world names)) (part_of_lower nat_eq world names merged))) used))
-      from.1
+      (own_lowers nat_eq world names)) (part_of_lower nat_eq world names merged))) used)) from.1
 
   -- overlays with a layer in what they use alone are theirs
   pub alone_in_part : (number : ℕ) → used_alone nat_eq world names number ≡ true → (merged : Filesystem ℕ)
       → Among merged (overlays world) → has_layer_on nat_eq number merged ≡ true → Among merged (overlays part)
   alone_in_part number alone merged m has =
-      let each = among_from_list_all
-      (λ (f : Filesystem ℕ). Rattle.std.proofs.Common.not (has_layer_on nat_eq number f)
+      let each = among_from_list_all (λ (f : Filesystem ℕ). Rattle.std.proofs.Common.not (has_layer_on nat_eq number f)
       || no_outsider_on nat_eq world names f.number) (overlays world)
       (and_parts (no_outsider_on nat_eq world names number) (list_all
       (λ (f : Filesystem ℕ). Rattle.std.proofs.Common.not (has_layer_on nat_eq number f)
@@ -174,14 +164,11 @@ module _ (world : World ℕ) (names : List TaskName) (is : IsWorld nat_eq world)
   part_in_world merged m =
       let from = among-from_filter is_overlay part.filesystems merged m in
       let kept = among-from_filter_map (part_of_filesystem nat_eq world names) world.filesystems merged from.0 in
-      among-filter is_overlay world.filesystems merged
-      (⊎_elim
+      among-filter is_overlay world.filesystems merged (⊎_elim
       (λ whole. subst (λ f. Among f world.filesystems) whole.0 kept.1)
       (λ lower. absurd (true≢false (sym from.1 ∙ ap is_overlay (sym lower.0)
       ∙ ap is_overlay (sym (found_filesystem world.filesystems is.files.one_filesystem kept.0 kept.1))
-      ∙ lower_plain world names is kept.0.number lower.2)))
-      (shown_how world names kept.0 merged kept.2))
-      from.1
+      ∙ lower_plain world names is kept.0.number lower.2))) (shown_how world names kept.0 merged kept.2)) from.1
 
   abbrev pub files_of : ℕ → FileTree ℕ
   files_of number = (filesystem_numbered nat_eq world number).files
@@ -228,8 +215,7 @@ module _ (world : World ℕ) (names : List TaskName) (is : IsWorld nat_eq world)
       (list_any (is_real_upper nat_eq c.overlay object) merged.files.numbers) c.object_of).1 in
       let merge = is.overlays.overlays_merge merged.number c.overlay
       (ap (λ (f : Filesystem ℕ). f.overlay) (found_filesystem world.filesystems is.files.one_filesystem merged there)
-      ∙ c.is)
-      in
+      ∙ c.is) in
       subst (λ n. is_some ((files_of n).tree.node object) ≡ true) (sym c.inside)
       (sym (ap (holds_of (λ (l : Layer ℕ). is_there nat_eq world l.filesystem object)) c.has)
       ∙ merge.upper_there real.0 object (upper_real (c.overlay.real real.0) object real.2))
@@ -281,8 +267,7 @@ module _ (world : World ℕ) (names : List TaskName) (is : IsWorld nat_eq world)
 
   pub whole_how : (number : ℕ) → wholly_locked nat_eq world names number ≡ true → IsWhole number
   whole_how number whole =
-      let both = and_parts
-      (list_any (λ merged. is_lower_root nat_eq number (files_of number).tree.root merged
+      let both = and_parts (list_any (λ merged. is_lower_root nat_eq number (files_of number).tree.root merged
       && used_alone nat_eq world names merged.number) (overlays world)) (all_named nat_eq (files_of number)) whole in
       let at = any_among (λ (merged : Filesystem ℕ). is_lower_root nat_eq number (files_of number).tree.root merged
       && used_alone nat_eq world names merged.number) (overlays world) both.0 in
@@ -304,8 +289,7 @@ module _ (world : World ℕ) (names : List TaskName) (is : IsWorld nat_eq world)
         lower = layer.2;
         inside = layer.3;
         at_root = layer.4;
-        under = λ object there.
-            ⊎_elim
+        under = λ object there. ⊎_elim
             (λ root. subst (λ o. is_under nat_eq (files_of number) (files_of number).tree.root o ≡ true)
             (sym (eqb-true object (files_of number).tree.root root)) (root_under (files_of number) tree.0 tree.1))
             (λ name. named_under (files_of number) tree.0 tree.1 object
@@ -321,14 +305,12 @@ module _ (world : World ℕ) (names : List TaskName) (is : IsWorld nat_eq world)
       → IsWhole number → is_some ((files_of number).tree.node object) ≡ true
       → is_locked nat_eq part number object ≡ true
   wholly_in_part number object used whole there =
-      let in_part : Among whole.merged (overlays part) =
-      among_from_contains (overlays part) whole.merged
+      let in_part : Among whole.merged (overlays part) = among_from_contains (overlays part) whole.merged
       (their_overlays_are_in_the_part world names whole.merged is
       (contains_from_among (overlays world) whole.merged whole.overlaid) whole.alone) in
       any_from_among (lies_or_counts_under nat_eq part number object) (live_layers part) whole.layer
       (among-flat_map (of_overlay [] layers_of) (overlays part) whole.merged whole.layer in_part whole.layered)
-      (or_left (lies_in_layer nat_eq part number object whole.layer) _
-      (and_from (nat_eq number whole.layer.filesystem)
+      (or_left (lies_in_layer nat_eq part number object whole.layer) _ (and_from (nat_eq number whole.layer.filesystem)
       (is_under nat_eq (filesystem_numbered nat_eq part number).files whole.layer.directory object)
       (eq-eqb number whole.layer.filesystem whole.inside)
       (ap (λ (f : Filesystem ℕ). is_under nat_eq f.files whole.layer.directory object) (found world names number used)
@@ -337,12 +319,10 @@ module _ (world : World ℕ) (names : List TaskName) (is : IsWorld nat_eq world)
   pub locked_alike : (number : ℕ) → is_among nat_eq number (used_filesystems nat_eq world names) ≡ true → (object : ℕ)
       → is_locked nat_eq world number object ≡ is_locked nat_eq part number object
   locked_alike number used object =
-      same_truth (is_locked nat_eq world number object) (is_locked nat_eq part number object)
-      (λ h. ⊎_elim
+      same_truth (is_locked nat_eq world number object) (is_locked nat_eq part number object) (λ h. ⊎_elim
       (λ alone. locked_at world part number (found world names number used) (alone_in_part number alone) object h)
       (λ whole. wholly_in_part number object used (whole_how number whole) (locked_there number object h))
       (or_cases (used_alone nat_eq world names number) (wholly_locked nat_eq world names number)
-      (used_are_free world names sealed_off number
-      (among_numbers (used_filesystems nat_eq world names) number used))))
+      (used_are_free world names sealed_off number (among_numbers (used_filesystems nat_eq world names) number used))))
       (λ h. locked_at part world number (sym (found world names number used)) (λ merged m has. part_in_world merged m)
       object h)

@@ -43,8 +43,7 @@ module _ (world : World ℕ) (names : List TaskName) (is : IsWorld nat_eq world)
   abbrev view_at : Layer ℕ → List (List ℕ) → Filesystem ℕ → Option (Node ℕ)
   view_at layer path x = node_led (view_of (record { tree = x.files.tree; directory = layer.directory })) path
 
-  module _ (layer : Layer ℕ) (low : Among layer lowers)
-      (directory : is_directory_node
+  module _ (layer : Layer ℕ) (low : Among layer lowers) (directory : is_directory_node
       ((filesystem_numbered nat_eq world layer.filesystem).files.tree.node layer.directory) ≡ true)
     where
       module _ (x : Filesystem ℕ) (there : Among x world.filesystems) (its : layer.filesystem ≡ x.number) where
@@ -83,8 +82,7 @@ module _ (world : World ℕ) (names : List TaskName) (is : IsWorld nat_eq world)
         same_node object way e = ap (λ b. cond b (x.files.tree.node object) None) (in_chosen object way e)
 
         leads : (path : List (List ℕ)) → led cut.tree layer.directory path ≡ led x.files.tree layer.directory path
-        leads path =
-            led_where x.files.tree cut.tree path layer.directory (λ way inode e word.
+        leads path = led_where x.files.tree cut.tree path layer.directory (λ way inode e word.
             ap (λ (n : Option (Node ℕ)). entry_named word (entries_in n)) (same_node inode way e))
 
         cut_view : (path : List (List ℕ))
@@ -95,8 +93,7 @@ module _ (world : World ℕ) (names : List TaskName) (is : IsWorld nat_eq world)
       shown = part_of_filesystem nat_eq world names
 
       shown_number : (x y : Filesystem ℕ) → shown x ≡ Some y → y.number ≡ x.number
-      shown_number x y e =
-          ⊎_elim (λ same. ap (λ (f : Filesystem ℕ). f.number) (sym same.0))
+      shown_number x y e = ⊎_elim (λ same. ap (λ (f : Filesystem ℕ). f.number) (sym same.0))
           (λ low. ap (λ (f : Filesystem ℕ). f.number) (sym low.0)) (shown_how world names x y e)
 
       kept : (x : Filesystem ℕ) → Among x world.filesystems → layer.filesystem ≡ x.number → (path : List (List ℕ))
@@ -114,8 +111,7 @@ module _ (world : World ℕ) (names : List TaskName) (is : IsWorld nat_eq world)
           by false e = (
             part_of_lower nat_eq world names x,
             ap (λ b. cond b (Some x) (when (list_any (λ layer. nat_eq x.number layer.filesystem) lowers)
-                (part_of_lower nat_eq world names x))) e
-                ∙ ap (λ b. when b (part_of_lower nat_eq world names x))
+                (part_of_lower nat_eq world names x))) e ∙ ap (λ b. when b (part_of_lower nat_eq world names x))
                 (any_from_among (λ (l : Layer ℕ). nat_eq x.number l.filesystem) lowers layer low
                 (eq-eqb x.number layer.filesystem (sym its))),
             cut_view x there its path,
@@ -139,8 +135,7 @@ module _ (world : World ℕ) (names : List TaskName) (is : IsWorld nat_eq world)
           skip None e f = refl
           skip (Some y) e f = cc (shown_number x y e, f)
 
-          by : (b : Bool) → passes x ≡ b
-              → view_at layer path (unwrap_or (find passes (filter_map shown rest)) none)
+          by : (b : Bool) → passes x ≡ b → view_at layer path (unwrap_or (find passes (filter_map shown rest)) none)
               ≡ view_at layer path (unwrap_or (find passes rest) none)
               → view_at layer path (unwrap_or (find passes (cons_option (shown x) (filter_map shown rest))) none)
               ≡ view_at layer path (unwrap_or (cond b (Some x) (find passes rest)) none)
@@ -149,19 +144,16 @@ module _ (world : World ℕ) (names : List TaskName) (is : IsWorld nat_eq world)
               ap (λ o. view_at layer path (unwrap_or (find passes (cons_option o (filter_map shown rest))) none)) its.1
               ∙ ap (λ b. view_at layer path
               (unwrap_or (cond b (Some its.0) (find passes (filter_map shown rest))) none))
-              (ap (nat_eq layer.filesystem) (shown_number x its.0 its.1) ∙ e)
-              ∙ its.2
+              (ap (nat_eq layer.filesystem) (shown_number x its.0 its.1) ∙ e) ∙ its.2
           by false e later = cc (skip (shown x) refl e, later)
 
-      pub lower_view : (path : List (List ℕ))
-          → node_led (view_of (open_layer nat_eq part layer)) path
+      pub lower_view : (path : List (List ℕ)) → node_led (view_of (open_layer nat_eq part layer)) path
           ≡ node_led (view_of (open_layer nat_eq world layer)) path
       lower_view path = search path world.filesystems (λ x m. m)
 
   -- Layers that have the same at each path
   abbrev ViewsAlike : Layer ℕ → Type 0
-  ViewsAlike layer =
-      (path : List (List ℕ))
+  ViewsAlike layer = (path : List (List ℕ))
       → node_led (view_of (open_layer nat_eq part layer)) path ≡ node_led (view_of (open_layer nat_eq world layer)) path
 
   cuts_alike : (layer : Layer ℕ) → ViewsAlike layer → (path : List (List ℕ))
@@ -169,8 +161,7 @@ module _ (world : World ℕ) (names : List TaskName) (is : IsWorld nat_eq world)
   cuts_alike layer same path = λ i. list_any (λ prefix. hides (same prefix i)) (prefixes path)
 
   lowers_alike : (list : List (Layer ℕ)) → ((layer : Layer ℕ) → Among layer list → ViewsAlike layer)
-      → (path : List (List ℕ))
-      → lowers_have_directory (map view_of (map (open_layer nat_eq part) list)) path
+      → (path : List (List ℕ)) → lowers_have_directory (map view_of (map (open_layer nat_eq part) list)) path
       ≡ lowers_have_directory (map view_of (map (open_layer nat_eq world) list)) path
   lowers_alike [] same path = refl
   lowers_alike (layer ∷ rest) same path =
@@ -180,8 +171,7 @@ module _ (world : World ℕ) (names : List TaskName) (is : IsWorld nat_eq world)
       λ i. is_directory_node (first path i) || (not (cut i) && later i)
 
   uppers_alike : (list : List (Layer ℕ)) → ((layer : Layer ℕ) → Among layer list → ViewsAlike layer)
-      → (path : List (List ℕ))
-      → list_any (λ upper. cuts upper path) (map view_of (map (open_layer nat_eq part) list))
+      → (path : List (List ℕ)) → list_any (λ upper. cuts upper path) (map view_of (map (open_layer nat_eq part) list))
       ≡ list_any (λ upper. cuts upper path) (map view_of (map (open_layer nat_eq world) list))
   uppers_alike [] same path = refl
   uppers_alike (layer ∷ rest) same path =
@@ -216,8 +206,7 @@ module _ (world : World ℕ) (names : List TaskName) (is : IsWorld nat_eq world)
           (subst (λ o. Among layer (overlay_or [] (λ (o : Overlay ℕ). o.lowers) o)) (sym e) m)
 
       lower_alike : (layer : Layer ℕ) → Among layer overlay.lowers → ViewsAlike layer
-      lower_alike layer m path =
-          lower_view layer (lower_low layer m)
+      lower_alike layer m path = lower_view layer (lower_low layer m)
           (layer_directory world names is merged (overlay_there number overlay e) layer
           (subst (λ o. Among layer (overlay_or [] layers_of o)) (sym e)
           (among-append_right (option_to_list overlay.upper ++ option_to_list overlay.work) overlay.lowers layer m)))
@@ -225,12 +214,9 @@ module _ (world : World ℕ) (names : List TaskName) (is : IsWorld nat_eq world)
 
       pub upper_used : (layer : Layer ℕ) → Among layer (option_to_list overlay.upper)
           → is_among nat_eq layer.filesystem used ≡ true
-      upper_used layer m =
-          is_among_numbers used layer.filesystem
-          (among-each_once (used_directly nat_eq world names
+      upper_used layer m = is_among_numbers used layer.filesystem (among-each_once (used_directly nat_eq world names
           ++ flat_map (λ n. change_layers (filesystem_numbered nat_eq world n)) (used_directly nat_eq world names))
-          layer.filesystem
-          (among-append_right (used_directly nat_eq world names)
+          layer.filesystem (among-append_right (used_directly nat_eq world names)
           (flat_map (λ n. change_layers (filesystem_numbered nat_eq world n)) (used_directly nat_eq world names))
           layer.filesystem
           (among-flat_map (λ n. change_layers (filesystem_numbered nat_eq world n)) (used_directly nat_eq world names)
@@ -241,8 +227,7 @@ module _ (world : World ℕ) (names : List TaskName) (is : IsWorld nat_eq world)
           (among-append_left (option_to_list overlay.upper) (option_to_list overlay.work) layer m))))))
 
       upper_alike : (layer : Layer ℕ) → Among layer (option_to_list overlay.upper) → ViewsAlike layer
-      upper_alike layer m path =
-          ap (view_at layer path) (found world names layer.filesystem (upper_used layer m))
+      upper_alike layer m path = ap (view_at layer path) (found world names layer.filesystem (upper_used layer m))
 
       all_alike : (path : List (List ℕ))
           → has_lower_directory (map (open_layer nat_eq world) (option_to_list overlay.upper))
@@ -255,22 +240,18 @@ module _ (world : World ℕ) (names : List TaskName) (is : IsWorld nat_eq world)
           sym (λ i. not (up i) && down i)
 
     abbrev asked : World ℕ → List ℕ → Filesystem ℕ → Option (Overlay ℕ) → Bool
-    asked w name x o =
-        overlay_or false (λ (overlay : Overlay ℕ). has_lower_directory
+    asked w name x o = overlay_or false (λ (overlay : Overlay ℕ). has_lower_directory
         (map (open_layer nat_eq w) (option_to_list overlay.upper)) (map (open_layer nat_eq w) overlay.lowers)
         (unwrap_or (path_down nat_eq x.files x.files.tree.root here.node) [] ++ (name ∷ []))) o
 
     pub lower_directory_alike : (name : List ℕ)
         → has_lower_directory_at nat_eq world here name ≡ has_lower_directory_at nat_eq part here name
-    lower_directory_alike name =
-        by merged.overlay refl
+    lower_directory_alike name = by merged.overlay refl
         ∙ ap (λ (x : Filesystem ℕ). asked part name x x.overlay) (filesystem_alike world names is here own)
       where
         by : (o : Option (Overlay ℕ)) → merged.overlay ≡ o
             → asked world name merged merged.overlay ≡ asked part name merged merged.overlay
         by None e = ap (asked world name merged) e ∙ sym (ap (asked part name merged) e)
-        by (Some overlay) e =
-            ap (asked world name merged) e
-            ∙ all_alike overlay e
+        by (Some overlay) e = ap (asked world name merged) e ∙ all_alike overlay e
             (unwrap_or (path_down nat_eq merged.files merged.files.tree.root here.node) [] ++ (name ∷ []))
             ∙ sym (ap (asked part name merged) e)

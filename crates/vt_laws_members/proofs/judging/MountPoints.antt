@@ -46,10 +46,8 @@ module _ (world : World ℕ) (names : List TaskName) (is : IsWorld nat_eq world)
           let below : IsTheirs world names is.mounts point.mount =
           parent_theirs world names is.mounts mount.number point (mount, m, refl, inl own)
           (ap (λ (x : Mount ℕ). x.mount_point) (numbered world names is.mounts mount m) ∙ e) in
-          ap (holds_of (test part)) e
-          ∙ ap (λ (x : Mount ℕ). nat_eq point.node node && nat_eq x.filesystem filesystem)
-          (same_mount world names is.mounts point.mount below)
-          ∙ sym (ap (holds_of (test world)) e)
+          ap (holds_of (test part)) e ∙ ap (λ (x : Mount ℕ). nat_eq point.node node && nat_eq x.filesystem filesystem)
+          (same_mount world names is.mounts point.mount below) ∙ sym (ap (holds_of (test world)) e)
 
   abbrev pub stands_on_one : World ℕ → List (ℕ × ℕ) → Mount ℕ → Bool
   stands_on_one w points mount = list_any (λ (point : ℕ × ℕ). is_point nat_eq w point.0 point.1 mount) points
@@ -61,8 +59,7 @@ module _ (world : World ℕ) (names : List TaskName) (is : IsWorld nat_eq world)
 
   points_same : (here : Location ℕ) → OnTheirs world names is here
       → points_of nat_eq part here ≡ points_of nat_eq world here
-  points_same here own =
-      ap (λ (f : Filesystem ℕ). (f.number, here.node)
+  points_same here own = ap (λ (f : Filesystem ℕ). (f.number, here.node)
       ∷ of_overlay [] (λ (overlay : Overlay ℕ). upper_points world f overlay here.node) f)
       (sym (filesystem_alike world names is here own))
 
@@ -72,9 +69,7 @@ module _ (world : World ℕ) (names : List TaskName) (is : IsWorld nat_eq world)
       let of = among-from_flat_map (λ (t : Task ℕ). t.root ∷ t.directory ∷ []) theirs l m in
       ⊎_elim (λ root. subst (OnTheirs world names is) (sym root) (root_theirs world names is of.0 of.1))
       (λ rest. ⊎_elim (λ directory. subst (OnTheirs world names is) (sym directory)
-      (directory_theirs world names is of.0 of.1))
-      (λ none. absurd none) rest)
-      of.2
+      (directory_theirs world names is of.0 of.1)) (λ none. absurd none) rest) of.2
 
   -- a mount of the part is theirs, or detached
   pub part_mount : (x y : Mount ℕ) → Among x world.mounts → keep world names theirs x ≡ Some y
@@ -96,14 +91,12 @@ module _ (world : World ℕ) (names : List TaskName) (is : IsWorld nat_eq world)
           let same : x ≡ y = whole (or_right (owns x) (is_at nat_eq (roots_and_directories theirs) x) g) in
           let at = any_among (λ (l : Location ℕ). nat_eq l.mount x.number) (roots_and_directories theirs) g in
           let ground = stood_theirs at.0 at.1 in
-          let it : ground.0 ≡ x =
-          sym (numbered world names is.mounts ground.0 ground.1)
+          let it : ground.0 ≡ x = sym (numbered world names is.mounts ground.0 ground.1)
           ∙ ap (mount_numbered nat_eq world) (ground.2 ∙ eqb-true at.0.mount x.number at.2)
           ∙ numbered world names is.mounts x m in
           ⊎_elim (λ own. inl (ap owns (sym (it ∙ same)) ∙ own))
           (λ stood. inr (ap (λ (z : Mount ℕ). z.namespace) (sym (it ∙ same)) ∙ stood.0)) ground.3
-      by false false f g =
-          inr (stub (is_at nat_eq (locations theirs) x)
+      by false false f g = inr (stub (is_at nat_eq (locations theirs) x)
           (sym (ap (λ a. cond (a || is_at nat_eq (roots_and_directories theirs) x) (Some x)
           (when (is_at nat_eq (locations theirs) x) (seen_by_descriptor x))) f
           ∙ ap (λ b. cond b (Some x) (when (is_at nat_eq (locations theirs) x) (seen_by_descriptor x))) g) ∙ e))
@@ -115,34 +108,27 @@ module _ (world : World ℕ) (names : List TaskName) (is : IsWorld nat_eq world)
       → test mount ≡ true → owns mount ≡ true)
       → list_any test (mounts_on nat_eq world here) ≡ list_any test (mounts_on nat_eq part here)
   found_alike test none here own theirs_all =
-      same_truth (list_any test (mounts_on nat_eq world here)) (list_any test (mounts_on nat_eq part here))
-      (λ h.
+      same_truth (list_any test (mounts_on nat_eq world here)) (list_any test (mounts_on nat_eq part here)) (λ h.
       let at = any_among test (mounts_on nat_eq world here) h in
       let from = among-from_filter (stands_on_one world (points_of nat_eq world here)) world.mounts at.0 at.1 in
       let its : owns at.0 ≡ true = theirs_all at.0 from.0 from.1 at.2 in
       any_from_among test (mounts_on nat_eq part here) at.0
       (among-filter (stands_on_one part (points_of nat_eq part here)) part.mounts at.0
-      (among-filter_map (keep world names theirs) world.mounts at.0 at.0 from.0
-      (kept_whole world names theirs at.0
+      (among-filter_map (keep world names theirs) world.mounts at.0 at.0 from.0 (kept_whole world names theirs at.0
       (or_left (owns at.0) (is_at nat_eq (roots_and_directories theirs) at.0) its)))
       (ap (λ points. stands_on_one part points at.0) (points_same here own)
-      ∙ all_same at.0 from.0 its (points_of nat_eq world here) ∙ from.1)) at.2)
-      (λ h.
+      ∙ all_same at.0 from.0 its (points_of nat_eq world here) ∙ from.1)) at.2) (λ h.
       let at = any_among test (mounts_on nat_eq part here) h in
       let from = among-from_filter (stands_on_one part (points_of nat_eq part here)) part.mounts at.0 at.1 in
       let kept = among-from_filter_map (keep world names theirs) world.mounts at.0 from.0 in
-      ⊎_elim
-      (λ own. ⊎_elim
-      (λ same. by at.0 at.2 from.1 (subst (λ x. Among x world.mounts) same kept.1) own)
+      ⊎_elim (λ own. ⊎_elim (λ same. by at.0 at.2 from.1 (subst (λ x. Among x world.mounts) same kept.1) own)
       (λ stub. absurd (true≢false (sym at.2 ∙ none at.0 (ap (λ (x : Mount ℕ). x.namespace) (sym stub.0)))))
       (kept_how world names theirs kept.0 at.0 kept.2))
-      (λ detached. absurd (true≢false (sym at.2 ∙ none at.0 detached)))
-      (part_mount kept.0 at.0 kept.1 kept.2))
+      (λ detached. absurd (true≢false (sym at.2 ∙ none at.0 detached))) (part_mount kept.0 at.0 kept.1 kept.2))
     where
       by : (mount : Mount ℕ) → test mount ≡ true → stands_on_one part (points_of nat_eq part here) mount ≡ true
           → Among mount world.mounts → owns mount ≡ true → list_any test (mounts_on nat_eq world here) ≡ true
-      by mount passes on m its =
-          any_from_among test (mounts_on nat_eq world here) mount
+      by mount passes on m its = any_from_among test (mounts_on nat_eq world here) mount
           (among-filter (stands_on_one world (points_of nat_eq world here)) world.mounts mount m
           (sym (all_same mount m its (points_of nat_eq world here))
           ∙ sym (ap (λ points. stands_on_one part points mount) (points_same here own)) ∙ on)) passes
@@ -152,7 +138,6 @@ module _ (world : World ℕ) (names : List TaskName) (is : IsWorld nat_eq world)
     in_own mount h = grind (arith, common_steps, any_from_among)
 
     pub points_alike : PointsAlike (looks_of nat_eq world) (looks_of nat_eq part) task (is_theirs world names)
-    points_alike here e =
-        found_alike (λ mount. holds_of (nat_eq task.namespace) mount.namespace)
+    points_alike here e = found_alike (λ mount. holds_of (nat_eq task.namespace) mount.namespace)
         (λ mount none. ap (holds_of (nat_eq task.namespace)) none) here
         (theirs_from world names is.mounts here.mount e) (λ mount m on passes. in_own mount passes)

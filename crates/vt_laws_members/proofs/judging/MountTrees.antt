@@ -57,8 +57,7 @@ module _ (world : World ℕ) (names : List TaskName) (is : IsWorld nat_eq world)
   owns = is_own world names theirs
 
   pub own_whole : (mount : Mount ℕ) → owns mount ≡ true → kept mount ≡ Some mount
-  own_whole mount own =
-      kept_whole world names theirs mount
+  own_whole mount own = kept_whole world names theirs mount
       (or_left (owns mount) (is_at nat_eq (roots_and_directories theirs) mount) own)
 
   -- a mount of theirs, by its number
@@ -103,8 +102,7 @@ module _ (world : World ℕ) (names : List TaskName) (is : IsWorld nat_eq world)
           → any_pair (λ (a b : Mount ℕ). nat_eq a.number b.number) (filter_map kept rest) ≡ false
           → any_pair (λ (a b : Mount ℕ). nat_eq a.number b.number) (cons_option o (filter_map kept rest)) ≡ false
       by None f none later = later
-      by (Some y) f none later =
-          or_from (list_any (λ (b : Mount ℕ). nat_eq y.number b.number) (filter_map kept rest))
+      by (Some y) f none later = or_from (list_any (λ (b : Mount ℕ). nat_eq y.number b.number) (filter_map kept rest))
           (any_pair (λ (a b : Mount ℕ). nat_eq a.number b.number) (filter_map kept rest))
           (none_from_among (λ (b : Mount ℕ). nat_eq y.number b.number) (filter_map kept rest) (λ z m.
           let from = among-from_filter_map kept rest z m in
@@ -134,26 +132,20 @@ module _ (world : World ℕ) (names : List TaskName) (is : IsWorld nat_eq world)
       (part_mount world names is from.0 y from.1 from.2))
     where
       nowhere : (y x : Mount ℕ) (o : Option (Location ℕ)) → y.mount_point ≡ o → Among x world.mounts
-          → y.namespace ≡ None
-          → (x ≡ y) ⊎ ((seen_by_descriptor x ≡ y) × (owns x ≡ false)
+          → y.namespace ≡ None → (x ≡ y) ⊎ ((seen_by_descriptor x ≡ y) × (owns x ≡ false)
           × (is_at nat_eq (roots_and_directories theirs) x ≡ false) × (is_at nat_eq (locations theirs) x ≡ true))
           → y.mount_point ≡ None
       nowhere y x None e m none how = e
-      nowhere y x (Some point) e m none how =
-          ⊎_elim
-          (λ same. absurd (nowhere_stands world names is.mounts y point
+      nowhere y x (Some point) e m none how = ⊎_elim (λ same. absurd (nowhere_stands world names is.mounts y point
           (subst (λ z. Among z world.mounts) same m) none e))
           (λ stub. absurd (none_is_some point (ap (λ (z : Mount ℕ). z.mount_point) stub.0 ∙ e))) how
 
       by : (x y : Mount ℕ) → Among x world.mounts → kept x ≡ Some y → owns y ≡ true → Stands nat_eq part y.number
-      by x y m e own =
-          ⊎_elim
-          (λ same.
+      by x y m e own = ⊎_elim (λ same.
           let there : Among y world.mounts = subst (λ z. Among z world.mounts) same m in
           stands_too y.number (own_theirs y there own)
           (among_from_all (λ (z : Mount ℕ). Stands nat_eq world z.number) world.mounts is.mounts.standing y there))
-          (λ stub. absurd (true≢false (sym own ∙ ap owns (sym stub.0))))
-          (kept_how world names theirs x y e)
+          (λ stub. absurd (true≢false (sym own ∙ ap owns (sym stub.0)))) (kept_how world names theirs x y e)
 
   -- Trees of mounts
 
@@ -199,8 +191,7 @@ module _ (world : World ℕ) (names : List TaskName) (is : IsWorld nat_eq world)
       cc (none_below_in_part mount (omega (arith, m)), children_alike mount.number own)
   trees_alike (suc n) (suc k) mount own l m =
       ap (λ list. mount ∷ flat_map (tree_from nat_eq k part.mounts) list) (children_alike mount.number own)
-      ∙ ap (λ list. mount ∷ list)
-      (flat_map_alike (tree_from nat_eq k part.mounts) (tree_from nat_eq n world.mounts)
+      ∙ ap (λ list. mount ∷ list) (flat_map_alike (tree_from nat_eq k part.mounts) (tree_from nat_eq n world.mounts)
       (children nat_eq world.mounts mount.number) (λ child at.
       let it = children_own mount.number child own at in
       let below = child_deeper world is.mounts.one_number is.mounts.standing mount child at in
@@ -210,8 +201,7 @@ module _ (world : World ℕ) (names : List TaskName) (is : IsWorld nat_eq world)
 
   pub tree_alike : (mount : Mount ℕ) → IsTheirs world names is.mounts mount.number
       → mount_tree nat_eq part.mounts mount ≡ mount_tree nat_eq world.mounts mount
-  tree_alike mount own =
-      trees_alike (length world.mounts) (length part.mounts) mount own (omega arith) (omega arith)
+  tree_alike mount own = trees_alike (length world.mounts) (length part.mounts) mount own (omega arith) (omega arith)
 
   -- what a bind copies below a mount
   bindable_alike : (number : ℕ) → IsTheirs world names is.mounts number
@@ -223,12 +213,10 @@ module _ (world : World ℕ) (names : List TaskName) (is : IsWorld nat_eq world)
       → length world.mounts ≤ n + deep mount.number → length part.mounts ≤ k + deep_in_part mount.number
       → bindable_tree nat_eq k part.mounts mount ≡ bindable_tree nat_eq n world.mounts mount
   bindables_alike zero zero mount own l m = refl
-  bindables_alike zero (suc k) mount own l m =
-      ap (λ list. mount ∷ flat_map (bindable_tree nat_eq k part.mounts)
+  bindables_alike zero (suc k) mount own l m = ap (λ list. mount ∷ flat_map (bindable_tree nat_eq k part.mounts)
       (filter (λ (x : Mount ℕ). not (is_unbindable x.propagation)) list))
       (children_alike mount.number own ∙ none_below mount (omega (arith, l)))
-  bindables_alike (suc n) zero mount own l m =
-      ap (λ list. mount ∷ flat_map (bindable_tree nat_eq n world.mounts)
+  bindables_alike (suc n) zero mount own l m = ap (λ list. mount ∷ flat_map (bindable_tree nat_eq n world.mounts)
       (filter (λ (x : Mount ℕ). not (is_unbindable x.propagation)) list))
       (sym (none_below_in_part mount (omega (arith, m))) ∙ children_alike mount.number own)
   bindables_alike (suc n) (suc k) mount own l m =
@@ -248,32 +236,26 @@ module _ (world : World ℕ) (names : List TaskName) (is : IsWorld nat_eq world)
   under_alike : (source : Location ℕ) → IsTheirs world names is.mounts source.mount
       → filter (stands_under nat_eq part source) (bindable_children nat_eq part.mounts source.mount)
       ≡ filter (stands_under nat_eq world source) (bindable_children nat_eq world.mounts source.mount)
-  under_alike source own =
-      ap (filter (stands_under nat_eq part source)) (bindable_alike source.mount own)
+  under_alike source own = ap (filter (stands_under nat_eq part source)) (bindable_alike source.mount own)
       ∙ ap (λ (f : Filesystem ℕ). filter (λ (mount : Mount ℕ). holds_of (λ (point : Location ℕ).
       is_directory_under nat_eq f.files source.node point.node) mount.mount_point)
-      (bindable_children nat_eq world.mounts source.mount))
-      (sym (filesystem_alike world names is source own))
+      (bindable_children nat_eq world.mounts source.mount)) (sym (filesystem_alike world names is source own))
 
   pub bind_alike : (source : Location ℕ) (recursive : Bool) → IsTheirs world names is.mounts source.mount
       → bind_tree nat_eq part source recursive ≡ bind_tree nat_eq world source recursive
-  bind_alike source false own =
-      ap (λ (mount : Mount ℕ). record mount { root = source.node } ∷ [])
+  bind_alike source false own = ap (λ (mount : Mount ℕ). record mount { root = source.node } ∷ [])
       (same_mount world names is.mounts source.mount own)
-  bind_alike source true own =
-      ap (λ (mount : Mount ℕ). record mount { root = source.node }
+  bind_alike source true own = ap (λ (mount : Mount ℕ). record mount { root = source.node }
       ∷ flat_map (bindable_tree nat_eq (length part.mounts) part.mounts)
       (filter (stands_under nat_eq part source) (bindable_children nat_eq part.mounts source.mount)))
       (same_mount world names is.mounts source.mount own)
       ∙ ap (λ list. bound nat_eq world source ∷ flat_map (bindable_tree nat_eq (length part.mounts) part.mounts) list)
-      (under_alike source own)
-      ∙ ap (λ list. bound nat_eq world source ∷ list)
+      (under_alike source own) ∙ ap (λ list. bound nat_eq world source ∷ list)
       (flat_map_alike (bindable_tree nat_eq (length part.mounts) part.mounts)
       (bindable_tree nat_eq (length world.mounts) world.mounts)
       (filter (stands_under nat_eq world source) (bindable_children nat_eq world.mounts source.mount)) (λ child chosen.
       let at = (among-from_filter (λ (x : Mount ℕ). not (is_unbindable x.propagation))
-      (children nat_eq world.mounts source.mount) child
-      (among-from_filter (stands_under nat_eq world source)
+      (children nat_eq world.mounts source.mount) child (among-from_filter (stands_under nat_eq world source)
       (bindable_children nat_eq world.mounts source.mount) child chosen).0).0 in
       let it = children_own source.mount child own at in
       bindables_alike (length world.mounts) (length part.mounts) child (own_theirs child it.0 it.1)

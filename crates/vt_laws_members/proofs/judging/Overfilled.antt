@@ -78,12 +78,10 @@ module _ (world : World ℕ) (names : List TaskName) (is : IsWorld nat_eq world)
       → ((namespace : ℕ) → own_one namespace ≡ true → count_in one.mounts namespace ≡ count_in other.mounts namespace)
       → ((namespace : ℕ) → own_one namespace ≡ false → count_in one.mounts namespace ≤ count_in world.mounts namespace)
       → has_too_many nat_eq one ≡ has_too_many nat_eq other
-  too_many_alike one other listed listed_too same less =
-      ap (list_any full) listed
+  too_many_alike one other listed listed_too same less = ap (list_any full) listed
       ∙ sym (any_filter full (λ (n : Namespace ℕ). own_one n.number) world.namespaces (λ n m outside.
       not_too_many (count_in one.mounts n.number) (count_in world.mounts n.number) (less n.number outside)
-      (few_of world is.namespaces.few_mounts n m)))
-      ∙ any_same full full_too part.namespaces (λ n m.
+      (few_of world is.namespaces.few_mounts n m))) ∙ any_same full full_too part.namespaces (λ n m.
       ap (nat_lt most_mounts)
       (same n.number (among-from_filter (λ (k : Namespace ℕ). own_one k.number) world.namespaces n m).1))
       ∙ sym (ap (list_any full_too) listed_too)
@@ -108,8 +106,7 @@ module _ (world : World ℕ) (names : List TaskName) (is : IsWorld nat_eq world)
 
     reached_alike : (mount : Mount ℕ) → Among mount world.mounts → owns mount ≡ true
         → filesystem_numbered nat_eq part mount.filesystem ≡ filesystem_numbered nat_eq world mount.filesystem
-    reached_alike mount m its =
-        found world names mount.filesystem
+    reached_alike mount m its = found world names mount.filesystem
         (ap (λ (x : Mount ℕ). is_among nat_eq x.filesystem (used_filesystems nat_eq world names))
         (sym (numbered world names is.mounts mount m))
         ∙ theirs_used world names is (record { mount = mount.number; node = mount.root })
@@ -126,15 +123,12 @@ module _ (world : World ℕ) (names : List TaskName) (is : IsWorld nat_eq world)
 
     parts_own : (mount : Mount ℕ) → Among mount (parts_of nat_eq world place)
         → Among mount world.mounts × (owns mount ≡ true)
-    parts_own mount m =
-        ⊎_elim
-        (λ same. (subst (λ x. Among x world.mounts) (sym same) there, ap owns same ∙ own))
+    parts_own mount m = ⊎_elim (λ same. (subst (λ x. Among x world.mounts) (sym same) there, ap owns same ∙ own))
         (λ receiver. receivers_own world names is sealed_off destination mount there own
         (among-from_filter (takes_part nat_eq world place) (receivers_of nat_eq world destination) mount receiver).0) m
 
     none_outside : (namespace : ℕ) → own_one namespace ≡ false → count_in (parts_of nat_eq world place) namespace ≡ 0
-    none_outside namespace other =
-        none_counted (parts_of nat_eq world place) namespace (λ mount m.
+    none_outside namespace other = none_counted (parts_of nat_eq world place) namespace (λ mount m.
         own_inside namespace other mount (parts_own mount m).1)
 
     -- a filesystem that is added changes no parts
@@ -144,8 +138,7 @@ module _ (world : World ℕ) (names : List TaskName) (is : IsWorld nat_eq world)
 
     added_parts : (added : Filesystem ℕ)
         → parts_of nat_eq (with_new_filesystem world added) place ≡ parts_of nat_eq world place
-    added_parts added =
-        ap (λ list. destination ∷ list)
+    added_parts added = ap (λ list. destination ∷ list)
         (filter_alike (takes (with_new_filesystem world added) place destination) (takes world place destination)
         (receivers_of nat_eq world destination) (λ mount m.
         let its = receivers_own world names is sealed_off destination mount there own m in
@@ -155,12 +148,10 @@ module _ (world : World ℕ) (names : List TaskName) (is : IsWorld nat_eq world)
 
     added_parts_in_part : (added : Filesystem ℕ)
         → parts_of nat_eq (with_new_filesystem part added) place ≡ parts_of nat_eq part place
-    added_parts_in_part added =
-        ap (λ to. to ∷ filter (takes (with_new_filesystem part added) place to)
+    added_parts_in_part added = ap (λ to. to ∷ filter (takes (with_new_filesystem part added) place to)
         (receivers_of nat_eq part to)) same_destination
         ∙ ap (λ list. destination ∷ filter (takes (with_new_filesystem part added) place destination) list)
-        (receivers_alike world names is sealed_off destination there own)
-        ∙ ap (λ list. destination ∷ list)
+        (receivers_alike world names is sealed_off destination there own) ∙ ap (λ list. destination ∷ list)
         (filter_alike (takes (with_new_filesystem part added) place destination) (takes part place destination)
         (receivers_of nat_eq world destination) (λ mount m.
         let its = receivers_own world names is sealed_off destination mount there own m in
@@ -168,8 +159,7 @@ module _ (world : World ℕ) (names : List TaskName) (is : IsWorld nat_eq world)
         && nat_eq destination.filesystem mount.filesystem && is_directory_under nat_eq f.files mount.root place.node)
         (found_before part added mount.filesystem mount.root
         (ap (λ (f : Filesystem ℕ). is_directory_node (f.files.tree.node mount.root)) (reached_alike mount its.0 its.1)
-        ∙ shows mount its.0))))
-        ∙ sym (ap (λ list. destination ∷ filter (takes part place destination) list)
+        ∙ shows mount its.0)))) ∙ sym (ap (λ list. destination ∷ filter (takes part place destination) list)
         (receivers_alike world names is sealed_off destination there own))
         ∙ sym (ap (λ to. to ∷ filter (takes part place to) (receivers_of nat_eq part to)) same_destination)
 
@@ -183,9 +173,7 @@ module _ (world : World ℕ) (names : List TaskName) (is : IsWorld nat_eq world)
         ≡ has_too_many nat_eq (attach nat_eq other supply_too place false mounts_too)
     copies_alike base other same listed same_too listed_too parts parts_too supply supply_too mounts mounts_too long =
         too_many_alike (attach nat_eq base supply place false mounts)
-        (attach nat_eq other supply_too place false mounts_too)
-        listed listed_too
-        (λ namespace its.
+        (attach nat_eq other supply_too place false mounts_too) listed listed_too (λ namespace its.
         added_counted base place (copies_from nat_eq supply (parts_of nat_eq base place) mounts) mounts namespace
         ∙ ap (λ list. count_in list namespace + count_in (parts_of nat_eq base place) namespace * length mounts) same
         ∙ ap (λ list. count_in world.mounts namespace + count_in list namespace * length mounts)
@@ -196,8 +184,7 @@ module _ (world : World ℕ) (names : List TaskName) (is : IsWorld nat_eq world)
         ∙ ap (λ list. count_in list namespace + count_in (parts_of nat_eq other place) namespace * length mounts_too)
         (sym same_too)
         ∙ sym (added_counted other place (copies_from nat_eq supply_too (parts_of nat_eq other place) mounts_too)
-        mounts_too namespace))
-        (λ namespace outside.
+        mounts_too namespace)) (λ namespace outside.
         let all = added_counted base place (copies_from nat_eq supply (parts_of nat_eq base place) mounts) mounts
         namespace in
         let none : count_in (parts_of nat_eq base place) namespace * length mounts ≡ 0 =
@@ -210,8 +197,7 @@ module _ (world : World ℕ) (names : List TaskName) (is : IsWorld nat_eq world)
     pub plain_overfills : (fresh other : Fresh ℕ) (task : Task ℕ) (flags : MountFlags)
         → overfills nat_eq fresh world task (ToMountPlain place flags)
         ≡ overfills nat_eq other part task (ToMountPlain place flags)
-    plain_overfills fresh other task flags =
-        copies_alike (with_new_filesystem world (plain_filesystem nat_eq fresh))
+    plain_overfills fresh other task flags = copies_alike (with_new_filesystem world (plain_filesystem nat_eq fresh))
         (with_new_filesystem part (plain_filesystem nat_eq other)) refl refl refl refl
         (added_parts (plain_filesystem nat_eq fresh)) (added_parts_in_part (plain_filesystem nat_eq other))
         (odds fresh) (odds other) (mount_of flags (plain_filesystem nat_eq fresh))
@@ -236,8 +222,7 @@ module _ (world : World ℕ) (names : List TaskName) (is : IsWorld nat_eq world)
 
     -- a source on a mount of theirs
     pub bind_overfills : (fresh other : Fresh ℕ) (task : Task ℕ) (source : Location ℕ) (recursive : Bool)
-        → On source.mount
-        → overfills nat_eq fresh world task (ToBind source place recursive)
+        → On source.mount → overfills nat_eq fresh world task (ToBind source place recursive)
         ≡ overfills nat_eq other part task (ToBind source place recursive)
     bind_overfills fresh other task source recursive from =
         copies_alike world part refl refl refl refl refl refl fresh other (bind_tree nat_eq world source recursive)
@@ -260,47 +245,39 @@ module _ (world : World ℕ) (names : List TaskName) (is : IsWorld nat_eq world)
       same_source = same_mount world names is.mounts number from
 
       same_tree : tree_too ≡ tree
-      same_tree =
-          ap (mount_tree nat_eq part.mounts) same_source
+      same_tree = ap (mount_tree nat_eq part.mounts) same_source
           ∙ tree_alike world names is (mount_numbered nat_eq world number)
           (own_theirs world names is (mount_numbered nat_eq world number) source its)
 
       source_in_part : Among (mount_numbered nat_eq part number) part.mounts
-      source_in_part =
-          subst (λ x. Among x part.mounts) (sym same_source)
+      source_in_part = subst (λ x. Among x part.mounts) (sym same_source)
           (among-filter_map (keep world names theirs) world.mounts (mount_numbered nat_eq world number)
           (mount_numbered nat_eq world number) source
           (own_whole world names is (mount_numbered nat_eq world number) its))
 
       within : (w : World ℕ) → Among (mount_numbered nat_eq w number) w.mounts → (one : Mount ℕ)
           → Among one (mount_tree nat_eq w.mounts (mount_numbered nat_eq w number)) → Among one w.mounts
-      within w there one m =
-          ⊎_elim (λ same. subst (λ x. Among x w.mounts) (sym same) there) (λ other. other)
+      within w there one m = ⊎_elim (λ same. subst (λ x. Among x w.mounts) (sym same) there) (λ other. other)
           (tree_among (length w.mounts) w.mounts (mount_numbered nat_eq w number) one m)
 
       moved_count : (new : Copies ℕ) (namespace : ℕ)
           → count_in (attached_by nat_eq world new place true tree).mounts namespace + count_in tree namespace
           ≡ count_in world.mounts namespace + count_in (parts_of nat_eq world place) namespace * length tree
-      moved_count new namespace =
-          moved_all world place new tree is.mounts.one_number
+      moved_count new namespace = moved_all world place new tree is.mounts.one_number
           (trees_have_each_once world number is.mounts.one_number is.mounts.standing) (within world source) namespace
 
       moved_count_in_part : (new : Copies ℕ) (namespace : ℕ)
           → count_in (attached_by nat_eq part new place true tree_too).mounts namespace + count_in tree_too namespace
           ≡ count_in part.mounts namespace + count_in (parts_of nat_eq part place) namespace * length tree_too
-      moved_count_in_part new namespace =
-          moved_all part place new tree_too (part_one_number world names is)
+      moved_count_in_part new namespace = moved_all part place new tree_too (part_one_number world names is)
           (trees_have_each_once part number (part_one_number world names is) (part_stands world names is))
           (within part source_in_part) namespace
 
       pub move_overfills : (fresh other : Fresh ℕ) (task : Task ℕ)
           → overfills nat_eq fresh world task (ToMove number place)
           ≡ overfills nat_eq other part task (ToMove number place)
-      move_overfills fresh other task =
-          too_many_alike (attached_by nat_eq world new place true tree)
-          (attached_by nat_eq part newer place true tree_too)
-          refl refl
-          (λ namespace own_too.
+      move_overfills fresh other task = too_many_alike (attached_by nat_eq world new place true tree)
+          (attached_by nat_eq part newer place true tree_too) refl refl (λ namespace own_too.
           let all = moved_count new namespace in
           let all_too = moved_count_in_part newer namespace in
           let count = count_alike namespace own_too in
@@ -309,8 +286,7 @@ module _ (world : World ℕ) (names : List TaskName) (is : IsWorld nat_eq world)
           λ i. count_in (parts_alike i) namespace * length (same_tree i) in
           let inside : count_in tree_too namespace ≡ count_in tree namespace =
           ap (λ list. count_in list namespace) same_tree in
-          omega (arith, all, all_too, count, at_parts, inside))
-          (λ namespace outside.
+          omega (arith, all, all_too, count, at_parts, inside)) (λ namespace outside.
           let all = moved_count new namespace in
           let none : count_in (parts_of nat_eq world place) namespace * length tree ≡ 0 =
           ap (λ n. n * length tree) (none_outside namespace outside) ∙ no_rows (length tree) in

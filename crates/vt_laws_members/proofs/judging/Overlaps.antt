@@ -48,11 +48,9 @@ module _ (world : World ℕ) (names : List TaskName) (is : IsWorld nat_eq world)
   Whole = wholly_locked nat_eq world names number ≡ true
 
   how : {A : Type 0} → (Alone → A) → (Whole → A) → A
-  how alone whole =
-      ⊎_elim alone whole
+  how alone whole = ⊎_elim alone whole
       (or_cases (used_alone nat_eq world names number) (wholly_locked nat_eq world names number)
-      (used_are_free world names sealed_off number
-      (among_numbers (used_filesystems nat_eq world names) number used)))
+      (used_are_free world names sealed_off number (among_numbers (used_filesystems nat_eq world names) number used)))
 
   same : filesystem_numbered nat_eq part number ≡ filesystem_numbered nat_eq world number
   same = found world names number used
@@ -61,24 +59,18 @@ module _ (world : World ℕ) (names : List TaskName) (is : IsWorld nat_eq world)
   none_written : Whole → (merged : Filesystem ℕ) → Among merged (overlays world) → (overlay : Overlay ℕ)
       → merged.overlay ≡ Some overlay → (layer : Layer ℕ) → Among layer (upper_and_work overlay)
       → number ≡ layer.filesystem → ⊥
-  none_written whole merged m overlay e layer its inside =
-      not_whole world names is sealed_off merged
+  none_written whole merged m overlay e layer its inside = not_whole world names is sealed_off merged
       (among-from_filter is_overlay world.filesystems merged m).0 overlay e layer
       its (subst (λ n. wholly_locked nat_eq world names n ≡ true) inside whole)
 
   pub under_alike : (object : ℕ) (layer : Layer ℕ)
       → lies_or_counts_under nat_eq world number object layer ≡ lies_or_counts_under nat_eq part number object layer
-  under_alike object layer =
-      same_truth (lies_or_counts_under nat_eq world number object layer)
-      (lies_or_counts_under nat_eq part number object layer)
-      (λ h. how
-      (λ alone. (under_at world part number same
-      (alone_in_part world names is sealed_off number alone) object layer h).0)
-      (λ whole. ⊎_elim
+  under_alike object layer = same_truth (lies_or_counts_under nat_eq world number object layer)
+      (lies_or_counts_under nat_eq part number object layer) (λ h. how (λ alone. (under_at world part number same
+      (alone_in_part world names is sealed_off number alone) object layer h).0) (λ whole. ⊎_elim
       (λ lies. or_left (lies_in_layer nat_eq part number object layer) _
       (ap (λ (f : Filesystem ℕ). nat_eq number layer.filesystem && is_under nat_eq f.files layer.directory object) same
-      ∙ lies))
-      (λ counts.
+      ∙ lies)) (λ counts.
       let at = any_among (counts_in_layer nat_eq world number object layer) (overlays world) counts in
       let c = counts_how world number object layer at.0 at.2 in
       absurd (none_written whole at.0 at.1 c.overlay c.is c.upper
@@ -90,33 +82,27 @@ module _ (world : World ℕ) (names : List TaskName) (is : IsWorld nat_eq world)
       object layer h).0)
 
   -- under one of the layers that live overlays change
-  written_alike : (object : ℕ)
-      → list_any (lies_or_counts_under nat_eq world number object) (live_upper_and_work world)
+  written_alike : (object : ℕ) → list_any (lies_or_counts_under nat_eq world number object) (live_upper_and_work world)
       ≡ list_any (lies_or_counts_under nat_eq part number object) (live_upper_and_work part)
   written_alike object =
       same_truth (list_any (lies_or_counts_under nat_eq world number object) (live_upper_and_work world))
-      (list_any (lies_or_counts_under nat_eq part number object) (live_upper_and_work part))
-      (λ h.
+      (list_any (lies_or_counts_under nat_eq part number object) (live_upper_and_work part)) (λ h.
       let at = any_among (lies_or_counts_under nat_eq world number object) (live_upper_and_work world) h in
       let from = among-from_flat_map (of_overlay [] upper_and_work) (overlays world) at.0 at.1 in
       let here = (under_at world world number refl (λ merged m has. m) object at.0 at.2).1 in
       let written = written_layer from.0 at.0 from.2 in
-      how
-      (λ alone.
+      how (λ alone.
       any_from_among (lies_or_counts_under nat_eq part number object) (live_upper_and_work part) at.0
       (among-flat_map (of_overlay [] upper_and_work) (overlays part) from.0 at.0
       (alone_in_part world names is sealed_off number alone from.0 from.1 (has_layer number from.0 at.0 written.3 here))
-      from.2)
-      (sym (under_alike object at.0) ∙ at.2))
+      from.2) (sym (under_alike object at.0) ∙ at.2))
       (λ whole. absurd (none_written whole from.0 from.1 written.0 written.1 at.0 written.2
-      (eqb-true number at.0.filesystem here))))
-      (λ h.
+      (eqb-true number at.0.filesystem here)))) (λ h.
       let at = any_among (lies_or_counts_under nat_eq part number object) (live_upper_and_work part) h in
       let from = among-from_flat_map (of_overlay [] upper_and_work) (overlays part) at.0 at.1 in
       any_from_among (lies_or_counts_under nat_eq world number object) (live_upper_and_work world) at.0
       (among-flat_map (of_overlay [] upper_and_work) (overlays world) from.0 at.0
-      (part_in_world world names is sealed_off from.0 from.1) from.2)
-      (under_alike object at.0 ∙ at.2))
+      (part_in_world world names is sealed_off from.0 from.1) from.2) (under_alike object at.0 ∙ at.2))
 
   -- a directory of the filesystem, as a layer
   module _ (directory : ℕ) where

@@ -44,8 +44,7 @@ module _ (world : World ℕ) (names : List TaskName) (is : IsWorld nat_eq world)
   -- the mount below
   parent_alike : (here : Location ℕ) → OnTheirs world names is here
       → has_shared_parent one here ≡ has_shared_parent other here
-  parent_alike here own =
-      by (mount_at nat_eq world here).mount_point refl
+  parent_alike here own = by (mount_at nat_eq world here).mount_point refl
       ∙ ap (λ (m : Mount ℕ). holds_of (λ point. is_shared (mount_at nat_eq part point).propagation) m.mount_point)
       (mount_alike world names is here own)
     where
@@ -54,11 +53,9 @@ module _ (world : World ℕ) (names : List TaskName) (is : IsWorld nat_eq world)
           (mount_at nat_eq world here).mount_point
           ≡ holds_of (λ point. is_shared (mount_at nat_eq part point).propagation)
           (mount_at nat_eq world here).mount_point
-      by None e =
-          ap (holds_of (λ point. is_shared (mount_at nat_eq world point).propagation)) e
+      by None e = ap (holds_of (λ point. is_shared (mount_at nat_eq world point).propagation)) e
           ∙ sym (ap (holds_of (λ point. is_shared (mount_at nat_eq part point).propagation)) e)
-      by (Some point) e =
-          ap (holds_of (λ point. is_shared (mount_at nat_eq world point).propagation)) e
+      by (Some point) e = ap (holds_of (λ point. is_shared (mount_at nat_eq world point).propagation)) e
           ∙ ap (λ (m : Mount ℕ). is_shared m.propagation)
           (mount_alike world names is point (parent_theirs world names is.mounts here.mount point own e))
           ∙ sym (ap (holds_of (λ point. is_shared (mount_at nat_eq part point).propagation)) e)
@@ -72,29 +69,25 @@ module _ (world : World ℕ) (names : List TaskName) (is : IsWorld nat_eq world)
 
   below_alike : (top here : Location ℕ) → OnTheirs world names is top → OnTheirs world names is here
       → lies_under_location nat_eq one top here ≡ lies_under_location nat_eq other top here
-  below_alike top here own there =
-      ap (list_any (λ (location : Location ℕ). nat_eq top.mount location.mount
+  below_alike top here own there = ap (list_any (λ (location : Location ℕ). nat_eq top.mount location.mount
       && one.is_under (mount_at nat_eq world top).filesystem top.node location.node)) (down_alike here there)
       ∙ (λ i. list_any (λ (location : Location ℕ). nat_eq top.mount location.mount && same location.node i)
       (down part here))
     where
       same : (node : ℕ) → one.is_under (mount_at nat_eq world top).filesystem top.node node
           ≡ other.is_under (mount_at nat_eq part top).filesystem top.node node
-      same node =
-          under_alike world names is (mount_at nat_eq world top).filesystem
+      same node = under_alike world names is (mount_at nat_eq world top).filesystem
           (theirs_used world names is top own) top.node node
           ∙ ap (λ (m : Mount ℕ). other.is_under m.filesystem top.node node) (mount_alike world names is top own)
 
   -- no other task has a file open through a mount of theirs
   abbrev writes_through : ℕ → Task ℕ → Bool
-  writes_through number t =
-      list_any (λ (descriptor : Descriptor ℕ). descriptor.writes
+  writes_through number t = list_any (λ (descriptor : Descriptor ℕ). descriptor.writes
       && nat_eq number descriptor.location.mount) t.descriptors
 
   none_writes : (number : ℕ) → is_own world names (members world names) (mount_numbered nat_eq world number) ≡ true
       → (t : Task ℕ) → Among t world.tasks → is_member_task names t ≡ false → writes_through number t ≡ false
-  none_writes number own t m outside =
-      false_from_ne_true (writes_through number t) (λ h.
+  none_writes number own t m outside = false_from_ne_true (writes_through number t) (λ h.
       let at = any_among (λ (d : Descriptor ℕ). d.writes && nat_eq number d.location.mount) t.descriptors h in
       let here : number ≡ at.0.location.mount =
       eqb-true number at.0.location.mount (and_parts at.0.writes (nat_eq number at.0.location.mount) at.2).1 in
@@ -109,8 +102,7 @@ module _ (world : World ℕ) (names : List TaskName) (is : IsWorld nat_eq world)
 
   written_alike : (here : Location ℕ) → is_elsewhere nat_eq one task here ≡ false
       → one.is_written_through here.mount ≡ other.is_written_through here.mount
-  written_alike here e =
-      sym (any_filter (writes_through here.mount) (is_member_task names) world.tasks
+  written_alike here e = sym (any_filter (writes_through here.mount) (is_member_task names) world.tasks
       (none_writes here.mount (in_own world names is task member (mount_at nat_eq world here)
       (by (holds_of (nat_eq task.namespace) (mount_at nat_eq world here).namespace) e))))
     where

@@ -55,25 +55,21 @@ module _ (world : World ℕ) (names : List TaskName) (is : IsWorld nat_eq world)
 
   ground_directly : (mount : Mount ℕ) → Among mount world.mounts → IsGround world names is.mounts mount
       → Among mount.filesystem (used_directly nat_eq world names)
-  ground_directly mount m ground =
-      ⊎_elim
+  ground_directly mount m ground = ⊎_elim
       (λ own. among-append_left (map (λ (mount : Mount ℕ). mount.filesystem) (own_mounts nat_eq world names))
       (map (λ location. (mount_at nat_eq world location).filesystem) (locations theirs)) mount.filesystem
       (among-map (λ (mount : Mount ℕ). mount.filesystem) (own_mounts nat_eq world names) mount
-      (among-filter (is_own_mount nat_eq world names) world.mounts mount m own)))
-      (λ stood.
+      (among-filter (is_own_mount nat_eq world names) world.mounts mount m own))) (λ stood.
       let at = any_among (λ (l : Location ℕ). nat_eq l.mount mount.number) (roots_and_directories theirs) stood.1 in
       let it : mount_at nat_eq world at.0 ≡ mount =
       ap (mount_numbered nat_eq world) (eqb-true at.0.mount mount.number at.2)
       ∙ numbered world names is.mounts mount m in
       subst (λ (x : Mount ℕ). Among x.filesystem (used_directly nat_eq world names)) it
-      (located_directly at.0 (located at.0 at.1)))
-      ground
+      (located_directly at.0 (located at.0 at.1))) ground
 
   pub theirs_directly : (here : Location ℕ) → OnTheirs here
       → Among (mount_at nat_eq world here).filesystem (used_directly nat_eq world names)
-  theirs_directly here own =
-      subst (λ (x : Mount ℕ). Among x.filesystem (used_directly nat_eq world names))
+  theirs_directly here own = subst (λ (x : Mount ℕ). Among x.filesystem (used_directly nat_eq world names))
       (sym (its_mount world names is.mounts here.mount own)) (ground_directly own.0 own.1 own.3)
 
   pub theirs_used : (here : Location ℕ) → OnTheirs here → uses (mount_at nat_eq world here).filesystem ≡ true
@@ -142,19 +138,16 @@ module _ (world : World ℕ) (names : List TaskName) (is : IsWorld nat_eq world)
 
     stood : (is_directory_seen_in nat_eq world task.namespace task.root ≡ true)
         × (is_directory_seen_in nat_eq world task.namespace task.directory ≡ true)
-    stood =
-        and_parts (is_directory_seen_in nat_eq world task.namespace task.root)
+    stood = and_parts (is_directory_seen_in nat_eq world task.namespace task.root)
         (is_directory_seen_in nat_eq world task.namespace task.directory)
         (among_from_list_all (stands_on_directories nat_eq world) world.tasks is.tasks.directories task task_there)
 
     pub root_theirs : OnTheirs task.root
-    root_theirs =
-        seen task.root stood.0 (inl refl)
+    root_theirs = seen task.root stood.0 (inl refl)
         (among-flat_map (λ (t : Task ℕ). t.root ∷ t.directory ∷ []) theirs task task.root member (inl refl))
 
     pub directory_theirs : OnTheirs task.directory
-    directory_theirs =
-        seen task.directory stood.1 (inr (inl refl))
+    directory_theirs = seen task.directory stood.1 (inr (inl refl))
         (among-flat_map (λ (t : Task ℕ). t.root ∷ t.directory ∷ []) theirs task task.directory member (inr (inl refl)))
 
     -- `..` from the root of a mount
@@ -174,8 +167,7 @@ module _ (world : World ℕ) (names : List TaskName) (is : IsWorld nat_eq world)
 
     hops_alike : (here : Location ℕ) → OnTheirs here
         → hops nat_eq (looks_of nat_eq world) task here ≡ hops nat_eq (looks_of nat_eq part) task here
-    hops_alike here own =
-        sym (up_alike world names is.mounts (hop nat_eq (looks_of nat_eq world) task)
+    hops_alike here own = sym (up_alike world names is.mounts (hop nat_eq (looks_of nat_eq world) task)
         (hop nat_eq (looks_of nat_eq part) task) hop_goes hop_alike here own)
 
   on_from : (here : Location ℕ) → is_theirs world names here.mount ≡ true → OnTheirs here

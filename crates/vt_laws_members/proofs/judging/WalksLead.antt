@@ -27,8 +27,7 @@ ok_any (Err e) = tt
 -- refused by the same rules, or not
 pub unless_same : {A : Type 0} (Q : A → Type 0) (steps : List (List ℕ)) (rules others : Rules) (a : A) → rules ≡ others
     → Q a → Agree Q (walk_unless steps rules a) (walk_unless steps others a)
-unless_same Q steps rules others a same q =
-    (ap (λ r. walk_unless steps r a) same, unless_agree Q steps rules a q)
+unless_same Q steps rules others a same q = (ap (λ r. walk_unless steps r a) same, unless_agree Q steps rules a q)
 
 -- what comes after walks that agree
 pub judged_alike : {A B : Type 0} (Q : A → Type 0) (w v : Result A (Stop ℕ)) (f g : A → Result B Deny) → Agree Q w v
@@ -88,8 +87,7 @@ module _ (one other : Looks ℕ) (task : Task ℕ) (Own : ℕ → Type 0) (alike
       (λ text any. next text)
 
   path_agrees : (path : List ℕ) → Agree HereAt (path_walked nat_eq one task path) (path_walked nat_eq other task path)
-  path_agrees path =
-      text_agrees HereAt path
+  path_agrees path = text_agrees HereAt path
       (λ text. words_walked nat_eq one task (followed nat_eq one task) (walk_start task text) (reverse (words text)))
       (λ text. words_walked nat_eq other task (followed nat_eq other task) (walk_start task text)
       (reverse (words text)))
@@ -103,8 +101,7 @@ module _ (one other : Looks ℕ) (task : Task ℕ) (Own : ℕ → Type 0) (alike
 
   pub object_agrees : (path : List ℕ)
       → Agree HereAt (object_walk nat_eq one task path) (object_walk nat_eq other task path)
-  object_agrees path =
-      then_agree HereAt HereAt (path_walked nat_eq one task path) (path_walked nat_eq other task path)
+  object_agrees path = then_agree HereAt HereAt (path_walked nat_eq one task path) (path_walked nat_eq other task path)
       (λ here. walk_unless here.steps (slash_rules nat_eq one path here.location) here)
       (λ here. walk_unless here.steps (slash_rules nat_eq other path here.location) here) (path_agrees path)
       (λ here own. unless_same HereAt here.steps _ _ here (same_slash path here.location own) own)
@@ -122,8 +119,7 @@ module _ (one other : Looks ℕ) (task : Task ℕ) (Own : ℕ → Type 0) (alike
       → Agree HereAt (prefix_walked nat_eq one task (followed nat_eq one task) here list)
       (prefix_walked nat_eq other task (followed nat_eq other task) here list)
   prefix_agrees here own [] = (refl, own)
-  prefix_agrees here own (word ∷ prefix) =
-      words_agree one other task Own alike (followed nat_eq one task)
+  prefix_agrees here own (word ∷ prefix) = words_agree one other task Own alike (followed nat_eq one task)
       (followed nat_eq other task) follows here own prefix
 
   last_agrees : (here : Here ℕ) → HereAt here → (word : LastWord)
@@ -136,11 +132,9 @@ module _ (one other : Looks ℕ) (task : Task ℕ) (Own : ℕ → Type 0) (alike
   symlink_by : (slash : Bool) (path : List ℕ)
       → Agree HereAt (symlink_walk_by nat_eq slash one task path) (symlink_walk_by nat_eq slash other task path)
   symlink_by true path = object_agrees path
-  symlink_by false path =
-      text_agrees HereAt path
+  symlink_by false path = text_agrees HereAt path
       (λ text. then_walk (prefix_walked nat_eq one task (followed nat_eq one task) (walk_start task text)
-      (reverse (words text)))
-      (λ here. last_walked nat_eq one task here (final_word (reverse (words text)))))
+      (reverse (words text))) (λ here. last_walked nat_eq one task here (final_word (reverse (words text)))))
       (λ text. then_walk (prefix_walked nat_eq other task (followed nat_eq other task) (walk_start task text)
       (reverse (words text))) (λ here. last_walked nat_eq other task here (final_word (reverse (words text)))))
       (λ text. then_agree HereAt HereAt
@@ -183,16 +177,14 @@ module _ (one other : Looks ℕ) (task : Task ℕ) (Own : ℕ → Type 0) (alike
   same_met_at here own NoWord = same_met one other task Own alike here own NoWord
   same_met_at here own Dot = same_met one other task Own alike here own Dot
   same_met_at here own DotDot = same_met one other task Own alike here own DotDot
-  same_met_at here own (Named name) =
-      same_filesystems one other task Own alike (here ∷ [])
+  same_met_at here own (Named name) = same_filesystems one other task Own alike (here ∷ [])
       (one_each one other task Own alike here own [] (none_each one other task Own alike))
 
   abbrev at_place : Here ℕ → LastWord → Bool → List (List ℕ) → Option (Location ℕ) → Place ℕ
   at_place here word slash steps object =
       record { parent = here.location; last = word; object = object; slash = slash; steps = steps }
 
-  place_by : (here : Here ℕ) → HereAt here → (word : LastWord) (slash : Bool)
-      → Agree PlaceAt
+  place_by : (here : Here ℕ) → HereAt here → (word : LastWord) (slash : Bool) → Agree PlaceAt
       (placed_by (steps_at nat_eq one task here word) (search_rules nat_eq one task here.location)
       (object_named nat_eq one task here.location word) (at_place here word slash (steps_at nat_eq one task here word)))
       (placed_by (steps_at nat_eq other task here word) (search_rules nat_eq other task here.location)
@@ -202,8 +194,7 @@ module _ (one other : Looks ℕ) (task : Task ℕ) (Own : ℕ → Type 0) (alike
       let named = named_agrees here.location own word in (
         ap (λ s. placed_by (s ∷ here.steps) (search_rules nat_eq one task here.location)
             (object_named nat_eq one task here.location word) (at_place here word slash (s ∷ here.steps)))
-            (same_met_at here.location own word)
-            ∙ ap (λ r. placed_by (steps_at nat_eq other task here word) r
+            (same_met_at here.location own word) ∙ ap (λ r. placed_by (steps_at nat_eq other task here word) r
             (object_named nat_eq one task here.location word)
             (at_place here word slash (steps_at nat_eq other task here word)))
             (same_search one other task Own alike here.location own)
@@ -222,8 +213,7 @@ module _ (one other : Looks ℕ) (task : Task ℕ) (Own : ℕ → Type 0) (alike
   placed_agrees here own (Named name) slash = place_by here own (Named name) slash
 
   place_agrees : (path : List ℕ) → Agree PlaceAt (place_walk nat_eq one task path) (place_walk nat_eq other task path)
-  place_agrees path =
-      text_agrees PlaceAt path
+  place_agrees path = text_agrees PlaceAt path
       (λ text. then_walk (prefix_walked nat_eq one task (followed nat_eq one task) (walk_start task text)
       (reverse (words text)))
       (λ here. placed nat_eq one task here (final_word (reverse (words text))) (ends_in_slash text)))
@@ -240,28 +230,24 @@ module _ (one other : Looks ℕ) (task : Task ℕ) (Own : ℕ → Type 0) (alike
 
   same_new_name : (place : Place ℕ) → PlaceAt place
       → new_name_rules nat_eq one place ≡ new_name_rules nat_eq other place
-  same_new_name place at =
-      ap (λ b. (not (is_some place.object) && b, W8) ∷ []) (removed place.parent at.0)
+  same_new_name place at = ap (λ b. (not (is_some place.object) && b, W8) ∷ []) (removed place.parent at.0)
 
   pub new_agrees : (path : List ℕ) → Agree PlaceAt (new_walk nat_eq one task path) (new_walk nat_eq other task path)
-  new_agrees path =
-      then_agree PlaceAt PlaceAt (place_walk nat_eq one task path) (place_walk nat_eq other task path)
+  new_agrees path = then_agree PlaceAt PlaceAt (place_walk nat_eq one task path) (place_walk nat_eq other task path)
       (λ place. walk_unless place.steps (new_name_rules nat_eq one place) place)
       (λ place. walk_unless place.steps (new_name_rules nat_eq other place) place) (place_agrees path)
       (λ place at. unless_same PlaceAt place.steps _ _ place (same_new_name place at) at)
 
   pub new_leaf_agrees : (path : List ℕ)
       → Agree PlaceAt (new_leaf_walk nat_eq one task path) (new_leaf_walk nat_eq other task path)
-  new_leaf_agrees path =
-      then_agree PlaceAt PlaceAt (new_walk nat_eq one task path) (new_walk nat_eq other task path)
+  new_leaf_agrees path = then_agree PlaceAt PlaceAt (new_walk nat_eq one task path) (new_walk nat_eq other task path)
       (λ place. walk_unless place.steps ((place.slash && not (is_some place.object), W6) ∷ []) place)
       (λ place. walk_unless place.steps ((place.slash && not (is_some place.object), W6) ∷ []) place) (new_agrees path)
       (λ place at. unless_same PlaceAt place.steps ((place.slash && not (is_some place.object), W6) ∷ [])
       ((place.slash && not (is_some place.object), W6) ∷ []) place refl at)
 
   pub old_agrees : (path : List ℕ) → Agree PlaceAt (old_walk nat_eq one task path) (old_walk nat_eq other task path)
-  old_agrees path =
-      then_agree PlaceAt PlaceAt (place_walk nat_eq one task path) (place_walk nat_eq other task path)
+  old_agrees path = then_agree PlaceAt PlaceAt (place_walk nat_eq one task path) (place_walk nat_eq other task path)
       (λ place. walk_unless place.steps ((not (is_some place.object), W6) ∷ []) place)
       (λ place. walk_unless place.steps ((not (is_some place.object), W6) ∷ []) place) (place_agrees path)
       (λ place at. unless_same PlaceAt place.steps ((not (is_some place.object), W6) ∷ [])
@@ -273,12 +259,10 @@ module _ (one other : Looks ℕ) (task : Task ℕ) (Own : ℕ → Type 0) (alike
 
   pub old_leaf_agrees : (path : List ℕ)
       → Agree PlaceAt (old_leaf_walk nat_eq one task path) (old_leaf_walk nat_eq other task path)
-  old_leaf_agrees path =
-      then_agree PlaceAt PlaceAt (old_walk nat_eq one task path) (old_walk nat_eq other task path)
+  old_leaf_agrees path = then_agree PlaceAt PlaceAt (old_walk nat_eq one task path) (old_walk nat_eq other task path)
       (λ place. walk_unless place.steps ((place.slash && not (is_directory_there nat_eq one place), W3) ∷ []) place)
       (λ place. walk_unless place.steps ((place.slash && not (is_directory_there nat_eq other place), W3) ∷ []) place)
-      (old_agrees path)
-      (λ place at. unless_same PlaceAt place.steps _ _ place
+      (old_agrees path) (λ place at. unless_same PlaceAt place.steps _ _ place
       (ap (λ b. (place.slash && not b, W3) ∷ []) (same_directory_there place at)) at)
 
   pub rename_new_agrees : (path : List ℕ) (was : Bool)
@@ -298,8 +282,7 @@ module _ (one other : Looks ℕ) (task : Task ℕ) (Own : ℕ → Type 0) (alike
       then_agree HereAt HereAt (directory_walk nat_eq one task path) (directory_walk nat_eq other task path)
       (λ here. walk_unless here.steps ((one.is_removed here.location, W8) ∷ []) here)
       (λ here. walk_unless here.steps ((other.is_removed here.location, W8) ∷ []) here) (directory_agrees path)
-      (λ here own. unless_same HereAt here.steps _ _ here
-      (ap (λ b. (b, W8) ∷ []) (removed here.location own)) own)
+      (λ here own. unless_same HereAt here.steps _ _ here (ap (λ b. (b, W8) ∷ []) (removed here.location own)) own)
 
   pub destination_agrees : (path : List ℕ)
       → Agree HereAt (destination_walk nat_eq one task path) (destination_walk nat_eq other task path)
@@ -307,9 +290,7 @@ module _ (one other : Looks ℕ) (task : Task ℕ) (Own : ℕ → Type 0) (alike
       then_agree HereAt HereAt (source_walk nat_eq one task path) (source_walk nat_eq other task path)
       (λ here. walk_unless here.steps ((one.is_removed (topmost one here.location), W8) ∷ []) (at_topmost one here))
       (λ here. walk_unless here.steps ((other.is_removed (topmost other here.location), W8) ∷ [])
-      (at_topmost other here))
-      (source_agrees path)
-      (λ here own.
+      (at_topmost other here)) (source_agrees path) (λ here own.
       let top : Own (topmost one here.location).mount = own_topmost one other task Own alike here.location own in (
         ap (λ b. walk_unless here.steps ((b, W8) ∷ []) (at_topmost one here)) (removed (topmost one here.location) top)
             ∙ ap (λ l. walk_unless here.steps ((other.is_removed l, W8) ∷ []) (record here { location = l }))
@@ -330,8 +311,7 @@ module _ (one other : Looks ℕ) (task : Task ℕ) (Own : ℕ → Type 0) (alike
   entered_by : (special : Bool) (o : Option (Location ℕ)) → FoundAt o
       → (option_map (topmost one) o ≡ option_map (topmost other) o)
       × (filesystems_of nat_eq one (mounts_entered one special o)
-      ≡ filesystems_of nat_eq other (mounts_entered other special o))
-      × FoundAt (option_map (topmost one) o)
+      ≡ filesystems_of nat_eq other (mounts_entered other special o)) × FoundAt (option_map (topmost one) o)
   entered_by true None f = (refl, refl, found_none)
   entered_by false None f = (refl, refl, found_none)
   entered_by true (Some object) f = (
@@ -347,11 +327,9 @@ module _ (one other : Looks ℕ) (task : Task ℕ) (Own : ℕ → Type 0) (alike
         found_some (topmost one object) (own_topmost one other task Own alike object own),
       )
     where
-      over_list : (object : Location ℕ) → Own object.mount
-          → filesystems_of nat_eq one (one.mounts_over object ++ [])
+      over_list : (object : Location ℕ) → Own object.mount → filesystems_of nat_eq one (one.mounts_over object ++ [])
           ≡ filesystems_of nat_eq other (other.mounts_over object ++ [])
-      over_list object own =
-          same_filesystems one other task Own alike (one.mounts_over object ++ [])
+      over_list object own = same_filesystems one other task Own alike (one.mounts_over object ++ [])
           (both_each one other task Own alike (one.mounts_over object) [] (alike.entered object own)
           (none_each one other task Own alike))
           ∙ ap (λ l. filesystems_of nat_eq other (l ++ [])) (alike.over object own)
@@ -363,8 +341,7 @@ module _ (one other : Looks ℕ) (task : Task ℕ) (Own : ℕ → Type 0) (alike
         ap (λ o. record place {
           object = o;
           steps = all_met (filesystems_of nat_eq one (entered_mounts nat_eq one place)) place.steps;
-        }) by.0
-            ∙ ap (λ f. record place
+        }) by.0 ∙ ap (λ f. record place
             { object = option_map (topmost other) place.object; steps = all_met f place.steps }) by.1,
         (at.0, by.2),
       )
@@ -383,8 +360,7 @@ module _ (one other : Looks ℕ) (task : Task ℕ) (Own : ℕ → Type 0) (alike
       by true = alike.root
       by false = own
 
-  start_agrees : (from : Location ℕ) → Own from.mount → (link : Here ℕ) → HereAt link → (text : List ℕ)
-      → Agree HereAt
+  start_agrees : (from : Location ℕ) → Own from.mount → (link : Here ℕ) → HereAt link → (text : List ℕ) → Agree HereAt
       (walk_unless link.steps (follow_rules nat_eq one link text) (symlink_start nat_eq one task from link text))
       (walk_unless link.steps (follow_rules nat_eq other link text) (symlink_start nat_eq other task from link text))
   start_agrees from own link at text = (
@@ -404,18 +380,15 @@ module _ (one other : Looks ℕ) (task : Task ℕ) (Own : ℕ → Type 0) (alike
       → Agree PlaceAt (file_walked nat_eq depth one task start text slash)
       (file_walked nat_eq depth other task start text slash)
   file_agrees_at zero start own text slash = (refl, tt)
-  file_agrees_at (suc depth) start own text slash =
-      then_agree HereAt PlaceAt
+  file_agrees_at (suc depth) start own text slash = then_agree HereAt PlaceAt
       (prefix_walked nat_eq one task (followed nat_eq one task) start (reverse (words text)))
       (prefix_walked nat_eq other task (followed nat_eq other task) start (reverse (words text)))
-      (after one) (after other) (prefix_agrees start own (reverse (words text)))
-      (λ here at.
+      (after one) (after other) (prefix_agrees start own (reverse (words text))) (λ here at.
       then_agree PlaceAt PlaceAt
       (placed nat_eq one task here (final_word (reverse (words text))) (slash || ends_in_slash text))
       (placed nat_eq other task here (final_word (reverse (words text))) (slash || ends_in_slash text))
       (at_last one here) (at_last other here)
-      (placed_agrees here at (final_word (reverse (words text))) (slash || ends_in_slash text))
-      (λ place stands.
+      (placed_agrees here at (final_word (reverse (words text))) (slash || ends_in_slash text)) (λ place stands.
       let by = by_symlink here at place stands
       (λ next inner on. file_agrees_at depth next on inner (slash || ends_in_slash text))
       (symlink_there nat_eq one place) in (
@@ -442,14 +415,12 @@ module _ (one other : Looks ℕ) (task : Task ℕ) (Own : ℕ → Type 0) (alike
       by_symlink : (here : Here ℕ) → HereAt here → (place : Place ℕ) → PlaceAt place
           → ((next : Here ℕ) (inner : List ℕ) → HereAt next
           → Agree PlaceAt (file_walked nat_eq depth one task next inner (slash || ends_in_slash text))
-          (file_walked nat_eq depth other task next inner (slash || ends_in_slash text)))
-          → (o : Option (List ℕ))
+          (file_walked nat_eq depth other task next inner (slash || ends_in_slash text))) → (o : Option (List ℕ))
           → Agree PlaceAt (file_or_symlink nat_eq one place o (next_text one here place))
           (file_or_symlink nat_eq other place o (next_text other here place))
       by_symlink here at place stands rest None =
           let e = entered_agrees place stands in (ap Ok e.0, e.1)
-      by_symlink here at place stands rest (Some inner) =
-          then_agree HereAt PlaceAt
+      by_symlink here at place stands rest (Some inner) = then_agree HereAt PlaceAt
           (walk_unless place.steps (follow_rules nat_eq one (symlink_of here place) inner)
           (symlink_start nat_eq one task here.location (symlink_of here place) inner))
           (walk_unless place.steps (follow_rules nat_eq other (symlink_of here place) inner)
@@ -460,18 +431,15 @@ module _ (one other : Looks ℕ) (task : Task ℕ) (Own : ℕ → Type 0) (alike
           (λ next on. rest next inner on)
 
   pub file_agrees : (path : List ℕ) → Agree PlaceAt (file_walk nat_eq one task path) (file_walk nat_eq other task path)
-  file_agrees path =
-      text_agrees PlaceAt path
+  file_agrees path = text_agrees PlaceAt path
       (λ text. then_walk (file_walked nat_eq (most_symlinks + 1) one task (walk_start task text) text false)
       (λ place. walk_unless place.steps (new_name_rules nat_eq one place) place))
       (λ text. then_walk (file_walked nat_eq (most_symlinks + 1) other task (walk_start task text) text false)
-      (λ place. walk_unless place.steps (new_name_rules nat_eq other place) place))
-      (λ text. then_agree PlaceAt PlaceAt
+      (λ place. walk_unless place.steps (new_name_rules nat_eq other place) place)) (λ text. then_agree PlaceAt PlaceAt
       (file_walked nat_eq (most_symlinks + 1) one task (walk_start task text) text false)
       (file_walked nat_eq (most_symlinks + 1) other task (walk_start task text) text false)
       (λ place. walk_unless place.steps (new_name_rules nat_eq one place) place)
       (λ place. walk_unless place.steps (new_name_rules nat_eq other place) place)
       (file_agrees_at (most_symlinks + 1) (walk_start task text) (start_at text) text false)
       (λ place at. unless_same PlaceAt place.steps (new_name_rules nat_eq one place)
-      (new_name_rules nat_eq other place) place
-      (same_new_name place at) at))
+      (new_name_rules nat_eq other place) place (same_new_name place at) at))

@@ -57,8 +57,7 @@ module _ (w : World ℕ) (kept : MountInvariants nat_eq w) (task : Task ℕ) whe
       kept_there here true = tt
       kept_there here false = topmost_is_free w here.location kept
 
-      by : (r : Result (Here ℕ) (Stop ℕ))
-          → IfOk (then_walk r (λ here. walk_unless here.steps
+      by : (r : Result (Here ℕ) (Stop ℕ)) → IfOk (then_walk r (λ here. walk_unless here.steps
           ((looks.is_removed (topmost looks here.location), W8) ∷ []) (at_topmost looks here))) Free
       by (Ok here) = kept_there here (looks.is_removed (topmost looks here.location))
       by (Err stop) = tt
@@ -80,8 +79,7 @@ module _ (w : World ℕ) (kept : MountInvariants nat_eq w) (task : Task ℕ) whe
 
   pub pivots_there : (new put : List ℕ) → IfOk (pivot_permit nat_eq looks task new put) PivotsThere
   unfolding pivot_permit
-  pivots_there new put =
-      of_rules PivotsThere (admin_rules task) _
+  pivots_there new put = of_rules PivotsThere (admin_rules task) _
       (of_walk (λ root. ⊤) PivotsThere (source_walk nat_eq looks task new) _
       (ends_somewhere (source_walk nat_eq looks task new))
       (λ root done. of_walk Free PivotsThere (destination_walk nat_eq looks task put)

@@ -101,13 +101,10 @@ module _ (root new : Mount ℕ) (put : Location ℕ) where
   listed_how : (t : Task ℕ) (rest : List (Location ℕ)) (l : Location ℕ)
       → Among l (pivoted_location nat_eq root new t.root ∷ pivoted_location nat_eq root new t.directory ∷ rest)
       → Among l (t.root ∷ t.directory ∷ rest) ⊎ (l ≡ root_of new)
-  listed_how t rest l m =
-      ⊎_elim
-      (λ e. ⊎_elim (λ same. inl (inl (e ∙ same))) (λ top. inr (e ∙ top)) (location_how t.root))
-      (λ more. ⊎_elim
+  listed_how t rest l m = ⊎_elim
+      (λ e. ⊎_elim (λ same. inl (inl (e ∙ same))) (λ top. inr (e ∙ top)) (location_how t.root)) (λ more. ⊎_elim
       (λ e. ⊎_elim (λ same. inl (inr (inl (e ∙ same)))) (λ top. inr (e ∙ top)) (location_how t.directory))
-      (λ later. inl (inr (inr later))) more)
-      m
+      (λ later. inl (inr (inr later))) more) m
 
   stood_how : (namespace : ℕ) (t : Task ℕ) (l : Location ℕ)
       → Among l ((moved namespace t).root ∷ (moved namespace t).directory ∷ [])
@@ -162,19 +159,16 @@ module _ (world : World ℕ) (names : List TaskName) (name : TaskName) (new_path
       sym (same_judgement world names name (PivotRoot new_path put_path) it fresh supply task called) ∙ judged
 
   may : CanPivot world space root new put
-  may =
-      subst (λ j. IfOk j (PivotsThere world it.is.mounts task)) judged
+  may = subst (λ j. IfOk j (PivotsThere world it.is.mounts task)) judged
       (pivots_there world it.is.mounts task new_path put_path)
 
   may_there : CanPivot part space (mount_at nat_eq part task.root) (mount_numbered nat_eq part number) put
-  may_there =
-      subst (λ j. IfOk j (PivotsThere part (part_mounts world names it.is it.sealed_off) task)) judged_there
+  may_there = subst (λ j. IfOk j (PivotsThere part (part_mounts world names it.is it.sealed_off) task)) judged_there
       (pivots_there part (part_mounts world names it.is it.sealed_off) task new_path put_path)
 
   -- both mounts are theirs
   owned : (m : Mount ℕ) → m.namespace ≡ Some space → is_own world names old m ≡ true
-  owned m e =
-      ap (holds_of (is_own_namespace nat_eq world names)) e
+  owned m e = ap (holds_of (is_own_namespace nat_eq world names)) e
       ∙ any_from_among (λ (t : Task ℕ). nat_eq space t.namespace) old task member (eq-eqb space space refl)
 
   new_in : Among new world.mounts
@@ -187,8 +181,7 @@ module _ (world : World ℕ) (names : List TaskName) (name : TaskName) (new_path
   root_same = same_mount world names it.is.mounts task.root.mount (root_theirs world names it.is task member)
 
   new_same : mount_numbered nat_eq part number ≡ new
-  new_same =
-      same_mount world names it.is.mounts number
+  new_same = same_mount world names it.is.mounts number
       (subst (IsTheirs world names it.is.mounts) (number-mount_in world.mounts number) new_theirs)
 
   -- The change
@@ -216,21 +209,17 @@ module _ (world : World ℕ) (names : List TaskName) (name : TaskName) (new_path
 
   pivots_part : pivoted nat_eq part space (mount_at nat_eq part task.root) (mount_numbered nat_eq part number) put
       ≡ remade plan part (map move part.tasks)
-  pivots_part =
-      ap (λ m. pivoted nat_eq part space m (mount_numbered nat_eq part number) put) root_same
-      ∙ ap (λ m. pivoted nat_eq part space root m put) new_same
-      ∙ as_remade part
+  pivots_part = ap (λ m. pivoted nat_eq part space m (mount_numbered nat_eq part number) put) root_same
+      ∙ ap (λ m. pivoted nat_eq part space root m put) new_same ∙ as_remade part
 
   -- Tasks of the set are moved
   set_is : (tasks : List (Task ℕ))
       → filter (is_member_task names) (map move tasks) ≡ map move (filter (is_member_task names) tasks)
-  set_is tasks =
-      filter-map (is_member_task names) move tasks
+  set_is tasks = filter-map (is_member_task names) move tasks
       (λ t. ap (λ n. is_among same_name n names) (moved_name root new put space t))
 
   spaces_same : (n : ℕ) → in_spaces (filter (is_member_task names) (map move world.tasks)) n ≡ in_spaces old n
-  spaces_same n =
-      ap (λ ts. in_spaces ts n) (set_is world.tasks)
+  spaces_same n = ap (λ ts. in_spaces ts n) (set_is world.tasks)
       ∙ any-map (λ (t : Task ℕ). nat_eq n t.namespace) move old (λ t. ap (nat_eq n) (moved_space root new put space t))
 
   -- mounts of others stay
@@ -286,8 +275,7 @@ module _ (world : World ℕ) (names : List TaskName) (name : TaskName) (new_path
       (stood_how root new put space t.0 l (subst (λ (x : Task ℕ). Among l (x.root ∷ x.directory ∷ [])) t.2 at.2))
     where
       stood : (t : Task ℕ) → Among t old → Among l (t.root ∷ t.directory ∷ []) → OnTheirs l
-      stood t n k =
-          ⊎_elim (λ e. subst OnTheirs (sym e) (root_theirs world names it.is t n))
+      stood t n k = ⊎_elim (λ e. subst OnTheirs (sym e) (root_theirs world names it.is t n))
           (λ rest. ⊎_elim (λ e. subst OnTheirs (sym e) (directory_theirs world names it.is t n))
           (λ none. absurd none) rest) k
 
@@ -312,8 +300,7 @@ module _ (world : World ℕ) (names : List TaskName) (name : TaskName) (new_path
           ∙ namespace_outside world names (apart world names it.is it.sealed_off) t m))
 
   others_are : filter (λ t. not (is_member_task names t)) (map move world.tasks) ≡ map move (outsiders world names)
-  others_are =
-      filter-map (λ t. not (is_member_task names t)) move world.tasks
+  others_are = filter-map (λ t. not (is_member_task names t)) move world.tasks
       (λ t. ap (λ n. not (is_among same_name n names)) (moved_name root new put space t))
 
   outside_moved : (l : Location ℕ)
@@ -330,8 +317,7 @@ module _ (world : World ℕ) (names : List TaskName) (name : TaskName) (new_path
   moves = record {
     same = set_is part.tasks ∙ ap (map move) (same_members world names) ∙ sym (set_is world.tasks);
     all = λ t m. let from = among-from_map move old t m in
-        ap (is_member_task names) from.2
-        ∙ ap (λ n. is_among same_name n names) (moved_name root new put space from.0)
+        ap (is_member_task names) from.2 ∙ ap (λ n. is_among same_name n names) (moved_name root new put space from.0)
         ∙ (among-from_filter (is_member_task names) world.tasks from.0 from.1).1;
     entered = λ n h. inl (sym (spaces_same n) ∙ h);
     roots = λ l m. inl (roots_moved l m);
@@ -347,22 +333,18 @@ module _ (world : World ℕ) (names : List TaskName) (name : TaskName) (new_path
   left_too = numbers_raised nat_eq part name [] (settled nat_eq (remade plan part (map move part.tasks)))
 
   first : policy nat_eq fresh world name (PivotRoot new_path put_path) ≡ granted Done left_one
-  first =
-      ap (ran name (PivotRoot new_path put_path) world fresh) called
+  first = ap (ran name (PivotRoot new_path put_path) world fresh) called
       ∙ ap (run_by world names name (PivotRoot new_path put_path) it fresh supply world fresh task) judged
       ∙ ap (λ w. granted Done (numbers_raised nat_eq world name [] (settled nat_eq w))) (as_remade world)
 
   second : policy nat_eq supply part name (PivotRoot new_path put_path) ≡ granted Done left_too
-  second =
-      ap (ran name (PivotRoot new_path put_path) part supply)
+  second = ap (ran name (PivotRoot new_path put_path) part supply)
       (same_caller world names it.is it.sealed_off name it.theirs ∙ called)
       ∙ ap (run_by world names name (PivotRoot new_path put_path) it fresh supply part supply task) judged_there
       ∙ ap (λ w. granted Done (numbers_raised nat_eq part name [] (settled nat_eq w))) pivots_part
 
   pivot_alike : EndsAlike world names name (PivotRoot new_path put_path) fresh supply
-  pivot_alike =
-      subst (λ p. EndAlike
-      (grown names name (PivotRoot new_path put_path)
+  pivot_alike = subst (λ p. EndAlike (grown names name (PivotRoot new_path put_path)
       (policy nat_eq fresh world name (PivotRoot new_path put_path)).answer)
       (policy nat_eq fresh world name (PivotRoot new_path put_path)) p) (sym second)
       (subst (λ o. EndAlike (grown names name (PivotRoot new_path put_path) o.answer) o (granted Done left_too))
@@ -373,20 +355,16 @@ pivots_end_alike world names name new put it fresh supply = by (task_called worl
   where
     judged_by : (task : Task ℕ) → task_called world name ≡ Some task
         → (j : Judgement ℕ) → judge_in nat_eq fresh world task (PivotRoot new put) ≡ j
-        → IfOk j (PivotsThere world it.is.mounts task)
-        → EndsAlike world names name (PivotRoot new put) fresh supply
+        → IfOk j (PivotsThere world it.is.mounts task) → EndsAlike world names name (PivotRoot new put) fresh supply
     judged_by task e (Ok (ToPivot number at)) judged its =
         pivot_alike world names name new put it task e fresh supply number at judged
     judged_by task e (Ok permit) judged its = absurd its
-    judged_by task e (Err deny) judged its =
-        denial_ends_alike world names name (PivotRoot new put) it fresh supply
-        (ap (λ o. is_ok (ran name (PivotRoot new put) world fresh o).answer) e
-        ∙ ap (λ j. is_ok
+    judged_by task e (Err deny) judged its = denial_ends_alike world names name (PivotRoot new put) it fresh supply
+        (ap (λ o. is_ok (ran name (PivotRoot new put) world fresh o).answer) e ∙ ap (λ j. is_ok
         (run_by world names name (PivotRoot new put) it fresh supply world fresh task j).answer) judged)
 
     by : (o : Option (Task ℕ)) → task_called world name ≡ o
         → EndsAlike world names name (PivotRoot new put) fresh supply
     by None e = unnamed_ends_alike world names name (PivotRoot new put) it fresh supply e
-    by (Some task) e =
-        judged_by task e (judge_in nat_eq fresh world task (PivotRoot new put)) refl
+    by (Some task) e = judged_by task e (judge_in nat_eq fresh world task (PivotRoot new put)) refl
         (pivots_there world it.is.mounts task new put)

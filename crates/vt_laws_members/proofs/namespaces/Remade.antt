@@ -46,8 +46,7 @@ in_spaces tasks n = list_any (λ (t : Task ℕ). nat_eq n t.namespace) tasks
 
 -- no mount and no namespace has this number of a namespace
 abbrev pub IsNewSpace : World ℕ → ℕ → Type 0
-IsNewSpace world n =
-    ((m : Mount ℕ) → Among m world.mounts → holds_of (nat_eq n) m.namespace ≡ false)
+IsNewSpace world n = ((m : Mount ℕ) → Among m world.mounts → holds_of (nat_eq n) m.namespace ≡ false)
     × ((s : Namespace ℕ) → Among s world.namespaces → nat_eq n s.number ≡ false)
 
 -- the location is on a mount that comes
@@ -94,8 +93,7 @@ pub record MovesTheirs (it : Remaking) : Type 0 where
   pub places : (l : Location ℕ) → Among l (locations (filter (is_member_task it.names) it.tasks))
       → Among l (locations (members it.world it.names))
       ⊎ (IsTheirs it.world it.names it.is.mounts l.mount ⊎ OnAdded it.plan l)
-  pub outside : (l : Location ℕ)
-      → Among l (locations (filter (λ t. not (is_member_task it.names t)) it.tasks))
+  pub outside : (l : Location ℕ) → Among l (locations (filter (λ t. not (is_member_task it.names t)) it.tasks))
       → Among l (locations (outsiders it.world it.names))
 
 -- filters in turn
@@ -173,8 +171,7 @@ module _ (it : Remaking) (does : ChangesTheirs it) (moves : MovesTheirs it) wher
     where
       by : (o : Option ℕ) → m.namespace ≡ o → holds_of (in_spaces new) o ≡ true → holds_of (in_spaces old) o ≡ true
       by None e h = h
-      by (Some k) e h =
-          ⊎_elim (λ before. before)
+      by (Some k) e h = ⊎_elim (λ before. before)
           (λ fresh. absurd (true≢false (sym (ap (holds_of (nat_eq k)) e ∙ eq-eqb k k refl) ∙ fresh.0 m n)))
           (moves.entered k h)
 
@@ -210,8 +207,7 @@ module _ (it : Remaking) (does : ChangesTheirs it) (moves : MovesTheirs it) wher
     where
       by : (b : Bool) → (owns new m || stands new m) ≡ b → (owns new m || stands new m) ≡ false
       by false f = f
-      by true f =
-          absurd (true≢false (sym (⊎_elim (λ own. or_left (owns old m) (stands old m) (own_was m n own))
+      by true f = absurd (true≢false (sym (⊎_elim (λ own. or_left (owns old m) (stands old m) (own_was m n own))
           (stands_was m n) (or_cases (owns new m) (stands new m) f)) ∙ e))
 
   -- what is kept of what is kept
@@ -226,31 +222,26 @@ module _ (it : Remaking) (does : ChangesTheirs it) (moves : MovesTheirs it) wher
       kept_as p q = cond p (Some m) (when q (stub m))
 
       after : (owns old m || stands old m) ≡ false → keep world names new (turn m) ≡ when (at new m) (stub m)
-      after e =
-          ap (keep world names new) (does.others m n (or_parts (owns old m) (stands old m) e).0).0
+      after e = ap (keep world names new) (does.others m n (or_parts (owns old m) (stands old m) e).0).0
           ∙ ap (λ c. kept_as c (at new m)) (less_whole m n e)
 
       by : (p : Bool) → (owns old m || stands old m) ≡ p → (q : Bool) → at old m ≡ q → (r : Bool) → at new m ≡ r
           → then_some (kept_as (owns old m || stands old m) (at old m)) (λ y. keep world names new (turn y))
           ≡ keep world names new (turn m)
       by true e q f r g = ap (λ c. then_some (kept_as c (at old m)) (λ y. keep world names new (turn y))) e
-      by false e true f r g =
-          ap (λ c. then_some (kept_as c (at old m)) (λ y. keep world names new (turn y))) e
+      by false e true f r g = ap (λ c. then_some (kept_as c (at old m)) (λ y. keep world names new (turn y))) e
           ∙ ap (λ c. then_some (when c (stub m)) (λ y. keep world names new (turn y))) f
           ∙ ap (keep world names new) (does.others m n (or_parts (owns old m) (stands old m) e).0).1
           ∙ ap (λ c. cond c (Some (stub m)) (when (at new m) (stub m)))
-          (or_parts (owns new m) (stands new m) (less_whole m n e)).1
-          ∙ sym (after e)
+          (or_parts (owns new m) (stands new m) (less_whole m n e)).1 ∙ sym (after e)
       by false e false f true g =
           absurd (⊎_elim (λ whole. true≢false (sym whole ∙ e)) (λ there. true≢false (sym there ∙ f)) (at_was m n g))
-      by false e false f false g =
-          ap (λ c. then_some (kept_as c (at old m)) (λ y. keep world names new (turn y))) e
+      by false e false f false g = ap (λ c. then_some (kept_as c (at old m)) (λ y. keep world names new (turn y))) e
           ∙ ap (λ c. then_some (when c (stub m)) (λ y. keep world names new (turn y))) f
           ∙ sym (after e ∙ ap (λ c. when c (stub m)) g)
 
   mounts_less : filter_map (keep world names new) v_part.mounts ≡ filter_map (keep world names new) v.mounts
-  mounts_less =
-      filter_map-append (keep world names new) (map turn part.mounts) it.plan.added
+  mounts_less = filter_map-append (keep world names new) (map turn part.mounts) it.plan.added
       ∙ ap (λ l. l ++ filter_map (keep world names new) it.plan.added)
       (filter_map_map (keep world names new) turn part.mounts
       ∙ filter_map_then (keep world names old) (λ y. keep world names new (turn y)) world.mounts
@@ -263,25 +254,21 @@ module _ (it : Remaking) (does : ChangesTheirs it) (moves : MovesTheirs it) wher
   pub origin : (y : Mount ℕ) → Among y v.mounts → owns new y ≡ true
       → (m : Mount ℕ) × Among m (own_mounts nat_eq world names) × (y.filesystem ≡ m.filesystem)
       × ((y.propagation ≡ m.propagation) ⊎ (y.propagation ≡ Private))
-  origin y n own =
-      ⊎_elim
-      (λ turned. let from = among-from_map turn world.mounts y turned in (
-        from.0,
-        among-filter (is_own_mount nat_eq world names) world.mounts from.0 from.1
-            (own_before from.0 from.1 (ap (owns new) (sym from.2) ∙ own)),
-        ap (λ (x : Mount ℕ). x.filesystem) from.2 ∙ (does.shape from.0).filesystem,
-        subst (λ (x : Mount ℕ). (x.propagation ≡ from.0.propagation) ⊎ (x.propagation ≡ Private)) (sym from.2)
-            (does.kinds from.0),
-      ))
-      (λ fresh. let of = does.copies y fresh in (of.0, of.1, of.2, inl of.3))
+  origin y n own = ⊎_elim (λ turned. let from = among-from_map turn world.mounts y turned in (
+    from.0,
+    among-filter (is_own_mount nat_eq world names) world.mounts from.0 from.1
+        (own_before from.0 from.1 (ap (owns new) (sym from.2) ∙ own)),
+    ap (λ (x : Mount ℕ). x.filesystem) from.2 ∙ (does.shape from.0).filesystem,
+    subst (λ (x : Mount ℕ). (x.propagation ≡ from.0.propagation) ⊎ (x.propagation ≡ Private)) (sym from.2)
+        (does.kinds from.0),
+  )) (λ fresh. let of = does.copies y fresh in (of.0, of.1, of.2, inl of.3))
       (among-append (map turn world.mounts) it.plan.added y n)
 
   pub source_heard : (y : Mount ℕ) → Among y v.mounts → owns new y ≡ true → (g : ℕ)
       → source_of y.propagation ≡ Some g → IsHeard world names it.is it.sealed_off g
   source_heard y n own g e =
       let of = origin y n own in
-      ⊎_elim
-      (λ same. heard_by_own world names it.is it.sealed_off of.0 of.1 g (ap source_of (sym same) ∙ e))
+      ⊎_elim (λ same. heard_by_own world names it.is it.sealed_off of.0 of.1 g (ap source_of (sym same) ∙ e))
       (λ none. absurd (no_group y.propagation none g e)) of.3
 
   masters_less : (group : ℕ) → list_any (is_member_of nat_eq group) (own_mounts nat_eq v names) ≡ true
@@ -289,8 +276,7 @@ module _ (it : Remaking) (does : ChangesTheirs it) (moves : MovesTheirs it) wher
   masters_less group h =
       let y = any_among (is_member_of nat_eq group) (own_mounts nat_eq v names) h in
       let own = among-from_filter (owns new) v.mounts y.0 y.1 in
-      master_same world names it.is it.sealed_off group
-      (source_heard y.0 own.0 own.1 group
+      master_same world names it.is it.sealed_off group (source_heard y.0 own.0 own.1 group
       (group_source y.0.propagation group (member_group group y.0 y.2)))
 
   -- mounts by their numbers
@@ -304,38 +290,31 @@ module _ (it : Remaking) (does : ChangesTheirs it) (moves : MovesTheirs it) wher
       → (mount_at nat_eq v l).filesystem ≡ (mount_at nat_eq world l).filesystem
   filesystem_after m n l e =
       ap (λ (x : Mount ℕ). x.filesystem) (shown_after (turn m) (turned_in m n) l (e ∙ sym (does.shape m).number))
-      ∙ (does.shape m).filesystem
-      ∙ ap (λ (x : Mount ℕ). x.filesystem)
+      ∙ (does.shape m).filesystem ∙ ap (λ (x : Mount ℕ). x.filesystem)
       (sym (ap (mount_numbered nat_eq world) e ∙ numbered world names it.is.mounts m n))
 
   pub placed_old : (l : Location ℕ) → Among l (locations old)
       → (m : Mount ℕ) × Among m world.mounts × (l.mount ≡ m.number)
   placed_old l m =
       let t = among-from_flat_map locations_of old l m in
-      mount_under world names it.is it.sealed_off l
-      (among-flat_map locations_of world.tasks t.0 l
+      mount_under world names it.is it.sealed_off l (among-flat_map locations_of world.tasks t.0 l
       (among-from_filter (is_member_task names) world.tasks t.0 t.1).0 t.2)
 
   -- a location of the set is on a mount of the part, or on one that comes
   pub place_shown : (l : Location ℕ) → Among l (locations new)
       → ((m : Mount ℕ) × Among m world.mounts × (l.mount ≡ m.number) × (y : Mount ℕ)
       × (keep world names old m ≡ Some y)) ⊎ OnAdded it.plan l
-  place_shown l m =
-      ⊎_elim
-      (λ before. let on = placed_old l before in
+  place_shown l m = ⊎_elim (λ before. let on = placed_old l before in
       let shown = shown_at world names on.0
       (any_from_among (λ (p : Location ℕ). nat_eq p.mount on.0.number) (locations old) l
       before (eq-eqb l.mount on.0.number on.2)) in
-      inl (on.0, on.1, on.2, shown.0, shown.1))
-      (λ rest. ⊎_elim
-      (λ on. inl (
+      inl (on.0, on.1, on.2, shown.0, shown.1)) (λ rest. ⊎_elim (λ on. inl (
         on.0,
         on.1,
         sym on.2,
         on.0,
         kept_whole world names old on.0 (ground_whole world names it.is on.0 on.3),
-      )) inr rest)
-      (moves.places l m)
+      )) inr rest) (moves.places l m)
 
   abbrev mounted : List ℕ
   mounted = map (λ (m : Mount ℕ). m.filesystem) (own_mounts nat_eq world names)
@@ -347,29 +326,23 @@ module _ (it : Remaking) (does : ChangesTheirs it) (moves : MovesTheirs it) wher
       → Among n (used_directly nat_eq world names)
   shown_was y m own n e =
       let of = origin y m own in
-      among-append_left mounted (map shows (locations old)) n
-      (subst (λ i. Among i mounted) (sym (e ∙ of.2))
+      among-append_left mounted (map shows (locations old)) n (subst (λ i. Among i mounted) (sym (e ∙ of.2))
       (among-map (λ (m : Mount ℕ). m.filesystem) (own_mounts nat_eq world names) of.0 of.1))
 
   located_was : (l : Location ℕ) → Among l (locations new)
       → Among (mount_at nat_eq v l).filesystem (used_directly nat_eq world names)
-  located_was l m =
-      ⊎_elim
-      (λ before. let on = placed_old l before in
+  located_was l m = ⊎_elim (λ before. let on = placed_old l before in
       subst (λ i. Among i (used_directly nat_eq world names)) (sym (filesystem_after on.0 on.1 l on.2))
       (among-append_right mounted (map shows (locations old)) (shows l) (among-map shows (locations old) l before)))
       (λ rest. ⊎_elim
       (λ on. subst (λ i. Among i (used_directly nat_eq world names)) (sym (filesystem_after on.0 on.1 l (sym on.2)))
-      (theirs_directly world names it.is l on))
-      (λ fresh. let y = fresh.0 in
+      (theirs_directly world names it.is l on)) (λ fresh. let y = fresh.0 in
       let there = among-append_right (map turn world.mounts) it.plan.added y fresh.1 in
       shown_was y there (does.owned y fresh.1) (mount_at nat_eq v l).filesystem
-      (ap (λ (x : Mount ℕ). x.filesystem) (shown_after y there l fresh.2))) rest)
-      (moves.places l m)
+      (ap (λ (x : Mount ℕ). x.filesystem) (shown_after y there l fresh.2))) rest) (moves.places l m)
 
   direct_was : (n : ℕ) → Among n (used_directly nat_eq v names) → Among n (used_directly nat_eq world names)
-  direct_was n m =
-      ⊎_elim
+  direct_was n m = ⊎_elim
       (λ shown. let y = among-from_map (λ (m : Mount ℕ). m.filesystem) (own_mounts nat_eq v names) n shown in
       let own = among-from_filter (owns new) v.mounts y.0 y.1 in
       shown_was y.0 own.0 own.1 n y.2)
@@ -384,13 +357,11 @@ module _ (it : Remaking) (does : ChangesTheirs it) (moves : MovesTheirs it) wher
   spaces ts n = in_spaces ts n.number
 
   pub space_was : (n : Namespace ℕ) → Among n world.namespaces → spaces new n ≡ true → spaces old n ≡ true
-  space_was n m h =
-      ⊎_elim (λ before. before)
+  space_was n m h = ⊎_elim (λ before. before)
       (λ fresh. absurd (true≢false (sym (eq-eqb n.number n.number refl) ∙ fresh.1 n m))) (moves.entered n.number h)
 
   pub namespaces_less : filter (spaces new) v_part.namespaces ≡ filter (spaces new) v.namespaces
-  namespaces_less =
-      filter-append (spaces new) (filter it.plan.lasts part.namespaces) it.plan.come
+  namespaces_less = filter-append (spaces new) (filter it.plan.lasts part.namespaces) it.plan.come
       ∙ ap (λ l. l ++ filter (spaces new) it.plan.come)
       (filter_within (spaces new) it.plan.lasts (spaces old) world.namespaces space_was)
       ∙ sym (filter-append (spaces new) (filter it.plan.lasts world.namespaces) it.plan.come)

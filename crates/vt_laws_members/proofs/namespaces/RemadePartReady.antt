@@ -62,9 +62,7 @@ module _ (it : Remaking) (does : ChangesTheirs it) (moves : MovesTheirs it) wher
       (kept_how world names old m y e)
 
   located_so : (l : Location ℕ) → Among l (locations new) → (y : Mount ℕ) × Among y living.mounts × (l.mount ≡ y.number)
-  located_so l m =
-      ⊎_elim
-      (λ on. let there = among-filter_map kept world.mounts on.0 on.3 on.1 on.4 in
+  located_so l m = ⊎_elim (λ on. let there = among-filter_map kept world.mounts on.0 on.3 on.1 on.4 in
       let number : l.mount ≡ (turn on.3).number =
       on.2 ∙ sym (number_kept on.0 on.3 on.4) ∙ sym (does.shape on.3).number in (
         turn on.3,
@@ -72,14 +70,12 @@ module _ (it : Remaking) (does : ChangesTheirs it) (moves : MovesTheirs it) wher
             (among-append_left (map turn part.mounts) it.plan.added (turn on.3) (among-map turn part.mounts on.3 there))
             all number,
         number,
-      ))
-      (λ fresh. (
+      )) (λ fresh. (
         fresh.0,
         located_lives after fresh.0 l
             (among-append_right (map turn part.mounts) it.plan.added fresh.0 fresh.1) all fresh.2,
         fresh.2,
-      ))
-      (place_shown it does moves l (subst (λ ts. Among l (locations ts)) moves.same m))
+      )) (place_shown it does moves l (subst (λ ts. Among l (locations ts)) moves.same m))
     where
       all : Among l (locations it.tasks_too)
       all = of_all names it.tasks_too l m
@@ -93,9 +89,7 @@ module _ (it : Remaking) (does : ChangesTheirs it) (moves : MovesTheirs it) wher
   in_or_out : (z : Mount ℕ) → Among z part.mounts → Fits (turn z)
   in_or_out z n =
       let from = among-from_filter_map kept world.mounts z n in
-      in_new (turn z)
-      (⊎_elim
-      (λ same. let there = subst (λ q. Among q world.mounts) same from.1 in
+      in_new (turn z) (⊎_elim (λ same. let there = subst (λ q. Among q world.mounts) same from.1 in
       ⊎_elim (own_after it does moves z there) (none_after it does moves z there)
       (part_mount world names it.is from.0 z from.1 from.2))
       (λ stub. inr (ap (λ (q : Mount ℕ). (turn q).namespace) (sym stub.0)
@@ -103,11 +97,8 @@ module _ (it : Remaking) (does : ChangesTheirs it) (moves : MovesTheirs it) wher
       (kept_how world names old from.0 z from.2))
 
   fits : (y : Mount ℕ) → Among y living.mounts → Fits y
-  fits y n =
-      ⊎_elim
-      (λ turned. let from = among-from_map turn part.mounts y turned in
-      subst Fits (sym from.2) (in_or_out from.0 from.1))
-      (λ fresh. in_new y (inl (does.owned y fresh)))
+  fits y n = ⊎_elim (λ turned. let from = among-from_map turn part.mounts y turned in
+      subst Fits (sym from.2) (in_or_out from.0 from.1)) (λ fresh. in_new y (inl (does.owned y fresh)))
       (among-append (map turn part.mounts) it.plan.added y (was y n))
 
   alone : (number : ℕ) → NoOthers living names number

@@ -24,13 +24,11 @@ raised_part : (before w : World ℕ) (names : List TaskName) (name : TaskName)
           (map (raised_namespace nat_eq before (settled nat_eq w)) w.namespaces);
       tasks = filter (is_member_task names) (map (raised_task name) w.tasks);
     }
-raised_part before w names name =
-    (λ i. part_of nat_eq (record renamed {
-      filesystems = map_same (raised_if_changed nat_eq []) (settled nat_eq w).filesystems (λ f m. refl) i;
-      tasks = map (raised_task name) w.tasks;
-      change = raised w.change;
-    }) names)
-    ∙ retasked renamed names names (map (raised_task name) w.tasks) (raised w.change)
+raised_part before w names name = (λ i. part_of nat_eq (record renamed {
+  filesystems = map_same (raised_if_changed nat_eq []) (settled nat_eq w).filesystems (λ f m. refl) i;
+  tasks = map (raised_task name) w.tasks;
+  change = raised w.change;
+}) names) ∙ retasked renamed names names (map (raised_task name) w.tasks) (raised w.change)
     (raised_sees renamed names name (raised w.change))
   where
     renamed : World ℕ
@@ -52,8 +50,7 @@ module _ (it : Remaking) (does : ChangesTheirs it) (moves : MovesTheirs it) wher
   after_part = v_part it does moves
 
   swept_alike : part_of nat_eq (settled nat_eq after) names ≡ part_of nat_eq (settled nat_eq after_part) names
-  swept_alike =
-      part_of_settled after names (used_filesystems nat_eq after names) (own_lowers nat_eq after names)
+  swept_alike = part_of_settled after names (used_filesystems nat_eq after names) (own_lowers nat_eq after names)
       (remade_ready it does moves)
       ∙ sym (ap (swept_of names) (one_part it.world names it.is names after after_part (remade_less it does moves)))
       ∙ sym (part_of_settled after_part names (used_filesystems nat_eq after names) (own_lowers nat_eq after names)
@@ -65,14 +62,9 @@ module _ (it : Remaking) (does : ChangesTheirs it) (moves : MovesTheirs it) wher
   pub remade_parts : (name : TaskName)
       → part_of nat_eq (numbers_raised nat_eq it.world name [] (settled nat_eq after)) names
       ≡ part_of nat_eq (numbers_raised nat_eq part name [] (settled nat_eq after_part)) names
-  remade_parts name =
-      raised_part it.world after names name
-      ∙ (λ i. record (swept_alike i) {
-        namespaces = (sym (raised_alike it does moves)
-            ∙ ap (λ ts. filter (spaces ts)
-            (map (raised_namespace nat_eq part (settled nat_eq after_part)) after_part.namespaces))
-            (sym moves.same)) i;
-        tasks = (raised_members names name it.tasks ∙ ap (map (raised_task name)) (sym moves.same)
-            ∙ sym (raised_members names name it.tasks_too)) i;
-      })
-      ∙ sym (raised_part part after_part names name)
+  remade_parts name = raised_part it.world after names name ∙ (λ i. record (swept_alike i) {
+    namespaces = (sym (raised_alike it does moves) ∙ ap (λ ts. filter (spaces ts)
+        (map (raised_namespace nat_eq part (settled nat_eq after_part)) after_part.namespaces)) (sym moves.same)) i;
+    tasks = (raised_members names name it.tasks ∙ ap (map (raised_task name)) (sym moves.same)
+        ∙ sym (raised_members names name it.tasks_too)) i;
+  }) ∙ sym (raised_part part after_part names name)

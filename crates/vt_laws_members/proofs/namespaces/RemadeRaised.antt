@@ -36,8 +36,7 @@ attached n m = by m.namespace
 
 -- The sweep leaves mounts of namespaces,
 settled_mounts : (w : World ℕ) (n : ℕ) → mounts_of nat_eq (settled nat_eq w) n ≡ filter (its_in n) w.mounts
-settled_mounts w n =
-    filter_less (its_in n) (mount_lives nat_eq w) w.mounts
+settled_mounts w n = filter_less (its_in n) (mount_lives nat_eq w) w.mounts
     (λ m h. or_left (is_some m.namespace) (is_located nat_eq w m.number) (attached n m h))
 
 lives_members : (members : ℕ → Bool) (master : ℕ → Option ℕ) (g : ℕ) → Lives members master g → members g ≡ true
@@ -53,8 +52,7 @@ module _ (b : World ℕ) (kept : MountInvariants nat_eq b) where
     where
       by : (o : Option ℕ) → z.namespace ≡ o → is_some o ≡ true
       by (Some j) e = refl
-      by None e =
-          none_is_some g
+      by None e = none_is_some g
           (sym (private_source z.propagation (and_parts (not (is_some z.mount_point)) (is_private z.propagation)
           (sym (ap (λ o. is_some o || (not (is_some z.mount_point) && is_private z.propagation)) e)
           ∙ among_from_list_all is_nowhere_or_attached b.mounts kept.nowhere z n)).1)
@@ -63,8 +61,7 @@ module _ (b : World ℕ) (kept : MountInvariants nat_eq b) where
   settled_members : (y : Mount ℕ) → Among y b.mounts → (g : ℕ) → source_of y.propagation ≡ Some g
       → has_members nat_eq (settled nat_eq b).mounts g ≡ true
   settled_members y n g e =
-      let z = any_among (is_member_of nat_eq g) b.mounts
-      (lives_members (has_members nat_eq b.mounts) b.master g
+      let z = any_among (is_member_of nat_eq g) b.mounts (lives_members (has_members nat_eq b.mounts) b.master g
       (among_from_all (HasLivingGroups nat_eq b) b.mounts kept.groups y n g e)) in
       any_from_among (is_member_of nat_eq g) (filter (mount_lives nat_eq b) b.mounts) z.0
       (among-filter (mount_lives nat_eq b) b.mounts z.0 z.1
@@ -114,33 +111,26 @@ module _ (it : Remaking) (does : ChangesTheirs it) (moves : MovesTheirs it) wher
         by (Some j) h = ap (in_spaces new) (sym (eqb-true n j h)) ∙ entered
 
     before : mounts_of nat_eq part n ≡ mounts_of nat_eq world n
-    before =
-        filter_both kept (its_in n) (its_in n) world.mounts
+    before = filter_both kept (its_in n) (its_in n) world.mounts
         (λ m at h. (own_kept world names it.is it.sealed_off m (own_was it does moves m at (owned m h)), h))
         (λ m y at h e. ⊎_elim (λ same. ap (its_in n) (sym same) ∙ h) (λ stub. ap (its_in n) (sym stub.0))
         (kept_how world names old m y e))
 
     turned : filter (λ m. its_in n (turn m)) part.mounts ≡ filter (λ m. its_in n (turn m)) world.mounts
-    turned =
-        filter_both kept (λ m. its_in n (turn m)) (λ m. its_in n (turn m)) world.mounts
-        (λ m at h. (
-          own_kept world names it.is it.sealed_off m (own_before it does moves m at (owned (turn m) h)),
-          h,
-        ))
-        (λ m y at h e. ⊎_elim (λ same. ap (λ x. its_in n (turn x)) (sym same) ∙ h)
+    turned = filter_both kept (λ m. its_in n (turn m)) (λ m. its_in n (turn m)) world.mounts (λ m at h. (
+      own_kept world names it.is it.sealed_off m (own_before it does moves m at (owned (turn m) h)),
+      h,
+    )) (λ m y at h e. ⊎_elim (λ same. ap (λ x. its_in n (turn x)) (sym same) ∙ h)
         (λ stub. ap (λ x. its_in n (turn x)) (sym stub.0) ∙ ap (its_in n) (does.others m at stub.1).1)
         (kept_how world names old m y e))
 
     split : (w : World ℕ) → filter (its_in n) (map turn w.mounts ++ it.plan.added)
         ≡ map turn (filter (λ m. its_in n (turn m)) w.mounts) ++ filter (its_in n) it.plan.added
-    split w =
-        filter-append (its_in n) (map turn w.mounts) it.plan.added
+    split w = filter-append (its_in n) (map turn w.mounts) it.plan.added
         ∙ ap (λ l. l ++ filter (its_in n) it.plan.added) (filter-map (its_in n) turn w.mounts (λ m. refl))
 
     later : mounts_of nat_eq u_part n ≡ mounts_of nat_eq u n
-    later =
-        settled_mounts after_part n ∙ split part
-        ∙ ap (λ l. map turn l ++ filter (its_in n) it.plan.added) turned
+    later = settled_mounts after_part n ∙ split part ∙ ap (λ l. map turn l ++ filter (its_in n) it.plan.added) turned
         ∙ sym (split world) ∙ sym (settled_mounts after n)
 
     -- masters above
@@ -152,9 +142,7 @@ module _ (it : Remaking) (does : ChangesTheirs it) (moves : MovesTheirs it) wher
 
         by : (o : Option ℕ) → source_of m.propagation ≡ o → then_some o part.master ≡ then_some o world.master
         by None e = refl
-        by (Some g) e =
-            master_same world names it.is it.sealed_off g
-            (heard_by_own world names it.is it.sealed_off m
+        by (Some g) e = master_same world names it.is it.sealed_off g (heard_by_own world names it.is it.sealed_off m
             (among-filter (is_own_mount nat_eq world names) world.mounts m from.0
             (own_was it does moves m from.0 (owned m from.1))) g e)
 
@@ -165,37 +153,30 @@ module _ (it : Remaking) (does : ChangesTheirs it) (moves : MovesTheirs it) wher
         from = among-from_filter (its_in n) after.mounts y (subst (Among y) (settled_mounts after n) at)
 
         there : Among y after_part.mounts
-        there =
-            (among-from_filter (its_in n) after_part.mounts y
+        there = (among-from_filter (its_in n) after_part.mounts y
             (subst (Among y) (sym later ∙ settled_mounts after_part n) at)).0
 
         by : (o : Option ℕ) → source_of y.propagation ≡ o → then_some o u_part.master ≡ then_some o u.master
         by None e = refl
-        by (Some g) e =
-            ap (λ c. cond c (part.master g) None) (settled_members after_part does.kept_there y there g e)
-            ∙ master_same world names it.is it.sealed_off g
-            (source_heard it does moves y from.0 (owned y from.1) g e)
+        by (Some g) e = ap (λ c. cond c (part.master g) None) (settled_members after_part does.kept_there y there g e)
+            ∙ master_same world names it.is it.sealed_off g (source_heard it does moves y from.0 (owned y from.1) g e)
             ∙ sym (ap (λ c. cond c (world.master g) None) (settled_members after does.kept y from.0 g e))
 
     -- they changed in both, or in none
     spaces_alike : same_mounts_in nat_eq part u_part n ≡ same_mounts_in nat_eq world u n
-    spaces_alike =
-        ap (λ l. same_list (same_mount nat_eq part u_part) l (mounts_of nat_eq u_part n)) before
+    spaces_alike = ap (λ l. same_list (same_mount nat_eq part u_part) l (mounts_of nat_eq u_part n)) before
         ∙ ap (same_list (same_mount nat_eq part u_part) (mounts_of nat_eq world n)) later
         ∙ same_list_alike (same_mount nat_eq part u_part) (same_mount nat_eq world u) (mounts_of nat_eq world n)
-        (mounts_of nat_eq u n)
-        (λ x y m l. compared x y (above_before x m) (above_after y l))
+        (mounts_of nat_eq u n) (λ x y m l. compared x y (above_before x m) (above_after y l))
       where
         same_ones : Mount ℕ → Mount ℕ → Bool
-        same_ones x y =
-            nat_eq x.number y.number && same_option (same_location nat_eq) x.mount_point y.mount_point
+        same_ones x y = nat_eq x.number y.number && same_option (same_location nat_eq) x.mount_point y.mount_point
             && same_flags x.flags y.flags && same_propagation nat_eq x.propagation y.propagation
 
         compared : (x y : Mount ℕ) → master_above part x ≡ master_above world x
             → master_above u_part y ≡ master_above u y
             → same_mount nat_eq part u_part x y ≡ same_mount nat_eq world u x y
-        compared x y e f =
-            ap (λ o. same_ones x y && same_option nat_eq o (master_above u_part y)) e
+        compared x y e f = ap (λ o. same_ones x y && same_option nat_eq o (master_above u_part y)) e
             ∙ ap (λ o. same_ones x y && same_option nat_eq (master_above world x) o) f
 
   abbrev spaces : List (Task ℕ) → Namespace ℕ → Bool
@@ -204,13 +185,11 @@ module _ (it : Remaking) (does : ChangesTheirs it) (moves : MovesTheirs it) wher
   -- the namespaces of the set, raised
   pub raised_alike : filter (spaces new) (map (raised_namespace nat_eq part u_part) after_part.namespaces)
       ≡ filter (spaces new) (map (raised_namespace nat_eq world u) after.namespaces)
-  raised_alike =
-      filter-map (spaces new) (raised_namespace nat_eq part u_part) after_part.namespaces
+  raised_alike = filter-map (spaces new) (raised_namespace nat_eq part u_part) after_part.namespaces
       (λ n. ap (in_spaces new) (raised_number part u_part n))
       ∙ ap (map (raised_namespace nat_eq part u_part)) (namespaces_less it does moves)
       ∙ map_alike (raised_namespace nat_eq part u_part) (raised_namespace nat_eq world u)
-      (filter (spaces new) after.namespaces)
-      (λ n m. ap (λ c. cond c n (record n { change = raised n.change }))
+      (filter (spaces new) after.namespaces) (λ n m. ap (λ c. cond c n (record n { change = raised n.change }))
       (spaces_alike n.number (among-from_filter (spaces new) after.namespaces n m).1))
       ∙ sym (filter-map (spaces new) (raised_namespace nat_eq world u) after.namespaces
       (λ n. ap (in_spaces new) (raised_number world u n)))

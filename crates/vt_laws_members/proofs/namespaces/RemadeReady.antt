@@ -27,9 +27,7 @@ use Rattle.vt_laws_members.proofs.namespaces.Remade.{ChangesTheirs, MovesTheirs,
 -- a mount of no namespace has no mount point
 pub nowhere_pointed : (b : World ℕ) → MountInvariants nat_eq b → (m : Mount ℕ) → Among m b.mounts
     → m.namespace ≡ None → m.mount_point ≡ None
-nowhere_pointed b kept m n none =
-    by m.mount_point
-    (and_parts (not (is_some m.mount_point)) (is_private m.propagation)
+nowhere_pointed b kept m n none = by m.mount_point (and_parts (not (is_some m.mount_point)) (is_private m.propagation)
     (sym (ap (λ o. is_some o || (not (is_some m.mount_point) && is_private m.propagation)) none)
     ∙ among_from_list_all is_nowhere_or_attached b.mounts kept.nowhere m n)).0
   where
@@ -56,8 +54,7 @@ parent_lives b kept y l n point =
 -- a mount with a location lives
 pub located_lives : (b : World ℕ) (y : Mount ℕ) (l : Location ℕ) → Among y b.mounts → Among l (all_locations b)
     → l.mount ≡ y.number → Among y (without_dead_mounts nat_eq b).mounts
-located_lives b y l n m e =
-    among-filter (mount_lives nat_eq b) b.mounts y n
+located_lives b y l n m e = among-filter (mount_lives nat_eq b) b.mounts y n
     (or_right (is_some y.namespace) (is_located nat_eq b y.number)
     (any_from_among (λ (p : Location ℕ). nat_eq y.number p.mount) (all_locations b) l m
     (eq-eqb y.number l.mount (sym e))))
@@ -98,20 +95,17 @@ module _ (it : Remaking) (does : ChangesTheirs it) (moves : MovesTheirs it) wher
   was y n = (among-from_filter (mount_lives nat_eq after) after.mounts y n).0
 
   one_living : OneNumberEach living
-  one_living =
-      pair-filter (λ (p q : Mount ℕ). nat_eq p.number q.number) (mount_lives nat_eq after) after.mounts
+  one_living = pair-filter (λ (p q : Mount ℕ). nat_eq p.number q.number) (mount_lives nat_eq after) after.mounts
       does.kept.one_number
 
   -- a mount of theirs is theirs after, or in no namespace; one of none stays so
   pub own_after : (m : Mount ℕ) → Among m world.mounts → is_own world names old m ≡ true → Fits (turn m)
-  own_after m n own =
-      ⊎_elim inr
+  own_after m n own = ⊎_elim inr
       (λ stays. inl (ap (holds_of (λ i. list_any (λ (t : Task ℕ). nat_eq i t.namespace) new)) stays.0 ∙ stays.1))
       (does.placed m n own)
 
   pub none_after : (m : Mount ℕ) → Among m world.mounts → m.namespace ≡ None → Fits (turn m)
-  none_after m n none =
-      inr (ap (λ (x : Mount ℕ). x.namespace)
+  none_after m n none = inr (ap (λ (x : Mount ℕ). x.namespace)
       (does.others m n (ap (holds_of (λ i. list_any (λ (t : Task ℕ). nat_eq i t.namespace) old)) none)).0 ∙ none)
 
   -- where others have no foothold
@@ -133,23 +127,16 @@ module _ (it : Remaking) (does : ChangesTheirs it) (moves : MovesTheirs it) wher
       where
         which : (c : Bool) → is_own_namespace nat_eq world names j ≡ c → Fits (turn m)
         which true own = own_after m n (ap (holds_of (is_own_namespace nat_eq world names)) f ∙ own)
-        which false other =
-            absurd (true≢false
-            (sym (eq-eqb number m.filesystem (sym e))
+        which false other = absurd (true≢false (sym (eq-eqb number m.filesystem (sym e))
             ∙ none_among (λ (y : Mount ℕ). nat_eq number y.filesystem) (other_mounts nat_eq world names) nobody.0 m
             (among-filter (λ (y : Mount ℕ). holds_of (λ i. not (is_own_namespace nat_eq world names i)) y.namespace)
-            world.mounts m n
-            (ap (holds_of (λ i. not (is_own_namespace nat_eq world names i))) f ∙ ap not other))))
+            world.mounts m n (ap (holds_of (λ i. not (is_own_namespace nat_eq world names i))) f ∙ ap not other))))
 
     mounts_own : (y : Mount ℕ) → Among y living.mounts → y.filesystem ≡ number → Fits y
-    mounts_own y n e =
-        ⊎_elim
-        (λ turned. let from = among-from_map turn world.mounts y turned in
-        subst Fits (sym from.2)
-        (by_mount from.0 from.1
+    mounts_own y n e = ⊎_elim (λ turned. let from = among-from_map turn world.mounts y turned in
+        subst Fits (sym from.2) (by_mount from.0 from.1
         (sym (does.shape from.0).filesystem ∙ ap (λ (q : Mount ℕ). q.filesystem) (sym from.2) ∙ e)
-        from.0.namespace refl))
-        (λ fresh. inl (does.owned y fresh))
+        from.0.namespace refl)) (λ fresh. inl (does.owned y fresh))
         (among-append (map turn world.mounts) it.plan.added y (was y n))
 
     -- a location of others shows what it showed
@@ -157,13 +144,11 @@ module _ (it : Remaking) (does : ChangesTheirs it) (moves : MovesTheirs it) wher
         → (mount_at nat_eq living l).filesystem ≡ (mount_at nat_eq world l).filesystem
     other_shows l m out =
         let from = among-from_flat_map locations_of (outsiders world names) l out in
-        let under = mount_under world names it.is it.sealed_off l
-        (among-flat_map locations_of world.tasks from.0 l
+        let under = mount_under world names it.is it.sealed_off l (among-flat_map locations_of world.tasks from.0 l
         (among-from_filter (λ y. not (is_member_task names y)) world.tasks from.0 from.1).0 from.2) in
         let number : l.mount ≡ (turn under.0).number = under.2 ∙ sym (does.shape under.0).number in
         let there = turned_in it does moves under.0 under.1 in
-        ap (λ i. (mount_numbered nat_eq living i).filesystem) number
-        ∙ ap (λ (q : Mount ℕ). q.filesystem)
+        ap (λ i. (mount_numbered nat_eq living i).filesystem) number ∙ ap (λ (q : Mount ℕ). q.filesystem)
         (found_itself living.mounts one_living (turn under.0) (located_lives after (turn under.0) l there m number))
         ∙ ap (λ (q : Mount ℕ). q.filesystem) (sym (shown_after it does moves (turn under.0) there l number))
         ∙ filesystem_after it does moves under.0 under.1 l under.2
@@ -211,16 +196,13 @@ module _ (it : Remaking) (does : ChangesTheirs it) (moves : MovesTheirs it) wher
           (among-filter is_overlay world.filesystems merged m (layered_overlay number merged has))))
 
   located_so : (l : Location ℕ) → Among l (locations new) → (y : Mount ℕ) × Among y living.mounts × (l.mount ≡ y.number)
-  located_so l m =
-      ⊎_elim (λ before. let on = placed_old it does moves l before in of_before on.0 on.1 on.2)
-      (λ rest. ⊎_elim (λ on. of_before on.0 on.1 (sym on.2))
-      (λ fresh. (
+  located_so l m = ⊎_elim (λ before. let on = placed_old it does moves l before in of_before on.0 on.1 on.2)
+      (λ rest. ⊎_elim (λ on. of_before on.0 on.1 (sym on.2)) (λ fresh. (
         fresh.0,
         located_lives after fresh.0 l
             (among-append_right (map turn world.mounts) it.plan.added fresh.0 fresh.1) all fresh.2,
         fresh.2,
-      )) rest)
-      (moves.places l m)
+      )) rest) (moves.places l m)
     where
       all : Among l (all_locations after)
       all = of_all names it.tasks l m
@@ -233,8 +215,7 @@ module _ (it : Remaking) (does : ChangesTheirs it) (moves : MovesTheirs it) wher
 
   stood_so : (y : Mount ℕ) → Among y living.mounts → is_at nat_eq (roots_and_directories new) y ≡ true
       → (is_own world names new y ≡ true) ⊎ (y.mount_point ≡ None)
-  stood_so y n h =
-      ⊎_elim turned (λ fresh. inl (does.owned y fresh))
+  stood_so y n h = ⊎_elim turned (λ fresh. inl (does.owned y fresh))
       (among-append (map turn world.mounts) it.plan.added y (was y n))
     where
       point_too : Fits y → (is_own world names new y ≡ true) ⊎ (y.mount_point ≡ None)
@@ -268,8 +249,7 @@ module _ (it : Remaking) (does : ChangesTheirs it) (moves : MovesTheirs it) wher
     plain = plain_in world names it.is;
     free = λ x m u. ⊎_elim (λ h. inl (alone x.number h)) (λ h. inr (all_named_there world names it.is x m h))
         (or_cases (used_alone nat_eq world names x.number) (wholly_locked nat_eq world names x.number)
-        (used_are_free world names it.sealed_off x.number
-        (among_numbers (used_filesystems nat_eq world names) x.number
+        (used_are_free world names it.sealed_off x.number (among_numbers (used_filesystems nat_eq world names) x.number
         (used_was world names it.is names after (v_part it does moves) (remade_less it does moves) x.number u))));
     cut = λ x m unused low. whole_cut world it.is (own_lowers nat_eq after names) x m;
   }

@@ -45,23 +45,19 @@ module _ (world : World ℕ) (names : List TaskName) where
 
       shown : (x : Filesystem ℕ) → Among n (x.number ∷ filter (λ i. is_among nat_eq i (chosen x)) x.files.numbers)
           → Among n (used_by_filesystem x)
-      shown x k =
-          ⊎_elim inl
+      shown x k = ⊎_elim inl
           (λ later. inr (among-from_filter (λ i. is_among nat_eq i (chosen x)) x.files.numbers n later).0) k
 
   of_namespace : (n : ℕ) → Among n (map number_of part.namespaces) → Among n (map number_of world.namespaces)
   of_namespace n m =
       let s = among-from_map number_of part.namespaces n m in
-      subst (λ i. Among i (map number_of world.namespaces)) (sym s.2)
-      (among-map number_of world.namespaces s.0
+      subst (λ i. Among i (map number_of world.namespaces)) (sym s.2) (among-map number_of world.namespaces s.0
       (among-from_filter (λ (x : Namespace ℕ). list_any (λ (t : Task ℕ). nat_eq x.number t.namespace)
       (members world names)) world.namespaces s.0 s.1).0)
 
   -- a number in use in the part is in use in the world
   used_was : (n : ℕ) → Among n (numbers_in_use part) → Among n (numbers_in_use world)
-  used_was n m =
-      ⊎_elim
-      (λ front. ⊎_elim
+  used_was n m = ⊎_elim (λ front. ⊎_elim
       (λ mount. first (among-append_left mounted (flat_map used_by_filesystem world.filesystems) n (of_mount n mount)))
       (λ tree. first (among-append_right mounted (flat_map used_by_filesystem world.filesystems) n
       (of_filesystem n tree)))

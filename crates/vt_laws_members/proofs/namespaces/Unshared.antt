@@ -69,8 +69,7 @@ new_among_spaces w fresh serves n m = false_from_ne_true (nat_eq (new_space fres
 -- a namespace that is listed
 pub listed_in : (w : World ℕ) (n : ℕ) → is_listed nat_eq w n ≡ true
     → (x : Namespace ℕ) × Among x w.namespaces × (n ≡ x.number)
-listed_in w n h =
-    among-from_map (λ (x : Namespace ℕ). x.number) w.namespaces n
+listed_in w n h = among-from_map (λ (x : Namespace ℕ). x.number) w.namespaces n
     (among_numbers (map (λ (x : Namespace ℕ). x.number) w.namespaces) n h)
 
 -- a world and its task that gets a namespace
@@ -88,8 +87,7 @@ pub record CanUnshare (w : World ℕ) (fresh : Fresh ℕ) (task : Task ℕ) : Ty
 abbrev pub Ends : Bool → World ℕ → Task ℕ → Type 0
 Ends true w task =
     (t : Task ℕ) → Among t w.tasks → same_name task.name t.name ≡ false → nat_eq task.namespace t.namespace ≡ false
-Ends false w task =
-    (other : Task ℕ) × Among other w.tasks × (other.namespace ≡ task.namespace)
+Ends false w task = (other : Task ℕ) × Among other w.tasks × (other.namespace ≡ task.namespace)
     × (same_name task.name other.name ≡ false)
 
 module _ (w : World ℕ) (fresh : Fresh ℕ) (task : Task ℕ) (can : CanUnshare w fresh task) where
@@ -147,15 +145,13 @@ module _ (w : World ℕ) (fresh : Fresh ℕ) (task : Task ℕ) (can : CanUnshare
   base_listed : MountsAreListed base
   base_listed =
       list_all_from_among (λ (x : Mount ℕ). list_all (is_listed nat_eq base) (option_to_list x.namespace)) base.mounts
-      (λ m n. ⊎_elim
-      (λ before. old m.namespace
+      (λ m n. ⊎_elim (λ before. old m.namespace
       (among_from_list_all (λ (x : Mount ℕ). list_all (is_listed nat_eq w) (option_to_list x.namespace))
       w.mounts can.listed m before))
       (λ fresh_one. ap (λ (x : Mount ℕ). list_all (is_listed nat_eq base) (option_to_list x.namespace))
       (among-from_map copy copied m fresh_one).2
       ∙ ap (λ b. b && true) (is_among_numbers (map (λ (x : Namespace ℕ). x.number) base.namespaces) s
-      (among-map (λ (x : Namespace ℕ). x.number) base.namespaces new new_in)))
-      (among-append w.mounts copies m n))
+      (among-map (λ (x : Namespace ℕ). x.number) base.namespaces new new_in))) (among-append w.mounts copies m n))
     where
       new_in : Among new base.namespaces
       new_in = among-append_right w.namespaces (new ∷ []) new (inl refl)
@@ -173,8 +169,7 @@ module _ (w : World ℕ) (fresh : Fresh ℕ) (task : Task ℕ) (can : CanUnshare
   -- a namespace with a task of another name, or with the caller where another task is, still has one
   task_in : (n : ℕ) (t : Task ℕ) → Among t w.tasks → same_name task.name t.name ≡ false → n ≡ t.namespace
       → list_any (λ (x : Task ℕ). nat_eq n x.namespace) base.tasks ≡ true
-  task_in n t m e f =
-      any_from_among (λ (x : Task ℕ). nat_eq n x.namespace) base.tasks t
+  task_in n t m e f = any_from_among (λ (x : Task ℕ). nat_eq n x.namespace) base.tasks t
       (subst (λ x. Among x base.tasks) (stays t e) (among-map replaced w.tasks t m)) (eq-eqb n t.namespace f)
 
   new_has : has_tasks nat_eq base new ≡ true
@@ -182,10 +177,8 @@ module _ (w : World ℕ) (fresh : Fresh ℕ) (task : Task ℕ) (can : CanUnshare
 
   others_have : (p : Namespace ℕ → Bool) → (new_passes : p new ≡ true)
       → ((n : Namespace ℕ) → Among n w.namespaces → p n ≡ true) → list_all p base.namespaces ≡ true
-  others_have p new_passes old_pass =
-      list_all_from_among p base.namespaces (λ n m. ⊎_elim (old_pass n)
-      (λ last. ⊎_elim (λ e. ap p e ∙ new_passes) (λ none. absurd none) last)
-      (among-append w.namespaces (new ∷ []) n m))
+  others_have p new_passes old_pass = list_all_from_among p base.namespaces (λ n m. ⊎_elim (old_pass n)
+      (λ last. ⊎_elim (λ e. ap p e ∙ new_passes) (λ none. absurd none) last) (among-append w.namespaces (new ∷ []) n m))
 
   -- Another task stays in the namespace
   stays_on : Ends false w task → namespaces_ended nat_eq base ≡ base
@@ -193,11 +186,9 @@ module _ (w : World ℕ) (fresh : Fresh ℕ) (task : Task ℕ) (can : CanUnshare
       none_ends base base_listed (others_have (has_tasks nat_eq base) new_has (λ n at.
       let t = any_among (λ (x : Task ℕ). nat_eq n.number x.namespace) w.tasks
       (among_from_list_all (has_tasks nat_eq w) w.namespaces can.live n at) in
-      ⊎_elim
-      (λ same. task_in n.number other m differ (eqb-true n.number t.0.namespace t.2
+      ⊎_elim (λ same. task_in n.number other m differ (eqb-true n.number t.0.namespace t.2
       ∙ ap (λ (x : Task ℕ). x.namespace) (sym same) ∙ sym together))
-      (λ apart. task_in n.number t.0 t.1 apart (eqb-true n.number t.0.namespace t.2))
-      (can.only t.0 t.1)))
+      (λ apart. task_in n.number t.0 t.1 apart (eqb-true n.number t.0.namespace t.2)) (can.only t.0 t.1)))
       (none_lost base base_kept)
 
   -- The namespace ends
@@ -209,27 +200,23 @@ module _ (w : World ℕ) (fresh : Fresh ℕ) (task : Task ℕ) (can : CanUnshare
 
   -- its mounts are detached, and others stay where they are
   cut_so : (m : Mount ℕ) → Among m base.mounts → after_going nat_eq base gone m ≡ cut true k m
-  cut_so m n =
-      ap (λ b. cond b (detached m) (record m {
-        mount_point = option_map (mount_point_left nat_eq base gone) m.mount_point;
-      })) (goes m n)
-      ∙ by (in_space k m) refl
+  cut_so m n = ap (λ b. cond b (detached m) (record m {
+    mount_point = option_map (mount_point_left nat_eq base gone) m.mount_point;
+  })) (goes m n) ∙ by (in_space k m) refl
     where
       point_stays : in_space k m ≡ false → (o : Option (Location ℕ)) → m.mount_point ≡ o
           → option_map (mount_point_left nat_eq base gone) o ≡ o
       point_stays e None f = refl
       point_stays e (Some l) f =
           let up = mount_parent base base_kept m l n f in
-          let out : is_going nat_eq gone l.mount ≡ false =
-          ap (is_going nat_eq gone) up.4 ∙ goes up.2 up.3
+          let out : is_going nat_eq gone l.mount ≡ false = ap (is_going nat_eq gone) up.4 ∙ goes up.2 up.3
           ∙ ap (holds_of (nat_eq k)) (up.5 ∙ sym up.1) ∙ e in
           ap Some (last_itself (mount_point_of_parent nat_eq base gone) _ l
           (ap (λ b. cond b (mount_at nat_eq base l).mount_point None) out))
 
-      by : (b : Bool) → in_space k m ≡ b
-          → cond b (detached m) (record m {
-            mount_point = option_map (mount_point_left nat_eq base gone) m.mount_point;
-          }) ≡ cond b (detached m) m
+      by : (b : Bool) → in_space k m ≡ b → cond b (detached m) (record m {
+        mount_point = option_map (mount_point_left nat_eq base gone) m.mount_point;
+      }) ≡ cond b (detached m) m
       by true e = refl
       by false e = ap (λ o. record m { mount_point = o }) (point_stays e m.mount_point refl)
 
@@ -242,8 +229,7 @@ module _ (w : World ℕ) (fresh : Fresh ℕ) (task : Task ℕ) (can : CanUnshare
   -- a group keeps a member: a copy of one that goes is a member, too
   member_left : (m : Mount ℕ) → Among m base.mounts → in_space k m ≡ false → (g : ℕ)
       → is_member_of nat_eq g m ≡ true → has_members nat_eq left_by.mounts g ≡ true
-  member_left m n out g h =
-      any_from_among (is_member_of nat_eq g) left_by.mounts (after_going nat_eq base gone m)
+  member_left m n out g h = any_from_among (is_member_of nat_eq g) left_by.mounts (after_going nat_eq base gone m)
       (among-map (after_going nat_eq base gone) base.mounts m n)
       (ap (is_member_of nat_eq g) (cut_so m n ∙ ap (λ b. cond b (detached m) m) out) ∙ h)
 
@@ -254,12 +240,9 @@ module _ (w : World ℕ) (fresh : Fresh ℕ) (task : Task ℕ) (can : CanUnshare
       by : (z : Mount ℕ) → Among z base.mounts → is_member_of nat_eq g z ≡ true → (b : Bool) → in_space k z ≡ b
           → has_members nat_eq left_by.mounts g ≡ true
       by z n h false e = member_left z n e g h
-      by z n h true e =
-          ⊎_elim
-          (λ old. let c = among-map copy copied z (among-filter (in_space k) w.mounts z old e) in
+      by z n h true e = ⊎_elim (λ old. let c = among-map copy copied z (among-filter (in_space k) w.mounts z old e) in
           member_left (copy z) (among-append_right w.mounts copies (copy z) c) (copy_stays (copy z) c) g h)
-          (λ late. absurd (true≢false (sym e ∙ copy_stays z late)))
-          (among-append w.mounts copies z n)
+          (λ late. absurd (true≢false (sym e ∙ copy_stays z late))) (among-append w.mounts copies z n)
 
   source_left : (g : ℕ) → Lives (has_members nat_eq base.mounts) base.master g
       → is_lost_group nat_eq left_by (Some g) ≡ false
@@ -272,8 +255,7 @@ module _ (w : World ℕ) (fresh : Fresh ℕ) (task : Task ℕ) (can : CanUnshare
   master_left g (has_master it above has e later) = ap (is_lost_group nat_eq left_by) e ∙ source_left above later
 
   none_lost_there : list_any (lost_a_group nat_eq left_by) left_by.mounts ≡ false
-  none_lost_there =
-      none_from_among (lost_a_group nat_eq left_by) left_by.mounts (λ y n.
+  none_lost_there = none_from_among (lost_a_group nat_eq left_by) left_by.mounts (λ y n.
       let from = among-from_map (after_going nat_eq base gone) base.mounts y n in
       ap (lost_a_group nat_eq left_by) (from.2 ∙ cut_so from.0 from.1) ∙ by from.0 from.1 (in_space k from.0))
     where
@@ -282,8 +264,7 @@ module _ (w : World ℕ) (fresh : Fresh ℕ) (task : Task ℕ) (can : CanUnshare
       source m n None e = refl
       source m n (Some g) e =
           let lives = among_from_all (HasLivingGroups nat_eq base) base.mounts base_kept.groups m n g e in
-          ap (λ b. b || is_lost_group nat_eq left_by (left_by.master g)) (source_left g lives)
-          ∙ master_left g lives
+          ap (λ b. b || is_lost_group nat_eq left_by (left_by.master g)) (source_left g lives) ∙ master_left g lives
 
       by : (m : Mount ℕ) → Among m base.mounts → (b : Bool)
           → lost_a_group nat_eq left_by (cond b (detached m) m) ≡ false
@@ -291,37 +272,30 @@ module _ (w : World ℕ) (fresh : Fresh ℕ) (task : Task ℕ) (can : CanUnshare
       by m n false = source m n (source_of m.propagation) refl
 
   none_left : Ends true w task → list_any (λ (t : Task ℕ). nat_eq k t.namespace) base.tasks ≡ false
-  none_left alone =
-      none_from_among (λ (t : Task ℕ). nat_eq k t.namespace) base.tasks (λ t m.
+  none_left alone = none_from_among (λ (t : Task ℕ). nat_eq k t.namespace) base.tasks (λ t m.
       let from = among-from_map replaced w.tasks t m in
-      ⊎_elim
-      (λ same. ap (λ (x : Task ℕ). nat_eq k x.namespace) (from.2 ∙ ap replaced (sym same) ∙ its) ∙ can.left)
+      ⊎_elim (λ same. ap (λ (x : Task ℕ). nat_eq k x.namespace) (from.2 ∙ ap replaced (sym same) ∙ its) ∙ can.left)
       (λ apart. ap (λ (x : Task ℕ). nat_eq k x.namespace) (from.2 ∙ stays from.0 apart) ∙ alone from.0 from.1 apart)
       (can.only from.0 from.1))
 
   other_spaces : Ends true w task
       → list_all (λ (n : Namespace ℕ). nat_eq k n.number || has_tasks nat_eq base n) base.namespaces ≡ true
-  other_spaces alone =
-      others_have (λ (n : Namespace ℕ). nat_eq k n.number || has_tasks nat_eq base n)
+  other_spaces alone = others_have (λ (n : Namespace ℕ). nat_eq k n.number || has_tasks nat_eq base n)
       (or_right (nat_eq k s) (has_tasks nat_eq base new) new_has) (λ n at.
       let t = any_among (λ (x : Task ℕ). nat_eq n.number x.namespace) w.tasks
       (among_from_list_all (has_tasks nat_eq w) w.namespaces can.live n at) in
-      ⊎_elim
-      (λ same. or_left (nat_eq k n.number) (has_tasks nat_eq base n)
+      ⊎_elim (λ same. or_left (nat_eq k n.number) (has_tasks nat_eq base n)
       (eq-eqb k n.number (ap (λ (x : Task ℕ). x.namespace) same ∙ sym (eqb-true n.number t.0.namespace t.2))))
       (λ apart. or_right (nat_eq k n.number) (has_tasks nat_eq base n)
-      (task_in n.number t.0 t.1 apart (eqb-true n.number t.0.namespace t.2)))
-      (can.only t.0 t.1))
+      (task_in n.number t.0 t.1 apart (eqb-true n.number t.0.namespace t.2))) (can.only t.0 t.1))
 
   -- So the world is remade
   pub unshared_so : (ends : Bool) → Ends ends w task
       → namespaces_ended nat_eq base ≡ remade (unshare_plan ends k fresh copied) w base.tasks
-  unshared_so false how =
-      stays_on how
-      ∙ (λ i. record base {
-        mounts = sym (map_same (cut false k) w.mounts (λ m n. refl)) i ++ copies;
-        namespaces = sym (filter_all (λ (n : Namespace ℕ). true) w.namespaces (λ n m. refl)) i ++ (new ∷ []);
-      })
+  unshared_so false how = stays_on how ∙ (λ i. record base {
+    mounts = sym (map_same (cut false k) w.mounts (λ m n. refl)) i ++ copies;
+    namespaces = sym (filter_all (λ (n : Namespace ℕ). true) w.namespaces (λ n m. refl)) i ++ (new ∷ []);
+  })
   unshared_so true alone =
       ends_so base k gone refl base_listed (none_left alone) (other_spaces alone) false none_lost_there
       ∙ (λ i. record base {

@@ -97,8 +97,7 @@ module _ (world : World ℕ) (names : List TaskName) (name : TaskName) (it : IsC
   only t m = by (same_name task.name t.name) refl
     where
       by : (b : Bool) → same_name task.name t.name ≡ b → (task ≡ t) ⊎ (same_name task.name t.name ≡ false)
-      by true e =
-          inl (only_task world.tasks it.is.tasks.one_task task t (in_world task member) m
+      by true e = inl (only_task world.tasks it.is.tasks.one_task task t (in_world task member) m
           (same_task_name task.name t.name e))
       by false e = inr e
 
@@ -141,8 +140,7 @@ module _ (world : World ℕ) (names : List TaskName) (name : TaskName) (it : IsC
   -- Tasks of the set
   set_is : (tasks : List (Task ℕ))
       → filter (is_member_task names) (map replaced tasks) ≡ map replaced (filter (is_member_task names) tasks)
-  set_is tasks =
-      filter-map (is_member_task names) replaced tasks
+  set_is tasks = filter-map (is_member_task names) replaced tasks
       (λ t. ap (λ n. is_among same_name n names) (name-replaced_if_called moved t))
 
   abbrev new : List (Task ℕ)
@@ -171,8 +169,7 @@ module _ (world : World ℕ) (names : List TaskName) (name : TaskName) (it : IsC
       ⊎_elim
       (λ caller. inr (in_new (eqb-true n s (ap (λ (x : Task ℕ). nat_eq n x.namespace) (sym (u.2 ∙ caller.1)) ∙ t.2))))
       (λ same. inl (any_from_among (λ (x : Task ℕ). nat_eq n x.namespace) old u.0 u.1
-      (ap (λ (x : Task ℕ). nat_eq n x.namespace) (sym (u.2 ∙ same)) ∙ t.2)))
-      (replaced_how u.0 (in_world u.0 u.1))
+      (ap (λ (x : Task ℕ). nat_eq n x.namespace) (sym (u.2 ∙ same)) ∙ t.2))) (replaced_how u.0 (in_world u.0 u.1))
     where
       in_new : n ≡ s → IsNewSpace world n
       in_new e = (
@@ -200,12 +197,10 @@ module _ (world : World ℕ) (names : List TaskName) (name : TaskName) (it : IsC
           inr (
             copy m.0,
             among-map copy copied m.0 m.1,
-            ap (λ (x : Location ℕ). x.mount)
-                (e ∙ ap (λ b. cond b (location_on_copy number before) before) f)
+            ap (λ (x : Location ℕ). x.mount) (e ∙ ap (λ b. cond b (location_on_copy number before) before) f)
                 ∙ ap number (eqb-true before.mount m.0.number m.2),
           )
-      by false f =
-          inl (subst OnTheirs (sym (e ∙ ap (λ b. cond b (location_on_copy number before) before) f)) on)
+      by false f = inl (subst OnTheirs (sym (e ∙ ap (λ b. cond b (location_on_copy number before) before) f)) on)
 
   roots_moved : (l : Location ℕ) → Among l (roots_and_directories new) → OnTheirs l ⊎ OnCopy l
   roots_moved l m =
@@ -216,37 +211,31 @@ module _ (world : World ℕ) (names : List TaskName) (name : TaskName) (it : IsC
       (replaced_how u.0 (in_world u.0 u.1))
     where
       mine : Among l (moved.root ∷ moved.directory ∷ []) → OnTheirs l ⊎ OnCopy l
-      mine n =
-          ⊎_elim (moved_how task.root l (root_theirs world names it.is task member))
+      mine n = ⊎_elim (moved_how task.root l (root_theirs world names it.is task member))
           (λ rest. ⊎_elim (moved_how task.directory l (directory_theirs world names it.is task member))
           (λ none. absurd none) rest) n
 
       its_own : (u : Task ℕ) → Among u old → Among l (u.root ∷ u.directory ∷ []) → OnTheirs l
-      its_own u k n =
-          ⊎_elim (λ e. subst OnTheirs (sym e) (root_theirs world names it.is u k))
+      its_own u k n = ⊎_elim (λ e. subst OnTheirs (sym e) (root_theirs world names it.is u k))
           (λ rest. ⊎_elim (λ e. subst OnTheirs (sym e) (directory_theirs world names it.is u k))
           (λ none. absurd none) rest) n
 
-  places_moved : (l : Location ℕ) → Among l (locations new)
-      → Among l (locations old) ⊎ (OnTheirs l ⊎ OnCopy l)
+  places_moved : (l : Location ℕ) → Among l (locations new) → Among l (locations old) ⊎ (OnTheirs l ⊎ OnCopy l)
   places_moved l m =
       let t = among-from_flat_map locations_of new l m in
       let u = set_from t.0 t.1 in
       ⊎_elim (λ caller. mine (subst (λ (x : Task ℕ). Among l (locations_of x)) (u.2 ∙ caller.1) t.2))
       (λ same. inl (among-flat_map locations_of old u.0 l u.1
-      (subst (λ (x : Task ℕ). Among l (locations_of x)) (u.2 ∙ same) t.2)))
-      (replaced_how u.0 (in_world u.0 u.1))
+      (subst (λ (x : Task ℕ). Among l (locations_of x)) (u.2 ∙ same) t.2))) (replaced_how u.0 (in_world u.0 u.1))
     where
       mine : Among l (locations_of moved) → Among l (locations old) ⊎ (OnTheirs l ⊎ OnCopy l)
-      mine n =
-          ⊎_elim (λ e. inr (moved_how task.root l (root_theirs world names it.is task member) e))
+      mine n = ⊎_elim (λ e. inr (moved_how task.root l (root_theirs world names it.is task member) e))
           (λ rest. ⊎_elim (λ e. inr (moved_how task.directory l (directory_theirs world names it.is task member) e))
           (λ files. inl (among-flat_map locations_of old task l member (inr (inr files)))) rest) n
 
   others_are : filter (λ t. not (is_member_task names t)) (map replaced world.tasks)
       ≡ map replaced (outsiders world names)
-  others_are =
-      filter-map (λ t. not (is_member_task names t)) replaced world.tasks
+  others_are = filter-map (λ t. not (is_member_task names t)) replaced world.tasks
       (λ t. ap (λ n. not (is_among same_name n names)) (name-replaced_if_called moved t))
 
   outside_stays : (l : Location ℕ)
@@ -257,12 +246,10 @@ module _ (world : World ℕ) (names : List TaskName) (name : TaskName) (it : IsC
       (subst (λ ts. Among l (locations ts)) others_are m) in
       let u = among-from_map replaced (outsiders world names) t.0 t.1 in
       let from = among-from_filter (λ x. not (is_member_task names x)) world.tasks u.0 u.1 in
-      ⊎_elim
-      (λ caller. absurd (true≢false (sym from.1 ∙ ap not (ap (is_member_task names) (sym caller.0)
+      ⊎_elim (λ caller. absurd (true≢false (sym from.1 ∙ ap not (ap (is_member_task names) (sym caller.0)
       ∙ (among-from_filter (is_member_task names) world.tasks task member).1))))
       (λ same. among-flat_map locations_of (outsiders world names) u.0 l u.1
-      (subst (λ (x : Task ℕ). Among l (locations_of x)) (u.2 ∙ same) t.2))
-      (replaced_how u.0 from.0)
+      (subst (λ (x : Task ℕ). Among l (locations_of x)) (u.2 ∙ same) t.2)) (replaced_how u.0 from.0)
 
   -- whether the old namespace ends
   module _ (ends : Bool) (here : Ends ends world task) (here_too : Ends ends part task) where
@@ -283,14 +270,11 @@ module _ (world : World ℕ) (names : List TaskName) (name : TaskName) (it : IsC
       tasks_too = map replaced part.tasks;
     }
 
-    world_so : namespaces_ended nat_eq (unshared nat_eq world fresh task)
-        ≡ remade plan world (map replaced world.tasks)
+    world_so : namespaces_ended nat_eq (unshared nat_eq world fresh task) ≡ remade plan world (map replaced world.tasks)
     world_so = unshared_so world fresh task can_world ends here
 
     part_so : namespaces_ended nat_eq (unshared nat_eq part fresh task) ≡ remade plan part (map replaced part.tasks)
-    part_so =
-        unshared_so part fresh task can_part ends here_too
-        ∙ ap (λ c. remade (unshare_plan ends k fresh c) part
+    part_so = unshared_so part fresh task can_part ends here_too ∙ ap (λ c. remade (unshare_plan ends k fresh c) part
         (map (replaced_if_called (moved_to_copies fresh c task)) part.tasks))
         (space_in_part world names it.is it.sealed_off k k_own)
 
@@ -331,13 +315,11 @@ module _ (world : World ℕ) (names : List TaskName) (name : TaskName) (it : IsC
         ⊎_elim (λ same. by ends here_too out (ap (λ (x : Task ℕ). x.namespace) same
         ∙ sym (eqb-true n t.0.namespace t.2)))
         (λ apart_so. any_from_among (λ (x : Task ℕ). nat_eq n x.namespace) new t.0
-        (subst (λ x. Among x new) (stays t.0 apart_so) (in_set t.0 t.1)) t.2)
-        (only t.0 (in_world t.0 t.1))
+        (subst (λ x. Among x new) (stays t.0 apart_so) (in_set t.0 t.1)) t.2) (only t.0 (in_world t.0 t.1))
       where
         by : (e : Bool) → Ends e part task → (e && nat_eq k n) ≡ false → k ≡ n → in_spaces new n ≡ true
         by true alone f same = absurd (true≢false (sym (eq-eqb k n same) ∙ f))
-        by false (other, m, together, differ) f same =
-            any_from_among (λ (x : Task ℕ). nat_eq n x.namespace) new other
+        by false (other, m, together, differ) f same = any_from_among (λ (x : Task ℕ). nat_eq n x.namespace) new other
             (subst (λ x. Among x new) (stays other differ) (in_set other m))
             (eq-eqb n other.namespace (sym same ∙ sym together))
 
@@ -350,8 +332,7 @@ module _ (world : World ℕ) (names : List TaskName) (name : TaskName) (it : IsC
         still None e h = h
         still (Some i) e h = still_in i e h
 
-        by : (b : Bool) → (ends && in_space k m) ≡ b
-            → ((cond b (detached m) m).namespace ≡ None)
+        by : (b : Bool) → (ends && in_space k m) ≡ b → ((cond b (detached m) m).namespace ≡ None)
             ⊎ (((cond b (detached m) m).namespace ≡ m.namespace) × (is_own world names new m ≡ true))
         by true e = inl refl
         by false e = inr (refl, still m.namespace e own)
@@ -376,8 +357,7 @@ module _ (world : World ℕ) (names : List TaskName) (name : TaskName) (it : IsC
       apart = λ y m fresh_one there same. let from = among-from_map copy copied y fresh_one in
           number_not_new world fresh serves m (2 * index_of nat_eq copied from.0.number + 1) there
           (sym same ∙ ap (λ (x : Mount ℕ). x.number) from.2);
-      kept = subst (MountInvariants nat_eq) world_so
-          (ended_namespaces_keep_mounts (unshared nat_eq world fresh task)
+      kept = subst (MountInvariants nat_eq) world_so (ended_namespaces_keep_mounts (unshared nat_eq world fresh task)
           (unshare_keeps_mounts world fresh task serves it.is.mounts));
       kept_there = subst (MountInvariants nat_eq) part_so
           (ended_namespaces_keep_mounts (unshared nat_eq part fresh task)
@@ -388,8 +368,7 @@ module _ (world : World ℕ) (names : List TaskName) (name : TaskName) (it : IsC
     moves = record {
       same = set_is part.tasks ∙ ap (map replaced) (same_members world names) ∙ sym (set_is world.tasks);
       all = λ t m. let from = among-from_map replaced old t m in
-          ap (is_member_task names) from.2
-          ∙ ap (λ n. is_among same_name n names) (name-replaced_if_called moved from.0)
+          ap (is_member_task names) from.2 ∙ ap (λ n. is_among same_name n names) (name-replaced_if_called moved from.0)
           ∙ (among-from_filter (is_member_task names) world.tasks from.0 from.1).1;
       entered = entered;
       roots = roots_moved;
@@ -427,12 +406,10 @@ module _ (world : World ℕ) (names : List TaskName) (name : TaskName) (it : IsC
 
   granted_alike : judge_in nat_eq fresh world task Unshare ≡ Ok ToUnshare → (b : Bool)
       → list_any (λ (t : Task ℕ). nat_eq k t.namespace) rest ≡ b → EndsAlikeByOne world names name Unshare fresh
-  granted_alike judged false e =
-      unshare_alike true alone (λ t m. alone t (in_world t m)) judged
+  granted_alike judged false e = unshare_alike true alone (λ t m. alone t (in_world t m)) judged
     where
       alone : (t : Task ℕ) → Among t world.tasks → same_name task.name t.name ≡ false → nat_eq k t.namespace ≡ false
-      alone t m differ =
-          none_among (λ (x : Task ℕ). nat_eq k x.namespace) rest e t
+      alone t m differ = none_among (λ (x : Task ℕ). nat_eq k x.namespace) rest e t
           (among-filter (λ (x : Task ℕ). not (same_name task.name x.name)) world.tasks t m (ap not differ))
   granted_alike judged true e =
       let at = any_among (λ (t : Task ℕ). nat_eq k t.namespace) rest e in
@@ -446,8 +423,7 @@ module _ (world : World ℕ) (names : List TaskName) (name : TaskName) (it : IsC
         where
           by : (b : Bool) → is_member_task names t ≡ b → is_member_task names t ≡ true
           by true f = f
-          by false f =
-              absurd (true≢false (sym (ap (is_own_namespace nat_eq world names) together ∙ k_own)
+          by false f = absurd (true≢false (sym (ap (is_own_namespace nat_eq world names) together ∙ k_own)
               ∙ namespace_outside world names (apart world names it.is it.sealed_off) t
               (among-filter (λ x. not (is_member_task names x)) world.tasks t m (ap not f))))
 
@@ -469,8 +445,7 @@ unshares_end_alike world names name it fresh serves = by (task_called world name
         granted_alike world names name it task e fresh serves (judged ∙ ap Ok known)
         (list_any (λ (t : Task ℕ). nat_eq task.namespace t.namespace)
         (filter (λ (t : Task ℕ). not (same_name task.name t.name)) world.tasks)) refl
-    judged_by task e (Err deny) judged known =
-        denial_ends_alike world names name Unshare it fresh fresh
+    judged_by task e (Err deny) judged known = denial_ends_alike world names name Unshare it fresh fresh
         (ap (λ o. is_ok (ran name Unshare world fresh o).answer) e
         ∙ ap (λ j. is_ok (run_by world names name Unshare it fresh fresh world fresh task j).answer) judged)
 

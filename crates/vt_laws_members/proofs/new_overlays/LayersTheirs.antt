@@ -64,8 +64,7 @@ module _ (world : World ℕ) (names : List TaskName) (is : IsWorld nat_eq world)
   given_at : (path : Option (List ℕ))
       → IfOk (walked_if_given nat_eq (looks_of nat_eq world) task path) (λ place. Each At (option_to_list place))
   given_at None = λ l m. absurd m
-  given_at (Some path) =
-      then_ok StandsThere (λ place. Each At (option_to_list place))
+  given_at (Some path) = then_ok StandsThere (λ place. Each At (option_to_list place))
       (walk_end (source_walk nat_eq (looks_of nat_eq world) task path)) _
       (end_ok StandsThere (source_walk nat_eq (looks_of nat_eq world) task path)
       (at_source world names is sealed_off task member path))
@@ -111,29 +110,22 @@ module _ (world : World ℕ) (names : List TaskName) (is : IsWorld nat_eq world)
         (among-append_left places.lowers (option_to_list places.upper) from.0 from.1))))
 
     upper_used : Each IsUsed (option_to_list overlay.upper)
-    upper_used =
-        given_used places.upper (λ l m. all l
+    upper_used = given_used places.upper (λ l m. all l
         (among-append_left (places.lowers ++ option_to_list places.upper) (option_to_list places.work) l
         (among-append_right places.lowers (option_to_list places.upper) l m)))
 
     work_used : Each IsUsed (option_to_list overlay.work)
-    work_used =
-        given_used places.work (λ l m. all l
+    work_used = given_used places.work (λ l m. all l
         (among-append_right (places.lowers ++ option_to_list places.upper) (option_to_list places.work) l m))
 
     pub all_used : Each IsUsed (layers_of overlay)
-    all_used layer m =
-        ⊎_elim
-        (λ written. ⊎_elim (upper_used layer) (work_used layer)
-        (among-append (option_to_list overlay.upper) (option_to_list overlay.work) layer written))
-        (lowers_used layer)
+    all_used layer m = ⊎_elim (λ written. ⊎_elim (upper_used layer) (work_used layer)
+        (among-append (option_to_list overlay.upper) (option_to_list overlay.work) layer written)) (lowers_used layer)
         (among-append (option_to_list overlay.upper ++ option_to_list overlay.work) overlay.lowers layer m)
 
     pub shown_used : (layer : Layer ℕ) → Among layer (shown_layers overlay)
         → is_among nat_eq layer.filesystem (used_filesystems nat_eq world names) ≡ true
-    shown_used layer m =
-        used_directly_used world names layer.filesystem
-        (⊎_elim (upper_used layer) (lowers_used layer)
+    shown_used layer m = used_directly_used world names layer.filesystem (⊎_elim (upper_used layer) (lowers_used layer)
         (among-append (option_to_list overlay.upper) overlay.lowers layer m))
 
   -- What a granted mount of an overlay attaches
@@ -147,10 +139,8 @@ module _ (world : World ℕ) (names : List TaskName) (is : IsWorld nat_eq world)
     pub are_layers : AreLayers world (overlay_at (looks_of nat_eq world) task places)
 
   pub mounts_overlay : (fresh : Fresh ℕ) (path : List ℕ) (options : Option OverlayWords) (flags : MountFlags)
-      (permit : Permit ℕ)
-      → IsGranted nat_eq (looks_of nat_eq world) (overfills nat_eq fresh world task) task
-      (MountOverlay path options flags) permit
-      → MountsOverlay flags permit
+      (permit : Permit ℕ) → IsGranted nat_eq (looks_of nat_eq world) (overfills nat_eq fresh world task) task
+      (MountOverlay path options flags) permit → MountsOverlay flags permit
   mounts_overlay fresh path options flags permit
       (mounts_overlayfs _ words _ here places admin end walked layered passed) =
       let are = are_walked world task words places walked in record {

@@ -51,8 +51,7 @@ module _ (world : World ℕ) (names : List TaskName) (name : TaskName) (path : L
   new_one = overlay_filesystem nat_eq (evens fresh) world overlay
 
   new_named : has_only_named new_one ≡ true
-  new_named =
-      new_overlays_are_named (evens fresh) world overlay it.is its.are_layers
+  new_named = new_overlays_are_named (evens fresh) world overlay it.is its.are_layers
       (evens-distinct fresh (served-distinct world fresh serves))
 
   new_layers : (layer : Layer ℕ) → Among layer (layers_of overlay)
@@ -71,16 +70,14 @@ module _ (world : World ℕ) (names : List TaskName) (name : TaskName) (path : L
   granted_so = judged ∙ ap Ok its.is_so
 
   first : policy nat_eq fresh world name call ≡ granted Done (numbers_raised nat_eq world name [] later)
-  first =
-      ap (ran name call world fresh) called
+  first = ap (ran name call world fresh) called
       ∙ ap (run_by world names name call it fresh fresh world fresh task) granted_so
       ∙ ap (λ w. granted Done (numbers_raised nat_eq world name [] w))
       (settled_here world names it.is it.sealed_off fresh serves its.here its.on its.own new_one refl new_layers
       new_named flags)
 
   second : policy nat_eq fresh part name call ≡ granted Done (numbers_raised nat_eq part name [] later_there)
-  second =
-      ap (ran name call part fresh) (same_caller world names it.is it.sealed_off name it.theirs ∙ called)
+  second = ap (ran name call part fresh) (same_caller world names it.is it.sealed_off name it.theirs ∙ called)
       ∙ ap (run_by world names name call it fresh fresh part fresh task)
       (sym (same_judgement world names name call it fresh fresh task called) ∙ granted_so)
       ∙ ap (λ f. granted Done (numbers_raised nat_eq part name []
@@ -92,12 +89,9 @@ module _ (world : World ℕ) (names : List TaskName) (name : TaskName) (path : L
       new_named flags)
 
   mount_alike : EndsAlike world names name call fresh fresh
-  mount_alike =
-      subst (λ p. EndAlike (grown names name call (policy nat_eq fresh world name call).answer)
-      (policy nat_eq fresh world name call) p) (sym second)
-      (subst (λ o. EndAlike (grown names name call o.answer) o
-      (granted Done (numbers_raised nat_eq part name [] later_there))) (sym first)
-      (record {
+  mount_alike = subst (λ p. EndAlike (grown names name call (policy nat_eq fresh world name call).answer)
+      (policy nat_eq fresh world name call) p) (sym second) (subst (λ o. EndAlike (grown names name call o.answer) o
+      (granted Done (numbers_raised nat_eq part name [] later_there))) (sym first) (record {
         answer = refl;
         part = mounted_alike world names it.is it.sealed_off fresh serves its.here its.on its.own new_one refl
             new_layers new_named flags name;
@@ -123,6 +117,5 @@ overlay_mounts_end_alike world names name path options flags it fresh serves = b
     by : (o : Option (Task ℕ)) → task_called world name ≡ o
         → EndsAlike world names name (MountOverlay path options flags) fresh fresh
     by None e = unnamed_ends_alike world names name (MountOverlay path options flags) it fresh fresh e
-    by (Some task) e =
-        judged_by task (member_called world names it.is it.sealed_off name it.theirs task e) e
+    by (Some task) e = judged_by task (member_called world names it.is it.sealed_off name it.theirs task e) e
         (judge_in nat_eq fresh world task (MountOverlay path options flags)) refl

@@ -32,8 +32,7 @@ module _ (world : World ℕ) (names : List TaskName) (is : IsWorld nat_eq world)
     (sealed_off : sealed nat_eq world names ≡ true) (fresh : Fresh ℕ) (serves : Serves nat_eq world fresh)
     (here : Location ℕ) (on : is_theirs world names here.mount ≡ true)
     (own : is_own world names (members world names) (mount_at nat_eq world here) ≡ true) (new_one : Filesystem ℕ)
-    (number : new_one.number ≡ fresh 0)
-    (layers : (layer : Layer ℕ) → Among layer (of_overlay [] layers_of new_one)
+    (number : new_one.number ≡ fresh 0) (layers : (layer : Layer ℕ) → Among layer (of_overlay [] layers_of new_one)
     → Among layer.filesystem (used_directly nat_eq world names))
     (named : has_only_named new_one ≡ true) (flags : MountFlags) where
   abbrev part : World ℕ
@@ -79,8 +78,7 @@ module _ (world : World ℕ) (names : List TaskName) (is : IsWorld nat_eq world)
 
   sources : (o : Mount ℕ) → Among o origins → (g : ℕ) → source_of o.propagation ≡ Some g
       → part.master g ≡ world.master g
-  sources o m g e =
-      ⊎_elim (λ same. none_is_some g (sym (ap (λ (x : Mount ℕ). source_of x.propagation) same) ∙ e))
+  sources o m g e = ⊎_elim (λ same. none_is_some g (sym (ap (λ (x : Mount ℕ). source_of x.propagation) same) ∙ e))
       (λ none. absurd none) m
 
   new_groups : (a b : ℕ) → world.master (new.image a b) ≡ None
@@ -94,22 +92,19 @@ module _ (world : World ℕ) (names : List TaskName) (is : IsWorld nat_eq world)
 
   -- nothing goes
   pub settled_here : settled nat_eq now ≡ now
-  settled_here =
-      new_filesystems_keep_all (odds fresh) world here new_one flags (all_in_use world is)
+  settled_here = new_filesystems_keep_all (odds fresh) world here new_one flags (all_in_use world is)
       (mounts_of_worlds_stand world is) (locations_of_worlds_stand world is)
       (placed world names is sealed_off here theirs own) named
 
   pub settled_there : settled nat_eq now_there ≡ now_there
-  settled_there =
-      new_filesystems_keep_all (odds fresh) part here new_one flags (part_in_use world names is sealed_off)
+  settled_there = new_filesystems_keep_all (odds fresh) part here new_one flags (part_in_use world names is sealed_off)
       (mounts_stand_there world names is sealed_off) (locations_stand_there world names is)
       (placed_there world names is sealed_off here theirs own) named
 
   -- the numbers are handed out to the same parts
   same_numbers : now_there ≡ attached_by nat_eq
       (base_part world names is sealed_off (new_one ∷ []) unused here here_there own) new here false origins
-  same_numbers =
-      ap (λ l. attached_by nat_eq
+  same_numbers = ap (λ l. attached_by nat_eq
       (base_part world names is sealed_off (new_one ∷ []) unused here here_there own)
       (copies_from nat_eq (odds fresh) l origins) here false origins)
       (parts_alike world names is sealed_off (new_one ∷ []) unused here here_there own)
@@ -118,5 +113,4 @@ module _ (world : World ℕ) (names : List TaskName) (is : IsWorld nat_eq world)
       ≡ part_of nat_eq (numbers_raised nat_eq part name [] now_there) names
   mounted_alike name =
       copies_alike world names is sealed_off (new_one ∷ []) unused here here_there own new origins new_groups sources
-      shows name
-      ∙ sym (ap (λ w. part_of nat_eq (numbers_raised nat_eq part name [] w) names) same_numbers)
+      shows name ∙ sym (ap (λ w. part_of nat_eq (numbers_raised nat_eq part name [] w) names) same_numbers)

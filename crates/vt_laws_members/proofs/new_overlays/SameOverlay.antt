@@ -82,8 +82,7 @@ found_there w n directory is = by (find (λ (f : Filesystem ℕ). nat_eq n f.num
   where
     by : (o : Option (Filesystem ℕ)) → find (λ (f : Filesystem ℕ). nat_eq n f.number) w.filesystems ≡ o
         → find (λ (f : Filesystem ℕ). nat_eq n f.number) w.filesystems ≡ Some (filesystem_numbered nat_eq w n)
-    by None e =
-        absurd (true≢false (sym is
+    by None e = absurd (true≢false (sym is
         ∙ ap (λ o. is_directory_node ((unwrap_or o (no_filesystem n)).files.tree.node directory)) e))
     by (Some f) e = e ∙ ap Some (sym (ap (λ o. unwrap_or o (no_filesystem n)) e))
 
@@ -114,11 +113,9 @@ module _ (layers : List (OpenLayer ℕ)) where
   paths_alike most other within among (suc n) zero base l m =
       ap (λ names. base ∷ flat_map (λ name. paths_from n layers (base ++ name ∷ [])) names)
       (no_names other among base (omega (arith, m)))
-  paths_alike most other within among (suc n) (suc k) base l m =
-      ap (λ list. base ∷ list)
+  paths_alike most other within among (suc n) (suc k) base l m = ap (λ list. base ∷ list)
       (flat_map_alike (λ name. paths_from n layers (base ++ name ∷ []))
-      (λ name. paths_from k layers (base ++ name ∷ []))
-      (names_shown layers base)
+      (λ name. paths_from k layers (base ++ name ∷ [])) (names_shown layers base)
       (λ name at. let longer = length_longer base name in
       paths_alike most other within among n k (base ++ name ∷ []) (omega (arith, l, longer))
       (omega (arith, m, longer))))
@@ -129,8 +126,7 @@ module _ (layers : List (OpenLayer ℕ)) where
       ap (filter_map (merged_at layers)) (paths_alike most other within among most other [] (omega arith) (omega arith))
 
 module _ (world : World ℕ) (names : List TaskName) (is : IsWorld nat_eq world) (overlay : Overlay ℕ)
-    (are_layers : AreLayers world overlay)
-    (used : (layer : Layer ℕ) → Among layer (shown_layers overlay)
+    (are_layers : AreLayers world overlay) (used : (layer : Layer ℕ) → Among layer (shown_layers overlay)
     → is_among nat_eq layer.filesystem (used_filesystems nat_eq world names) ≡ true) where
   abbrev part : World ℕ
   part = part_of nat_eq world names
@@ -139,8 +135,7 @@ module _ (world : World ℕ) (names : List TaskName) (is : IsWorld nat_eq world)
   opened w = map (open_layer nat_eq w) (shown_layers overlay)
 
   opened_alike : opened part ≡ opened world
-  opened_alike =
-      map_alike (open_layer nat_eq part) (open_layer nat_eq world) (shown_layers overlay)
+  opened_alike = map_alike (open_layer nat_eq part) (open_layer nat_eq world) (shown_layers overlay)
       (λ layer m. ap (λ (f : Filesystem ℕ). record { tree = f.files.tree; directory = layer.directory })
       (found world names layer.filesystem (used layer m)))
 
@@ -152,8 +147,7 @@ module _ (world : World ℕ) (names : List TaskName) (is : IsWorld nat_eq world)
       let n = layer.filesystem in
       let directory = (and_parts (not (is_overlay (filesystem_numbered nat_eq world n)))
       (is_directory_node ((filesystem_numbered nat_eq world n).files.tree.node layer.directory))
-      (among_from_list_all (is_plain_layer nat_eq world) (shown_layers overlay)
-      are_layers.1 layer m)).1 in
+      (among_from_list_all (is_plain_layer nat_eq world) (shown_layers overlay) are_layers.1 layer m)).1 in
       let here = found_there world n layer.directory directory in
       let there = found_there part n layer.directory
       (ap (λ (f : Filesystem ℕ). is_directory_node (f.files.tree.node layer.directory))
@@ -165,8 +159,7 @@ module _ (world : World ℕ) (names : List TaskName) (is : IsWorld nat_eq world)
       (all_found (λ f. ListsNumbers nat_eq f.files) (λ (f : Filesystem ℕ). nat_eq n f.number) world.filesystems
       is.files.numbers (filesystem_numbered nat_eq world n) here) layer.directory object path e in
       let some : length (filesystem_numbered nat_eq part n).files.numbers ≤ inode_count part =
-      in_sum (λ (f : Filesystem ℕ). nat_eq n f.number) part.filesystems (filesystem_numbered nat_eq part n)
-      there in
+      in_sum (λ (f : Filesystem ℕ). nat_eq n f.number) part.filesystems (filesystem_numbered nat_eq part n) there in
       let same : length (filesystem_numbered nat_eq part n).files.numbers
       ≡ length (filesystem_numbered nat_eq world n).files.numbers =
       ap (λ (f : Filesystem ℕ). length f.files.numbers) (found world names n (used layer m)) in
@@ -176,8 +169,7 @@ module _ (world : World ℕ) (names : List TaskName) (is : IsWorld nat_eq world)
   bounded_there path seen s =
       let has = ((computed (opened world) path seen).0 s).has_uncut.0 in
       by (slice_get (shown_layers overlay) seen.layer) refl
-      (sym (slice_get-map (open_layer nat_eq world) (shown_layers overlay) seen.layer) ∙ has.1)
-      has.2
+      (sym (slice_get-map (open_layer nat_eq world) (shown_layers overlay) seen.layer) ∙ has.1) has.2
     where
       by : (o : Option (Layer ℕ)) → slice_get (shown_layers overlay) seen.layer ≡ o → {layer : OpenLayer ℕ}
           → option_map (open_layer nat_eq world) o ≡ Some layer
@@ -190,11 +182,9 @@ module _ (world : World ℕ) (names : List TaskName) (is : IsWorld nat_eq world)
 
   pub same_overlay : (fresh : Fresh ℕ)
       → overlay_filesystem nat_eq fresh part overlay ≡ overlay_filesystem nat_eq fresh world overlay
-  same_overlay fresh =
-      ap (λ layers. overlay_of_inodes nat_eq (evens fresh 0) (odds fresh 0) overlay
+  same_overlay fresh = ap (λ layers. overlay_of_inodes nat_eq (evens fresh 0) (odds fresh 0) overlay
       (merged_inodes nat_eq (odds fresh) (is_some overlay.upper) layers (merged_objects layers (inode_count part))))
-      opened_alike
-      ∙ ap (λ objects. overlay_of_inodes nat_eq (evens fresh 0) (odds fresh 0) overlay
+      opened_alike ∙ ap (λ objects. overlay_of_inodes nat_eq (evens fresh 0) (odds fresh 0) overlay
       (merged_inodes nat_eq (odds fresh) (is_some overlay.upper) (opened world) objects))
       (objects_alike (opened world) (inode_count part) (inode_count world) bounded_there
       (bounded world is overlay are_layers))

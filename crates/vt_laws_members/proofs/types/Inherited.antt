@@ -37,8 +37,7 @@ master-inherited t group h = by (list_any (lost_a_group nat_eq t) t.mounts) refl
         let gone = or_parts (is_lost_group nat_eq t (source_of y.0.propagation))
         (is_lost_group nat_eq t (then_some (source_of y.0.propagation) t.master))
         (none_among (lost_a_group nat_eq t) t.mounts kept y.0 y.1) in
-        let its = ap (λ o. then_some o t.master)
-        (source_from y.0.propagation group (member_group group y.0 y.2)) ∙ e in
+        let its = ap (λ o. then_some o t.master) (source_from y.0.propagation group (member_group group y.0 y.2)) ∙ e in
         sym (find-chain_start (has_members nat_eq t.mounts) t.master (length t.mounts) above
         (not-false (has_members nat_eq t.mounts above) (sym (ap (is_lost_group nat_eq t) its) ∙ gone.1)))
 
@@ -71,35 +70,28 @@ module _ (w : World ℕ) (kind : Mount ℕ → Propagation ℕ) (masters : ℕ �
   regrouped_keeps false = refl
 
   mounts_left : (regrouped nat_eq between).mounts ≡ map after w.mounts
-  mounts_left =
-      mounts-regrouped between
+  mounts_left = mounts-regrouped between
       ∙ map_twice (inheriting nat_eq between) (λ (m : Mount ℕ). record m { propagation = kind m }) w.mounts
 
   regrouped_so : regrouped nat_eq between ≡ with_changed w after (regrouped nat_eq between).master
-  regrouped_so =
-      regrouped_keeps (list_any (lost_a_group nat_eq between) between.mounts)
+  regrouped_so = regrouped_keeps (list_any (lost_a_group nat_eq between) between.mounts)
       ∙ ap (λ l. record between { mounts = l; master = (regrouped nat_eq between).master }) mounts_left
 
   -- nothing but groups goes
   pub settled_so : AllInUse w → settled nat_eq (regrouped nat_eq between) ≡ with_changed w after master_left
-  settled_so all =
-      ap (settled nat_eq) regrouped_so
-      ∙ ap (λ (x : World ℕ). record x {
-        master = λ group. cond (has_members nat_eq x.mounts group) ((regrouped nat_eq between).master group) None;
-      })
-      (types_keep_all w after (λ group. None) all (record {
-        number = λ m. refl;
-        namespace = λ m. refl;
-        mount_point = λ m. refl;
-        filesystem = λ m. refl;
-        root = λ m. refl;
-      }) (λ group none. refl))
+  settled_so all = ap (settled nat_eq) regrouped_so ∙ ap (λ (x : World ℕ). record x {
+    master = λ group. cond (has_members nat_eq x.mounts group) ((regrouped nat_eq between).master group) None;
+  }) (types_keep_all w after (λ group. None) all (record {
+    number = λ m. refl;
+    namespace = λ m. refl;
+    mount_point = λ m. refl;
+    filesystem = λ m. refl;
+    root = λ m. refl;
+  }) (λ group none. refl))
 
   pub master_left_so : (group : ℕ) → has_members nat_eq between.mounts group ≡ true
       → master_left group ≡ heir nat_eq between (masters group)
-  master_left_so group h =
-      ap (λ l. cond (has_members nat_eq l group) ((regrouped nat_eq between).master group) None)
+  master_left_so group h = ap (λ l. cond (has_members nat_eq l group) ((regrouped nat_eq between).master group) None)
       (sym (map_twice (inheriting nat_eq between) (λ (m : Mount ℕ). record m { propagation = kind m }) w.mounts))
       ∙ ap (λ b. cond b ((regrouped nat_eq between).master group) None)
-      (members-inherited between between.mounts group ∙ h)
-      ∙ master-inherited between group h
+      (members-inherited between between.mounts group ∙ h) ∙ master-inherited between group h

@@ -34,8 +34,7 @@ use Rattle.vt_laws_members.proofs.types.TypesLeft.{AreTypedAlike}
 -- a search by tests that agree on a list
 find_alike : (p q : ℕ → Bool) (xs : List ℕ) → ((x : ℕ) → Among x xs → p x ≡ q x) → find p xs ≡ find q xs
 find_alike p q [] same = refl
-find_alike p q (x ∷ xs) same =
-    ap (λ b. cond b (Some x) (find p xs)) (same x (inl refl))
+find_alike p q (x ∷ xs) same = ap (λ b. cond b (Some x) (find p xs)) (same x (inl refl))
     ∙ ap (cond (q x) (Some x)) (find_alike p q xs (λ y m. same y (inr m)))
 
 -- chains by steps that agree on the way
@@ -72,8 +71,7 @@ slave_was new ToPrivate kind g e = none_is_some g e
 slave_was new ToUnbindable kind g e = none_is_some g e
 
 -- who becomes shared was so, or has a new group
-shared_was : (new : ℕ) (word : TypeWord) (kind : Propagation ℕ) (g : ℕ)
-    → group_of (type_after new word kind) ≡ Some g
+shared_was : (new : ℕ) (word : TypeWord) (kind : Propagation ℕ) (g : ℕ) → group_of (type_after new word kind) ≡ Some g
     → (source_of kind ≡ Some g) ⊎ ((takes_groups word ≡ true) × (new ≡ g))
 shared_was new ToShared (Shared h) g e = inl e
 shared_was new ToShared (Slave h) g e = inr (refl, same_Some new g e)
@@ -138,8 +136,7 @@ module _ (fresh : Fresh ℕ) (word : TypeWord) (named : List (Mount ℕ)) where
   new_alike : (a b : ℕ → Option ℕ) (g : ℕ) → a g ≡ b g → (list : List (Mount ℕ))
       → with_new_groups nat_eq number_for a list g ≡ with_new_groups nat_eq number_for b list g
   new_alike a b g e [] = e
-  new_alike a b g e (m ∷ rest) =
-      new_alike (with_master nat_eq a (number_for m.number) (master_after m.propagation))
+  new_alike a b g e (m ∷ rest) = new_alike (with_master nat_eq a (number_for m.number) (master_after m.propagation))
       (with_master nat_eq b (number_for m.number) (master_after m.propagation)) g
       (ap (cond (nat_eq g (number_for m.number)) (master_after m.propagation)) e) rest
 
@@ -154,8 +151,7 @@ module _ (fresh : Fresh ℕ) (word : TypeWord) (named : List (Mount ℕ)) where
 -- a number that a mount's group or master has is none of those handed in
 unlike : (w : World ℕ) (supply : Fresh ℕ) → Serves nat_eq w supply → (m : Mount ℕ) → Among m w.mounts → (g : ℕ)
     → source_of m.propagation ≡ Some g → (k : ℕ) → nat_eq g (supply k) ≡ false
-unlike w supply serves m n g e k =
-    false_from_ne_true (nat_eq g (supply k)) (λ same.
+unlike w supply serves m n g e k = false_from_ne_true (nat_eq g (supply k)) (λ same.
     true≢false (sym (ap (λ i. list_any (nat_eq i) (numbers_in_use w)) (sym (eqb-true g (supply k) same))
     ∙ is_among_numbers (numbers_in_use w) g
     (mount_uses w m n g (inr (subst (λ o. Among g (option_to_list o)) (sym e) (inl refl))))) ∙ serves.unused k))
@@ -176,8 +172,7 @@ new_none world is fresh serves k =
 module _ (world : World ℕ) (names : List TaskName) (is : IsWorld nat_eq world)
     (sealed_off : sealed nat_eq world names ≡ true) (fresh : Fresh ℕ) (serves : Serves nat_eq world fresh)
     (word : TypeWord) (named : List (Mount ℕ))
-    (named_own : (m : Mount ℕ) → Among m named → Among m (own_mounts nat_eq world names))
-    (masters_there : ℕ → Option ℕ)
+    (named_own : (m : Mount ℕ) → Among m named → Among m (own_mounts nat_eq world names)) (masters_there : ℕ → Option ℕ)
     (kept_there : (g : ℕ) → IsHeard world names is sealed_off g
     → masters_there g ≡ (part_of nat_eq world names).master g)
     (agree : (g : ℕ) → IsNewGroup fresh word g → masters_there g ≡ new_masters fresh word named world g) where
@@ -219,8 +214,7 @@ module _ (world : World ℕ) (names : List TaskName) (is : IsWorld nat_eq world)
   own_named m n h =
       let other = any_among (λ (o : Mount ℕ). nat_eq m.number o.number) named h in
       let own = named_own other.0 other.1 in
-      let same : other.0 ≡ m =
-      sym (numbered world names is.mounts other.0 (in_world other.0 own))
+      let same : other.0 ≡ m = sym (numbered world names is.mounts other.0 (in_world other.0 own))
       ∙ ap (mount_numbered nat_eq world) (sym (eqb-true m.number other.0.number other.2))
       ∙ numbered world names is.mounts m n in
       subst (λ k. Among k owns) same own
@@ -228,8 +222,7 @@ module _ (world : World ℕ) (names : List TaskName) (is : IsWorld nat_eq world)
   part_named : (m : Mount ℕ) → Among m part.mounts → is_named fresh word named m ≡ true → Among m owns
   part_named m n h =
       let from = among-from_filter_map (keep world names theirs) world.mounts m n in
-      ⊎_elim
-      (λ same. own_named m (subst (λ k. Among k world.mounts) same from.1) h)
+      ⊎_elim (λ same. own_named m (subst (λ k. Among k world.mounts) same from.1) h)
       (λ stub. absurd (true≢false (sym (among-from_filter (is_own_mount nat_eq world names) world.mounts from.0
       (own_named from.0 from.1 (ap (is_named fresh word named) stub.0 ∙ h))).1 ∙ stub.1)))
       (kept_how world names theirs from.0 m from.2)
@@ -245,8 +238,7 @@ module _ (world : World ℕ) (names : List TaskName) (is : IsWorld nat_eq world)
     where
       by : (b : Bool) → is_named fresh word named m ≡ b → Among m owns
       by true e = own_named m n e
-      by false e =
-          ⊎_elim (λ own. own)
+      by false e = ⊎_elim (λ own. own)
           (λ other. absurd (none_hears world names is.mounts events g m heard.0 other (member_was m g e h)))
           (sides world names is.mounts events m g n (member_group g m (member_was m g e h)))
 
@@ -256,8 +248,7 @@ module _ (world : World ℕ) (names : List TaskName) (is : IsWorld nat_eq world)
     where
       by : (b : Bool) → is_named fresh word named m ≡ b → Among m owns
       by true e = part_named m n e
-      by false e =
-          part_source world names is sealed_off m n g
+      by false e = part_source world names is sealed_off m n g
           (source_from m.propagation g (member_group g m (member_was m g e h)))
 
   is_in : (m : Mount ℕ) → Among m owns → (g : ℕ) → is_member_of nat_eq g (changed m) ≡ true
@@ -269,8 +260,7 @@ module _ (world : World ℕ) (names : List TaskName) (is : IsWorld nat_eq world)
   )
 
   has_alike : (g : ℕ) → Heard g → has t_part g ≡ has t g
-  has_alike g heard =
-      same_truth (has t_part g) (has t g)
+  has_alike g heard = same_truth (has t_part g) (has t g)
       (λ h. let y = any_among (is_member_of nat_eq g) t_part.mounts h in
       let from = among-from_map changed part.mounts y.0 y.1 in
       let its = ap (is_member_of nat_eq g) (sym from.2) ∙ y.2 in
@@ -292,16 +282,12 @@ module _ (world : World ℕ) (names : List TaskName) (is : IsWorld nat_eq world)
   IsGroup g = Heard g ⊎ IsNewGroup fresh word g
 
   base_heard : (g above : ℕ) → IsGroup g → world.master g ≡ Some above → Heard above
-  base_heard g above group e =
-      ⊎_elim (above_heard world names is sealed_off above g e) (λ new. none_is_some above
+  base_heard g above group e = ⊎_elim (above_heard world names is sealed_off above g e) (λ new. none_is_some above
       (sym (ap world.master (sym new.2) ∙ new_none world is fresh serves new.1) ∙ e)) group
 
   masters_agree : (g : ℕ) → IsGroup g → masters_there g ≡ t.master g
-  masters_agree g group =
-      ⊎_elim
-      (λ heard. kept_there g heard ∙ master_same world names is sealed_off g heard
-      ∙ sym (old_kept fresh word named world.master g (heard_old g heard) named))
-      (agree g) group
+  masters_agree g group = ⊎_elim (λ heard. kept_there g heard ∙ master_same world names is sealed_off g heard
+      ∙ sym (old_kept fresh word named world.master g (heard_old g heard) named)) (agree g) group
 
   -- the masters of groups after are heard
   heard_from : (a : ℕ → Option ℕ) (g above : ℕ) → (a g ≡ Some above → Heard above) → (list : List (Mount ℕ))
@@ -319,23 +305,19 @@ module _ (world : World ℕ) (names : List TaskName) (is : IsWorld nat_eq world)
 
   -- Heirs
   up_world : (g : ℕ) → Heard g → groups_up t g ≡ groups_up world g
-  up_world g heard =
-      ap (λ n. chain n t.master g) (length-map world.mounts changed)
+  up_world g heard = ap (λ n. chain n t.master g) (length-map world.mounts changed)
       ∙ chain_alike world.master t.master Heard (λ a b e. above_heard world names is sealed_off b a e)
       (λ a p. old_kept fresh word named world.master a (heard_old a p) named) (length world.mounts) g heard
 
   up_part : (g : ℕ) → Heard g → groups_up t_part g ≡ groups_up world g
-  up_part g heard =
-      ap (λ n. chain n t_part.master g) (length-map part.mounts changed)
+  up_part g heard = ap (λ n. chain n t_part.master g) (length-map part.mounts changed)
       ∙ chain_alike part.master masters_there Heard
       (λ a b e p. above_heard world names is sealed_off b a (sym (master_same world names is sealed_off a p) ∙ e) p)
-      kept_there (length part.mounts) g heard
-      ∙ same_up world names is.mounts events g heard.0 heard.1
+      kept_there (length part.mounts) g heard ∙ same_up world names is.mounts events g heard.0 heard.1
 
   heir_alike : (o : Option ℕ) → ((g : ℕ) → o ≡ Some g → Heard g) → heir nat_eq t_part o ≡ heir nat_eq t o
   heir_alike None heard = refl
-  heir_alike (Some g) heard =
-      ap (find (has t_part)) (up_part g (heard g refl))
+  heir_alike (Some g) heard = ap (find (has t_part)) (up_part g (heard g refl))
       ∙ find_alike (has t_part) (has t) (groups_up world g)
       (λ x m. has_alike x (up_heard world names is sealed_off g x (heard g refl) m))
       ∙ ap (find (has t)) (sym (up_world g (heard g refl)))
@@ -345,8 +327,7 @@ module _ (world : World ℕ) (names : List TaskName) (is : IsWorld nat_eq world)
   slave_heard m own g = by (is_named fresh word named m)
     where
       by : (b : Bool) → master_after (kind_by fresh word named b m) ≡ Some g → Heard g
-      by true e =
-          heard_by_own world names is sealed_off m own g
+      by true e = heard_by_own world names is sealed_off m own g
           (slave_was (numbers_by nat_eq fresh named m.number) word m.propagation g e)
       by false e = heard_by_own world names is sealed_off m own g (master_source m.propagation g e)
 
@@ -355,8 +336,7 @@ module _ (world : World ℕ) (names : List TaskName) (is : IsWorld nat_eq world)
     where
       by : (k : Propagation ℕ) → kind m ≡ k → inherited nat_eq t_part k ≡ inherited nat_eq t k
       by (Shared g) e = refl
-      by (Slave g) e =
-          ap slave_of_heir (heir_alike (Some g) (λ h f. slave_heard m own h (ap master_after e ∙ f)))
+      by (Slave g) e = ap slave_of_heir (heir_alike (Some g) (λ h f. slave_heard m own h (ap master_after e ∙ f)))
       by Private e = refl
       by Unbindable e = refl
 
@@ -365,16 +345,13 @@ module _ (world : World ℕ) (names : List TaskName) (is : IsWorld nat_eq world)
   nowhere_alike m n none = by (is_named fresh word named m) refl
     where
       alone : is_private m.propagation ≡ true
-      alone =
-          (and_parts (not (is_some m.mount_point)) (is_private m.propagation)
+      alone = (and_parts (not (is_some m.mount_point)) (is_private m.propagation)
           (sym (ap (λ o. is_some o || (not (is_some m.mount_point) && is_private m.propagation)) none)
           ∙ among_from_list_all is_nowhere_or_attached world.mounts is.mounts.nowhere m n)).1
 
-      by : (b : Bool) → is_named fresh word named m ≡ b
-          → inherited nat_eq t_part (kind m) ≡ inherited nat_eq t (kind m)
+      by : (b : Bool) → is_named fresh word named m ≡ b → inherited nat_eq t_part (kind m) ≡ inherited nat_eq t (kind m)
       by true e = own_alike m (own_named m n e)
-      by false e =
-          ap (λ c. inherited nat_eq t_part (kind_by fresh word named c m)) e
+      by false e = ap (λ c. inherited nat_eq t_part (kind_by fresh word named c m)) e
           ∙ private_alike t_part t m.propagation alone
           ∙ sym (ap (λ c. inherited nat_eq t (kind_by fresh word named c m)) e)
 
@@ -386,8 +363,7 @@ module _ (world : World ℕ) (names : List TaskName) (is : IsWorld nat_eq world)
   shared_group m own g = by (is_named fresh word named m)
     where
       by : (b : Bool) → group_of (kind_by fresh word named b m) ≡ Some g → IsGroup g
-      by true e =
-          ⊎_elim (λ was. inl (heard_by_own world names is sealed_off m own g was))
+      by true e = ⊎_elim (λ was. inl (heard_by_own world names is sealed_off m own g was))
           (λ new. inr (new.0, index_of nat_eq named m.number, new.1))
           (shared_was (numbers_by nat_eq fresh named m.number) word m.propagation g e)
       by false e = inl (heard_by_own world names is sealed_off m own g (source_from m.propagation g e))
@@ -399,8 +375,7 @@ module _ (world : World ℕ) (names : List TaskName) (is : IsWorld nat_eq world)
           → source_of (slave_of_heir o) ≡ Some g → HasGroup g
       of_heir s heard None f e = none_is_some g e
       of_heir s heard (Some above) f e =
-          let its : Heard above =
-          up_heard world names is sealed_off s above heard
+          let its : Heard above = up_heard world names is sealed_off s above heard
           (subst (Among above) (up_world s heard) (found_among (has t) (groups_up t s) above f)) in
           let in_it = found_passes (has t) (groups_up t s) above f in
           subst HasGroup (same_Some above g e) (inl its, in_it, has_alike above its ∙ in_it)
@@ -423,8 +398,7 @@ module _ (world : World ℕ) (names : List TaskName) (is : IsWorld nat_eq world)
         (nowhere_alike m n) place;
     masters = λ m own g e.
         let its = group_after m own g e in
-        master_left_so part kind masters_there g its.2
-        ∙ ap (heir nat_eq t_part) (masters_agree g its.0)
+        master_left_so part kind masters_there g its.2 ∙ ap (heir nat_eq t_part) (masters_agree g its.0)
         ∙ heir_alike (t.master g)
         (λ above f. heard_from world.master g above (base_heard g above its.0) named named_own f)
         ∙ sym (master_left_so world kind (new_masters fresh word named world) g its.1);
@@ -452,8 +426,7 @@ module _ (world : World ℕ) (names : List TaskName) (is : IsWorld nat_eq world)
   -- one supply for both
   new_agree : (g : ℕ) → IsNewGroup fresh word g
       → new_masters fresh word named there g ≡ new_masters fresh word named world g
-  new_agree g new =
-      new_alike fresh word named there.master world.master g
+  new_agree g new = new_alike fresh word named there.master world.master g
       (ap (cond (list_any (is_member_of nat_eq g) (own_mounts nat_eq world names)) (world.master g)) (sym none)
       ∙ by (list_any (is_member_of nat_eq g) (own_mounts nat_eq world names))) named
     where
@@ -481,8 +454,7 @@ module _ (world : World ℕ) (names : List TaskName) (is : IsWorld nat_eq world)
     same_kind m = by (is_named fresh word named m)
       where
         by : (b : Bool) → kind_by other word named b m ≡ kind_by fresh word named b m
-        by true =
-            same_after (numbers_by nat_eq other named m.number) (numbers_by nat_eq fresh named m.number) word
+        by true = same_after (numbers_by nat_eq other named m.number) (numbers_by nat_eq fresh named m.number) word
             m.propagation no_groups
         by false = refl
 

@@ -49,17 +49,14 @@ module _ (w : World ℕ) (all : AllInUse w) (fresh : Fresh ℕ) (word : TypeWord
   masters = new_masters fresh word named w
 
   abbrev pub after_types : World ℕ
-  after_types =
-      with_changed w (λ m. record m { propagation = kind_left w (new_kind fresh word named) masters m })
+  after_types = with_changed w (λ m. record m { propagation = kind_left w (new_kind fresh word named) masters m })
       (master_left w (new_kind fresh word named) masters)
 
   pub types_settled : settled nat_eq (retyped nat_eq w (numbers_by nat_eq fresh named) word named) ≡ after_types
-  types_settled =
-      (λ i. settled nat_eq (regrouped nat_eq (record w {
-        mounts = map (λ m. retyped_so fresh word named m i) w.mounts;
-        master = masters;
-      })))
-      ∙ settled_so w (new_kind fresh word named) masters all
+  types_settled = (λ i. settled nat_eq (regrouped nat_eq (record w {
+    mounts = map (λ m. retyped_so fresh word named m i) w.mounts;
+    master = masters;
+  }))) ∙ settled_so w (new_kind fresh word named) masters all
 
 -- What a granted call sets
 module _ (world : World ℕ) (names : List TaskName) (is : IsWorld nat_eq world)
@@ -69,8 +66,7 @@ module _ (world : World ℕ) (names : List TaskName) (is : IsWorld nat_eq world)
   On number = is_theirs world names number ≡ true
 
   abbrev SetsType : Permit ℕ → Type 0
-  SetsType permit =
-      (here : Location ℕ) × (permit ≡ ToSetType here.mount word recursive) × On here.mount
+  SetsType permit = (here : Location ℕ) × (permit ≡ ToSetType here.mount word recursive) × On here.mount
       × (is_own world names (members world names) (mount_at nat_eq world here) ≡ true)
 
   is_so : (b : Bool) → not b ≡ false → b ≡ true
@@ -80,16 +76,13 @@ module _ (world : World ℕ) (names : List TaskName) (is : IsWorld nat_eq world)
   sets_type : (path : List ℕ) → IfOk
       (type_permit nat_eq (one world names is sealed_off task member) task path word recursive) SetsType
   unfolding type_permit
-  sets_type path =
-      of_rules SetsType (admin_rules task) _
+  sets_type path = of_rules SetsType (admin_rules task) _
       (of_walk (StandsHere world names is sealed_off task member) SetsType
       (directory_walk nat_eq (one world names is sealed_off task member) task path)
       (λ here. unless (type_rules nat_eq (one world names is sealed_off task member) task here.location)
       (Ok (ToSetType here.location.mount word recursive))) (at_directory world names is sealed_off task member path)
-      (λ here on. of_passed SetsType
-      (type_rules nat_eq (one world names is sealed_off task member) task here.location)
-      (Ok (ToSetType here.location.mount word recursive))
-      (λ passed. (
+      (λ here on. of_passed SetsType (type_rules nat_eq (one world names is sealed_off task member) task here.location)
+      (Ok (ToSetType here.location.mount word recursive)) (λ passed. (
         here.location,
         refl,
         on,
@@ -108,15 +101,12 @@ module _ (world : World ℕ) (names : List TaskName) (is : IsWorld nat_eq world)
   tree_own : (n : ℕ) (mount x : Mount ℕ) → Among mount owns → Among x (tree_from nat_eq n world.mounts mount)
       → Among x owns
   tree_own zero mount x own m = ⊎_elim (λ e. subst (λ k. Among k owns) (sym e) own) (λ none. absurd none) m
-  tree_own (suc n) mount x own m =
-      ⊎_elim (λ e. subst (λ k. Among k owns) (sym e) own)
-      (λ below.
+  tree_own (suc n) mount x own m = ⊎_elim (λ e. subst (λ k. Among k owns) (sym e) own) (λ below.
       let at = among-from_filter (is_own_mount nat_eq world names) world.mounts mount own in
       let from = among-from_flat_map (tree_from nat_eq n world.mounts)
       (children nat_eq world.mounts mount.number) x below in
       let child = children_own world names is mount.number from.0 (own_theirs world names is mount at.0 at.1) from.1 in
-      tree_own n from.0 x (among-filter (is_own_mount nat_eq world names) world.mounts from.0 child.0 child.1) from.2)
-      m
+      tree_own n from.0 x (among-filter (is_own_mount nat_eq world names) world.mounts from.0 child.0 child.1) from.2) m
 
   module _ (number : ℕ) (theirs : IsTheirs world names is.mounts number)
       (own : Among (mount_numbered nat_eq world number) owns) where
@@ -126,16 +116,14 @@ module _ (world : World ℕ) (names : List TaskName) (is : IsWorld nat_eq world)
 
     named_alike : (recursive : Bool)
         → named_mounts nat_eq part number recursive ≡ named_mounts nat_eq world number recursive
-    named_alike true =
-        ap (mount_tree nat_eq part.mounts) (same_mount world names is.mounts number theirs)
+    named_alike true = ap (mount_tree nat_eq part.mounts) (same_mount world names is.mounts number theirs)
         ∙ tree_alike world names is (mount_numbered nat_eq world number)
         (subst (IsTheirs world names is.mounts) (sym (number-mount_in world.mounts number)) theirs)
     named_alike false = ap (λ m. m ∷ []) (same_mount world names is.mounts number theirs)
 
 -- A granted call
 module _ (world : World ℕ) (names : List TaskName) (name : TaskName) (path : List ℕ) (word : TypeWord)
-    (recursive : Bool)
-    (it : IsCallOfTheirs world names name (SetType path word recursive)) (task : Task ℕ)
+    (recursive : Bool) (it : IsCallOfTheirs world names name (SetType path word recursive)) (task : Task ℕ)
     (called : task_called world name ≡ Some task) (fresh other : Fresh ℕ)
     (here : Location ℕ) (on : is_theirs world names here.mount ≡ true)
     (own : is_own world names (members world names) (mount_at nat_eq world here) ≡ true)
@@ -151,8 +139,7 @@ module _ (world : World ℕ) (names : List TaskName) (name : TaskName) (path : L
   theirs = theirs_from world names it.is.mounts here.mount on
 
   its_own : Among mount_of (own_mounts nat_eq world names)
-  its_own =
-      among-filter (is_own_mount nat_eq world names) world.mounts mount_of
+  its_own = among-filter (is_own_mount nat_eq world names) world.mounts mount_of
       (subst (λ m. Among m world.mounts) (sym (its_mount world names it.is.mounts here.mount theirs)) theirs.1) own
 
   abbrev pub named : List (Mount ℕ)
@@ -178,16 +165,14 @@ module _ (world : World ℕ) (names : List TaskName) (name : TaskName) (path : L
 
     first : policy nat_eq fresh world name (SetType path word recursive)
         ≡ granted Done (numbers_raised nat_eq world name [] now)
-    first =
-        ap (ran name (SetType path word recursive) world fresh) called
+    first = ap (ran name (SetType path word recursive) world fresh) called
         ∙ ap (run_by world names name (SetType path word recursive) it fresh other world fresh task) judged
         ∙ ap (λ w. granted Done (numbers_raised nat_eq world name [] w))
         (types_settled world (all_in_use world it.is) fresh word named)
 
     second : policy nat_eq other there name (SetType path word recursive)
         ≡ granted Done (numbers_raised nat_eq there name [] now_there)
-    second =
-        ap (ran name (SetType path word recursive) there other)
+    second = ap (ran name (SetType path word recursive) there other)
         (same_caller world names it.is it.sealed_off name it.theirs ∙ called)
         ∙ ap (run_by world names name (SetType path word recursive) it fresh other there other task)
         (sym (same_judgement world names name (SetType path word recursive) it fresh other task called) ∙ judged)
@@ -197,14 +182,11 @@ module _ (world : World ℕ) (names : List TaskName) (name : TaskName) (path : L
         ∙ ap (λ w. granted Done (numbers_raised nat_eq there name [] w)) settled_there
 
     pub type_alike : EndsAlike world names name (SetType path word recursive) fresh other
-    type_alike =
-        subst (λ p. EndAlike
-        (grown names name (SetType path word recursive)
+    type_alike = subst (λ p. EndAlike (grown names name (SetType path word recursive)
         (policy nat_eq fresh world name (SetType path word recursive)).answer)
         (policy nat_eq fresh world name (SetType path word recursive)) p) (sym second)
         (subst (λ o. EndAlike (grown names name (SetType path word recursive) o.answer) o
-        (granted Done (numbers_raised nat_eq there name [] now_there))) (sym first)
-        (record {
+        (granted Done (numbers_raised nat_eq there name [] now_there))) (sym first) (record {
           answer = refl;
           part = types_left world names it.is it.sealed_off
               (kind_left world kind (new_masters fresh word named world)) kind_there
@@ -213,9 +195,7 @@ module _ (world : World ℕ) (names : List TaskName) (name : TaskName) (path : L
 
   pub by_one : Serves nat_eq world fresh → fresh ≡ other
       → EndsAlike world names name (SetType path word recursive) fresh other
-  by_one serves same =
-      type_alike
-      (kind_left there kind (new_masters fresh word named there))
+  by_one serves same = type_alike (kind_left there kind (new_masters fresh word named there))
       (master_left there kind (new_masters fresh word named there))
       (ap (λ supply. settled nat_eq (retyped nat_eq there (numbers_by nat_eq supply named) word named)) (sym same)
       ∙ types_settled there (part_in_use world names it.is it.sealed_off) fresh word named)
@@ -223,12 +203,9 @@ module _ (world : World ℕ) (names : List TaskName) (name : TaskName) (path : L
 
   pub by_any : Serves nat_eq world fresh → Serves nat_eq there other → takes_groups word ≡ false
       → EndsAlike world names name (SetType path word recursive) fresh other
-  by_any serves serves_there no_groups =
-      type_alike
-      (kind_left there kind (new_masters other word named there))
+  by_any serves serves_there no_groups = type_alike (kind_left there kind (new_masters other word named there))
       (master_left there kind (new_masters other word named there))
-      (types_settled there (part_in_use world names it.is it.sealed_off) other word named
-      ∙ (λ i. with_changed there
+      (types_settled there (part_in_use world names it.is it.sealed_off) other word named ∙ (λ i. with_changed there
       (λ m. record m { propagation = kind_left there (λ x. same x i) (new_masters other word named there) m })
       (master_left there (λ x. same x i) (new_masters other word named there))))
       (alike_by_any world names it.is it.sealed_off fresh serves word named all_own other serves_there no_groups)
@@ -251,8 +228,7 @@ module _ (world : World ℕ) (names : List TaskName) (name : TaskName) (path : L
   judged_by task member e (Ok permit) judged its = ends task e its.0 its.2 its.3 (judged ∙ ap Ok its.1)
   judged_by task member e (Err deny) judged its =
       denial_ends_alike world names name (SetType path word recursive) it fresh other
-      (ap (λ o. is_ok (ran name (SetType path word recursive) world fresh o).answer) e
-      ∙ ap (λ j. is_ok
+      (ap (λ o. is_ok (ran name (SetType path word recursive) world fresh o).answer) e ∙ ap (λ j. is_ok
       (run_by world names name (SetType path word recursive) it fresh other world fresh task j).answer) judged)
 
   all_end : (o : Option (Task ℕ)) → task_called world name ≡ o
@@ -265,14 +241,12 @@ module _ (world : World ℕ) (names : List TaskName) (name : TaskName) (path : L
 
 pub types_end_alike : TypesEndAlike
 types_end_alike world names name path word recursive it fresh serves =
-    all_end world names name path word recursive it fresh fresh
-    (λ task e here on own judged.
+    all_end world names name path word recursive it fresh fresh (λ task e here on own judged.
     by_one world names name path word recursive it task e fresh fresh here on own judged serves refl)
     (task_called world name) refl
 
 pub other_types_end_alike : OtherTypesEndAlike
 other_types_end_alike world names name path word recursive it no_groups fresh other serves serves_there =
-    all_end world names name path word recursive it fresh other
-    (λ task e here on own judged.
+    all_end world names name path word recursive it fresh other (λ task e here on own judged.
     by_any world names name path word recursive it task e fresh other here on own judged serves serves_there no_groups)
     (task_called world name) refl

@@ -68,14 +68,12 @@ module _ (world : World ℕ) (names : List TaskName) (is : IsWorld nat_eq world)
     where
       by : (o : Option ℕ) → source_of m.propagation ≡ o → then_some o part.master ≡ then_some o world.master
       by None e = refl
-      by (Some g) e =
-          master_same world names is sealed_off g (heard_by_own world names is sealed_off m n g e)
+      by (Some g) e = master_same world names is sealed_off g (heard_by_own world names is sealed_off m n g e)
 
   -- the mounts of a namespace of theirs are all kept
   kept_in : (n : ℕ) → list_any (λ (t : Task ℕ). nat_eq n t.namespace) theirs ≡ true → (mounts : List (Mount ℕ))
       → filter (its_in n) (filter_map kept mounts) ≡ filter (its_in n) mounts
-  kept_in n space mounts =
-      filter_both kept (its_in n) (its_in n) mounts
+  kept_in n space mounts = filter_both kept (its_in n) (its_in n) mounts
       (λ m at h. (own_kept world names is sealed_off m (own_in world names is sealed_off n space m h), h))
       (λ m y at h e. ⊎_elim (λ same. ap (its_in n) (sym same) ∙ h) (λ stub. ap (its_in n) (sym stub.0))
       (kept_how world names theirs m y e))
@@ -98,39 +96,30 @@ module _ (world : World ℕ) (names : List TaskName) (is : IsWorld nat_eq world)
     abbrev kept_as : Bool → Mount ℕ → Option (Mount ℕ)
     kept_as whole m = cond whole (Some m) (when (located m) (seen_by_descriptor m))
 
-    kept_then : (m : Mount ℕ) → Among m world.mounts
-        → then_some (kept m) (λ y. kept (after_there y)) ≡ kept (after m)
+    kept_then : (m : Mount ℕ) → Among m world.mounts → then_some (kept m) (λ y. kept (after_there y)) ≡ kept (after m)
     kept_then m n = by (owned m || stood m) refl
       where
         stub : (owned m || stood m) ≡ false → (a : Bool) → located m ≡ a
             → then_some (when (located m) (seen_by_descriptor m)) (λ y. kept (after_there y))
             ≡ when (located m) (seen_by_descriptor m)
-        stub e true f =
-            ap (λ c. then_some (when c (seen_by_descriptor m)) (λ y. kept (after_there y))) f
+        stub e true f = ap (λ c. then_some (when c (seen_by_descriptor m)) (λ y. kept (after_there y))) f
             ∙ ap (λ c. cond c (Some (after_there (seen_by_descriptor m))) (when (located m) (seen_by_descriptor m)))
             (or_parts (owned m) (stood m) e).1
-        stub e false f =
-            ap (λ c. then_some (when c (seen_by_descriptor m)) (λ y. kept (after_there y))) f
+        stub e false f = ap (λ c. then_some (when c (seen_by_descriptor m)) (λ y. kept (after_there y))) f
             ∙ sym (ap (λ c. when c (seen_by_descriptor m)) f)
 
-        by : (b : Bool) → (owned m || stood m) ≡ b
-            → then_some (kept m) (λ y. kept (after_there y)) ≡ kept (after m)
-        by true e =
-            ap (λ c. then_some (kept_as c m) (λ y. kept (after_there y))) e
+        by : (b : Bool) → (owned m || stood m) ≡ b → then_some (kept m) (λ y. kept (after_there y)) ≡ kept (after m)
+        by true e = ap (λ c. then_some (kept_as c m) (λ y. kept (after_there y))) e
             ∙ ap (λ k. kept (record m { propagation = k }))
             (alike.types m n (⊎_elim inl (λ at. stands_on world names is m n at) (or_cases (owned m) (stood m) e)))
-        by false e =
-            ap (λ c. then_some (kept_as c m) (λ y. kept (after_there y))) e
-            ∙ stub e (located m) refl
+        by false e = ap (λ c. then_some (kept_as c m) (λ y. kept (after_there y))) e ∙ stub e (located m) refl
             ∙ sym (ap (λ c. cond c (Some (after m)) (when (located m) (seen_by_descriptor m))) e)
 
     mounts_alike : filter_map kept (map after_there part.mounts) ≡ filter_map kept (map after world.mounts)
-    mounts_alike =
-        filter_map_map kept after_there part.mounts
+    mounts_alike = filter_map_map kept after_there part.mounts
         ∙ filter_map_then kept (λ y. kept (after_there y)) world.mounts
         ∙ filter_map_same (λ m. then_some (kept m) (λ y. kept (after_there y))) (λ m. kept (after m)) world.mounts
-        kept_then
-        ∙ sym (filter_map_map kept after world.mounts)
+        kept_then ∙ sym (filter_map_map kept after world.mounts)
 
     -- each mount shows its filesystem
     same_shown : (number : ℕ) (mounts : List (Mount ℕ))
@@ -154,8 +143,7 @@ module _ (world : World ℕ) (names : List TaskName) (is : IsWorld nat_eq world)
     shown_by mounts l = (mount_in nat_eq mounts l.mount).filesystem
 
     directly_same : used_directly nat_eq later names ≡ used_directly nat_eq world names
-    directly_same =
-        ap (λ l. map shows l ++ map (shown_by (map after world.mounts)) (locations theirs))
+    directly_same = ap (λ l. map shows l ++ map (shown_by (map after world.mounts)) (locations theirs))
         (filter-map (is_own_mount nat_eq world names) {q = is_own_mount nat_eq world names} after world.mounts
         (λ m. refl))
         ∙ ap (λ l. l ++ map (shown_by (map after world.mounts)) (locations theirs)) (map_twice shows after owns)
@@ -169,8 +157,7 @@ module _ (world : World ℕ) (names : List TaskName) (is : IsWorld nat_eq world)
         let y = any_among (is_member_of nat_eq group) (own_mounts nat_eq later names) h in
         let own = among-from_filter (is_own_mount nat_eq world names) (map after world.mounts) y.0 y.1 in
         let from = among-from_map after world.mounts y.0 own.0 in
-        alike.masters from.0
-        (mine from.0 from.1 (ap (is_own_mount nat_eq world names) (sym from.2) ∙ own.1)) group
+        alike.masters from.0 (mine from.0 from.1 (ap (is_own_mount nat_eq world names) (sym from.2) ∙ own.1)) group
         (source_from (kind from.0) group
         (member_group group (after from.0) (ap (is_member_of nat_eq group) (sym from.2) ∙ y.2)))
 
@@ -178,8 +165,7 @@ module _ (world : World ℕ) (names : List TaskName) (is : IsWorld nat_eq world)
     less = record {
       tasks = same_members world names;
       mounts = ap (λ tasks. filter_map (keep world names tasks) (map after_there part.mounts))
-          (same_members world names)
-          ∙ mounts_alike;
+          (same_members world names) ∙ mounts_alike;
       masters = masters_alike;
       namespaces = ap (λ tasks. filter (spaces tasks) part.namespaces) (same_members world names)
           ∙ filter_again (spaces theirs) world.namespaces;
@@ -195,8 +181,7 @@ module _ (world : World ℕ) (names : List TaskName) (is : IsWorld nat_eq world)
           → master_above later_part y ≡ master_above later y
       above_later y m h =
           let from = among-from_map after world.mounts y m in
-          subst (λ (q : Mount ℕ). master_above later_part q ≡ master_above later q) (sym from.2)
-          (by from.0
+          subst (λ (q : Mount ℕ). master_above later_part q ≡ master_above later q) (sym from.2) (by from.0
           (mine from.0 from.1 (own_in world names is sealed_off n space from.0 (ap (its_in n) (sym from.2) ∙ h)))
           (source_of (kind from.0)) refl)
         where
@@ -211,39 +196,33 @@ module _ (world : World ℕ) (names : List TaskName) (is : IsWorld nat_eq world)
 
       -- the mounts of a namespace of theirs changed in both, or in none
       spaces_alike : same_mounts_in nat_eq part later_part n ≡ same_mounts_in nat_eq world later n
-      spaces_alike =
-          ap (λ l. same_list (same_mount nat_eq part later_part) l (mounts_of nat_eq later_part n))
+      spaces_alike = ap (λ l. same_list (same_mount nat_eq part later_part) l (mounts_of nat_eq later_part n))
           (space_in_part world names is sealed_off n space)
           ∙ ap (same_list (same_mount nat_eq part later_part) (mounts_of nat_eq world n)) later_in_part
           ∙ same_list_alike (same_mount nat_eq part later_part) (same_mount nat_eq world later)
-          (mounts_of nat_eq world n) (mounts_of nat_eq later n)
-          (λ x y m l.
+          (mounts_of nat_eq world n) (mounts_of nat_eq later n) (λ x y m l.
           let first = among-from_filter (its_in n) world.mounts x m in
           let second = among-from_filter (its_in n) later.mounts y l in
           compared x y (above x (mine x first.0 (own_in world names is sealed_off n space x first.1)))
           (above_later y second.0 second.1))
         where
           same_ones : Mount ℕ → Mount ℕ → Bool
-          same_ones x y =
-              nat_eq x.number y.number && same_option (same_location nat_eq) x.mount_point y.mount_point
+          same_ones x y = nat_eq x.number y.number && same_option (same_location nat_eq) x.mount_point y.mount_point
               && same_flags x.flags y.flags && same_propagation nat_eq x.propagation y.propagation
 
           compared : (x y : Mount ℕ) → master_above part x ≡ master_above world x
               → master_above later_part y ≡ master_above later y
               → same_mount nat_eq part later_part x y ≡ same_mount nat_eq world later x y
-          compared x y e f =
-              ap (λ o. same_ones x y && same_option nat_eq o (master_above later_part y)) e
+          compared x y e f = ap (λ o. same_ones x y && same_option nat_eq o (master_above later_part y)) e
               ∙ ap (λ o. same_ones x y && same_option nat_eq (master_above world x) o) f
 
     raised_alike : filter (spaces theirs) (map (raised_namespace nat_eq part later_part) part.namespaces)
         ≡ filter (spaces theirs) (map (raised_namespace nat_eq world later) world.namespaces)
-    raised_alike =
-        filter-map (spaces theirs) (raised_namespace nat_eq part later_part) part.namespaces
+    raised_alike = filter-map (spaces theirs) (raised_namespace nat_eq part later_part) part.namespaces
         (λ n. ap (λ i. list_any (λ (t : Task ℕ). nat_eq i t.namespace) theirs) (raised_number part later_part n))
         ∙ ap (map (raised_namespace nat_eq part later_part)) (filter_again (spaces theirs) world.namespaces)
         ∙ map_alike (raised_namespace nat_eq part later_part) (raised_namespace nat_eq world later)
-        (filter (spaces theirs) world.namespaces)
-        (λ n m. ap (λ c. cond c n (record n { change = raised n.change }))
+        (filter (spaces theirs) world.namespaces) (λ n m. ap (λ c. cond c n (record n { change = raised n.change }))
         (spaces_alike n.number (among-from_filter (spaces theirs) world.namespaces n m).1))
         ∙ sym (filter-map (spaces theirs) (raised_namespace nat_eq world later) world.namespaces
         (λ n. ap (λ i. list_any (λ (t : Task ℕ). nat_eq i t.namespace) theirs) (raised_number world later n)))
@@ -264,17 +243,14 @@ module _ (world : World ℕ) (names : List TaskName) (is : IsWorld nat_eq world)
 
       pub types_left : part_of nat_eq (numbers_raised nat_eq world name [] later) names
           ≡ part_of nat_eq (numbers_raised nat_eq part name [] later_part) names
-      types_left =
-          ap (λ w. part_of nat_eq w names) (left_so world later)
+      types_left = ap (λ w. part_of nat_eq w names) (left_so world later)
           ∙ part_respaced later names name (map (raised_namespace nat_eq world later) world.namespaces)
           ∙ (λ i. record (sym parts_later i) {
             namespaces = sym raised_alike i;
             tasks = raised_members_alike world names name i;
-          })
-          ∙ (λ i. record (part_of nat_eq later_part names) {
+          }) ∙ (λ i. record (part_of nat_eq later_part names) {
             namespaces = filter (spaces (sym (same_members world names) i))
                 (map (raised_namespace nat_eq part later_part) part.namespaces);
             tasks = filter (is_member_task names) (map (raised_task name) part.tasks);
-          })
-          ∙ sym (part_respaced later_part names name (map (raised_namespace nat_eq part later_part) part.namespaces))
+          }) ∙ sym (part_respaced later_part names name (map (raised_namespace nat_eq part later_part) part.namespaces))
           ∙ sym (ap (λ w. part_of nat_eq w names) (left_so part later_part))

@@ -1,7 +1,6 @@
 -- Groups live on where a tree of mounts is attached: those that were there, and the images of those that take part.
-use Rattle.std.proofs.Common.{arith}
+use Rattle.std.proofs.Common.{arith, ◌≡◌, refl, sym, ap, subst, ◌∙◌, true, false, nat_eq, ℕ, Bool, List, None, Option, Some, find, inl, is_some, length, option_map, true≢false, unwrap_or, ⊎_elim, ◌⊎◌}
 use Rattle.std.proofs.lemmas.Grind.{common_steps}
-use Rattle.std.proofs.Common.{◌≡◌, refl, sym, ap, subst, ◌∙◌, true, false, nat_eq, ℕ, Bool, List, None, Option, Some, find, inl, is_some, length, option_map, true≢false, unwrap_or, ⊎_elim, ◌⊎◌}
 use Rattle.std.proofs.lemmas.Option.{same_Some}
 use Rattle.std.specs.Prelude.{if◌then◌else◌}
 use Rattle.vt_spec.proofs.Lists.{Among, any_among, any_from_among}
@@ -30,20 +29,17 @@ module _ (world : World ℕ) (new : Copies ℕ) (place : Location ℕ) (moves : 
 
   -- groups that had members have some
   abbrev pub MembersStay : Type 0
-  MembersStay =
-      (group : ℕ) → has_members nat_eq world.mounts group ≡ true
+  MembersStay = (group : ℕ) → has_members nat_eq world.mounts group ≡ true
       → has_members nat_eq (attached_by nat_eq world new place moves mounts).mounts group ≡ true
 
   -- each mount of the tree has a copy at each part, and each mount was there or is one
   abbrev pub HasCopies : Type 0
-  HasCopies =
-      (part origin : Mount ℕ) → Among part (parts_of nat_eq world place) → Among origin mounts
+  HasCopies = (part origin : Mount ℕ) → Among part (parts_of nat_eq world place) → Among origin mounts
       → (copy : Mount ℕ) × Among copy (attached_by nat_eq world new place moves mounts).mounts
       × (copy.propagation ≡ kind_at part origin)
 
   abbrev pub IsOldOrCopy : Mount ℕ → Type 0
-  IsOldOrCopy mount =
-      ((old : Mount ℕ) × Among old world.mounts × (mount.propagation ≡ old.propagation))
+  IsOldOrCopy mount = ((old : Mount ℕ) × Among old world.mounts × (mount.propagation ≡ old.propagation))
       ⊎ ((part : Mount ℕ) × (origin : Mount ℕ) × Among part (parts_of nat_eq world place) × Among origin mounts
       × (mount.propagation ≡ kind_at part origin))
 
@@ -57,8 +53,7 @@ shared_source new Unbindable source e = same_Some new source e
 
 module _ (world : World ℕ) (new : Copies ℕ) (place : Location ℕ) (moves : Bool) (mounts : List (Mount ℕ))
     (serve : ServeAsImages world (parts_of nat_eq world place) mounts new) (own : OneNumberAMount mounts)
-    (live : GroupsLive world)
-    (sourced : (origin : Mount ℕ) → Among origin mounts → (source : ℕ)
+    (live : GroupsLive world) (sourced : (origin : Mount ℕ) → Among origin mounts → (source : ℕ)
     → source_of origin.propagation ≡ Some source → LivesIn world source)
     (stay : MembersStay world new place moves mounts) (copied : HasCopies world new place moves mounts) where
   abbrev tree : Graft ℕ
@@ -94,19 +89,15 @@ module _ (world : World ℕ) (new : Copies ℕ) (place : Location ℕ) (moves : 
       (still_lives next later)
 
   destination_lives : (source : ℕ) → source_of destination.propagation ≡ Some source → LivesIn world source
-  destination_lives source e =
-      ⊎_elim
-      (λ there. lives_in world live destination there source e)
+  destination_lives source e = ⊎_elim (λ there. lives_in world live destination there source e)
       (λ none. absurd (true≢false (sym (ap is_some e) ∙ ap (λ (x : Mount ℕ). is_some (source_of x.propagation)) none)))
       (found_or_none world.mounts place.mount)
 
   part_lives : (part : Mount ℕ) → Among part parts → (source : ℕ) → source_of part.propagation ≡ Some source
       → LivesIn world source
-  part_lives part m source e =
-      ⊎_elim
+  part_lives part m source e = ⊎_elim
       (λ same. destination_lives source (ap (λ (x : Mount ℕ). source_of x.propagation) (sym same) ∙ e))
-      (λ later. lives_in world live part (taker_there world place part later) source e)
-      m
+      (λ later. lives_in world live part (taker_there world place part later) source e) m
 
   -- the types of copies
   there : (part origin : Mount ℕ) → is_destination nat_eq tree part.number ≡ true
@@ -121,15 +112,12 @@ module _ (world : World ℕ) (new : Copies ℕ) (place : Location ℕ) (moves : 
       → (twig origin).propagation ≡ type_on_shared (new.image group origin.number) origin.propagation
   twig_in origin group e = ap (λ o. type_at new o origin) e
 
-  image_in : (origin : Mount ℕ) (group : ℕ) → group_of destination.propagation ≡ Some group
-      → image_of origin group
+  image_in : (origin : Mount ℕ) (group : ℕ) → group_of destination.propagation ≡ Some group → image_of origin group
       ≡ unwrap_or (group_of (type_on_shared (new.image group origin.number) origin.propagation))
       (new.image group origin.number)
-  image_in origin group e =
-      ap
+  image_in origin group e = ap
       (λ b. if b then unwrap_or (group_of (twig origin).propagation) (new.image group origin.number)
-      else new.image group origin.number)
-      (member_by_group world new place moves mounts serve own destination group e)
+      else new.image group origin.number) (member_by_group world new place moves mounts serve own destination group e)
       ∙ ap (λ k. unwrap_or (group_of k) (new.image group origin.number)) (twig_in origin group e)
 
   has_copy : (part origin : Mount ℕ) → Among part parts → Among origin mounts → (group : ℕ)
@@ -146,30 +134,24 @@ module _ (world : World ℕ) (new : Copies ℕ) (place : Location ℕ) (moves : 
       member : (kind : Propagation ℕ) → origin.propagation ≡ kind
           → type_on_shared (new.image group origin.number) kind ≡ Shared (new.image group origin.number)
           → has_members nat_eq after.mounts (new.image group origin.number) ≡ true
-      member kind f is =
-          has_copy destination origin (inl refl) m (new.image group origin.number)
+      member kind f is = has_copy destination origin (inl refl) m (new.image group origin.number)
           (there destination origin (at_destination world new place moves mounts serve own)
           ∙ twig_in origin group e ∙ ap (type_on_shared (new.image group origin.number)) f ∙ is)
 
-      by : (kind : Propagation ℕ) → origin.propagation ≡ kind
-          → LivesIn after
+      by : (kind : Propagation ℕ) → origin.propagation ≡ kind → LivesIn after
           (unwrap_or (group_of (type_on_shared (new.image group origin.number) kind)) (new.image group origin.number))
       by (Shared one) f = still_lives one (sourced origin m one (ap source_of f))
-      by (Slave master) f =
-          has_master (new.image group origin.number) master (member (Slave master) f refl)
+      by (Slave master) f = has_master (new.image group origin.number) master (member (Slave master) f refl)
           (master_there world new place moves mounts serve own origin m group e (Slave master) f refl)
           (still_lives master (sourced origin m master (ap source_of f)))
-      by Private f =
-          has_no_master (new.image group origin.number) (member Private f refl)
+      by Private f = has_no_master (new.image group origin.number) (member Private f refl)
           (master_there world new place moves mounts serve own origin m group e Private f refl)
-      by Unbindable f =
-          has_no_master (new.image group origin.number) (member Unbindable f refl)
+      by Unbindable f = has_no_master (new.image group origin.number) (member Unbindable f refl)
           (master_there world new place moves mounts serve own origin m group e Unbindable f refl)
 
   -- the image of another group does where those of the groups up its masters do
   abbrev HigherLive : ℕ → Mount ℕ → Type 0
-  HigherLive group origin =
-      (next : ℕ) → world.master group ≡ Some next → (other : ℕ) → Up world.master next other
+  HigherLive group origin = (next : ℕ) → world.master group ≡ Some next → (other : ℕ) → Up world.master next other
       → has_members nat_eq parts other ≡ true → LivesIn after (image_of origin other)
 
   lives_elsewhere : (group : ℕ) → has_members nat_eq parts group ≡ true
@@ -178,15 +160,13 @@ module _ (world : World ℕ) (new : Copies ℕ) (place : Location ℕ) (moves : 
   lives_elsewhere group has lacks origin m higher =
       let part = any_among (is_member_of nat_eq group) parts has in
       let shared = member_shared group part.0 part.2 in
-      by (world.master group) refl
-      (has_copy part.0 origin part.1 m (image_of origin group)
+      by (world.master group) refl (has_copy part.0 origin part.1 m (image_of origin group)
       (away part.0 origin (is_elsewhere world new place moves mounts serve own part.0 group part.1 part.2 lacks)
       ∙ ap (kind_elsewhere origin) shared))
       (master_elsewhere world new place moves mounts serve own part.0 origin part.1 m group part.2 lacks)
     where
       found_by : (next : ℕ) → world.master group ≡ Some next
-          → has_members nat_eq after.mounts (image_of origin group) ≡ true
-          → after.master (image_of origin group)
+          → has_members nat_eq after.mounts (image_of origin group) ≡ true → after.master (image_of origin group)
           ≡ option_map (image_of origin) (find (has_members nat_eq parts) (groups_up world next))
           → (found : Option ℕ) → find (has_members nat_eq parts) (groups_up world next) ≡ found
           → LivesIn after (image_of origin group)
@@ -232,49 +212,37 @@ module _ (world : World ℕ) (new : Copies ℕ) (place : Location ℕ) (moves : 
           → source_of (twig origin).propagation ≡ Some source → LivesIn after source
       of_twig None g h =
           still_lives source (sourced origin n source (sym (ap (λ o. source_of (type_at new o origin)) g) ∙ h))
-      of_twig (Some group) g h =
-          subst (LivesIn after)
-          (image_in origin group g
+      of_twig (Some group) g h = subst (LivesIn after) (image_in origin group g
           ∙ shared_source (new.image group origin.number) origin.propagation source
-          (sym (ap source_of (twig_in origin group g)) ∙ h))
-          (lives_there group g origin n)
+          (sym (ap source_of (twig_in origin group g)) ∙ h)) (lives_there group g origin n)
 
       of_slave : (master : ℕ) → part.propagation ≡ Slave master
           → source_of (kind_elsewhere origin (Slave master)) ≡ Some source
-          → (found : Option ℕ) → find (has_members nat_eq parts) (groups_up world master) ≡ found
-          → LivesIn after source
-      of_slave master f h None g =
-          absurd (true≢false (sym (ap is_some h)
+          → (found : Option ℕ) → find (has_members nat_eq parts) (groups_up world master) ≡ found → LivesIn after source
+      of_slave master f h None g = absurd (true≢false (sym (ap is_some h)
           ∙ ap (λ o. is_some (source_of (slave_of_heir (option_map (image_of origin) o)))) g))
       of_slave master f h (Some other) g =
           let t = found_passes (has_members nat_eq parts) (groups_up world master) other g in
-          subst (LivesIn after)
-          (same_Some (image_of origin other) source
+          subst (LivesIn after) (same_Some (image_of origin other) source
           (sym (ap (λ o. source_of (slave_of_heir (option_map (image_of origin) o))) g) ∙ h))
           (image_lives master (part_lives part m master (ap source_of f)) other
           (way_up world.master (length world.mounts) master other t.1) t.0 origin n)
 
       of_copy : (kind : Propagation ℕ) → part.propagation ≡ kind
           → source_of (kind_elsewhere origin kind) ≡ Some source → LivesIn after source
-      of_copy (Shared group) f h =
-          subst (LivesIn after) (same_Some (image_of origin group) source h)
+      of_copy (Shared group) f h = subst (LivesIn after) (same_Some (image_of origin group) source h)
           (image_lives group (part_lives part m group (ap source_of f)) group (here group)
           (takes_part_in world new place moves mounts serve own part group m (ap group_of f)) origin n)
-      of_copy (Slave master) f h =
-          of_slave master f h (find (has_members nat_eq parts) (groups_up world master)) refl
+      of_copy (Slave master) f h = of_slave master f h (find (has_members nat_eq parts) (groups_up world master)) refl
       of_copy Private f h = absurd (true≢false (sym (ap is_some h)))
       of_copy Unbindable f h = absurd (true≢false (sym (ap is_some h)))
 
       by : (b : Bool) → is_destination nat_eq tree part.number ≡ b → LivesIn after source
-      by true f =
-          of_twig (group_of destination.propagation) refl (sym (ap source_of (there part origin f)) ∙ e)
+      by true f = of_twig (group_of destination.propagation) refl (sym (ap source_of (there part origin f)) ∙ e)
       by false f = of_copy part.propagation refl (sym (ap source_of (away part origin f)) ∙ e)
 
   pub groups_live_after :
-      ((mount : Mount ℕ) → Among mount after.mounts → IsOldOrCopy world new place moves mounts mount)
-      → GroupsLive after
+      ((mount : Mount ℕ) → Among mount after.mounts → IsOldOrCopy world new place moves mounts mount) → GroupsLive after
   groups_live_after from = groups_live_by after (λ mount m source e.
-      ⊎_elim
-      (λ old. still_lives source (lives_in world live old.0 old.1 source (sym (ap source_of old.2) ∙ e)))
-      (λ copy. copy_lives copy.0 copy.1 copy.2 copy.3 source (sym (ap source_of copy.4) ∙ e))
-      (from mount m))
+      ⊎_elim (λ old. still_lives source (lives_in world live old.0 old.1 source (sym (ap source_of old.2) ∙ e)))
+      (λ copy. copy_lives copy.0 copy.1 copy.2 copy.3 source (sym (ap source_of copy.4) ∙ e)) (from mount m))

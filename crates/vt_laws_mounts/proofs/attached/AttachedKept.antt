@@ -1,5 +1,6 @@
 -- Groups live on through a bind, a new mount and a move.
-use Rattle.std.proofs.Common.{◌≡◌, sym, ap, subst, ◌∙◌, refl, true, false, nat_eq, ℕ, Bool, Some, [], is_some, length, true≢false, ⊎_elim, ◌∷◌}
+use Rattle.std.proofs.Common.{arith, ◌≡◌, sym, ap, subst, ◌∙◌, refl, true, false, nat_eq, ℕ, Bool, Some, [], is_some, length, true≢false, ⊎_elim, ◌∷◌}
+use Rattle.std.proofs.lemmas.Grind.{common_steps}
 use Rattle.vt_spec.proofs.Lists.{Among}
 use Rattle.vt_spec.specs.Machine.Attach.{bind_tree, moved_tree, parts_of}
 use Rattle.vt_spec.specs.Machine.Mounts.{Location, Mount, source_of}
@@ -21,17 +22,7 @@ bind_sourced : (world : World ℕ) (source : Location ℕ) (recursive : Bool) �
     → Among origin (bind_tree nat_eq world source recursive)
     → (group : ℕ) → source_of origin.propagation ≡ Some group → LivesIn world group
 bind_sourced world source recursive live origin m group e =
-    ⊎_elim
-    (λ same.
-    let type_is : source_of (mount_at nat_eq world source).propagation ≡ Some group =
-    ap (λ (x : Mount ℕ). source_of x.propagation) (sym same) ∙ e in
-    ⊎_elim
-    (λ there. lives_in world live (mount_at nat_eq world source) there group type_is)
-    (λ none. absurd (true≢false (sym (ap is_some type_is)
-    ∙ ap (λ (x : Mount ℕ). is_some (source_of x.propagation)) none)))
-    (found_or_none world.mounts source.mount))
-    (λ there. lives_in world live origin there group e)
-    (bind_there_or_source world source recursive origin m)
+    grind (arith, common_steps, lives_in, true≢false, found_or_none, bind_there_or_source)
 
 pub binds_keep_groups : BindsKeepGroups
 binds_keep_groups world fresh source place recursive serves one all live =
@@ -52,11 +43,8 @@ new_mounts_keep_groups world fresh place filesystem flags serves live =
     groups_live_after larger new place false (mount ∷ [])
     (supplies_serve_as_images larger fresh (parts_of nat_eq larger place) (mount ∷ []) serves) refl live
     (λ origin m group e.
-    ⊎_elim
-    (λ same. absurd (true≢false (sym (ap is_some e)
-    ∙ ap (λ (x : Mount ℕ). is_some (source_of x.propagation)) same)))
-    (λ none. absurd none)
-    m)
+    ⊎_elim (λ same. absurd (true≢false (sym (ap is_some e)
+    ∙ ap (λ (x : Mount ℕ). is_some (source_of x.propagation)) same))) (λ none. absurd none) m)
     (members_stay larger new place (mount ∷ [])) (copies_there larger new place (mount ∷ []))
     (old_or_copies larger new place false (mount ∷ []))
 
@@ -65,11 +53,8 @@ moves_keep_groups world fresh source place serves one all there live =
     let mounts = moved_tree nat_eq world source.mount in
     let new = supplied world fresh place mounts in
     let own = trees_have_each_once world source.mount one all in
-    let moving : (origin : Mount ℕ) → Among origin mounts → Among origin world.mounts =
-    λ origin m.
-    ⊎_elim
-    (λ same. subst (λ x. Among x world.mounts) (sym same) (found_there world.mounts source.mount there))
-    (λ l. l)
+    let moving : (origin : Mount ℕ) → Among origin mounts → Among origin world.mounts = λ origin m. ⊎_elim
+    (λ same. subst (λ x. Among x world.mounts) (sym same) (found_there world.mounts source.mount there)) (λ l. l)
     (tree_among (length world.mounts) world.mounts (mount_at nat_eq world source) origin m) in
     groups_live_after world new place true mounts
     (supplies_serve_as_images world fresh (parts_of nat_eq world place) mounts serves) own live

@@ -1,7 +1,6 @@
 -- The groups that are new where a tree of mounts is attached, and their masters.
-use Rattle.std.proofs.Common.{arith}
+use Rattle.std.proofs.Common.{arith, ◌≡◌, refl, sym, ap, ◌∙◌, true, false, nat_eq, ℕ, Bool, List, None, Option, Some, [], eq-eqb, inl, inr, not, true≢false, ⊎_elim, ◌∷◌, ◌⊎◌, filter_map, option_map}
 use Rattle.std.proofs.lemmas.Grind.{common_steps}
-use Rattle.std.proofs.Common.{◌≡◌, refl, sym, ap, subst, ◌∙◌, true, false, nat_eq, ℕ, Bool, List, None, Option, Some, [], eq-eqb, inl, inr, not, true≢false, ⊎_elim, ◌∷◌, ◌⊎◌, filter_map, option_map}
 use Rattle.std.proofs.lemmas.Bool.Decides.{eqb_tells}
 use Rattle.std.specs.Prelude.{if◌then◌else◌, unwrap_or}
 use Rattle.vt_spec.proofs.Lists.{Among, among-filter_map, among-flat_map, among-from_filter, among-from_filter_map, among-from_flat_map, among-from_map, among-map, any_from_among}
@@ -30,34 +29,21 @@ made_or_old : (master : ℕ → Option ℕ) (made : List (ℕ × Option ℕ)) (o
     ⊎ IsMade made one (folded (masters_with nat_eq) master made one)
 made_or_old master [] one = inl refl
 made_or_old master (first ∷ rest) one =
-    ⊎_elim
-    (λ kept.
-    ⊎_elim
-    (λ same. inr (first, inl refl, same.1, kept ∙ ap (λ b. if b then first.1 else master one) same.0))
-    (λ other. inl (kept ∙ ap (λ b. if b then first.1 else master one) other.0))
-    (eqb_tells one first.0))
-    (λ t. inr (t.0, inr t.1, t.2, t.3))
-    (made_or_old (masters_with nat_eq master first) rest one)
+    grind (arith, common_steps, eqb_tells, made_or_old (masters_with nat_eq master first) rest one)
 
 -- a group that is made has one of those masters
 made_for_one : (master : ℕ → Option ℕ) (made : List (ℕ × Option ℕ)) (entry : ℕ × Option ℕ) → Among entry made
     → IsMade made entry.0 (folded (masters_with nat_eq) master made entry.0)
 made_for_one master [] entry m = absurd m
-made_for_one master (first ∷ rest) entry m =
-    ⊎_elim
-    (λ kept.
-    ⊎_elim
-    (λ e. (
+made_for_one master (first ∷ rest) entry m = ⊎_elim (λ kept.
+    ⊎_elim (λ e. (
       first,
       inl refl,
       ap (λ (x : ℕ × Option ℕ). x.0) e,
       kept ∙ ap (λ b. if b then first.1 else master entry.0)
           (eq-eqb entry.0 first.0 (ap (λ (x : ℕ × Option ℕ). x.0) e)),
-    ))
-    (λ later. let t = made_for_one (masters_with nat_eq master first) rest entry later in (t.0, inr t.1, t.2, t.3))
-    m)
-    (λ t. (t.0, inr t.1, t.2, t.3))
-    (made_or_old (masters_with nat_eq master first) rest entry.0)
+    )) (λ later. let t = made_for_one (masters_with nat_eq master first) rest entry later in (t.0, inr t.1, t.2, t.3))
+    m) (λ t. (t.0, inr t.1, t.2, t.3)) (made_or_old (masters_with nat_eq master first) rest entry.0)
 
 module _ (world : World ℕ) (new : Copies ℕ) (place : Location ℕ) (moves : Bool) (mounts : List (Mount ℕ))
     (serve : ServeAsImages world (parts_of nat_eq world place) mounts new) (own : OneNumberAMount mounts) where
@@ -81,8 +67,7 @@ module _ (world : World ℕ) (new : Copies ℕ) (place : Location ℕ) (moves : 
 
   -- the master of the image of a group
   abbrev pub image_master : ℕ → Mount ℕ → Option ℕ
-  image_master group origin =
-      if is_member_of nat_eq group destination then master_after origin.propagation
+  image_master group origin = if is_member_of nat_eq group destination then master_after origin.propagation
       else nearest origin (world.master group)
 
   abbrev IsImage : Mount ℕ → ℕ × Option ℕ → Type 0
@@ -102,8 +87,7 @@ module _ (world : World ℕ) (new : Copies ℕ) (place : Location ℕ) (moves : 
 
   -- the group that a type makes, with the type that is taken
   abbrev makes : (Propagation ℕ → Propagation ℕ) → Propagation ℕ → Option (ℕ × Option ℕ)
-  makes taken kind =
-      if is_shared kind then None
+  makes taken kind = if is_shared kind then None
       else option_map (λ own_group. (own_group, master_after kind)) (group_of (taken kind))
 
   image_there : (origin : Mount ℕ) (entry : ℕ × Option ℕ) → twig_master (twig origin) ≡ Some entry
@@ -150,24 +134,18 @@ module _ (world : World ℕ) (new : Copies ℕ) (place : Location ℕ) (moves : 
       by : (part : Mount ℕ) → Among part parts → (origin : Mount ℕ) (b : Bool)
           → is_destination nat_eq tree part.number ≡ b
           → group_made nat_eq world new tree parts part (twig origin) ≡ Some entry → IsImage origin entry
-      by part n origin true f e =
-          image_there origin entry
+      by part n origin true f e = image_there origin entry
           (sym (ap (λ b. if b then twig_master (twig origin) else made_elsewhere origin (group_of part.propagation)) f)
           ∙ e)
-      by part n origin false f e =
-          image_at_part part origin entry n
+      by part n origin false f e = image_at_part part origin entry n
           (sym (ap (λ b. if b then twig_master (twig origin) else made_elsewhere origin (group_of part.propagation)) f)
           ∙ e)
 
   -- groups that had members keep their masters
-  pub old_master : (group : ℕ) → has_members nat_eq world.mounts group ≡ true
-      → after.master group ≡ world.master group
-  old_master group has =
-      ⊎_elim (λ kept. kept)
-      (λ t.
+  pub old_master : (group : ℕ) → has_members nat_eq world.mounts group ≡ true → after.master group ≡ world.master group
+  old_master group has = ⊎_elim (λ kept. kept) (λ t.
       let from = made_are_images t.0 t.1 in
-      absurd (true≢false (sym has
-      ∙ ap (has_members nat_eq world.mounts) (t.2 ∙ from.2.2)
+      absurd (true≢false (sym has ∙ ap (has_members nat_eq world.mounts) (t.2 ∙ from.2.2)
       ∙ unused_members world (new.image from.2.0 from.0.number)
       (serve.unused from.2.0 from.0.number from.2.1 (is_one_of mounts from.0 from.1)))))
       (made_or_old world.master all_made group)
@@ -182,8 +160,7 @@ module _ (world : World ℕ) (new : Copies ℕ) (place : Location ℕ) (moves : 
       let same : (group ≡ from.2.0) × (origin.number ≡ from.0.number) =
       serve.apart group origin.number from.2.0 from.0.number has (is_one_of mounts origin m) from.2.1
       (is_one_of mounts from.0 from.1) (t.2 ∙ from.2.2) in
-      let it : from.0 ≡ origin =
-      sym (found_itself mounts own from.0 from.1) ∙ ap (mount_in nat_eq mounts) (sym same.1)
+      let it : from.0 ≡ origin = sym (found_itself mounts own from.0 from.1) ∙ ap (mount_in nat_eq mounts) (sym same.1)
       ∙ found_itself mounts own origin m in
       t.3 ∙ from.2.3 ∙ ap (λ g. image_master g from.0) (sym same.0) ∙ ap (image_master group) it
 
@@ -208,24 +185,18 @@ module _ (world : World ℕ) (new : Copies ℕ) (place : Location ℕ) (moves : 
       new_master group origin (takes_part_in destination group (inl refl) e) m (master_after kind)
       (made_at destination origin (inl refl) m (new.image group origin.number, master_after kind)
       (ap (λ b. if b then twig_master (twig origin) else made_elsewhere origin (group_of destination.propagation))
-      at_destination
-      ∙ ap (λ o. twig_master (twig_of new o origin)) e
+      at_destination ∙ ap (λ o. twig_master (twig_of new o origin)) e
       ∙ ap (makes (type_on_shared (new.image group origin.number))) f ∙ is))
       ∙ ap (λ b. if b then master_after origin.propagation else nearest origin (world.master group))
-      (member_by_group destination group e)
-      ∙ ap master_after f
+      (member_by_group destination group e) ∙ ap master_after f
 
   -- a member of another group than the destination's is elsewhere
   pub is_elsewhere : (part : Mount ℕ) (group : ℕ) → Among part parts → is_member_of nat_eq group part ≡ true
       → is_member_of nat_eq group destination ≡ false → is_destination nat_eq tree part.number ≡ false
-  is_elsewhere part group m has lacks =
-      ⊎_elim
-      (λ same. absurd (true≢false (sym has ∙ ap (is_member_of nat_eq group) same ∙ lacks)))
-      (λ later.
-      nat_eq_false_turned place.mount part.number
-      (taker_elsewhere world place part
-      (among-from_filter (takes_part nat_eq world place) (receivers_of nat_eq world destination) part later).1))
-      m
+  is_elsewhere part group m has lacks = ⊎_elim
+      (λ same. absurd (true≢false (sym has ∙ ap (is_member_of nat_eq group) same ∙ lacks))) (λ later.
+      nat_eq_false_turned place.mount part.number (taker_elsewhere world place part
+      (among-from_filter (takes_part nat_eq world place) (receivers_of nat_eq world destination) part later).1)) m
 
   -- the master of a group that is made at another part
   pub master_elsewhere : (part origin : Mount ℕ) → Among part parts → Among origin mounts → (group : ℕ)
@@ -238,10 +209,6 @@ module _ (world : World ℕ) (new : Copies ℕ) (place : Location ℕ) (moves : 
       let made : Among (image nat_eq new destination (twig origin) group, above) all_made =
       made_at part origin m n (made_pair origin group)
       (ap (λ b. if b then twig_master (twig origin) else made_elsewhere origin (group_of part.propagation))
-      (is_elsewhere part group m has lacks)
-      ∙ ap (λ k. made_elsewhere origin (group_of k)) shared
+      (is_elsewhere part group m has lacks) ∙ ap (λ k. made_elsewhere origin (group_of k)) shared
       ∙ ap (λ b. when (not b) (made_pair origin group)) lacks) in
-      ap after.master same
-      ∙ new_master group origin (takes_part_in part group m (ap group_of shared)) n above
-      (subst (λ g. Among (g, above) all_made) same made)
-      ∙ ap (λ b. if b then master_after origin.propagation else nearest origin (world.master group)) lacks
+      grind (arith, common_steps, new_master, takes_part_in)

@@ -1,8 +1,9 @@
 -- A mount outside every namespace stays nowhere where a tree of mounts is attached in one.
-use Rattle.std.proofs.Common.{◌≡◌, refl, sym, ap, ◌∙◌, true, false, nat_eq, ℕ, Bool, List, None, Option, Some, [], flat_map, is_some, map, not, true≢false, ⊎_elim, ◌&&◌, ◌++◌, ◌∷◌, ◌||◌}
+use Rattle.std.proofs.Common.{arith, ◌≡◌, refl, sym, ap, ◌∙◌, true, false, nat_eq, ℕ, Bool, List, None, Option, Some, [], flat_map, is_some, map, not, true≢false, ⊎_elim, ◌&&◌, ◌++◌, ◌∷◌, ◌||◌}
+use Rattle.std.proofs.lemmas.Grind.{common_steps}
 use Rattle.std.proofs.lemmas.Bool.{and_parts}
 use Rattle.vt_spec.proofs.Lists.{Among, among-append, among-from_filter, among-from_flat_map, among-from_map, among_from_list_all, list_all_from_among}
-use Rattle.vt_spec.specs.Machine.Attach.{Copies, added_mounts, attached_by, bind_tree, copies_at, copy_at, moved_tree, pushed_onto, reaches, receiver_stood_on, receivers_of, takes_part, with_moved_mounts}
+use Rattle.vt_spec.specs.Machine.Attach.{Copies, added_mounts, attached_by, bind_tree, copies_at, copy_at, moved_tree, pushed_onto, receiver_stood_on, with_moved_mounts}
 use Rattle.vt_spec.specs.Lists.{holds_of, rest_of}
 use Rattle.vt_spec.specs.Machine.Mounts.{Location, Mount, same_location, stands_at}
 use Rattle.vt_spec.specs.Machine.NewMounts.{new_mount, with_new_filesystem}
@@ -30,19 +31,10 @@ module _ (world : World ℕ) (new : Copies ℕ) (place : Location ℕ) (moves : 
   copy_fits part copy e m =
       let tree = graft world new place moves mounts in
       let from = among-from_map (copy_at nat_eq world new tree part_list part) tree.twigs copy m in
-      ap is_nowhere_or_attached from.2
-      ∙ ap (λ b. b || (not true && is_private (copy_at nat_eq world new tree part_list part from.0).propagation)) e
+      grind (arith, common_steps)
 
   taker_attached : (part : Mount ℕ) → Among part (rest_of part_list) → is_some part.namespace ≡ true
-  taker_attached part m =
-      let takes =
-      (among-from_filter (takes_part nat_eq world place) (receivers_of nat_eq world (mount_at nat_eq world place)) part
-      m).1 in
-      let elsewhere = not (nat_eq place.mount part.number) in
-      let alike = nat_eq (mount_at nat_eq world place).filesystem part.filesystem in
-      (and_parts elsewhere (is_some part.namespace)
-      (and_parts (elsewhere && is_some part.namespace) alike
-      (and_parts (elsewhere && is_some part.namespace && alike) (reaches nat_eq world place.node part) takes).0).0).1
+  taker_attached part m = grind (arith, common_steps, among-from_filter, and_parts)
 
   -- what is pushed up stood at a place
   push_fits : (mount : Mount ℕ) → IsFit mount → IsFit (push world new place moves mounts mount)
@@ -60,14 +52,11 @@ module _ (world : World ℕ) (new : Copies ℕ) (place : Location ℕ) (moves : 
           let at : Mount ℕ → Location ℕ = λ part. record { mount = part.number; node = place.node } in
           let stood = (found_in (λ other. stands_at nat_eq (at other) mount) (rest_of part_list) part f).1 in
           sym (ap (λ b. is_some mount.namespace || (not b && is_private mount.propagation))
-          (is_there (same_location nat_eq (at part)) mount.mount_point stood))
-          ∙ e
+          (is_there (same_location nat_eq (at part)) mount.mount_point stood)) ∙ e
 
   moved_fits : (b : Bool) (mount : Mount ℕ)
       → Among mount (with_moved_mounts nat_eq b world.mounts (arriving world new place moves mounts)) → IsFit mount
-  moved_fits true mount m =
-      ⊎_elim
-      (λ old. among_from_list_all is_nowhere_or_attached world.mounts nowhere mount old)
+  moved_fits true mount m = ⊎_elim (λ old. among_from_list_all is_nowhere_or_attached world.mounts nowhere mount old)
       (copy_fits (mount_at nat_eq world place) mount attached)
       (among-folded_mounts world.mounts (arriving world new place moves mounts) mount m)
   moved_fits false mount m = among_from_list_all is_nowhere_or_attached world.mounts nowhere mount m
@@ -83,19 +72,14 @@ module _ (world : World ℕ) (new : Copies ℕ) (place : Location ℕ) (moves : 
       let added = added_mounts moves (arriving world new place moves mounts) in
       let rest = flat_map copies (rest_of part_list) in
       list_all_from_among is_nowhere_or_attached ((old ++ added) ++ rest) (λ mount m.
-      ⊎_elim
-      (λ front.
-      ⊎_elim
-      (λ pushed.
+      ⊎_elim (λ front.
+      ⊎_elim (λ pushed.
       let from =
       among-from_map (push world new place moves mounts) (moved_ones world new place moves mounts) mount pushed in
-      ap is_nowhere_or_attached from.2 ∙ push_fits from.0 (moved_fits moves from.0 from.1))
-      (added_fits moves mount)
-      (among-append old added mount front))
-      (λ later.
+      ap is_nowhere_or_attached from.2 ∙ push_fits from.0 (moved_fits moves from.0 from.1)) (added_fits moves mount)
+      (among-append old added mount front)) (λ later.
       let from = among-from_flat_map copies (rest_of part_list) mount later in
-      copy_fits from.0 mount (taker_attached from.0 from.1) from.2)
-      (among-append (old ++ added) rest mount m))
+      copy_fits from.0 mount (taker_attached from.0 from.1) from.2) (among-append (old ++ added) rest mount m))
 
 pub binds_keep_nowhere : BindsKeepNowhere
 binds_keep_nowhere world fresh source place recursive nowhere attached =

@@ -1,9 +1,10 @@
 -- The types of mounts where a tree of mounts is attached: each mount that was there keeps its type, or moves and takes
 -- that of the tree, and each mount of the tree has a copy at each part.
-use Rattle.std.proofs.Common.{◌≡◌, refl, sym, ap, subst, ◌∙◌, true, false, nat_eq, ℕ, Bool, List, None, Option, Some, [], eq-eqb, eqb-true, flat_map, inl, inr, map, ⊎_elim, ◌++◌, ◌∷◌, ◌⊎◌}
+use Rattle.std.proofs.Common.{arith, ◌≡◌, refl, sym, ap, subst, ◌∙◌, true, false, nat_eq, ℕ, Bool, List, None, Option, Some, [], eq-eqb, eqb-true, flat_map, inl, inr, map, ⊎_elim, ◌++◌, ◌∷◌, ◌⊎◌}
+use Rattle.std.proofs.lemmas.Grind.{common_steps}
 use Rattle.std.specs.Prelude.{if◌then◌else◌}
 use Rattle.vt_spec.proofs.Lists.{Among, among-append, among-append_left, among-append_right, among-flat_map, among-from_flat_map, among-from_map, among-map, among_numbers, any_among, any_from_among}
-use Rattle.vt_spec.specs.Machine.Attach.{Copies, Graft, Twig, added_mounts, attached_by, copies_at, copy_at, copy_number, copy_type, graft_of, parts_of, pushed_up, twig_of, type_at, type_at_part, type_on_shared, with_moved_mounts}
+use Rattle.vt_spec.specs.Machine.Attach.{Copies, Graft, Twig, added_mounts, attached_by, copies_at, copy_at, copy_number, graft_of, parts_of, pushed_up, twig_of, type_at, type_at_part, type_on_shared, with_moved_mounts}
 use Rattle.vt_spec.specs.Lists.{folded, is_among, rest_of}
 use Rattle.vt_spec.specs.Machine.Mounts.{Location, Mount, Propagation, group_of, mount_in, replaced_if_same, with_mount}
 use Rattle.vt_spec.specs.Machine.Mounts.Propagation.{Shared}
@@ -22,20 +23,17 @@ module _ (new : Mount ℕ) where
   -- a mount in the place of one is there
   put_there : (mounts : List (Mount ℕ)) (old : Mount ℕ) → Among old mounts → nat_eq new.number old.number ≡ true
       → Among new (with_mount nat_eq mounts new)
-  put_there mounts old m e =
-      subst (λ x. Among x (with_mount nat_eq mounts new)) (replaced_there new old e)
+  put_there mounts old m e = subst (λ x. Among x (with_mount nat_eq mounts new)) (replaced_there new old e)
       (among-map (replaced_if_same nat_eq new) mounts old m)
 
   left_there : (mounts : List (Mount ℕ)) (old : Mount ℕ) → Among old mounts → nat_eq new.number old.number ≡ false
       → Among old (with_mount nat_eq mounts new)
-  left_there mounts old m e =
-      subst (λ x. Among x (with_mount nat_eq mounts new)) (replaced_elsewhere new old e)
+  left_there mounts old m e = subst (λ x. Among x (with_mount nat_eq mounts new)) (replaced_elsewhere new old e)
       (among-map (replaced_if_same nat_eq new) mounts old m)
 
 -- a mount is there still, or one with its number in its place
 abbrev IsThereOrPut : List (Mount ℕ) → List (Mount ℕ) → Mount ℕ → Type 0
-IsThereOrPut mounts copies old =
-    (mount : Mount ℕ) × Among mount (folded (with_mount nat_eq) mounts copies)
+IsThereOrPut mounts copies old = (mount : Mount ℕ) × Among mount (folded (with_mount nat_eq) mounts copies)
     × ((mount ≡ old) ⊎ (Among mount copies × (mount.number ≡ old.number)))
 
 there_or_put : (mounts copies : List (Mount ℕ)) (old : Mount ℕ) → Among old mounts → IsThereOrPut mounts copies old
@@ -43,19 +41,14 @@ there_or_put mounts [] old m = (old, m, inl refl)
 there_or_put mounts (copy ∷ copies) old m =
     by (nat_eq copy.number old.number) refl (there_or_put (with_mount nat_eq mounts copy) copies)
   where
-    by : (b : Bool) → nat_eq copy.number old.number ≡ b
-        → ((x : Mount ℕ) → Among x (with_mount nat_eq mounts copy)
-        → IsThereOrPut (with_mount nat_eq mounts copy) copies x)
-        → IsThereOrPut mounts (copy ∷ copies) old
+    by : (b : Bool) → nat_eq copy.number old.number ≡ b → ((x : Mount ℕ) → Among x (with_mount nat_eq mounts copy)
+        → IsThereOrPut (with_mount nat_eq mounts copy) copies x) → IsThereOrPut mounts (copy ∷ copies) old
     by true e later =
         let same : copy.number ≡ old.number = eqb-true copy.number old.number e in
         let t = later copy (put_there copy mounts old m e) in (
           t.0,
           t.1,
-          ⊎_elim
-              (λ f. inr (inl f, ap (λ (x : Mount ℕ). x.number) f ∙ same))
-              (λ put. inr (inr put.0, put.1 ∙ same))
-              t.2,
+          ⊎_elim (λ f. inr (inl f, ap (λ (x : Mount ℕ). x.number) f ∙ same)) (λ put. inr (inr put.0, put.1 ∙ same)) t.2,
         )
     by false e later =
         let t = later old (left_there copy mounts old m e) in
@@ -70,28 +63,21 @@ IsPut mounts copies copy =
 each_is_put : (mounts copies : List (Mount ℕ)) (copy : Mount ℕ) → Among copy copies
     → is_among nat_eq copy.number (numbers_of mounts) ≡ true → IsPut mounts copies copy
 each_is_put mounts [] copy m there = absurd m
-each_is_put mounts (first ∷ rest) copy m there =
-    ⊎_elim
-    (λ same.
-    let old =
-    among-from_map (λ (x : Mount ℕ). x.number) mounts copy.number
+each_is_put mounts (first ∷ rest) copy m there = ⊎_elim (λ same.
+    let old = among-from_map (λ (x : Mount ℕ). x.number) mounts copy.number
     (among_numbers (numbers_of mounts) copy.number there) in
     let number : first.number ≡ old.0.number = ap (λ (x : Mount ℕ). x.number) (sym same) ∙ old.2 in
-    let t =
-    there_or_put (with_mount nat_eq mounts first) rest first
+    let t = there_or_put (with_mount nat_eq mounts first) rest first
     (put_there first mounts old.0 old.1 (eq-eqb first.number old.0.number number)) in
     let back : first.number ≡ copy.number = ap (λ (x : Mount ℕ). x.number) (sym same) in (
       t.0,
       t.1,
       ⊎_elim (λ e. inl e) (λ put. inr put.0) t.2,
       ⊎_elim (λ e. ap (λ (x : Mount ℕ). x.number) e) (λ put. put.1) t.2 ∙ back,
-    ))
-    (λ later.
-    let t =
-    each_is_put (with_mount nat_eq mounts first) rest copy later
+    )) (λ later.
+    let t = each_is_put (with_mount nat_eq mounts first) rest copy later
     (ap (is_among nat_eq copy.number) (numbers-with_mount first mounts) ∙ there) in
-    (t.0, t.1, inr t.2, t.3))
-    m
+    (t.0, t.1, inr t.2, t.3)) m
 
 -- a shared mount keeps its group at any destination
 keeps_shared : (new : Copies ℕ) (found : Option ℕ) (origin : Mount ℕ) (group : ℕ) → origin.propagation ≡ Shared group
@@ -144,8 +130,7 @@ module _ (world : World ℕ) (new : Copies ℕ) (place : Location ℕ) (moves : 
 
   -- a pushed one
   pushed_among : (mount : Mount ℕ) → Among mount (movers moves) → Among (push mount) after.mounts
-  pushed_among mount m =
-      among-append_left (old ++ added) rest (push mount)
+  pushed_among mount m = among-append_left (old ++ added) rest (push mount)
       (among-append_left old added (push mount) (among-map push (movers moves) mount m))
 
   -- copies at receivers, and at the destination
@@ -159,8 +144,7 @@ module _ (world : World ℕ) (new : Copies ℕ) (place : Location ℕ) (moves : 
     refl,
   )
 
-  of_copy : (part copy : Mount ℕ) → Among copy (copies part)
-      → (origin : Mount ℕ) × Among origin mounts
+  of_copy : (part copy : Mount ℕ) → Among copy (copies part) → (origin : Mount ℕ) × Among origin mounts
       × (copy.propagation ≡ kind_at world new place moves mounts part origin)
       × (copy.number ≡ copy_number nat_eq new tree part.number origin.number)
   of_copy part copy m =
@@ -178,8 +162,7 @@ module _ (world : World ℕ) (new : Copies ℕ) (place : Location ℕ) (moves : 
   is_copy part copy m n = let from = of_copy part copy n in inr (part, from.0, m, from.1, from.2)
 
   moved_or_old : (b : Bool) (mount : Mount ℕ) → Among mount (movers b) → IsOldOrCopy world new place moves mounts mount
-  moved_or_old true mount m =
-      ⊎_elim (λ l. inl (mount, l, refl)) (is_copy destination mount (inl refl))
+  moved_or_old true mount m = ⊎_elim (λ l. inl (mount, l, refl)) (is_copy destination mount (inl refl))
       (among-folded_mounts world.mounts (copies destination) mount m)
   moved_or_old false mount m = inl (mount, m, refl)
 
@@ -189,24 +172,15 @@ module _ (world : World ℕ) (new : Copies ℕ) (place : Location ℕ) (moves : 
   added_copies false mount m = is_copy destination mount (inl refl) m
 
   pub old_or_copies : (mount : Mount ℕ) → Among mount after.mounts → IsOldOrCopy world new place moves mounts mount
-  old_or_copies mount m =
-      ⊎_elim
-      (λ front.
-      ⊎_elim
-      (λ pushed.
+  old_or_copies mount m = ⊎_elim (λ front.
+      ⊎_elim (λ pushed.
       let from = among-from_map push (movers moves) mount pushed in
       let same : mount.propagation ≡ from.0.propagation =
       ap (λ (x : Mount ℕ). x.propagation) from.2 ∙ push_type from.0 in
-      ⊎_elim
-      (λ l. inl (l.0, l.1, same ∙ l.2))
-      (λ l. inr (l.0, l.1, l.2, l.3, same ∙ l.4))
-      (moved_or_old moves from.0 from.1))
-      (added_copies moves mount)
-      (among-append old added mount front))
-      (λ later.
+      ⊎_elim (λ l. inl (l.0, l.1, same ∙ l.2)) (λ l. inr (l.0, l.1, l.2, l.3, same ∙ l.4))
+      (moved_or_old moves from.0 from.1)) (added_copies moves mount) (among-append old added mount front)) (λ later.
       let from = among-from_flat_map copies (rest_of parts) mount later in
-      is_copy from.0 mount (inr from.1) from.2)
-      (among-append (old ++ added) rest mount m)
+      is_copy from.0 mount (inr from.1) from.2) (among-append (old ++ added) rest mount m)
 
 -- Where nothing moves
 module _ (world : World ℕ) (new : Copies ℕ) (place : Location ℕ) (mounts : List (Mount ℕ)) where
@@ -218,19 +192,14 @@ module _ (world : World ℕ) (new : Copies ℕ) (place : Location ℕ) (mounts :
       pushed_up nat_eq world new (graft_of nat_eq world new place false mounts) (parts_of nat_eq world place)
       member.0 in
       any_from_among (is_member_of nat_eq group) later pushed
-      (pushed_among world new place false mounts member.0 member.1)
-      (shared_member group pushed
+      (pushed_among world new place false mounts member.0 member.1) (shared_member group pushed
       (push_type world new place false mounts member.0 ∙ member_shared group member.0 member.2))
 
   pub copies_there : HasCopies world new place false mounts
-  copies_there part origin m n =
-      ⊎_elim
-      (λ same. subst
+  copies_there part origin m n = ⊎_elim (λ same. subst
       (λ x. (copy : Mount ℕ) × Among copy (attached_by nat_eq world new place false mounts).mounts
-      × (copy.propagation ≡ kind_at world new place false mounts x origin))
-      (sym same) (at_place))
-      (λ later. copied_there world new place false mounts part origin later n)
-      m
+      × (copy.propagation ≡ kind_at world new place false mounts x origin)) (sym same) (at_place))
+      (λ later. copied_there world new place false mounts part origin later n) m
     where
       at_place : (copy : Mount ℕ) × Among copy (attached_by nat_eq world new place false mounts).mounts
           × (copy.propagation ≡ kind_at world new place false mounts (mount_at nat_eq world place) origin)
@@ -267,14 +236,7 @@ module _ (world : World ℕ) (new : Copies ℕ) (place : Location ℕ) (mounts :
       (from.0, from.1, from.2, from.3 ∙ keeps_number world new place mounts from.0.number)
 
   kind_shared : (origin : Mount ℕ) (group : ℕ) → origin.propagation ≡ Shared group → kind origin ≡ Shared group
-  kind_shared origin group e =
-      let destination = mount_at nat_eq world place in
-      let taken = twig_of new (group_of destination.propagation) origin in
-      ap
-      (λ b. if b then taken.propagation
-      else copy_type nat_eq world new (parts_of nat_eq world place) destination taken destination.propagation)
-      (eq-eqb destination.number place.mount (number-mount_in world.mounts place.mount))
-      ∙ keeps_shared new (group_of destination.propagation) origin group e
+  kind_shared origin group e = grind (arith, common_steps, eq-eqb, number-mount_in, keeps_shared)
 
   pub members_move : MembersStay world new place true mounts
   members_move group has =
@@ -282,29 +244,20 @@ module _ (world : World ℕ) (new : Copies ℕ) (place : Location ℕ) (mounts :
       let member = any_among (is_member_of nat_eq group) world.mounts has in
       let shared : member.0.propagation ≡ Shared group = member_shared group member.0 member.2 in
       let t = there_or_put world.mounts arriving member.0 member.1 in
-      let type_is : t.0.propagation ≡ Shared group =
-      ⊎_elim
-      (λ same. ap (λ (x : Mount ℕ). x.propagation) same ∙ shared)
+      let type_is : t.0.propagation ≡ Shared group = ⊎_elim (λ same. ap (λ (x : Mount ℕ). x.propagation) same ∙ shared)
       (λ put.
       let from = arrives t.0 put.0 in
-      let same : from.0 ≡ member.0 =
-      sym (found_itself world.mounts one from.0 (moving from.0 from.1))
-      ∙ ap (mount_in nat_eq world.mounts) (sym from.3 ∙ put.1)
-      ∙ found_itself world.mounts one member.0 member.1 in
-      from.2 ∙ ap kind same ∙ kind_shared member.0 group shared)
-      t.2 in
+      let same : from.0 ≡ member.0 = sym (found_itself world.mounts one from.0 (moving from.0 from.1))
+      ∙ ap (mount_in nat_eq world.mounts) (sym from.3 ∙ put.1) ∙ found_itself world.mounts one member.0 member.1 in
+      from.2 ∙ ap kind same ∙ kind_shared member.0 group shared) t.2 in
       any_from_among (is_member_of nat_eq group) later (move t.0) (pushed_among world new place true mounts t.0 t.1)
       (shared_member group (move t.0) (push_type world new place true mounts t.0 ∙ type_is))
 
   pub copies_arrive : HasCopies world new place true mounts
-  copies_arrive part origin m n =
-      ⊎_elim
-      (λ same. subst
+  copies_arrive part origin m n = ⊎_elim (λ same. subst
       (λ x. (copy : Mount ℕ) × Among copy (attached_by nat_eq world new place true mounts).mounts
-      × (copy.propagation ≡ kind_at world new place true mounts x origin))
-      (sym same) (at_place))
-      (λ later. copied_there world new place true mounts part origin later n)
-      m
+      × (copy.propagation ≡ kind_at world new place true mounts x origin)) (sym same) (at_place))
+      (λ later. copied_there world new place true mounts part origin later n) m
     where
       at_place : (copy : Mount ℕ) × Among copy (attached_by nat_eq world new place true mounts).mounts
           × (copy.propagation ≡ kind origin)
@@ -312,8 +265,7 @@ module _ (world : World ℕ) (new : Copies ℕ) (place : Location ℕ) (mounts :
           let destination = mount_at nat_eq world place in
           let copy = made world new place true mounts destination (twig world new place true mounts origin) in
           let number : copy.number ≡ origin.number = keeps_number world new place mounts origin.number in
-          let t =
-          each_is_put world.mounts arriving copy (copy_among world new place true mounts destination origin n)
+          let t = each_is_put world.mounts arriving copy (copy_among world new place true mounts destination origin n)
           (ap (λ k. is_among nat_eq k (numbers_of world.mounts)) number
           ∙ is_one_of world.mounts origin (moving origin n)) in
           let from = arrives t.0 t.2 in

@@ -1,7 +1,6 @@
 -- A tree of mounts that is attached stands where it is attached, and what it pushes up stands on it.
-use Rattle.std.proofs.Common.{arith}
+use Rattle.std.proofs.Common.{arith, ◌≡◌, refl, sym, ap, subst, ◌∙◌, true, false, nat_eq, ℕ, Bool, List, None, Option, Some, [], eq-eqb, flat_map, inl, inr, length, map, option_map, suc, true≢false, zero, ⊎_elim, ◌++◌, ◌∷◌, ◌||◌}
 use Rattle.std.proofs.lemmas.Grind.{common_steps}
-use Rattle.std.proofs.Common.{◌≡◌, refl, sym, ap, subst, ◌∙◌, true, false, nat_eq, ℕ, Bool, List, None, Option, Some, [], eq-eqb, flat_map, inl, inr, length, map, option_map, suc, true≢false, zero, ⊎_elim, ◌++◌, ◌∷◌, ◌||◌}
 use Rattle.std.specs.List.{list_any}
 use Rattle.std.specs.Prelude.{if◌then◌else◌, unwrap_or}
 use Rattle.std.proofs.lemmas.Option.{same_Some}
@@ -57,8 +56,7 @@ module _ (mounts : List (Mount ℕ)) where
             t.1,
             ap (λ (l : Location ℕ). l.mount)
                 (ap (last_or here) (chain_goes_on cover n here (root_of child) (ap (option_map root_of) f))
-                ∙ last_of_chain cover n (root_of child) here)
-                ∙ t.2,
+                ∙ last_of_chain cover n (root_of child) here) ∙ t.2,
           )
 
 -- what stands at a receiver goes onto a copy
@@ -73,18 +71,16 @@ pub stood_on_there : (world : World ℕ) → NowhereOrAttached world → (number
     → (mount_numbered nat_eq world number).mount_point ≡ Some on
     → (mount_numbered nat_eq world number).namespace ≡ (mount_numbered nat_eq world on.mount).namespace
     → is_mount world on.mount ≡ true
-stood_on_there world nowhere number on e f =
-    grind (
-      arith,
-      common_steps,
-      number-mount_in world.mounts on.mount,
-      is_one_of world.mounts (mount_numbered nat_eq
-          world on.mount),
-      placed_among world.mounts number on e,
-      found_or_none world.mounts on.mount,
-      true≢false,
-      among_from_list_all,
-    )
+stood_on_there world nowhere number on e f = grind (
+  arith,
+  common_steps,
+  number-mount_in world.mounts on.mount,
+  is_one_of world.mounts (mount_numbered nat_eq world on.mount),
+  placed_among world.mounts number on e,
+  found_or_none world.mounts on.mount,
+  true≢false,
+  among_from_list_all,
+)
 
 -- a receiver that takes part is one of the world's mounts
 pub taker_there : (world : World ℕ) (place : Location ℕ) (mount : Mount ℕ)
@@ -122,8 +118,7 @@ module _ (world : World ℕ) (new : Copies ℕ) (place : Location ℕ) (mounts :
 
   -- where the copy at a part stands: at the part for the top, else on the copy of its parent
   abbrev landing : Mount ℕ → Option (Location ℕ) → Bool → Location ℕ
-  landing part parent first =
-      if first then place_at part else unwrap_or (option_map
+  landing part parent first = if first then place_at part else unwrap_or (option_map
       (mount_point_on_copy nat_eq new tree part.number) parent) place
 
   abbrev after : World ℕ
@@ -140,21 +135,18 @@ module _ (world : World ℕ) (new : Copies ℕ) (place : Location ℕ) (mounts :
   found_old number is = found_attached world new place false mounts number is
 
   copy_among : (part origin : Mount ℕ) → Among origin mounts → Among (copy part origin) (copies part)
-  copy_among part origin m =
-      among-map (made part) tree.twigs (twig origin) (among-map twig mounts origin m)
+  copy_among part origin m = among-map (made part) tree.twigs (twig origin) (among-map twig mounts origin m)
 
   copy_after : (part origin : Mount ℕ) → Among part parts → Among origin mounts → Among (copy part origin) after.mounts
   copy_after part origin m n =
       let old = map push world.mounts in
       let first = copies destination in
       let rest = flat_map copies (rest_of parts) in
-      ⊎_elim
-      (λ e. among-append_left (old ++ first) rest (copy part origin)
+      ⊎_elim (λ e. among-append_left (old ++ first) rest (copy part origin)
       (among-append_right old first (copy part origin)
       (subst (λ x. Among (copy part origin) (copies x)) e (copy_among part origin n))))
       (λ later. among-append_right (old ++ first) rest (copy part origin)
-      (among-flat_map copies (rest_of parts) part (copy part origin) later (copy_among part origin n)))
-      m
+      (among-flat_map copies (rest_of parts) part (copy part origin) later (copy_among part origin n))) m
 
   found_copy : (part origin : Mount ℕ) → Among part parts → Among origin mounts
       → mount_numbered nat_eq after (copy part origin).number ≡ copy part origin
@@ -174,8 +166,7 @@ module _ (world : World ℕ) (new : Copies ℕ) (place : Location ℕ) (mounts :
 
     copies_stand : (number : ℕ) → Hangs mounts number → (origin : Mount ℕ) → Among origin mounts
         → origin.number ≡ number → Stands nat_eq after (copy part origin).number
-    copies_stand number (from_top first rest list) origin m same =
-        top_stands origin m
+    copies_stand number (from_top first rest list) origin m same = top_stands origin m
         (ap (λ (ms : List (Mount ℕ)). holds_of (same_origin (twig origin)) (first_of_list (map twig ms))) list
         ∙ eq-eqb origin.number first.number same)
     copies_stand number (from_parent other on l f later) origin m same =
@@ -187,16 +178,13 @@ module _ (world : World ℕ) (new : Copies ℕ) (place : Location ℕ) (mounts :
         by true e parent_stands = top_stands origin m e
         by false e parent_stands =
             let found = found_copy part origin is_part m in
-            let it : other ≡ origin =
-            sym (found_itself mounts own other l) ∙ ap (mount_in nat_eq mounts) (sym same)
+            let it : other ≡ origin = sym (found_itself mounts own other l) ∙ ap (mount_in nat_eq mounts) (sym same)
             ∙ found_itself mounts own origin m in
             let parent = hanging mounts on.mount later in
             let place_is : origin.mount_point ≡ Some on = ap (λ (x : Mount ℕ). x.mount_point) (sym it) ∙ f in
             on_parent (copy part origin).number (mount_point_on_copy nat_eq new tree part.number on)
-            (ap (λ (x : Mount ℕ). x.mount_point) found
-            ∙ ap (λ b. Some (landing part origin.mount_point b)) e
-            ∙ ap (λ p. Some (landing part p false)) place_is)
-            (ap (λ (x : Mount ℕ). x.namespace) found
+            (ap (λ (x : Mount ℕ). x.mount_point) found ∙ ap (λ b. Some (landing part origin.mount_point b)) e
+            ∙ ap (λ p. Some (landing part p false)) place_is) (ap (λ (x : Mount ℕ). x.namespace) found
             ∙ sym (ap (λ k. (mount_numbered nat_eq after k).namespace)
             (ap (copy_number nat_eq new tree part.number) (sym parent.2))
             ∙ ap (λ (x : Mount ℕ). x.namespace) (found_copy part parent.0 is_part parent.1)))
@@ -209,17 +197,14 @@ module _ (world : World ℕ) (new : Copies ℕ) (place : Location ℕ) (mounts :
 
   stands_after : NowhereOrAttached world → (number : ℕ) → Stands nat_eq world number → is_mount world number ≡ true
       → Stands nat_eq after number
-  stands_after nowhere number (at_root it e) is =
-      at_root it
-      (ap (λ (x : Mount ℕ). x.mount_point) (found_old it is)
+  stands_after nowhere number (at_root it e) is = at_root it (ap (λ (x : Mount ℕ). x.mount_point) (found_old it is)
       ∙ ap (λ (x : Mount ℕ). x.mount_point)
       (none_pushes world new tree parts (mount_numbered nat_eq world it) (at_no_place (rest_of parts))) ∙ e)
     where
       at_no_place : (list : List (Mount ℕ))
           → list_any (λ receiver. stands_at nat_eq (place_at receiver) (mount_numbered nat_eq world it)) list ≡ false
       at_no_place [] = refl
-      at_no_place (receiver ∷ list) =
-          ap (λ p. holds_of (same_location nat_eq (place_at receiver)) p
+      at_no_place (receiver ∷ list) = ap (λ p. holds_of (same_location nat_eq (place_at receiver)) p
           || list_any (λ other. stands_at nat_eq (place_at other) (mount_numbered nat_eq world it)) list) e
           ∙ at_no_place list
   stands_after nowhere number (on_parent it on e f stands) is =
@@ -228,17 +213,13 @@ module _ (world : World ℕ) (new : Copies ℕ) (place : Location ℕ) (mounts :
       (stands_after nowhere on.mount stands parent_is)
     where
       by : (receiver : Option (Mount ℕ)) → receiver_stood_on nat_eq tree parts (mount_numbered nat_eq world it)
-          ≡ receiver
-          → is_mount world on.mount ≡ true → Stands nat_eq after on.mount → Stands nat_eq after it
-      by None none parent_is parent =
-          on_parent it on
-          (ap (λ (x : Mount ℕ). x.mount_point) (found_old it is)
+          ≡ receiver → is_mount world on.mount ≡ true → Stands nat_eq after on.mount → Stands nat_eq after it
+      by None none parent_is parent = on_parent it on (ap (λ (x : Mount ℕ). x.mount_point) (found_old it is)
           ∙ ap (λ (x : Mount ℕ). x.mount_point)
           (ap (pushed_onto nat_eq world new tree parts (mount_numbered nat_eq world it)) none) ∙ e)
           (ap (λ (x : Mount ℕ). x.namespace) (found_old it is) ∙ push_namespace (mount_numbered nat_eq world it) ∙ f
           ∙ sym (ap (λ (x : Mount ℕ). x.namespace) (found_old on.mount parent_is)
-          ∙ push_namespace (mount_numbered nat_eq world on.mount)))
-          parent
+          ∙ push_namespace (mount_numbered nat_eq world on.mount))) parent
       by (Some receiver) some parent_is parent =
           let found =
           found_in (λ part. stands_at nat_eq (place_at part) (mount_numbered nat_eq world it)) (rest_of parts)
@@ -262,8 +243,7 @@ module _ (world : World ℕ) (new : Copies ℕ) (place : Location ℕ) (mounts :
           let new_place = top_of_copies nat_eq (copies receiver) place in
           let number : new_place.mount ≡ (copy receiver origin.0).number =
           onto.2 ∙ ap (λ (x : Mount ℕ). x.number) it_is in
-          on_parent it new_place
-          (ap (λ (x : Mount ℕ). x.mount_point) (found_old it is)
+          on_parent it new_place (ap (λ (x : Mount ℕ). x.mount_point) (found_old it is)
           ∙ ap (λ (x : Mount ℕ). x.mount_point)
           (ap (pushed_onto nat_eq world new tree parts (mount_numbered nat_eq world it)) some))
           (ap (λ (x : Mount ℕ). x.namespace) (found_old it is) ∙ push_namespace (mount_numbered nat_eq world it) ∙ f
@@ -298,14 +278,11 @@ module _ (world : World ℕ) (new : Copies ℕ) (place : Location ℕ) (mounts :
       subst (λ (x : Mount ℕ). Stands nat_eq after x.number) (sym it_is)
       (copies_stand part p (old_stands part l) in_its origin.0.number (hangs origin.0 origin.1) origin.0
       origin.1 refl) in
-      ⊎_elim
-      (λ here.
-      ⊎_elim
-      (λ l. let from = among-from_map push world.mounts mount l in
+      ⊎_elim (λ here.
+      ⊎_elim (λ l. let from = among-from_map push world.mounts mount l in
       subst (λ n. Stands nat_eq after n)
       (sym (ap (λ (x : Mount ℕ). x.number) from.2 ∙ (push_keeps world new tree parts from.0).number))
-      (old_stands from.0 from.1))
-      (λ l. copied destination (inl refl) destination_there l)
+      (old_stands from.0 from.1)) (λ l. copied destination (inl refl) destination_there l)
       (among-append old first mount here))
       (λ later. let from = among-from_flat_map copies (rest_of parts) mount later in
       copied from.0 (inr from.1) (taker_there world place from.0 from.1) from.2)

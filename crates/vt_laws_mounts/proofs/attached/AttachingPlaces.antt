@@ -38,9 +38,7 @@ beside other place = is_some place && same_option (same_location nat_eq) place o
 -- two places on two mounts
 pub differ_by_mount : (a b : Mount ℕ) (p q : Location ℕ) → a.mount_point ≡ Some p → b.mount_point ≡ Some q
     → nat_eq p.mount q.mount ≡ false → test a b ≡ false
-differ_by_mount a b p q e f differ =
-    ap (beside b.mount_point) e
-    ∙ ap (same_option (same_location nat_eq) (Some p)) f
+differ_by_mount a b p q e f differ = ap (beside b.mount_point) e ∙ ap (same_option (same_location nat_eq) (Some p)) f
     ∙ ap (λ c. c && nat_eq p.node q.node) differ
 
 -- what stands at one place has it twice
@@ -90,9 +88,7 @@ module _ (list : List (Mount ℕ)) where
           let end : end_of (suc n) here ≡ end_of n (root_of child) =
           ap (last_or here) (chain_goes_on (cover list) n here (root_of child) (ap (option_map root_of) e))
           ∙ last_of_chain (cover list) n (root_of child) here in
-          ⊎_elim
-          (λ done. inl (ap (child_at nat_eq list) end ∙ done))
-          (λ steps.
+          ⊎_elim (λ done. inl (ap (child_at nat_eq list) end ∙ done)) (λ steps.
           inr (next n here (end_of (suc n) here) child e (subst (Covers list n (root_of child)) (sym end) steps)))
           (later (root_of child))
 
@@ -116,12 +112,10 @@ module _ (list : List (Mount ℕ)) where
       → Among number (visited n here end steps) → Among number (numbers_of list)
   unfolding visited
   visited_there n here end (none it) number m = absurd m
-  visited_there n here end (next k it last child e steps) number m =
-      ⊎_elim
+  visited_there n here end (next k it last child e steps) number m = ⊎_elim
       (λ same. subst (λ x. Among x (numbers_of list)) (sym same)
       (among-map (λ (mount : Mount ℕ). mount.number) list child (found_in (stands_at nat_eq it) list child e).0))
-      (visited_there k (root_of child) last steps number)
-      m
+      (visited_there k (root_of child) last steps number) m
 
   module _ (world : World ℕ) (one : OneNumberAMount world.mounts) (all : AllStand world)
       (are_there : (mount : Mount ℕ) → Among mount list → Among mount world.mounts) where
@@ -132,23 +126,14 @@ module _ (list : List (Mount ℕ)) where
         → depth_of child.number ≡ suc (depth_of here.mount)
     cover_rank here child e =
         let found = found_in (stands_at nat_eq here) list child e in
-        rank_child world one all child.number here
-        (ap (λ (x : Mount ℕ). x.mount_point) (found_itself world.mounts one child (are_there child found.0))
-        ∙ stands_there here child found.1)
+        grind (arith, common_steps, rank_child, found_itself, stands_there)
 
     visited_deeper : (n : ℕ) (here end : Location ℕ) (steps : Covers list n here end) (number : ℕ)
         → Among number (visited n here end steps) → depth_of here.mount < depth_of number
     unfolding visited
     visited_deeper n here end (none it) number m = absurd m
     visited_deeper n here end (next k it last child e steps) number m =
-        let up = cover_rank it child e in
-        ⊎_elim
-        (λ same. let level : depth_of number ≡ depth_of child.number = ap depth_of same in omega (arith, up, level))
-        (λ later.
-        let further : depth_of child.number < depth_of number =
-        visited_deeper k (root_of child) last steps number later in
-        omega (arith, up, further))
-        m
+        grind (arith, common_steps, cover_rank, visited_deeper k (root_of child) last steps number)
 
     visited_apart : (n : ℕ) (here end : Location ℕ) (steps : Covers list n here end)
         → any_pair nat_eq (visited n here end steps) ≡ false
@@ -161,8 +146,7 @@ module _ (list : List (Mount ℕ)) where
         false_from_ne_true (nat_eq child.number number) (λ same.
         let level : depth_of child.number ≡ depth_of number = ap depth_of (eqb-true child.number number same) in
         let further : depth_of child.number < depth_of number = visited_deeper k (root_of child) last steps number m in
-        absurd (omega (arith, level, further)))))
-        (visited_apart k (root_of child) last steps)
+        absurd (omega (arith, level, further))))) (visited_apart k (root_of child) last steps)
 
     -- nothing covers what is topmost
     pub topmost_free : (here : Location ℕ) → child_at nat_eq list (end_of (length list) here) ≡ None
@@ -171,9 +155,7 @@ module _ (list : List (Mount ℕ)) where
         by : (child : Option (Mount ℕ)) → child_at nat_eq list (end_of (length list) here) ≡ child
             → child_at nat_eq list (end_of (length list) here) ≡ None
         by None e = e
-        by (Some child) e =
-            ⊎_elim (λ done. done)
-            (λ steps.
+        by (Some child) e = ⊎_elim (λ done. done) (λ steps.
             let n = suc (length list) in
             let end = root_of child in
             let more = one_more (length list) here (end_of (length list) here) child steps e in
@@ -181,8 +163,7 @@ module _ (list : List (Mount ℕ)) where
             (visited_apart n here end more) (visited_there n here end more) in
             let long = visited_length n here end more in
             let size = length-map list (λ (mount : Mount ℕ). mount.number) in
-            absurd (omega (arith, few, long, size)))
-            (ends_or_covers (length list) here)
+            absurd (omega (arith, few, long, size))) (ends_or_covers (length list) here)
 
 module _ (world : World ℕ) (new : Copies ℕ) (place : Location ℕ) (mounts : List (Mount ℕ))
     (serve : ServeAsCopies world (parts_of nat_eq world place) mounts new) (own : OneNumberAMount mounts)
@@ -221,8 +202,7 @@ module _ (world : World ℕ) (new : Copies ℕ) (place : Location ℕ) (mounts :
 
   -- where the copy at a part stands: at the part for the top, else on the copy of its parent
   abbrev landing : Mount ℕ → Option (Location ℕ) → Bool → Location ℕ
-  landing part parent first =
-      if first then place_at part else unwrap_or (option_map
+  landing part parent first = if first then place_at part else unwrap_or (option_map
       (mount_point_on_copy nat_eq new tree part.number) parent) place
 
   abbrev after : World ℕ
@@ -250,11 +230,9 @@ module _ (world : World ℕ) (new : Copies ℕ) (place : Location ℕ) (mounts :
       let old = map push world.mounts in
       let first = copies (mount_at nat_eq world place) in
       let rest = flat_map copies (rest_of parts) in
-      ⊎_elim
-      (λ e. among-append_left (old ++ first) rest x
+      ⊎_elim (λ e. among-append_left (old ++ first) rest x
       (among-append_right old first x (subst (λ y. Among x (copies y)) e n)))
-      (λ later. among-append_right (old ++ first) rest x (among-flat_map copies (rest_of parts) part x later n))
-      m
+      (λ later. among-append_right (old ++ first) rest x (among-flat_map copies (rest_of parts) part x later n)) m
 
   -- Where a copy stands: the top at the part's place, another one on the copy of what its origin stands on
   data CopyPlace (part origin : Mount ℕ) : Type 0 where
@@ -303,30 +281,20 @@ module _ (world : World ℕ) (new : Copies ℕ) (place : Location ℕ) (mounts :
       let used : Among number (numbers_in_use world) =
       subst (λ k. Among k (numbers_in_use world)) (number-mount_in world.mounts number)
       (number_in_use world (mount_numbered nat_eq world number) found) in
-      true≢false
-      (sym (is_among_numbers (numbers_in_use world) (new.copy part.number origin.number)
-      (subst (λ k. Among k (numbers_in_use world))
-      (eqb-true number (new.copy part.number origin.number) same) used))
+      true≢false (sym (is_among_numbers (numbers_in_use world) (new.copy part.number origin.number)
+      (subst (λ k. Among k (numbers_in_use world)) (eqb-true number (new.copy part.number origin.number) same) used))
       ∙ serve.unused part.number origin.number (is_one_of parts part m) (is_one_of mounts origin n)))
 
   -- copies at two parts have two numbers
   two_parts : (p q a b : Mount ℕ) → Among p parts → Among q parts → Among a mounts → Among b mounts
       → nat_eq p.number q.number ≡ false → nat_eq (new.copy p.number a.number) (new.copy q.number b.number) ≡ false
   two_parts p q a b m n k l differ =
-      false_from_ne_true (nat_eq (new.copy p.number a.number) (new.copy q.number b.number)) (λ same.
-      let at : (p.number ≡ q.number) × (a.number ≡ b.number) =
-      serve.apart p.number a.number q.number b.number
-      (is_one_of parts p m) (is_one_of mounts a k) (is_one_of parts q n) (is_one_of mounts b l)
-      (eqb-true (new.copy p.number a.number) (new.copy q.number b.number) same) in
-      true≢false (sym (eq-eqb p.number q.number at.0) ∙ differ))
+      grind (arith, common_steps, is_one_of parts p m, is_one_of mounts a k, is_one_of parts q n, is_one_of mounts b l)
 
   part_there : (part : Mount ℕ) → Among part parts → is_mount world part.number ≡ true
-  part_there part m =
-      ⊎_elim
-      (λ e. subst (λ n. is_mount world n ≡ true)
+  part_there part m = ⊎_elim (λ e. subst (λ n. is_mount world n ≡ true)
       (sym (ap (λ (x : Mount ℕ). x.number) e ∙ number-mount_in world.mounts place.mount)) there)
-      (λ later. is_one_of world.mounts part (taker_there world place part later))
-      m
+      (λ later. is_one_of world.mounts part (taker_there world place part later)) m
 
   -- copies at two parts
   apart_at_two : (p q x y : Mount ℕ) → Among p parts → Among q parts → same_number p q ≡ false → Among x (copies p)
@@ -352,9 +320,7 @@ module _ (world : World ℕ) (new : Copies ℕ) (place : Location ℕ) (mounts :
     two_at_one part m a b i j differ = by (copy_mount_point_of part a i) (copy_mount_point_of part b j)
       where
         by : CopyPlace part a → CopyPlace part b → test (copy part a) (copy part b) ≡ false
-        by (at_part e f) (at_part g h) =
-            absurd
-            (true≢false
+        by (at_part e f) (at_part g h) = absurd (true≢false
             (sym (eq-eqb a.number b.number (eqb-true a.number top.number e ∙ sym (eqb-true b.number top.number g)))
             ∙ differ))
         by (at_part e f) (on_copy on parent g h there_is same d) =
@@ -385,28 +351,23 @@ module _ (world : World ℕ) (new : Copies ℕ) (place : Location ℕ) (mounts :
             true≢false (sym (stand_together a b on f place_is) ∙ spread a b i j e g differ))
 
     copies_spread : (part : Mount ℕ) → Among part parts → any_pair test (copies part) ≡ false
-    copies_spread part m =
-        pair-map same_origin test (made part) tree.twigs
-        (λ a b k l differ.
+    copies_spread part m = pair-map same_origin test (made part) tree.twigs (λ a b k l differ.
         let x = among-from_map twig mounts a k in
         let y = among-from_map twig mounts b l in
         subst (λ z. test (made part z) (made part b) ≡ false) (sym x.2)
-        (subst (λ z. test (copy part x.0) (made part z) ≡ false) (sym y.2)
-        (two_at_one part m x.0 y.0 x.1 y.1
+        (subst (λ z. test (copy part x.0) (made part z) ≡ false) (sym y.2) (two_at_one part m x.0 y.0 x.1 y.1
         (subst (λ z. nat_eq x.0.number z.origin.number ≡ false) y.2
         (subst (λ z. nat_eq z.origin.number b.origin.number ≡ false) x.2 differ)))))
         (pair-map same_number same_origin twig mounts (λ a b k l differ. differ) own)
 
     all_copies_spread : any_pair test (flat_map copies parts) ≡ false
-    all_copies_spread =
-        pair-flat_map test copies parts (parts_apart world place one) copies_spread apart_at_two
+    all_copies_spread = pair-flat_map test copies parts (parts_apart world place one) copies_spread apart_at_two
 
     -- What was there: it stays, or goes onto the copy at the receiver where it stood
     data PushCase (mount : Mount ℕ) : Type 0 where
       stays : push mount ≡ mount → receiver_stood_on nat_eq tree parts mount ≡ None → PushCase mount
       goes : (receiver origin : Mount ℕ) → Among receiver (rest_of parts) → Among origin mounts
-          → mount.mount_point ≡ Some (place_at receiver)
-          → (push mount).mount_point ≡ Some (top_at receiver)
+          → mount.mount_point ≡ Some (place_at receiver) → (push mount).mount_point ≡ Some (top_at receiver)
           → (top_at receiver).mount ≡ new.copy receiver.number origin.number → PushCase mount
 
     top_in : Among top mounts
@@ -424,8 +385,7 @@ module _ (world : World ℕ) (new : Copies ℕ) (place : Location ℕ) (mounts :
             let found = found_in (λ part. stands_at nat_eq (place_at part) mount) (rest_of parts) receiver e in
             let onto = top_among (copies receiver) place (copy receiver top) (top_copy receiver) in
             let of = copied receiver onto.0 onto.1 in
-            goes receiver of.0 found.0 of.1
-            (stands_there (place_at receiver) mount found.1)
+            goes receiver of.0 found.0 of.1 (stands_there (place_at receiver) mount found.1)
             (ap (λ (x : Mount ℕ). x.mount_point) (ap (pushed_onto nat_eq world new tree parts mount) e))
             (onto.2 ∙ ap (λ (x : Mount ℕ). x.number) of.2)
 
@@ -438,15 +398,8 @@ module _ (world : World ℕ) (new : Copies ℕ) (place : Location ℕ) (mounts :
       where
         by : Stands nat_eq world mount.number → mount_numbered nat_eq world mount.number ≡ mount
             → is_mount world on.mount ≡ true
-        by (at_root number f) itself =
-            absurd (true≢false (sym (ap is_some e) ∙ sym (ap (λ (x : Mount ℕ). is_some x.mount_point) itself)
-            ∙ ap is_some f))
-        by (on_parent number at f g stands) itself =
-            let same : at.mount ≡ on.mount =
-            ap (λ (l : Location ℕ). l.mount)
-            (same_Some at on (sym f ∙ ap (λ (x : Mount ℕ). x.mount_point) itself ∙ e)) in
-            subst (λ n. is_mount world n ≡ true) same
-            (stood_on_there world nowhere number at f g)
+        by (at_root number f) itself = grind (arith, common_steps, true≢false)
+        by (on_parent number at f g stands) itself = grind (arith, common_steps, at, same_Some, stood_on_there)
 
     two_old : OneMountAMountPoint world.mounts → (a b : Mount ℕ) → Among a world.mounts → Among b world.mounts
         → test a b ≡ false → test (push a) (push b) ≡ false
@@ -472,8 +425,7 @@ module _ (world : World ℕ) (new : Copies ℕ) (place : Location ℕ) (mounts :
                 ap (nat_eq on.mount) same ∙ fresh_one in (
                   ap (λ (z : Mount ℕ). test z (push y)) keeps
                       ∙ differ_by_mount x (push y) on (top_at receiver) e f elsewhere,
-                  ap (λ (z : Mount ℕ). test (push y) z) keeps
-                      ∙ differ_by_mount (push y) x (top_at receiver) on f e
+                  ap (λ (z : Mount ℕ). test (push y) z) keeps ∙ differ_by_mount (push y) x (top_at receiver) on f e
                       (nat_eq_false_turned on.mount (top_at receiver).mount elsewhere),
                 )
 
@@ -482,19 +434,7 @@ module _ (world : World ℕ) (new : Copies ℕ) (place : Location ℕ) (mounts :
         by (stays e f) (goes receiver origin r o g h same) = (mixed a b m e receiver origin r o h same).0
         by (goes receiver origin r o e f same) (stays g h) = (mixed b a n g receiver origin r o f same).1
         by (goes receiver origin r o e f same) (goes other second t u g h same_too) =
-            two (nat_eq receiver.number other.number) refl
-          where
-            two : (c : Bool) → nat_eq receiver.number other.number ≡ c → test (push a) (push b) ≡ false
-            two true equal =
-                let number : receiver.number ≡ other.number = eqb-true receiver.number other.number equal in
-                absurd (true≢false
-                (sym (stand_together a b (place_at other)
-                (e ∙ (λ i. Some (record { mount = number i; node = place.node }))) g) ∙ differ))
-            two false apart_too =
-                differ_by_mount (push a) (push b) (top_at receiver) (top_at other) f h
-                (ap (λ k. nat_eq k (top_at other).mount) same
-                ∙ ap (nat_eq (new.copy receiver.number origin.number)) same_too
-                ∙ two_parts receiver other origin second (inr r) (inr t) o u apart_too)
+            grind (arith, common_steps, eqb-true, true≢false, stand_together, differ_by_mount, two_parts)
 
     -- nothing stands on the topmost copy
     free_top : (part : Mount ℕ) → Among part parts → child_at nat_eq (copies part) (top_at part) ≡ None
@@ -503,8 +443,7 @@ module _ (world : World ℕ) (new : Copies ℕ) (place : Location ℕ) (mounts :
         by : (list : List (Mount ℕ)) → copies part ≡ list → Among (copy part top) list
             → child_at nat_eq list (top_of_copies nat_eq list place) ≡ None
         by [] e absent = absurd absent
-        by (first ∷ rest) e present =
-            topmost_free (first ∷ rest) after one_after all_after
+        by (first ∷ rest) e present = topmost_free (first ∷ rest) after one_after all_after
             (λ x n. copies_after part m x (subst (Among x) (sym e) n)) (root_of first)
 
     same_part : (p q : Mount ℕ) → Among p parts → Among q parts → p.number ≡ q.number → p ≡ q
@@ -522,25 +461,19 @@ module _ (world : World ℕ) (new : Copies ℕ) (place : Location ℕ) (mounts :
       where
         by : (origin : Mount ℕ) → Among origin mounts → CopyPlace part origin → PushCase a
             → Among (copy part origin) (copies part) → test (push a) (copy part origin) ≡ false
-        by origin o (at_part e f) (stays g h) in_copies =
-            false_from_ne_true (test (push a) (copy part origin)) (λ both.
+        by origin o (at_part e f) (stays g h) in_copies = false_from_ne_true (test (push a) (copy part origin)) (λ both.
             let t = one_place (push a) (copy part origin) both in
-            let stands : a.mount_point ≡ Some (place_at part) =
-            ap (λ (z : Mount ℕ). z.mount_point) (sym g) ∙ t.1
+            let stands : a.mount_point ≡ Some (place_at part) = ap (λ (z : Mount ℕ). z.mount_point) (sym g) ∙ t.1
             ∙ ap Some (sym (same_Some (place_at part) t.0 (sym f ∙ t.2))) in
-            ⊎_elim
-            (λ is_destination.
+            ⊎_elim (λ is_destination.
             let number : part.number ≡ place.mount =
             ap (λ (z : Mount ℕ). z.number) is_destination ∙ number-mount_in world.mounts place.mount in
             let at_place : a.mount_point ≡ Some place =
             stands ∙ (λ i. Some (record { mount = number i; node = place.node })) in
             true≢false (sym (stands_at_its_place place a at_place)
-            ∙ unfound (stands_at nat_eq place) world.mounts free a m))
-            (λ receiver.
-            true≢false
+            ∙ unfound (stands_at nat_eq place) world.mounts free a m)) (λ receiver. true≢false
             (sym (stands_at_its_place (place_at part) a stands)
-            ∙ unfound (λ other. stands_at nat_eq (place_at other) a) (rest_of parts) h part receiver))
-            n)
+            ∙ unfound (λ other. stands_at nat_eq (place_at other) a) (rest_of parts) h part receiver)) n)
         by origin o (at_part e f) (goes receiver second r u g h same) in_copies =
             differ_by_mount (push a) (copy part origin) (top_at receiver) (place_at part) h f
             (ap (λ c. nat_eq c part.number) same
@@ -550,8 +483,7 @@ module _ (world : World ℕ) (new : Copies ℕ) (place : Location ℕ) (mounts :
           where
             at : (found : Option (Location ℕ)) → a.mount_point ≡ found → test (push a) (copy part origin) ≡ false
             at None d = ap (λ (z : Mount ℕ). test z (copy part origin)) g ∙ ap (beside (copy part origin).mount_point) d
-            at (Some stands_on) d =
-                ap (λ (z : Mount ℕ). test z (copy part origin)) g
+            at (Some stands_on) d = ap (λ (z : Mount ℕ). test z (copy part origin)) g
                 ∙ differ_by_mount a (copy part origin) stands_on (place_upon part on) d c
                 (subst (λ q. nat_eq stands_on.mount (new.copy part.number q) ≡ false) same
                 (copy_is_new part parent n there_is stands_on.mount (on_is_there a m stands_on d)))
@@ -567,12 +499,10 @@ module _ (world : World ℕ) (new : Copies ℕ) (place : Location ℕ) (mounts :
                 let top_place : (copy part origin).mount_point ≡ Some (top_at part) =
                 t.2 ∙ ap Some (sym (same_Some (top_at receiver) t.0 (sym h ∙ t.1)))
                 ∙ ap (λ (z : Mount ℕ). Some (top_at z)) itself in
-                true≢false
-                (sym (stands_at_its_place (top_at part) (copy part origin) top_place)
+                true≢false (sym (stands_at_its_place (top_at part) (copy part origin) top_place)
                 ∙ unfound (stands_at nat_eq (top_at part)) (copies part) (free_top part n)
                 (copy part origin) in_copies))
-            at false differ =
-                differ_by_mount (push a) (copy part origin) (top_at receiver) (place_upon part on) h c
+            at false differ = differ_by_mount (push a) (copy part origin) (top_at receiver) (place_upon part on) h c
                 (ap (λ q. nat_eq q (new.copy part.number on.mount)) same_too
                 ∙ subst (λ q. nat_eq (new.copy receiver.number second.number) (new.copy part.number q) ≡ false) same
                 (two_parts receiver part second parent (inr r) n u there_is differ))
@@ -583,11 +513,8 @@ module _ (world : World ℕ) (new : Copies ℕ) (place : Location ℕ) (mounts :
         let old = map push world.mounts in
         let first = copies (mount_at nat_eq world place) in
         let rest = flat_map copies (rest_of parts) in
-        ap (any_pair test) (append_assoc old first rest)
-        ∙ pair-append test old (first ++ rest)
-        (pair-map test test push world.mounts (two_old places) places)
-        all_copies_spread
-        (λ x y m n.
+        ap (any_pair test) (append_assoc old first rest) ∙ pair-append test old (first ++ rest)
+        (pair-map test test push world.mounts (two_old places) places) all_copies_spread (λ x y m n.
         let from = among-from_map push world.mounts x m in
         let part = among-from_flat_map copies parts y n in
         subst (λ z. test z y ≡ false) (sym from.2) (old_and_copy free from.0 from.1 part.0 y part.1 part.2))

@@ -1,8 +1,8 @@
 -- Binds, new mounts and moves: each mount goes on standing, with a number of its own.
-use Rattle.std.proofs.Common.{◌≡◌, refl, sym, ap, subst, ◌∙◌, true, false, nat_eq, ℕ, Bool, List, None, Option, Some, [], eq-eqb, eqb-true, filter, flat_map, inl, inr, length, suc, true≢false, zero, ⊎_elim, ◌∷◌, ◌⊎◌}
+use Rattle.std.proofs.Common.{arith, ◌≡◌, refl, sym, ap, subst, ◌∙◌, true, false, nat_eq, ℕ, Bool, List, [], eq-eqb, eqb-true, filter, flat_map, inl, inr, length, suc, true≢false, zero, ⊎_elim, ◌∷◌, ◌⊎◌}
+use Rattle.std.proofs.lemmas.Grind.{common_steps}
 use Rattle.vt_spec.proofs.Lists.{Among, all_from_among, among-flat_map, among-from_filter, among-from_flat_map, among_from_all}
 use Rattle.vt_spec.specs.Machine.Attach.{bind_tree, bindable_children, bindable_tree, bound, moved_tree, parts_of, stands_under}
-use Rattle.vt_spec.specs.Lists.{holds_of}
 use Rattle.vt_spec.specs.Machine.Mounts.{Location, Mount, children, stands_on}
 use Rattle.vt_spec.specs.Machine.NewMounts.{new_mount, with_new_filesystem}
 use Rattle.vt_spec.specs.Machine.World.{Filesystem, World}
@@ -21,20 +21,9 @@ use Rattle.vt_spec.proofs.Worlds.{number-mount_in}
 module _ (world : World ℕ) (whole : List (Mount ℕ)) where
   -- a child of what hangs
   pub child_hangs : (number : ℕ) (child : Mount ℕ) → Among child (children nat_eq world.mounts number)
-      → Among child whole
-      → Hangs whole number → Hangs whole child.number
-  child_hangs number child m there hung = by child.mount_point refl
-    where
-      on : stands_on nat_eq number child ≡ true
-      on = (among-from_filter (stands_on nat_eq number) world.mounts child m).1
-
-      by : (place : Option (Location ℕ)) → child.mount_point ≡ place → Hangs whole child.number
-      by None e = absurd (true≢false (sym on ∙ ap (holds_of (λ p. nat_eq number p.mount)) e))
-      by (Some place) e =
-          from_parent child place there e
-          (subst (Hangs whole)
-          (eqb-true number place.mount (sym (ap (holds_of (λ p. nat_eq number p.mount)) e) ∙ on))
-          hung)
+      → Among child whole → Hangs whole number → Hangs whole child.number
+  child_hangs number child m there hung =
+      grind (arith, common_steps, among-from_filter, true≢false, from_parent, eqb-true)
 
   first_of_tree : (fuel : ℕ) (mount : Mount ℕ) → Among mount (bindable_tree nat_eq fuel world.mounts mount)
   first_of_tree zero mount = inl refl
@@ -45,26 +34,18 @@ module _ (world : World ℕ) (whole : List (Mount ℕ)) where
       → (x : Mount ℕ) → Among x (bindable_tree nat_eq fuel world.mounts mount) → Hangs whole x.number
   tree_hangs zero mount hung all x m =
       ⊎_elim (λ e. subst (λ (y : Mount ℕ). Hangs whole y.number) (sym e) hung) (λ none. absurd none) m
-  tree_hangs (suc fuel) mount hung all x m =
-      ⊎_elim
-      (λ e. subst (λ (y : Mount ℕ). Hangs whole y.number) (sym e) hung)
+  tree_hangs (suc fuel) mount hung all x m = ⊎_elim (λ e. subst (λ (y : Mount ℕ). Hangs whole y.number) (sym e) hung)
       (λ later.
       let below = bindable_children nat_eq world.mounts mount.number in
       let from = among-from_flat_map (bindable_tree nat_eq fuel world.mounts) below x later in
       let within : (y : Mount ℕ) → Among y (bindable_tree nat_eq fuel world.mounts from.0) → Among y whole =
       λ y n. all y (inr (among-flat_map (bindable_tree nat_eq fuel world.mounts) below from.0 y from.1 n)) in
-      tree_hangs fuel from.0
-      (child_hangs mount.number from.0 (bindable_child world mount.number from.0 from.1)
-      (within from.0 (first_of_tree fuel from.0)) hung)
-      within x from.2)
-      m
+      tree_hangs fuel from.0 (child_hangs mount.number from.0 (bindable_child world mount.number from.0 from.1)
+      (within from.0 (first_of_tree fuel from.0)) hung) within x from.2) m
 
 one_hangs : (mount x : Mount ℕ) → Among x (mount ∷ []) → Hangs (mount ∷ []) x.number
-one_hangs mount x m =
-    ⊎_elim
-    (λ e. subst (λ (y : Mount ℕ). Hangs (mount ∷ []) y.number) (sym e) (from_top mount [] refl))
-    (λ none. absurd none)
-    m
+one_hangs mount x m = ⊎_elim
+    (λ e. subst (λ (y : Mount ℕ). Hangs (mount ∷ []) y.number) (sym e) (from_top mount [] refl)) (λ none. absurd none) m
 
 bind_hangs : (world : World ℕ) (source : Location ℕ) (recursive : Bool) (x : Mount ℕ)
     → Among x (bind_tree nat_eq world source recursive) → Hangs (bind_tree nat_eq world source recursive) x.number
@@ -77,18 +58,14 @@ bind_hangs world source true x m =
     let top : Hangs whole (bound nat_eq world source).number =
     from_top (bound nat_eq world source) (flat_map (bindable_tree nat_eq fuel world.mounts) chosen) refl in
     let at_source : Hangs whole source.mount = subst (Hangs whole) (number-mount_in world.mounts source.mount) top in
-    ⊎_elim
-    (λ e. subst (λ (y : Mount ℕ). Hangs whole y.number) (sym e) top)
-    (λ later.
+    ⊎_elim (λ e. subst (λ (y : Mount ℕ). Hangs whole y.number) (sym e) top) (λ later.
     let from = among-from_flat_map (bindable_tree nat_eq fuel world.mounts) chosen x later in
     let child = (among-from_filter (stands_under nat_eq world source) under from.0 from.1).0 in
     let within : (y : Mount ℕ) → Among y (bindable_tree nat_eq fuel world.mounts from.0) → Among y whole =
     λ y n. inr (among-flat_map (bindable_tree nat_eq fuel world.mounts) chosen from.0 y from.1 n) in
     tree_hangs world whole fuel from.0
     (child_hangs world whole source.mount from.0 (bindable_child world source.mount from.0 child)
-    (within from.0 (first_of_tree world whole fuel from.0)) at_source)
-    within x from.2)
-    m
+    (within from.0 (first_of_tree world whole fuel from.0)) at_source) within x from.2) m
 
 bind_top : (world : World ℕ) (source : Location ℕ) (recursive : Bool)
     → (rest : List (Mount ℕ)) × (bind_tree nat_eq world source recursive ≡ bound nat_eq world source ∷ rest)
@@ -129,9 +106,7 @@ all_stand_with_filesystem : (world : World ℕ) (filesystem : Filesystem ℕ) �
     → AllStand (with_new_filesystem world filesystem)
 all_stand_with_filesystem world filesystem all =
     let larger = with_new_filesystem world filesystem in
-    all_from_among (λ (x : Mount ℕ). Stands nat_eq larger x.number) world.mounts (λ x m.
-    stands_with_filesystem world filesystem x.number
-    (among_from_all (λ (y : Mount ℕ). Stands nat_eq world y.number) world.mounts all x m))
+    grind (arith, common_steps, all_from_among, stands_with_filesystem, among_from_all)
 
 pub new_mounts_keep_standing : NewMountsKeepStanding
 new_mounts_keep_standing world fresh place filesystem flags serves one nowhere all there =
@@ -150,19 +125,13 @@ new_mounts_keep_numbers world fresh place filesystem flags serves one =
 bindable_there : (world : World ℕ) (fuel : ℕ) (mount x : Mount ℕ)
     → Among x (bindable_tree nat_eq fuel world.mounts mount) → (x ≡ mount) ⊎ Among x world.mounts
 bindable_there world zero mount x m = ⊎_elim inl (λ none. absurd none) m
-bindable_there world (suc fuel) mount x m =
-    ⊎_elim inl
-    (λ later.
-    let from =
-    among-from_flat_map (bindable_tree nat_eq fuel world.mounts)
+bindable_there world (suc fuel) mount x m = ⊎_elim inl (λ later.
+    let from = among-from_flat_map (bindable_tree nat_eq fuel world.mounts)
     (bindable_children nat_eq world.mounts mount.number) x later in
     let child = bindable_child world mount.number from.0 from.1 in
     let there = (among-from_filter (stands_on nat_eq mount.number) world.mounts from.0 child).0 in
-    inr (⊎_elim
-    (λ e. subst (λ y. Among y world.mounts) (sym e) there)
-    (λ l. l)
-    (bindable_there world fuel from.0 x from.2)))
-    m
+    inr (⊎_elim (λ e. subst (λ y. Among y world.mounts) (sym e) there) (λ l. l)
+    (bindable_there world fuel from.0 x from.2))) m
 
 not_itself : (a b : Mount ℕ) → nat_eq a.number b.number ≡ false → a ≡ b → ⊥
 not_itself a b differ e = true≢false (sym (eq-eqb a.number b.number (ap (λ (y : Mount ℕ). y.number) e)) ∙ differ)
@@ -172,30 +141,21 @@ pub bind_there_or_source : (world : World ℕ) (source : Location ℕ) (recursiv
     → Among origin (bind_tree nat_eq world source recursive)
     → (origin ≡ bound nat_eq world source) ⊎ Among origin world.mounts
 bind_there_or_source world source false origin m = ⊎_elim inl (λ none. absurd none) m
-bind_there_or_source world source true origin m =
-    ⊎_elim inl
-    (λ later.
+bind_there_or_source world source true origin m = ⊎_elim inl (λ later.
     let under = bindable_children nat_eq world.mounts source.mount in
-    let from =
-    among-from_flat_map (bindable_tree nat_eq (length world.mounts) world.mounts)
+    let from = among-from_flat_map (bindable_tree nat_eq (length world.mounts) world.mounts)
     (filter (stands_under nat_eq world source) under) origin later in
     let child = (among-from_filter (stands_under nat_eq world source) under from.0 from.1).0 in
     let kept = bindable_child world source.mount from.0 child in
     let there = (among-from_filter (stands_on nat_eq source.mount) world.mounts from.0 kept).0 in
-    inr (⊎_elim
-    (λ e. subst (λ y. Among y world.mounts) (sym e) there)
-    (λ l. l)
-    (bindable_there world (length world.mounts) from.0 origin from.2)))
-    m
+    inr (⊎_elim (λ e. subst (λ y. Among y world.mounts) (sym e) there) (λ l. l)
+    (bindable_there world (length world.mounts) from.0 origin from.2))) m
 
 bind_there : (world : World ℕ) (source : Location ℕ) (recursive : Bool) (x : Mount ℕ)
     → Among x (bind_tree nat_eq world source recursive)
     → nat_eq x.number (bound nat_eq world source).number ≡ false → Among x world.mounts
-bind_there world source recursive x m differ =
-    ⊎_elim
-    (λ e. absurd (not_itself x (bound nat_eq world source) differ e))
-    (λ l. l)
-    (bind_there_or_source world source recursive x m)
+bind_there world source recursive x m differ = ⊎_elim (λ e. absurd (not_itself x (bound nat_eq world source) differ e))
+    (λ l. l) (bind_there_or_source world source recursive x m)
 
 pub binds_keep_places : BindsKeepMountPoints
 binds_keep_places world fresh source place recursive serves one nowhere all there free places =
@@ -204,11 +164,9 @@ binds_keep_places world fresh source place recursive serves one nowhere all ther
     places_after world (supplied world fresh place mounts) place mounts
     (supplies_serve_as_copies world fresh (parts_of nat_eq world place) mounts serves)
     (binds_take_each_once world source recursive one all) one there (bind_hangs world source recursive)
-    (bound nat_eq world source) top.0 top.1 nowhere all
-    (λ a b m n not_top nor_top differ.
+    (bound nat_eq world source) top.0 top.1 nowhere all (λ a b m n not_top nor_top differ.
     two_of world.mounts places a b (bind_there world source recursive a m not_top)
-    (bind_there world source recursive b n nor_top) differ)
-    places free
+    (bind_there world source recursive b n nor_top) differ) places free
 
 pub new_mounts_keep_places : NewMountsKeepMountPoints
 new_mounts_keep_places world fresh place filesystem flags serves one nowhere all there free places =
@@ -217,6 +175,5 @@ new_mounts_keep_places world fresh place filesystem flags serves one nowhere all
     places_after larger (supplied larger fresh place (mount ∷ [])) place (mount ∷ [])
     (supplies_serve_as_copies larger fresh (parts_of nat_eq larger place) (mount ∷ []) serves) refl one there
     (one_hangs mount) mount [] refl nowhere (all_stand_with_filesystem world filesystem all)
-    (λ a b m n not_top nor_top differ.
-    ⊎_elim (λ e. absurd (not_itself a mount not_top e)) (λ none. absurd none) m)
+    (λ a b m n not_top nor_top differ. ⊎_elim (λ e. absurd (not_itself a mount not_top e)) (λ none. absurd none) m)
     places free

@@ -1,16 +1,15 @@
 -- Worlds that differ in change numbers and in the order of numbers have the same counts.
-use Rattle.std.proofs.Common.{◌≡◌, refl, sym, ap, subst, ◌∙◌, ℕ, ◌+◌, nat_eq, Bool, true, false, cond, List, [], ◌∷◌, ◌++◌, filter, map, find, flat_map, None, Option, Some, unwrap_or, arith}
+use Rattle.std.proofs.lemmas.Grind.{common_steps}
+use Rattle.std.proofs.Common.{◌≡◌, refl, sym, ap, ◌∙◌, ℕ, ◌+◌, nat_eq, List, [], ◌∷◌, ◌++◌, filter, map, find, flat_map, Option, unwrap_or, arith}
 use Rattle.std.specs.Prelude.{filter_map, option_to_list, sum_by}
-use Rattle.std.specs.List.{cons_option}
 use Rattle.std.proofs.lemmas.List.Sorted.{length_permutation, sum_by-IsPermutation}
 use Rattle.std.proofs.lemmas.List.Sums.{sum_by-cons}
 use Rattle.vt_spec.specs.FileTree.{targets_in}
 use Rattle.vt_spec.specs.Machine.Mounts.{root_of}
 use Rattle.vt_spec.specs.Machine.SameWorlds.{SameFilesystem, SameFilesystems, SameWorlds}
-use Rattle.vt_spec.specs.Lists.{holds_of}
-use Rattle.vt_spec.specs.Machine.Locked.{of_overlay, overlay_or}
+use Rattle.vt_spec.specs.Machine.Locked.{of_overlay}
 use Rattle.vt_spec.specs.Machine.Settled.{layers_in, located_in, objects_of_overlay}
-use Rattle.vt_spec.specs.Machine.World.{Filesystem, Overlay, Task, World, all_locations, filesystem_numbered, layers_of, locations_of, no_filesystem, upper_object}
+use Rattle.vt_spec.specs.Machine.World.{Filesystem, Task, World, all_locations, filesystem_numbered, layers_of, locations_of, no_filesystem}
 use Rattle.vt_spec.specs.Tree.{Node}
 use Rattle.vt_laws_mounts.proofs.letting_go.Lists.{flat_map-map}
 use Rattle.vt_laws_mounts.proofs.counts.counting.Entries.{named_by, one_if}
@@ -31,11 +30,7 @@ named_sum : (n : ℕ) (node : ℕ → Option (Node ℕ)) (list : List ℕ)
     → times_in n (named_by node list) ≡ sum_by (λ d. times_in n (targets_in (node d))) list
 named_sum n node [] = refl
 named_sum n node (first ∷ rest) =
-    let later = named_sum n node rest in
-    let all = sum_by-cons (λ d. times_in n (targets_in (node d))) first rest in
-    let both : times_in n (named_by node (first ∷ rest)) ≡ times_in n (targets_in (node first)) + times_in n
-    (named_by node rest) = times_append n (targets_in (node first)) (named_by node rest) in
-    omega arith
+    grind (arith, common_steps, sum_by-cons, times_in, named_by, times_append, named_sum n node rest)
 
 found_same : (ones others : List (Filesystem ℕ)) → SameFilesystems ones others → (k : ℕ)
     → SameFilesystem (unwrap_or (find (λ f. nat_eq k f.number) ones) (no_filesystem k))
@@ -43,18 +38,7 @@ found_same : (ones others : List (Filesystem ℕ)) → SameFilesystems ones othe
 found_same [] [] same k = same_filesystem_itself (no_filesystem k)
 found_same [] (other ∷ others) same k = absurd same
 found_same (one ∷ ones) [] same k = absurd same
-found_same (one ∷ ones) (other ∷ others) same k =
-    subst (λ n. SameFilesystem (unwrap_or (cond (nat_eq k one.number) (Some one) (find (λ f. nat_eq k f.number) ones))
-    (no_filesystem k))
-    (unwrap_or (cond (nat_eq k n) (Some other) (find (λ f. nat_eq k f.number) others)) (no_filesystem k)))
-    same.0.number (by (nat_eq k one.number) (found_same ones others same.1 k))
-  where
-    by : (b : Bool) → SameFilesystem (unwrap_or (find (λ f. nat_eq k f.number) ones) (no_filesystem k))
-        (unwrap_or (find (λ f. nat_eq k f.number) others) (no_filesystem k))
-        → SameFilesystem (unwrap_or (cond b (Some one) (find (λ f. nat_eq k f.number) ones)) (no_filesystem k))
-        (unwrap_or (cond b (Some other) (find (λ f. nat_eq k f.number) others)) (no_filesystem k))
-    by true later = same.0
-    by false later = later
+found_same (one ∷ ones) (other ∷ others) same k = grind (arith, common_steps, found_same ones others same.1 k)
 
 -- overlays have the same layers, and in each filesystem the same objects, as often
 layers_same : (ones others : List (Filesystem ℕ)) → SameFilesystems ones others
@@ -62,51 +46,16 @@ layers_same : (ones others : List (Filesystem ℕ)) → SameFilesystems ones oth
 layers_same [] [] same = refl
 layers_same [] (other ∷ others) same = absurd same
 layers_same (one ∷ ones) [] same = absurd same
-layers_same (one ∷ ones) (other ∷ others) same =
-    λ i. overlay_or [] layers_of (same.0.overlay i) ++ layers_same ones others same.1 i
+layers_same (one ∷ ones) (other ∷ others) same = grind (arith, common_steps, layers_same ones others same.1)
 
 objects_sum : (n : ℕ) (object : ℕ → Option ℕ) (list : List ℕ)
     → times_in n (filter_map object list) ≡ sum_by (λ d. times_in n (option_to_list (object d))) list
 objects_sum n object [] = refl
-objects_sum n object (first ∷ rest) =
-    let all = sum_by-cons (λ d. times_in n (option_to_list (object d))) first rest in
-    by (object first) (objects_sum n object rest) ∙ sym all
-  where
-    by : (o : Option ℕ)
-        → times_in n (filter_map object rest) ≡ sum_by (λ d. times_in n (option_to_list (object d))) rest
-        → times_in n (cons_option o (filter_map object rest))
-        ≡ times_in n (option_to_list o) + sum_by (λ d. times_in n (option_to_list (object d))) rest
-    by None later = let e = later in omega arith
-    by (Some x) later = let e = later in omega arith
+objects_sum n object (first ∷ rest) = grind (arith, common_steps, sum_by-cons, times_in, objects_sum n object rest)
 
 objects_one : (k n : ℕ) (one other : Filesystem ℕ) → SameFilesystem one other
     → times_in n (objects_of_overlay nat_eq k one) ≡ times_in n (objects_of_overlay nat_eq k other)
-objects_one k n one other same =
-    by one.overlay ∙ ap (λ o. times_in n (overlay_or [] (objects other.files.numbers) o)) same.overlay
-  where
-    objects : List ℕ → Overlay ℕ → List ℕ
-    objects numbers overlay =
-        cond (holds_of (λ layer. nat_eq k layer.filesystem) overlay.upper)
-        (filter_map (λ number. upper_object (overlay.real number)) numbers) []
-
-    permuted : (object : ℕ → Option ℕ)
-        → times_in n (filter_map object one.files.numbers) ≡ times_in n (filter_map object other.files.numbers)
-    permuted object =
-        objects_sum n object one.files.numbers
-        ∙ sym (sum_by-IsPermutation (λ d. times_in n (option_to_list (object d))) one.files.numbers other.files.numbers
-        same.files.numbers)
-        ∙ sym (objects_sum n object other.files.numbers)
-
-    each : (overlay : Overlay ℕ) (b : Bool)
-        → times_in n (cond b (filter_map (λ number. upper_object (overlay.real number)) one.files.numbers) [])
-        ≡ times_in n (cond b (filter_map (λ number. upper_object (overlay.real number)) other.files.numbers) [])
-    each overlay true = permuted (λ number. upper_object (overlay.real number))
-    each overlay false = refl
-
-    by : (o : Option (Overlay ℕ)) → times_in n (overlay_or [] (objects one.files.numbers) o)
-        ≡ times_in n (overlay_or [] (objects other.files.numbers) o)
-    by None = refl
-    by (Some overlay) = each overlay (holds_of (λ layer. nat_eq k layer.filesystem) overlay.upper)
+objects_one k n one other same = grind (arith, common_steps, times_in, objects_sum, sum_by-IsPermutation)
 
 objects_same : (k n : ℕ) (ones others : List (Filesystem ℕ)) → SameFilesystems ones others
     → times_in n (flat_map (objects_of_overlay nat_eq k) ones)
@@ -115,9 +64,7 @@ objects_same k n [] [] same = refl
 objects_same k n [] (other ∷ others) same = absurd same
 objects_same k n (one ∷ ones) [] same = absurd same
 objects_same k n (one ∷ ones) (other ∷ others) same =
-    times_append n (objects_of_overlay nat_eq k one) (flat_map (objects_of_overlay nat_eq k) ones)
-    ∙ (λ i. objects_one k n one other same.0 i + objects_same k n ones others same.1 i)
-    ∙ sym (times_append n (objects_of_overlay nat_eq k other) (flat_map (objects_of_overlay nat_eq k) others))
+    grind (arith, common_steps, times_append, objects_one, objects_same k n ones others same.1)
 
 module _ (one other : World ℕ) (same : SameWorlds one other) where
   same_locations : all_locations one ≡ all_locations other
@@ -127,16 +74,14 @@ module _ (one other : World ℕ) (same : SameWorlds one other) where
       ∙ flat_map-map (λ (task : Task ℕ). record task { change = 0 }) locations_of other.tasks (λ task. refl)
 
   same_located : (k n : ℕ) → times_in n (located_in nat_eq one k) ≡ times_in n (located_in nat_eq other k)
-  same_located k n =
-      (λ i. count_in (same.mounts i) k n (same_locations i ++ map root_of (same.mounts i)
+  same_located k n = (λ i. count_in (same.mounts i) k n (same_locations i ++ map root_of (same.mounts i)
       ++ filter_map (λ mount. mount.mount_point) (same.mounts i)))
 
 pub any_same_worlds_count_alike : AnySameWorldsCountAlike
 any_same_worlds_count_alike one other k inodes same counted = record {
   root = counted.root ∙ ap (λ t. t.root) alike.files.tree;
   node = λ n. counted.node n ∙ ap (λ t. t.node n) alike.files.tree;
-  uses = λ n.
-      counted.uses n ∙ uses_are one f n
+  uses = λ n. counted.uses n ∙ uses_are one f n
       ∙ (λ i. (one_if n (alike.files.tree i).root + ((times_in n (located_in nat_eq one (alike.number i))
       + times_in n (layers_in nat_eq one (alike.number i)))
       + times_in n (flat_map (objects_of_overlay nat_eq (alike.number i)) one.filesystems)))
@@ -162,15 +107,12 @@ any_same_worlds_count_alike one other k inodes same counted = record {
 
     named_alike : (n : ℕ) → times_in n (named_by g.files.tree.node f.files.numbers)
         ≡ times_in n (named_by g.files.tree.node g.files.numbers)
-    named_alike n =
-        named_sum n g.files.tree.node f.files.numbers
-        ∙ sym (sum_by-IsPermutation (λ d. times_in n
+    named_alike n = named_sum n g.files.tree.node f.files.numbers ∙ sym (sum_by-IsPermutation (λ d. times_in n
         (targets_in (g.files.tree.node d))) f.files.numbers g.files.numbers alike.files.numbers)
         ∙ sym (named_sum n g.files.tree.node g.files.numbers)
 
     times_alike : (n : ℕ) → times_in n f.files.numbers ≡ times_in n g.files.numbers
-    times_alike n =
-        times_sum n f.files.numbers ∙ sym
+    times_alike n = times_sum n f.files.numbers ∙ sym
         (sum_by-IsPermutation (one_if n) f.files.numbers g.files.numbers alike.files.numbers)
         ∙ sym (times_sum n g.files.numbers)
 

@@ -1,4 +1,5 @@
 -- Numbers in lists: how often each stands there.
+use Rattle.std.proofs.lemmas.Grind.{common_steps}
 use Rattle.std.proofs.Common.{◌≡◌, refl, sym, ap, subst, ◌∙◌, ⊎_elim, ℕ, ◌+◌, ◌≤◌, nat_eq, eq-eqb, Bool, true, false, cond, ◌||◌, List, [], ◌∷◌, arith}
 use Rattle.std.specs.List.Sorted.{IsPermutation}
 use Rattle.std.proofs.lemmas.Bool.{or_parts}
@@ -20,16 +21,7 @@ none_times n (first ∷ rest) e =
 -- in a list without repeats each stands once
 pub once_times : (n : ℕ) (list : List ℕ) → any_pair nat_eq list ≡ false → times_in n list ≤ 1
 once_times n [] e = omega arith
-once_times n (first ∷ rest) e =
-    ⊎_elim
-    (λ t. let here : one_if n first ≡ 1 = ap (λ b. cond b 1 0) t.0 in
-    let none = none_times n rest (ap (λ m. is_among nat_eq m rest) t.1 ∙ parts.0) in omega arith)
-    (λ t. let here : one_if n first
-    ≡ 0 = ap (λ b. cond b 1 0) t.0 in let later = once_times n rest parts.1 in omega arith)
-    (eqb_tells n first)
-  where
-    parts : (is_among nat_eq first rest ≡ false) × (any_pair nat_eq rest ≡ false)
-    parts = or_parts (is_among nat_eq first rest) (any_pair nat_eq rest) e
+once_times n (first ∷ rest) e = grind (arith, common_steps, one_if, none_times, eqb_tells, or_parts, once_times n rest)
 
 pub once_or_none : (n : ℕ) (list : List ℕ) → any_pair nat_eq list ≡ false
     → times_in n list ≡ cond (is_among nat_eq n list) 1 0
@@ -42,8 +34,7 @@ once_or_none n list e = by (is_among nat_eq n list) refl
 -- and a list in which each stands once has no repeats
 pub no_repeats : (list : List ℕ) → ((n : ℕ) → times_in n list ≤ 1) → any_pair nat_eq list ≡ false
 no_repeats [] few = refl
-no_repeats (first ∷ rest) few =
-    by (is_among nat_eq first rest) refl
+no_repeats (first ∷ rest) few = by (is_among nat_eq first rest) refl
     (no_repeats rest (λ n. let all : one_if n first + times_in n rest ≤ 1 = few n in omega arith))
   where
     by : (b : Bool) → is_among nat_eq first rest ≡ b → any_pair nat_eq rest ≡ false
@@ -58,16 +49,14 @@ no_repeats (first ∷ rest) few =
 
 to_front : (n : ℕ) (list : List ℕ) → 1 ≤ times_in n list → IsPermutation (n ∷ removed n list) list
 to_front n [] some = absurd (omega arith)
-to_front n (first ∷ rest) some =
-    ⊎_elim
+to_front n (first ∷ rest) some = ⊎_elim
     (λ t. subst (λ l. IsPermutation l (first ∷ rest)) (sym ((λ i. t.1 i ∷ cond (t.0 i) rest (first ∷ removed n rest))))
     (IsPermutation-refl (first ∷ rest)))
     (λ t. subst (λ b. IsPermutation (n ∷ cond b rest (first ∷ removed n rest)) (first ∷ rest)) (sym t.0)
     (IsPermutation-trans (n ∷ first ∷ removed n rest) (first ∷ n ∷ removed n rest) (first ∷ rest)
     (IsPermutation-sym (first ∷ n ∷ removed n rest) (n ∷ first ∷ removed n rest)
     (IsPermutation-middle (first ∷ []) n (removed n rest)))
-    (IsPermutation-cons first (n ∷ removed n rest) rest (to_front n rest
-    (let here : one_if n first ≡ 0 = ap
+    (IsPermutation-cons first (n ∷ removed n rest) rest (to_front n rest (let here : one_if n first ≡ 0 = ap
     (λ b. cond b 1 0) t.0 in let all : 1 ≤ one_if n first + times_in n rest = some in omega arith)))))
     (eqb_tells n first)
 
@@ -76,8 +65,7 @@ permuted [] [] same = IsPermutation-refl []
 permuted [] (first ∷ rest) same =
     let own : one_if first first ≡ 1 = ap (λ b. cond b 1 0) (eq-eqb first first refl) in
     let none : 0 ≡ one_if first first + times_in first rest = same first in absurd (omega arith)
-permuted (first ∷ rest) other same =
-    IsPermutation-trans (first ∷ rest) (first ∷ removed first other) other
+permuted (first ∷ rest) other same = IsPermutation-trans (first ∷ rest) (first ∷ removed first other) other
     (IsPermutation-cons first rest (removed first other) (permuted rest (removed first other) (λ n.
     let all : one_if n first + times_in n (removed first other) ≡ times_in n other =
     times_removed first n other found in
@@ -96,9 +84,4 @@ same_numbers_are_permuted one other first second same =
 
 -- what stands in a list once, or not
 pub among_by_times : (n : ℕ) (list : List ℕ) (b : Bool) → times_in n list ≡ cond b 1 0 → is_among nat_eq n list ≡ b
-among_by_times n list true e = times_among n list (omega arith)
-among_by_times n list false e = by (is_among nat_eq n list) refl
-  where
-    by : (b : Bool) → is_among nat_eq n list ≡ b → b ≡ false
-    by true f = let some = among_times n list f in absurd (omega arith)
-    by false f = refl
+among_by_times n list b e = grind (arith, common_steps, times_among, among_times)

@@ -1,12 +1,13 @@
 -- What takes mounts away keeps the invariants of mounts.
-use Rattle.std.proofs.Common.{◌≡◌, refl, sym, ap, ◌∙◌, false, nat_eq, ℕ, List, None, Some, eq-eqb, flat_map, is_some, map, true≢false, ⊎_elim}
+use Rattle.std.proofs.Common.{arith, ◌≡◌, sym, ap, ◌∙◌, false, nat_eq, ℕ, List, None, Some, eq-eqb, flat_map, is_some, map, true≢false, ⊎_elim}
+use Rattle.std.proofs.lemmas.Grind.{common_steps}
 use Rattle.vt_spec.proofs.Lists.{Among, all_from_among, among_from_all, none_among}
 use Rattle.vt_spec.specs.Machine.Detach.{going, has_child, mounts_on, taken_away}
 use Rattle.vt_spec.specs.Lists.{holds_of}
 use Rattle.vt_spec.specs.Machine.Mounts.{Location, Mount, mount_tree, stands_on}
 use Rattle.vt_spec.specs.Machine.Namespaces.{namespaces_ended}
 use Rattle.vt_spec.specs.Machine.World.{World, mount_numbered}
-use Rattle.vt_spec.specs.Machine.Invariants.{MountInvariants, Stands}
+use Rattle.vt_spec.specs.Machine.Invariants.{MountInvariants}
 use Rattle.vt_laws_mounts.specs.Mounts.Invariants.{AreApart, OneMountEachMountPoint}
 use Rattle.vt_laws_mounts.specs.Mounts.Ending.{EndedNamespacesKeepMounts, PointsKeepMounts, ReplacedKeepsMounts, TreesKeepMounts, UnmountKeepsMounts}
 use Rattle.vt_laws_mounts.specs.Mounts.Standing.{AllStand}
@@ -24,10 +25,8 @@ use Rattle.vt_spec.proofs.Worlds.{number-mount_in, stands_alike}
 
 -- nothing stands on a mount without children
 pub none_stands : (world : World ℕ) (one : ℕ) → has_child nat_eq world one ≡ false → (x : Mount ℕ) (place : Location ℕ)
-    → Among x world.mounts
-    → x.mount_point ≡ Some place → place.mount ≡ one → ⊥
-none_stands world one childless x place m e same =
-    true≢false
+    → Among x world.mounts → x.mount_point ≡ Some place → place.mount ≡ one → ⊥
+none_stands world one childless x place m e same = true≢false
     (sym (ap (holds_of (λ p. nat_eq one p.mount)) e ∙ eq-eqb one place.mount (sym same))
     ∙ none_among (stands_on nat_eq one) world.mounts childless x m)
 
@@ -63,8 +62,7 @@ unmount_keeps_mounts world one kept childless =
     taken_keeps world gone kept (unmount_leaves_one_mount_a_place world one (apart_in world kept) childless).by_place
     (taken_stand world gone kept.one_number kept.standing
     (lands_by_places world gone kept.one_number kept.standing (λ x place m e goes.
-    ⊎_elim
-    (λ itself. absurd (none_stands world one childless x place m e (itself ∙ number-mount_in world.mounts one)))
+    ⊎_elim (λ itself. absurd (none_stands world one childless x place m e (itself ∙ number-mount_in world.mounts one)))
     (λ t. ap (λ n. is_some (mount_numbered nat_eq world n).mount_point) t.3
     ∙ ap (λ z. is_some z.mount_point) (found_itself world.mounts kept.one_number t.0 t.1) ∙ t.4)
     (goes_or_may world mount place.mount goes))))
@@ -87,12 +85,4 @@ ended_namespaces_keep_mounts world kept =
     closed_keeps world (in_ended world) (ended_closed world (places_end_in world kept) kept.one_number) kept in
     let left = taken_away nat_eq world (in_ended world) in
     let end = namespaces_ended nat_eq world in
-    record {
-      one_number = taken.one_number;
-      one_child = taken.one_child;
-      standing = all_from_among (λ (mount : Mount ℕ). Stands nat_eq end mount.number) end.mounts (λ mount m.
-          stands_alike left end (λ number. refl) mount.number
-          (among_from_all (λ (other : Mount ℕ). Stands nat_eq left other.number) left.mounts taken.standing mount m));
-      nowhere = taken.nowhere;
-      groups = taken.groups;
-    }
+    grind (arith, common_steps, all_from_among, stands_alike, among_from_all)

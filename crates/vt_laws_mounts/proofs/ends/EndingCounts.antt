@@ -1,9 +1,9 @@
 -- What namespaces have left of their mounts where some are taken away.
 use Rattle.std.proofs.lemmas.Grind.{common_steps}
-use Rattle.std.proofs.Common.{◌≡◌, refl, sym, ap, subst, ◌∙◌, true, false, nat_eq, ℕ, Bool, List, None, Option, Some, [], arith, cond, eq-eqb, eqb-true, filter, flat_map, inl, inr, is_some, length, map, not, option_map, zero, suc, true≢false, ⊎_elim, ◌&&◌, ◌∷◌, ◌≤◌, ◌⊎◌}
-use Rattle.std.proofs.lemmas.Bool.{and_from, false_from_ne_true, le-leb}
+use Rattle.std.proofs.Common.{◌≡◌, refl, sym, ap, subst, ◌∙◌, true, false, nat_eq, ℕ, Bool, List, None, Option, Some, [], arith, filter, flat_map, inl, inr, is_some, length, map, not, option_map, zero, suc, true≢false, ⊎_elim, ◌&&◌, ◌∷◌, ◌≤◌, ◌⊎◌}
+use Rattle.std.proofs.lemmas.Bool.{le-leb}
 use Rattle.std.specs.List.{list_any}
-use Rattle.vt_spec.proofs.Lists.{Among, all_from_among, among-from_filter, among-from_flat_map, among-from_map, among_from_contains, among_from_list_all, among_numbers, any_among, any_from_among, contains_from_among, filter_here, filter_skip, list_all_from_among}
+use Rattle.vt_spec.proofs.Lists.{Among, all_from_among, among-from_filter, among-from_flat_map, among-from_map, among_from_contains, among_from_list_all, among_numbers, any_among, contains_from_among, filter_here, filter_skip, list_all_from_among}
 use Rattle.vt_spec.specs.Machine.Detach.{after_going, going, is_going, is_point, mounts_on, mount_point_left, points_of, taken_away}
 use Rattle.vt_spec.specs.Lists.{holds_of}
 use Rattle.vt_spec.specs.Machine.Mounts.{Location, Mount, children, mount_in, mount_tree, stands_on, tree_from}
@@ -30,15 +30,7 @@ module _ {A : Type 0} where
   same_count : (p q : A → Bool) (f : A → A) (xs : List A) → ((x : A) → Among x xs → p (f x) ≡ q x)
       → length (filter p (map f xs)) ≡ length (filter q xs)
   same_count p q f [] same = refl
-  same_count p q f (y ∷ ys) same =
-      ap (λ b. length (cond b (f y ∷ filter p (map f ys)) (filter p (map f ys)))) (same y (inl refl))
-      ∙ by (q y) (same_count p q f ys (λ x m. same x (inr m)))
-    where
-      by : (b : Bool) → length (filter p (map f ys)) ≡ length (filter q ys)
-          → length (cond b (f y ∷ filter p (map f ys)) (filter p (map f ys)))
-          ≡ length (cond b (y ∷ filter q ys) (filter q ys))
-      by true later = omega (arith, later)
-      by false later = later
+  same_count p q f (y ∷ ys) same = grind (arith, common_steps, same_count p q f ys)
 
   no_higher_count : (p q : A → Bool) (f : A → A) (xs : List A) → ((x : A) → p (f x) ≡ true → q x ≡ true)
       → length (filter p (map f xs)) ≤ length (filter q xs)
@@ -65,14 +57,11 @@ module _ (world : World ℕ) (gone : List ℕ) where
   namespace_after mount = grind (arith, common_steps, going_is_detached, staying_is_placed)
 
   pub taken_has_no_more : HasNoMoreMounts world (taken_away nat_eq world gone)
-  taken_has_no_more namespace =
-      le-leb _ _
+  taken_has_no_more namespace = le-leb _ _
       (subst (λ mounts. length (filter (is_in namespace) mounts) ≤ length (filter (is_in namespace) world.mounts))
-      (sym mounts_after)
-      (no_higher_count (is_in namespace) (is_in namespace) after_it world.mounts (λ mount e.
+      (sym mounts_after) (no_higher_count (is_in namespace) (is_in namespace) after_it world.mounts (λ mount e.
       ⊎_elim (λ none. absurd (true≢false (sym e ∙ ap (holds_of (nat_eq namespace)) none)))
-      (λ same. ap (holds_of (nat_eq namespace)) (sym same) ∙ e)
-      (namespace_after mount))))
+      (λ same. ap (holds_of (nat_eq namespace)) (sym same) ∙ e) (namespace_after mount))))
 
   pub taken_takes_none_in : TakesNoMountsIn world (taken_away nat_eq world gone)
   taken_takes_none_in = all_from_among (IsOutOrStays world) (taken_away nat_eq world gone).mounts (λ mount m.
@@ -116,28 +105,20 @@ module _ (world : World ℕ) (gone : List ℕ) where
 
       by : (mount : Mount ℕ) → Among mount world.mounts → (b : Bool) → is_going nat_eq gone mount.number ≡ b
           → is_root namespace (after_it mount) ≡ is_root namespace mount
-      by mount m true e =
-          ap (λ x. holds_of (nat_eq namespace) x.namespace && not (is_some x.mount_point))
-          (going_is_detached world gone mount e)
-          ∙ sym (no_root mount (placed mount m e))
-      by mount m false e =
-          ap (λ x. holds_of (nat_eq namespace) x.namespace && not (is_some x.mount_point))
-          (staying_is_placed world gone mount e)
-          ∙ ap (λ b. is_in namespace mount && not b) (placed_alike mount.mount_point)
+      by mount m true e = grind (arith, common_steps, going_is_detached, no_root, placed)
+      by mount m false e = grind (arith, common_steps, staying_is_placed, placed_alike)
 
 -- a mount with the number of another is that one
 same_mount : (world : World ℕ) → OneNumberEach world → (a b : Mount ℕ) → Among a world.mounts → Among b world.mounts
     → a.number ≡ b.number → a ≡ b
-same_mount world one a b m n same =
-    sym (found_itself world.mounts one a m) ∙ ap (mount_in nat_eq world.mounts) same
+same_mount world one a b m n same = sym (found_itself world.mounts one a m) ∙ ap (mount_in nat_eq world.mounts) same
     ∙ found_itself world.mounts one b n
 
 pub unmount_keeps_roots : UnmountKeepsRootMounts
 unmount_keeps_roots world one each placed namespace =
     let itself = mount_numbered nat_eq world one in
     taken_keeps_roots world (going nat_eq world itself) namespace (λ mount m goes.
-    inl (⊎_elim
-    (λ same. ap (λ x. is_some x.mount_point) (sym (found_itself world.mounts each mount m)
+    inl (⊎_elim (λ same. ap (λ x. is_some x.mount_point) (sym (found_itself world.mounts each mount m)
     ∙ ap (mount_in nat_eq world.mounts) (same ∙ number-mount_in world.mounts one)) ∙ placed)
     (λ t. ap (λ x. is_some x.mount_point) (same_mount world each mount t.0 m t.1 t.3) ∙ t.4)
     (goes_or_may world itself mount.number goes)))
@@ -146,20 +127,13 @@ unmount_keeps_roots world one each placed namespace =
 pub tree_placed : (depth : ℕ) (mounts : List (Mount ℕ)) (top x : Mount ℕ) → Among x (tree_from nat_eq depth mounts top)
     → (x ≡ top) ⊎ (Among x mounts × (is_some x.mount_point ≡ true))
 tree_placed zero mounts top x m = ⊎_elim inl (λ none. absurd none) m
-tree_placed (suc depth) mounts top x m =
-    ⊎_elim inl
-    (λ later.
+tree_placed (suc depth) mounts top x m = ⊎_elim inl (λ later.
     let from = among-from_flat_map (tree_from nat_eq depth mounts) (children nat_eq mounts top.number) x later in
     let child = among-from_filter (stands_on nat_eq top.number) mounts from.0 from.1 in
-    ⊎_elim
-    (λ same. inr (
+    ⊎_elim (λ same. inr (
       subst (λ z. Among z mounts) (sym same) child.0,
-      ap (λ z. is_some z.mount_point) same
-          ∙ placed from.0.mount_point child.1,
-    ))
-    inr
-    (tree_placed depth mounts from.0 x from.2))
-    m
+      ap (λ z. is_some z.mount_point) same ∙ placed from.0.mount_point child.1,
+    )) inr (tree_placed depth mounts from.0 x from.2)) m
   where
     placed : (place : Option (Location ℕ)) → holds_of (λ p. nat_eq top.number p.mount) place ≡ true
         → is_some place ≡ true
@@ -173,8 +147,7 @@ trees_keep_roots world tops each placed namespace =
     taken_keeps_roots world gone namespace (λ mount m goes.
     let from = among-from_map (λ (x : Mount ℕ). x.number) trees mount.number (among_numbers gone mount.number goes) in
     let tree = among-from_flat_map (mount_tree nat_eq world.mounts) tops from.0 from.1 in
-    inl (⊎_elim
-    (λ same.
+    inl (⊎_elim (λ same.
     ap (λ x. is_some x.mount_point) (sym (found_itself world.mounts each mount m)
     ∙ ap (mount_in nat_eq world.mounts) (from.2 ∙ ap (λ x. x.number) same))
     ∙ among_from_list_all (λ (x : Mount ℕ). is_some
@@ -183,12 +156,10 @@ trees_keep_roots world tops each placed namespace =
     (tree_placed (length world.mounts) world.mounts tree.0 from.0 tree.2)))
 
 pub points_keep_roots : PointsKeepRootMounts
-points_keep_roots world location each =
-    trees_keep_roots world (mounts_on nat_eq world location) each
+points_keep_roots world location each = trees_keep_roots world (mounts_on nat_eq world location) each
     (list_all_from_among (λ (x : Mount ℕ). is_some (mount_numbered nat_eq world x.number).mount_point)
     (mounts_on nat_eq world location) (λ mount m.
-    let from =
-    among-from_filter (λ (x : Mount ℕ). list_any (λ point. is_point nat_eq world point.0 point.1 x)
+    let from = among-from_filter (λ (x : Mount ℕ). list_any (λ point. is_point nat_eq world point.0 point.1 x)
     (points_of nat_eq world location)) world.mounts mount m in
     let some =
     any_among (λ point. is_point nat_eq world point.0 point.1 mount) (points_of nat_eq world location) from.1 in
@@ -208,28 +179,18 @@ replaced_keeps_roots world (Some object) each namespace = points_keep_roots worl
 pub ended_namespaces_keep_roots : EndedNamespacesKeepRootMounts
 ended_namespaces_keep_roots world listed each there tasks =
     taken_keeps_roots world (in_ended world) listed.number (λ mount m goes.
-    let from =
-    among-from_map (λ (x : Mount ℕ). x.number) (filter (is_in_ended nat_eq world) world.mounts) mount.number
+    let from = among-from_map (λ (x : Mount ℕ). x.number) (filter (is_in_ended nat_eq world) world.mounts) mount.number
     (among_numbers (in_ended world) mount.number goes) in
     let end = among-from_filter (is_in_ended nat_eq world) world.mounts from.0 from.1 in
     inr (elsewhere mount.namespace (ap (λ (x : Mount ℕ). ended_of x.namespace)
     (same_mount world each mount from.0 m end.0 from.2) ∙ end.1)))
   where
     ended_of : Option ℕ → Bool
-    ended_of namespace =
-        holds_of (λ number. not (list_any
+    ended_of namespace = holds_of (λ number. not (list_any
         (λ (n : Namespace ℕ). nat_eq number n.number && has_tasks nat_eq world n) world.namespaces)) namespace
 
     elsewhere : (namespace : Option ℕ) → ended_of namespace ≡ true → holds_of (nat_eq listed.number) namespace ≡ false
-    elsewhere None e = refl
-    elsewhere (Some number) e = false_from_ne_true (nat_eq listed.number number) (λ same.
-        true≢false
-        (sym e
-        ∙ ap not (any_from_among (λ
-        (n : Namespace ℕ). nat_eq number n.number && has_tasks nat_eq world n) world.namespaces listed
-        (among_from_contains world.namespaces listed there)
-        (and_from (nat_eq number listed.number) (has_tasks nat_eq world listed)
-        (eq-eqb number listed.number (sym (eqb-true listed.number number same))) tasks))))
+    elsewhere namespace e = grind (arith, common_steps, among_from_contains world.namespaces listed there)
 
 -- The counts of each change
 pub unmount_has_no_more : ByUnmount HasNoMoreMounts
@@ -257,8 +218,7 @@ pub unmount_takes_none_in : ByUnmount TakesNoMountsIn
 unmount_takes_none_in world one = taken_takes_none_in world (going nat_eq world (mount_numbered nat_eq world one))
 
 pub trees_take_none_in : ByTrees TakesNoMountsIn
-trees_take_none_in world tops =
-    taken_takes_none_in world (map (λ (mount : Mount ℕ). mount.number)
+trees_take_none_in world tops = taken_takes_none_in world (map (λ (mount : Mount ℕ). mount.number)
     (flat_map (mount_tree nat_eq world.mounts) tops))
 
 pub points_take_none_in : ByPoints TakesNoMountsIn

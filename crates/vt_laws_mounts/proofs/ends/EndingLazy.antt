@@ -65,11 +65,8 @@ module _ (start : World ℕ) (at_first : MountInvariants nat_eq start) (one : �
   -- none that is left lies deeper than the next one
   no_deeper : (mount : Mount ℕ) (left : List (Mount ℕ)) → AreDeepestFirst start (mount ∷ left)
       → ((m : Mount ℕ) → Among m (mount ∷ left) → mount_numbered nat_eq start m.number ≡ m)
-      → (number : ℕ) → is_among nat_eq number (numbers_of (mount ∷ left)) ≡ true
-      → rank_of number ≤ rank_of mount.number
-  no_deeper mount left order its number m =
-      ⊎_elim
-      (λ same. let equal = ap rank_of same in omega (arith, equal))
+      → (number : ℕ) → is_among nat_eq number (numbers_of (mount ∷ left)) ≡ true → rank_of number ≤ rank_of mount.number
+  no_deeper mount left order its number m = ⊎_elim (λ same. let equal = ap rank_of same in omega (arith, equal))
       (λ later.
       let from =
       among-from_map (λ (x : Mount ℕ). x.number) left number (among_numbers (numbers_of left) number later) in
@@ -82,13 +79,11 @@ module _ (start : World ℕ) (at_first : MountInvariants nat_eq start) (one : �
       ∙ depth_by_rank start at_first.one_number at_first.standing x.number in
       let equal : rank_of number ≡ rank_of x.number = ap rank_of from.2 in
       let below = order.0 x from.1 in
-      omega (arith, first, second, equal, below))
-      (among_cases number mount.number (numbers_of left) m)
+      omega (arith, first, second, equal, below)) (among_cases number mount.number (numbers_of left) m)
 
   module _ (world : World ℕ) (mount : Mount ℕ) (left : List (Mount ℕ)) (way : IsUnderWay world (mount ∷ left)) where
     pub childless : has_child nat_eq world mount.number ≡ false
-    childless =
-        none_from_among (stands_on nat_eq mount.number) world.mounts
+    childless = none_from_among (stands_on nat_eq mount.number) world.mounts
         (λ x m. false_from_ne_true _ (λ on. none x m x.mount_point refl on))
       where
         none : (x : Mount ℕ) → Among x world.mounts → (place : Option (Location ℕ)) → x.mount_point ≡ place
@@ -101,11 +96,9 @@ module _ (start : World ℕ) (at_first : MountInvariants nat_eq start) (one : �
             let over = way.over x.number p (ap (λ z. z.mount_point) found ∙ e) in
             let high = over.1 in
             let equal : rank_of mount.number ≡ rank_of p.mount = ap rank_of same in
-            let lies =
-            further_in start one mount.number x.number (way.lies mount (inl refl))
+            let lies = further_in start one mount.number x.number (way.lies mount (inl refl))
             (subst (λ k. LiesIn start k x.number) (sym same) over.0) in
-            ⊎_elim
-            (λ later.
+            ⊎_elim (λ later.
             let low = no_deeper mount left way.order way.itself x.number later in
             absurd (omega (arith, low, high, equal)))
             (λ gone. true≢false (sym (ap is_some e) ∙ ap (λ z. is_some z.mount_point) (sym found) ∙ ap is_some gone))
@@ -124,25 +117,17 @@ module _ (start : World ℕ) (at_first : MountInvariants nat_eq start) (one : �
     over_then : (number : ℕ) (place : Location ℕ)
         → (mount_numbered nat_eq (taken_away nat_eq world gone) number).mount_point ≡ Some place
         → StoodOver place.mount number
-    over_then number place e =
-        falls_over number place
-        (stood world gone (mount_numbered nat_eq world number) place
+    over_then number place e = falls_over number place (stood world gone (mount_numbered nat_eq world number) place
         (sym (ap (λ m. m.mount_point) (taken world gone number)) ∙ e)).1
 
     -- of a mount without a place nothing is left to do
     done_then : (after : World ℕ) → (mount_numbered nat_eq after mount.number).mount_point ≡ None
         → ((number : ℕ) → (mount_numbered nat_eq world number).mount_point ≡ None
-        → (mount_numbered nat_eq after number).mount_point ≡ None)
-        → (number : ℕ) → LiesIn start one number
+        → (mount_numbered nat_eq after number).mount_point ≡ None) → (number : ℕ) → LiesIn start one number
         → (is_among nat_eq number (numbers_of left) ≡ true) ⊎ ((mount_numbered nat_eq after number).mount_point ≡ None)
-    done_then after here stays number lies =
-        ⊎_elim
-        (λ later.
-        ⊎_elim
-        (λ same. inr (ap (λ k. (mount_numbered nat_eq after k).mount_point) same ∙ here))
-        inl
-        (among_cases number mount.number (numbers_of left) later))
-        (λ none. inr (stays number none))
+    done_then after here stays number lies = ⊎_elim (λ later.
+        ⊎_elim (λ same. inr (ap (λ k. (mount_numbered nat_eq after k).mount_point) same ∙ here)) inl
+        (among_cases number mount.number (numbers_of left) later)) (λ none. inr (stays number none))
         (way.done number lies)
 
     pub next : IsUnderWay (unmounted_if_there nat_eq world mount) left
@@ -153,8 +138,7 @@ module _ (start : World ℕ) (at_first : MountInvariants nat_eq start) (one : �
         by true e = record {
           kept = unmount_keeps_mounts world mount.number way.kept childless;
           over = over_then;
-          done =
-              done_then (unmounted nat_eq world mount.number) (no_place_then world way.kept mount.number childless)
+          done = done_then (unmounted nat_eq world mount.number) (no_place_then world way.kept mount.number childless)
               (root_stays world gone);
           order = way.order.1;
           lies = λ x m. way.lies x (inr m);

@@ -43,8 +43,7 @@ lazy_unmount_has_no_more world one = all_have_no_more (taken_in_turn world one) 
 -- a mount that stays in turn
 stays_on : (world middle end : World ℕ) → TakesNoMountsIn world middle → TakesNoMountsIn middle end
     → TakesNoMountsIn world end
-stays_on world middle end first second =
-    all_from_among (IsOutOrStays world) end.mounts
+stays_on world middle end first second = all_from_among (IsOutOrStays world) end.mounts
     (λ mount m. by mount (among_from_all (IsOutOrStays middle) end.mounts second mount m))
   where
     on : (mount old : Mount ℕ) → mount.number ≡ old.number → mount.namespace ≡ old.namespace → IsOutOrStays world old
@@ -54,15 +53,13 @@ stays_on world middle end first second =
 
     by : (mount : Mount ℕ) → IsOutOrStays middle mount → IsOutOrStays world mount
     by mount (inl none) = inl none
-    by mount (inr was) =
-        on mount was.0 was.2 was.3
+    by mount (inr was) = on mount was.0 was.2 was.3
         (among_from_all (IsOutOrStays world) middle.mounts first was.0 (among_from_contains middle.mounts was.0 was.1))
 
 all_take_none_in : (mounts : List (Mount ℕ)) (world : World ℕ)
     → TakesNoMountsIn world (folded (unmounted_if_there nat_eq) world mounts)
 all_take_none_in [] world = stays_in world
-all_take_none_in (mount ∷ mounts) world =
-    stays_on world (unmounted_if_there nat_eq world mount)
+all_take_none_in (mount ∷ mounts) world = stays_on world (unmounted_if_there nat_eq world mount)
     (folded (unmounted_if_there nat_eq) (unmounted_if_there nat_eq world mount) mounts)
     (event_by TakesNoMountsIn world mount (stays_in world) (unmount_takes_none_in world mount.number))
     (all_take_none_in mounts (unmounted_if_there nat_eq world mount))
@@ -72,8 +69,7 @@ lazy_unmount_takes_none_in world one = all_take_none_in (taken_in_turn world one
 
 -- Root mounts: what goes in turn has a place, or has gone
 abbrev IsPlacedOrOut : World ℕ → ℕ → Type 0
-IsPlacedOrOut world number =
-    (is_some (mount_numbered nat_eq world number).mount_point ≡ true)
+IsPlacedOrOut world number = (is_some (mount_numbered nat_eq world number).mount_point ≡ true)
     ⊎ ((mount_numbered nat_eq world number).namespace ≡ None)
 
 placed_or_out_then : (world : World ℕ) (gone : List ℕ) (number : ℕ) → IsPlacedOrOut world number
@@ -92,23 +88,18 @@ all_keep_roots (mount ∷ mounts) world each placed namespace =
         → ((left : World ℕ) → OneNumberEach left → ((x : Mount ℕ) → Among x mounts → IsPlacedOrOut left x.number)
         → KeepsRootMounts left (folded (unmounted_if_there nat_eq) left mounts))
         → root_mounts_in (folded (unmounted_if_there nat_eq)
-        (if b then unmounted nat_eq world mount.number else world) mounts) namespace
-        ≡ root_mounts_in world namespace
+        (if b then unmounted nat_eq world mount.number else world) mounts) namespace ≡ root_mounts_in world namespace
     by false e later = later world each (λ x m. placed x (inr m)) namespace
     by true e later =
         let there : is_some (mount_numbered nat_eq world mount.number).mount_point ≡ true =
         ⊎_elim (λ f. f) (λ none. absurd (true≢false (sym e ∙ ap is_some none))) (placed mount (inl refl)) in
         later (unmounted nat_eq world mount.number) (unmount_keeps_numbers world mount.number each)
         (λ x m. placed_or_out_then world (going nat_eq world (mount_numbered nat_eq world mount.number)) x.number
-        (placed x (inr m)))
-        namespace
-        ∙ unmount_keeps_roots world mount.number each there namespace
+        (placed x (inr m))) namespace ∙ unmount_keeps_roots world mount.number each there namespace
 
 pub lazy_unmount_keeps_roots : LazyUnmountKeepsRootMounts
-lazy_unmount_keeps_roots world one each placed =
-    all_keep_roots (taken_in_turn world one) world each (λ mount m.
-    inl (⊎_elim
-    (λ top. ap (λ (x : Mount ℕ). is_some (mount_numbered nat_eq world x.number).mount_point) top
+lazy_unmount_keeps_roots world one each placed = all_keep_roots (taken_in_turn world one) world each (λ mount m.
+    inl (⊎_elim (λ top. ap (λ (x : Mount ℕ). is_some (mount_numbered nat_eq world x.number).mount_point) top
     ∙ ap (λ n. is_some (mount_numbered nat_eq world n).mount_point) (number-mount_in world.mounts one) ∙ placed)
     (λ t. ap (λ x. is_some x.mount_point) (found_itself world.mounts each mount t.0) ∙ t.1)
     (tree_placed (length world.mounts) world.mounts (mount_numbered nat_eq world one) mount

@@ -56,21 +56,16 @@ module _ (world : World ℕ) where
   pub among_all_inserted : (mounts sorted : List (Mount ℕ)) (x : Mount ℕ) → Among x (all_inserted sorted mounts)
       → Among x sorted ⊎ Among x mounts
   among_all_inserted [] sorted x m = inl m
-  among_all_inserted (mount ∷ mounts) sorted x m =
-      ⊎_elim
-      (λ first. ⊎_elim (λ e. inr (inl e)) inl (among_inserted mount sorted x first))
-      (λ later. inr (inr later))
+  among_all_inserted (mount ∷ mounts) sorted x m = ⊎_elim
+      (λ first. ⊎_elim (λ e. inr (inl e)) inl (among_inserted mount sorted x first)) (λ later. inr (inr later))
       (among_all_inserted mounts (insert mount sorted) x m)
 
   pub all_inserted_among : (mounts sorted : List (Mount ℕ)) (x : Mount ℕ) → Among x sorted ⊎ Among x mounts
       → Among x (all_inserted sorted mounts)
   all_inserted_among [] sorted x m = ⊎_elim (λ l. l) (λ none. absurd none) m
-  all_inserted_among (mount ∷ mounts) sorted x m =
-      all_inserted_among mounts (insert mount sorted) x
-      (⊎_elim
+  all_inserted_among (mount ∷ mounts) sorted x m = all_inserted_among mounts (insert mount sorted) x (⊎_elim
       (λ l. inl (inserted_among mount sorted x (inr l)))
-      (λ l. ⊎_elim (λ e. inl (inserted_among mount sorted x (inl e))) inr l)
-      m)
+      (λ l. ⊎_elim (λ e. inl (inserted_among mount sorted x (inl e))) inr l) m)
 
   abbrev tree_of : ℕ → List (Mount ℕ)
   tree_of number = mount_tree nat_eq world.mounts (mount_numbered nat_eq world number)
@@ -87,16 +82,12 @@ module _ (world : World ℕ) where
   module _ (one : OneNumberEach world) (all : AllStand world) where
     -- each of them lies in the tree
     pub lies_in_it : (number : ℕ) (x : Mount ℕ) → Among x (taken_in_turn number) → LiesIn world number x.number
-    lies_in_it number x m =
-        subst (λ k. LiesIn world k x.number) (number-mount_in world.mounts number)
-        (lies_in_tree world one all (length world.mounts) (mount_numbered nat_eq world number) x
-        (from_tree number x m))
+    lies_in_it number x m = subst (λ k. LiesIn world k x.number) (number-mount_in world.mounts number)
+        (lies_in_tree world one all (length world.mounts) (mount_numbered nat_eq world number) x (from_tree number x m))
 
     pub is_itself : (number : ℕ) (x : Mount ℕ) → Among x (taken_in_turn number)
         → mount_numbered nat_eq world x.number ≡ x
-    is_itself number x m =
-        ⊎_elim
-        (λ top.
+    is_itself number x m = ⊎_elim (λ top.
         ap (λ y. mount_numbered nat_eq world y.number) top
         ∙ ap (mount_in nat_eq world.mounts) (number-mount_in world.mounts number) ∙ sym top)
         (λ there. found_itself world.mounts one x there)
@@ -104,8 +95,7 @@ module _ (world : World ℕ) where
 
     -- and each that lies in the tree is one of them
     abbrev numbers_under : ℕ → List ℕ
-    numbers_under number =
-        map (λ (mount : Mount ℕ). mount.number)
+    numbers_under number = map (λ (mount : Mount ℕ). mount.number)
         (flat_map (mount_tree nat_eq world.mounts) (mount_numbered nat_eq world number ∷ []))
 
     top_in_tree : (depth : ℕ) (top : Mount ℕ) → Among top (tree_from nat_eq depth world.mounts top)

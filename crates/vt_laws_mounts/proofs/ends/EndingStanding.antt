@@ -30,10 +30,8 @@ module _ (world : World ℕ) (gone : List ℕ) where
 
   -- what stays is left on a mount that stays
   abbrev AllLand : Type 0
-  AllLand =
-      (number : ℕ) (place : Location ℕ) → is_going nat_eq gone number ≡ false
-      → (before_it number).mount_point ≡ Some place
-      → (rest : Location ℕ) × FallsTo world gone place rest
+  AllLand = (number : ℕ) (place : Location ℕ) → is_going nat_eq gone number ≡ false
+      → (before_it number).mount_point ≡ Some place → (rest : Location ℕ) × FallsTo world gone place rest
 
   -- a place stands on in the namespace of a mount
   abbrev LandsOn : ℕ → Location ℕ → Type 0
@@ -43,16 +41,14 @@ module _ (world : World ℕ) (gone : List ℕ) where
   fallen : (number : ℕ) (place rest : Location ℕ) → place.mount ≡ number → FallsTo world gone place rest
       → Stands nat_eq later number
       → ((below : Location ℕ) → (before_it number).mount_point ≡ Some below → FallsTo world gone below rest
-      → LandsOn number rest)
-      → LandsOn number rest
+      → LandsOn number rest) → LandsOn number rest
   fallen number place rest same (rests at stays) itself deeper =
       (subst (Stands nat_eq later) (sym same) itself, ap (λ n. (before_it n).namespace) (sym same))
   fallen number place rest same (falls at below end goes under more) itself deeper =
       deeper below (ap (λ n. (before_it n).mount_point) (sym same) ∙ under) more
 
   module _ (one : OneNumberEach world) (all : AllStand world) (land : AllLand) where
-    stands_later : (number : ℕ) → Stands nat_eq world number
-        → Stands nat_eq later number
+    stands_later : (number : ℕ) → Stands nat_eq world number → Stands nat_eq later number
         × ((place rest : Location ℕ) → place.mount ≡ number → FallsTo world gone place rest → LandsOn number rest)
     stands_later number (at_root it e) =
         let itself : Stands nat_eq later it = at_root it (root_stays world gone it e) in (
@@ -71,8 +67,7 @@ module _ (world : World ℕ) (gone : List ℕ) where
       where
         by : (b : Bool) → is_going nat_eq gone it ≡ b
             → ((place rest : Location ℕ) → place.mount ≡ on.mount → FallsTo world gone place rest
-            → LandsOn on.mount rest)
-            → Stands nat_eq later it
+            → LandsOn on.mount rest) → Stands nat_eq later it
         by true goes deeper = at_root it (ap (λ m. m.mount_point) (detached_by_number world gone it goes))
         by false stays deeper =
             let landed = land it on stays e in
@@ -80,8 +75,7 @@ module _ (world : World ℕ) (gone : List ℕ) where
             on_parent it landed.0
             (place_fallen world gone ((standing_is_computed world one).0 all) it on landed.0 stays e landed.1)
             ((kept_by_number world gone it stays).namespace ∙ f ∙ l.1
-            ∙ sym (kept_by_number world gone landed.0.mount (rest_stays on landed.0 landed.1)).namespace)
-            l.0
+            ∙ sym (kept_by_number world gone landed.0.mount (rest_stays on landed.0 landed.1)).namespace) l.0
 
     pub taken_stand : AllStand later
     taken_stand = all_from_among (λ (mount : Mount ℕ). Stands nat_eq later mount.number) later.mounts
@@ -90,9 +84,7 @@ module _ (world : World ℕ) (gone : List ℕ) where
   -- it is so where what goes has a place, or nothing stands on it
   pub lands_by_places : OneNumberEach world → AllStand world
       → ((x : Mount ℕ) (place : Location ℕ) → Among x world.mounts → x.mount_point ≡ Some place
-      → is_going nat_eq gone place.mount ≡ true
-      → is_some (mount_at nat_eq world place).mount_point ≡ true)
-      → AllLand
+      → is_going nat_eq gone place.mount ≡ true → is_some (mount_at nat_eq world place).mount_point ≡ true) → AllLand
   lands_by_places one all placed number place stays e =
       from place.mount (stand world one all place.mount) number place e refl
     where
@@ -106,8 +98,7 @@ module _ (world : World ℕ) (gone : List ℕ) where
               absurd (true≢false (sym (placed (before_it above) at (placed_among world.mounts above at g) g goes)
               ∙ ap (λ n. is_some (before_it n).mount_point) same ∙ ap is_some f))
           by false rest = (at, rests at rest)
-      from below (on_parent it on f same_namespace stands) above at g same =
-          by (is_going nat_eq gone at.mount) refl
+      from below (on_parent it on f same_namespace stands) above at g same = by (is_going nat_eq gone at.mount) refl
           (from on.mount stands at.mount on (ap (λ n. (before_it n).mount_point) same ∙ f) refl)
         where
           by : (b : Bool) → is_going nat_eq gone at.mount ≡ b → ((rest : Location ℕ) × FallsTo world gone on rest)

@@ -1,7 +1,6 @@
 -- An unmount takes just the mounts that propagation names.
-use Rattle.std.proofs.Common.{arith}
+use Rattle.std.proofs.Common.{arith, ◌≡◌, refl, sym, ap, ◌∙◌, ℕ, zero, suc, nat_eq, Bool, true, false, true≢false, List, length, map, Option, Some, None, is_some, find}
 use Rattle.std.proofs.lemmas.Grind.{common_steps}
-use Rattle.std.proofs.Common.{◌≡◌, refl, sym, ap, ◌∙◌, ℕ, zero, suc, nat_eq, Bool, true, false, true≢false, List, length, map, Option, Some, None, is_some, find}
 use Rattle.std.specs.Prelude.{if◌then◌else◌, option_map}
 use Rattle.std.proofs.lemmas.List.{length-map}
 use Rattle.std.proofs.lemmas.Bool.{and_parts, not-true}
@@ -24,15 +23,13 @@ module _ (world : World ℕ) (gone : List ℕ) where
   -- one mount after the event
   pub going_is_detached : (mount : Mount ℕ) → is_going nat_eq gone mount.number ≡ true
       → after_going nat_eq world gone mount ≡ detached mount
-  going_is_detached mount e =
-      ap (λ b. if b then detached mount else
+  going_is_detached mount e = ap (λ b. if b then detached mount else
       (record mount { mount_point = option_map (mount_point_left nat_eq world gone) mount.mount_point })) e
 
   pub staying_is_placed : (mount : Mount ℕ) → is_going nat_eq gone mount.number ≡ false
       → after_going nat_eq world gone mount
       ≡ record mount { mount_point = option_map (mount_point_left nat_eq world gone) mount.mount_point }
-  staying_is_placed mount e =
-      ap (λ b. if b then detached mount else
+  staying_is_placed mount e = ap (λ b. if b then detached mount else
       (record mount { mount_point = option_map (mount_point_left nat_eq world gone) mount.mount_point })) e
 
   none_after : (number : ℕ) → after_going nat_eq world gone (no_mount number) ≡ no_mount number
@@ -42,20 +39,16 @@ module _ (world : World ℕ) (gone : List ℕ) where
   abbrev pub middle : World ℕ
   middle = with_mounts world (map (after_going nat_eq world gone) world.mounts)
 
-  pub taken : (number : ℕ)
-      → mount_numbered nat_eq (taken_away nat_eq world gone) number ≡ inheriting nat_eq middle
+  pub taken : (number : ℕ) → mount_numbered nat_eq (taken_away nat_eq world gone) number ≡ inheriting nat_eq middle
       (after_going nat_eq world gone (mount_numbered nat_eq world number))
-  taken number =
-      ap (λ mounts. mount_in nat_eq mounts number) (mounts-regrouped middle)
-      ∙ found-map (inheriting nat_eq middle) (λ mount. refl) middle.mounts number refl
-      ∙ ap (inheriting nat_eq middle)
+  taken number = ap (λ mounts. mount_in nat_eq mounts number) (mounts-regrouped middle)
+      ∙ found-map (inheriting nat_eq middle) (λ mount. refl) middle.mounts number refl ∙ ap (inheriting nat_eq middle)
       (found-map (after_going nat_eq world gone) (number-after_going world gone) world.mounts number
       (none_after number))
 
   pub numbers_taken : map (λ mount. mount.number) (taken_away nat_eq world gone).mounts
       ≡ map (λ mount. mount.number) world.mounts
-  numbers_taken =
-      ap (map (λ mount. mount.number)) (mounts-regrouped middle)
+  numbers_taken = ap (map (λ mount. mount.number)) (mounts-regrouped middle)
       ∙ numbers-map (inheriting nat_eq middle) (λ mount. refl) middle.mounts
       ∙ numbers-map (after_going nat_eq world gone) (number-after_going world gone) world.mounts
 
@@ -66,11 +59,9 @@ module _ (world : World ℕ) (gone : List ℕ) where
       ∙ ap (inheriting nat_eq middle) (going_is_detached (mount_numbered nat_eq world number) e)
 
   taken_staying : (number : ℕ) → is_going nat_eq gone (mount_numbered nat_eq world number).number ≡ false
-      → mount_numbered nat_eq (taken_away nat_eq world gone) number
-      ≡ inheriting nat_eq middle
+      → mount_numbered nat_eq (taken_away nat_eq world gone) number ≡ inheriting nat_eq middle
       (record (mount_numbered nat_eq world number) {
-        mount_point = option_map (mount_point_left nat_eq world gone)
-            (mount_numbered nat_eq world number).mount_point;
+        mount_point = option_map (mount_point_left nat_eq world gone) (mount_numbered nat_eq world number).mount_point;
       })
   taken_staying number e = taken number
       ∙ ap (inheriting nat_eq middle) (staying_is_placed (mount_numbered nat_eq world number) e)
@@ -84,8 +75,7 @@ module _ (world : World ℕ) (gone : List ℕ) where
   pub left_at_rest : (n : ℕ) (place : Location ℕ) → is_going nat_eq gone place.mount ≡ false
       → last_or place (chain n (mount_point_of_parent nat_eq world gone) place) ≡ place
   left_at_rest zero place e = refl
-  left_at_rest (suc n) place e =
-      ap (last_or place) (chain_ends (mount_point_of_parent nat_eq world gone) n place
+  left_at_rest (suc n) place e = ap (last_or place) (chain_ends (mount_point_of_parent nat_eq world gone) n place
       (ap (λ b. if b then down place else None) e))
 
   -- the places below a place end within so many steps
@@ -95,17 +85,9 @@ module _ (world : World ℕ) (gone : List ℕ) where
   falls_to_rest : (n : ℕ) (place rest : Location ℕ) → EndsBelow n place → FallsTo world gone place rest
       → last_or place (chain n (mount_point_of_parent nat_eq world gone) place) ≡ rest
   falls_to_rest n place rest ends (rests at stays) = left_at_rest n at stays
-  falls_to_rest zero place rest ends (falls at below end goes under later) =
-      absurd (true≢false (sym (ap is_some under) ∙ ends))
+  falls_to_rest zero place rest ends (falls at below end goes under later) = grind (arith, common_steps, true≢false)
   falls_to_rest (suc n) place rest ends (falls at below end goes under later) =
-      let next : mount_point_of_parent nat_eq world gone at ≡ Some below =
-      ap (λ b. if b then down at else None) goes ∙ under in
-      ap (last_or at) (chain_goes_on (mount_point_of_parent nat_eq world gone) n at below next)
-      ∙ last_of_chain (mount_point_of_parent nat_eq world gone) n below at
-      ∙ falls_to_rest n below end
-      (sym (ap (λ p. is_some (down p))
-      (ap (last_or at) (chain_goes_on down n at below under) ∙ last_of_chain down n below at))
-      ∙ ends) later
+      grind (arith, common_steps, chain_goes_on, last_of_chain, falls_to_rest n below end)
 
   abbrev below_mount : Mount ℕ → Option (Mount ℕ)
   below_mount mount = option_map (mount_at nat_eq world) mount.mount_point
@@ -118,18 +100,15 @@ module _ (world : World ℕ) (gone : List ℕ) where
   same_end (suc n) place = grind (arith, common_steps, same_end n, chain_ends, chain_goes_on, last_of_chain)
 
   ends_below : ChainsEnd world → (place : Location ℕ) → EndsBelow (length world.mounts) place
-  ends_below ends place =
-      grind (
-        arith,
-        common_steps,
-        same_end (length world.mounts) place,
-        not-true,
-        and_parts,
-        among_from_list_all
-            (stands_in_its_namespace nat_eq world) world.mounts ends (mount_at nat_eq world place),
-        found_or_none
-            world.mounts place.mount,
-      )
+  ends_below ends place = grind (
+    arith,
+    common_steps,
+    same_end (length world.mounts) place,
+    not-true,
+    and_parts,
+    among_from_list_all (stands_in_its_namespace nat_eq world) world.mounts ends (mount_at nat_eq world place),
+    found_or_none world.mounts place.mount,
+  )
 
   -- What goes and what stays, by a number
   abbrev left : ℕ → Mount ℕ
@@ -148,20 +127,12 @@ module _ (world : World ℕ) (gone : List ℕ) where
   pub kept_by_number : (number : ℕ) → is_going nat_eq gone number ≡ false
       → KeepsAllButMountPointAndType (before_it number) (left number)
   kept_by_number number e =
-      let it = taken_staying number (goes_so number false e) in
-      record {
-        number = ap (λ m. m.number) it;
-        namespace = ap (λ m. m.namespace) it;
-        filesystem = ap (λ m. m.filesystem) it;
-        root = ap (λ m. m.root) it;
-        flags = ap (λ m. m.flags) it;
-      }
+      grind (arith, common_steps, taken_staying number (goes_so number false e), goes_so number false e)
 
   place_by_number : (number : ℕ) (place : Location ℕ) → is_going nat_eq gone number ≡ false
       → (before_it number).mount_point ≡ Some place
       → (left number).mount_point ≡ Some (mount_point_left nat_eq world gone place)
-  place_by_number number place e at =
-      ap (λ m. m.mount_point) (taken_staying number (goes_so number false e))
+  place_by_number number place e at = ap (λ m. m.mount_point) (taken_staying number (goes_so number false e))
       ∙ ap (option_map (mount_point_left nat_eq world gone)) at
 
   pub place_kept : (number : ℕ) (place : Location ℕ) → is_going nat_eq gone number ≡ false
@@ -173,8 +144,7 @@ module _ (world : World ℕ) (gone : List ℕ) where
   pub place_fallen : ChainsEnd world → (number : ℕ) (place rest : Location ℕ) → is_going nat_eq gone number ≡ false
       → (before_it number).mount_point ≡ Some place → FallsTo world gone place rest
       → (left number).mount_point ≡ Some rest
-  place_fallen ends number place rest e at fall =
-      place_by_number number place e at
+  place_fallen ends number place rest e at fall = place_by_number number place e at
       ∙ ap Some (falls_to_rest (length world.mounts) place rest (ends_below ends place) fall)
 
   pub root_stays : (number : ℕ) → (before_it number).mount_point ≡ None → (left number).mount_point ≡ None
@@ -202,14 +172,11 @@ module _ (world : World ℕ) (gone : List ℕ) where
       by Unbindable h = refl
 
   pub slave_inherits : (number master : ℕ) → is_going nat_eq gone number ≡ false
-      → (before_it number).propagation ≡ Slave master
-      → (left number).propagation ≡ slave_of_heir
+      → (before_it number).propagation ≡ Slave master → (left number).propagation ≡ slave_of_heir
       (find (has_members nat_eq (taken_away nat_eq world gone).mounts) (groups_up world master))
-  slave_inherits number master e slave =
-      type_by_number number e ∙ ap (inherited nat_eq middle) slave
+  slave_inherits number master e slave = type_by_number number e ∙ ap (inherited nat_eq middle) slave
       ∙ ap (λ n. slave_of_heir (find (has_members nat_eq middle.mounts) (chain n world.master master)))
-      (length-map world.mounts (after_going nat_eq world gone))
-      ∙ ap slave_of_heir
+      (length-map world.mounts (after_going nat_eq world gone)) ∙ ap slave_of_heir
       (find_agrees (has_members nat_eq middle.mounts) (has_members nat_eq (taken_away nat_eq world gone).mounts)
       (λ group. sym (members_of_middle group)) (groups_up world master))
 

@@ -1,7 +1,6 @@
 -- Mounts that end with something else, and lazy unmounts.
-use Rattle.std.proofs.Common.{arith}
+use Rattle.std.proofs.Common.{arith, ◌≡◌, refl, sym, ap, subst, ◌∙◌, true, false, Bool, List, None, Some, [], is_some, map, nat_eq, true≢false, ⊎_elim, ◌∷◌, ◌⊎◌, ℕ, inr, inl}
 use Rattle.std.proofs.lemmas.Grind.{common_steps}
-use Rattle.std.proofs.Common.{◌≡◌, refl, sym, ap, subst, ◌∙◌, true, false, Bool, List, None, Some, [], is_some, map, nat_eq, true≢false, ⊎_elim, ◌∷◌, ◌⊎◌, ℕ, inr, inl}
 use Rattle.vt_spec.proofs.Lists.{Among, among-filter, among-filter_map, among-map, filter_none, head_among, is_among_numbers}
 use Rattle.vt_laws_mounts.specs.Mounts.Unmounting.{KeepsAllButMounts, KeepsAllButMountPointAndType}
 use Rattle.vt_laws_mounts.specs.Mounts.Ends.{LazyDetachesOrKeeps, LazyIsOfMounts, OthersAreKept, OthersKeepTheirMountPoints, OthersKeepTheirTypes, TakenAreDetached, TheMountItselfGoes}
@@ -63,17 +62,7 @@ then_event : (before : Mount ℕ) (world : World ℕ) (gone : List ℕ) (number 
     → DetachedOrKept before (mount_numbered nat_eq world number)
     → DetachedOrKept before (mount_numbered nat_eq (taken_away nat_eq world gone) number)
 then_event before world gone number (inl e) = inl (stays_detached world gone number before e)
-then_event before world gone number (inr r) =
-    ⊎_elim
-    (λ e. inl (e ∙ detached_of_kept before (mount_numbered nat_eq world number) r))
-    (λ s. inr (record {
-      number = s.number ∙ r.number;
-      namespace = s.namespace ∙ r.namespace;
-      filesystem = s.filesystem ∙ r.filesystem;
-      root = s.root ∙ r.root;
-      flags = s.flags ∙ r.flags;
-    }))
-    (event world gone number)
+then_event before world gone number (inr r) = grind (arith, common_steps, number, detached_of_kept, event)
 
 all_events : (before : Mount ℕ) (number : ℕ) (mounts : List (Mount ℕ)) (world : World ℕ)
     → DetachedOrKept before (mount_numbered nat_eq world number)
@@ -89,8 +78,7 @@ all_events before number (mount ∷ mounts) world r =
     by false = r
 
 pub lazy_detaches_or_keeps : LazyDetachesOrKeeps
-lazy_detaches_or_keeps world one number =
-    all_events (mount_numbered nat_eq world number) number
+lazy_detaches_or_keeps world one number = all_events (mount_numbered nat_eq world number) number
     (deepest_first nat_eq world (mount_tree nat_eq world.mounts (mount_numbered nat_eq world one))) world
     (inr (record { number = refl; namespace = refl; filesystem = refl; root = refl; flags = refl }))
 
@@ -137,8 +125,7 @@ the_mount_itself_goes world one place one_each at childless =
     empty list h = filter_none (stands_on nat_eq one) list h
 
     may : may_go nat_eq world itself ≡ true
-    may =
-        ap (λ n. only_cover nat_eq itself (children nat_eq world.mounts n)) number
+    may = ap (λ n. only_cover nat_eq itself (children nat_eq world.mounts n)) number
         ∙ ap (only_cover nat_eq itself) (empty world.mounts childless)
 
     itself_among : Among itself world.mounts
@@ -152,22 +139,15 @@ the_mount_itself_goes world one place one_each at childless =
         ∙ found_at_its_place world.mounts one_each itself itself_among place at
 
     parent_among : (group : ℕ) → parent.propagation ≡ Shared group → Among parent world.mounts
-    parent_among group e =
-        ⊎_elim (λ m. m)
-        (λ none. absurd (true≢false (sym (ap (λ k. is_some (group_of k)) e)
-        ∙ ap (λ m. is_some (group_of m.propagation)) none)))
-        (found_or_none world.mounts place.mount)
+    parent_among group e = ⊎_elim (λ m. m) (λ none. absurd (true≢false (sym (ap (λ k. is_some (group_of k)) e)
+        ∙ ap (λ m. is_some (group_of m.propagation)) none))) (found_or_none world.mounts place.mount)
 
     by : (kind : Propagation ℕ) → parent.propagation ≡ kind
         → is_going nat_eq (going_from nat_eq world itself place (is_shared parent.propagation)) one ≡ true
-    by (Shared group) e =
-        ap (λ k. is_going nat_eq (going_from nat_eq world itself place (is_shared k)) one) e
-        ∙ ap (λ rs. is_among nat_eq one
-        (map (λ (gone : Mount ℕ). gone.number)
+    by (Shared group) e = ap (λ k. is_going nat_eq (going_from nat_eq world itself place (is_shared k)) one) e
+        ∙ ap (λ rs. is_among nat_eq one (map (λ (gone : Mount ℕ). gone.number)
         (filter_map (goes_at nat_eq world place.node) rs))) (receivers_of_shared world parent group e)
-        ∙ is_among_numbers _ one
-        (subst (λ n. Among n
-        (map (λ (gone : Mount ℕ). gone.number)
+        ∙ is_among_numbers _ one (subst (λ n. Among n (map (λ (gone : Mount ℕ). gone.number)
         (filter_map (goes_at nat_eq world place.node) (receivers nat_eq world group)))) number
         (among-map (λ (gone : Mount ℕ). gone.number)
         (filter_map (goes_at nat_eq world place.node) (receivers nat_eq world group)) itself

@@ -1,7 +1,6 @@
 -- What goes at an unmount is what propagation names.
-use Rattle.std.proofs.Common.{arith}
+use Rattle.std.proofs.Common.{arith, ◌≡◌, refl, sym, ap, subst, ◌∙◌, inl, ⊎_elim, ℕ, nat_eq, true, true≢false, List, [], ◌∷◌, map, Option, Some, None, Ok}
 use Rattle.std.proofs.lemmas.Grind.{common_steps}
-use Rattle.std.proofs.Common.{◌≡◌, refl, sym, ap, subst, ◌∙◌, inl, ⊎_elim, ℕ, nat_eq, true, true≢false, List, [], ◌∷◌, map, Option, Some, None, Ok}
 use Rattle.std.specs.Prelude.{Contains, filter_map, option_map, unwrap_or}
 use Rattle.vt_spec.specs.Machine.Attach.{receivers_of}
 use Rattle.vt_spec.specs.Language.Calls.Call.{Umount}
@@ -38,8 +37,7 @@ module _ (world : World ℕ) where
 
   pub child_goes_so : (node : ℕ) (receiver child : Mount ℕ)
       → child_at nat_eq world.mounts (record { mount = receiver.number; node = node }) ≡ Some child
-      → may_go nat_eq world child ≡ true
-      → goes_at nat_eq world node receiver ≡ Some child
+      → may_go nat_eq world child ≡ true → goes_at nat_eq world node receiver ≡ Some child
   child_goes_so node receiver child f g =
       ap (λ o. then_some o (λ c. when (may_go nat_eq world c) c)) f ∙ ap (λ b. when b child) g
 
@@ -58,22 +56,18 @@ module _ (world : World ℕ) (live : GroupsLive world) (mount : Mount ℕ) where
       listed numbers e = among_numbers numbers number (sym (ap (λ ns. is_going nat_eq ns number) e) ∙ h)
 
       shared : (place : Location ℕ) (group : ℕ) → mount.mount_point ≡ Some place
-          → (mount_at nat_eq world place).propagation ≡ Shared group
-          → Among number (map (λ gone. gone.number)
-          (filter_map (goes_at nat_eq world place.node) (receivers nat_eq world group)))
-          → Goes world mount number
+          → (mount_at nat_eq world place).propagation ≡ Shared group → Among number (map (λ gone. gone.number)
+          (filter_map (goes_at nat_eq world place.node) (receivers nat_eq world group))) → Goes world mount number
       shared place group e f m =
           let gone : (x : Mount ℕ)
           × Among x (filter_map (goes_at nat_eq world place.node) (receivers nat_eq world group))
-          × (number ≡ x.number) =
-          among-from_map (λ gone. gone.number)
+          × (number ≡ x.number) = among-from_map (λ gone. gone.number)
           (filter_map (goes_at nat_eq world place.node) (receivers nat_eq world group)) number m in
           let heard : (x : Mount ℕ) × Among x (receivers nat_eq world group)
           × (goes_at nat_eq world place.node x ≡ Some gone.0) =
           among-from_filter_map (goes_at nat_eq world place.node) (receivers nat_eq world group) gone.0 gone.1 in
           let child : (child_at nat_eq world.mounts (record { mount = heard.0.number; node = place.node })
-          ≡ Some gone.0) × (may_go nat_eq world gone.0 ≡ true) =
-          child_goes world place.node heard.0 gone.0 heard.2 in
+          ≡ Some gone.0) × (may_go nat_eq world gone.0 ≡ true) = child_goes world place.node heard.0 gone.0 heard.2 in
           let hears : Contains world.mounts heard.0 × Receives world group heard.0 =
           (receivers_receive world group heard.0 live).0 (contains_from_among _ heard.0 heard.1) in
           subst (Goes world mount) (sym gone.2)
@@ -87,10 +81,7 @@ module _ (world : World ℕ) (live : GroupsLive world) (mount : Mount ℕ) where
         where
           on : (k : Propagation ℕ) → (mount_at nat_eq world place).propagation ≡ k
               → Among number (going_from nat_eq world mount place (is_shared k)) → Goes world mount number
-          on (Shared group) g m =
-              shared place group e g
-              (subst (λ rs. Among number (map (λ gone. gone.number) (filter_map (goes_at nat_eq world place.node) rs)))
-              (receivers_of_shared world (mount_at nat_eq world place) group g) m)
+          on (Shared group) g m = grind (arith, common_steps, shared, receivers_of_shared)
           on (Slave above) g m = itself (alone place e (ap is_shared g)) m
           on Private g m = itself (alone place e (ap is_shared g)) m
           on Unbindable g m = itself (alone place e (ap is_shared g)) m
@@ -103,19 +94,16 @@ module _ (world : World ℕ) (live : GroupsLive world) (mount : Mount ℕ) where
   goes_so_named number (from_nowhere e) =
       ap (λ ns. is_going nat_eq ns mount.number) (ap (going_at nat_eq world mount) e)
       ∙ is_among_numbers (mount.number ∷ []) mount.number (inl refl)
-  goes_so_named number (alone place e f) =
-      ap (λ ns. is_going nat_eq ns mount.number)
+  goes_so_named number (alone place e f) = ap (λ ns. is_going nat_eq ns mount.number)
       (ap (going_at nat_eq world mount) e ∙ ap (going_from nat_eq world mount place) f)
       ∙ is_among_numbers (mount.number ∷ []) mount.number (inl refl)
   goes_so_named number (at_receiver place group receiver child e f contained hears found may) =
       let heard : Among receiver (receivers nat_eq world group) =
       among_from_contains _ receiver ((receivers_receive world group receiver live).1 (contained, hears)) in
-      ap (λ ns. is_going nat_eq ns child.number)
-      (ap (going_at nat_eq world mount) e
+      ap (λ ns. is_going nat_eq ns child.number) (ap (going_at nat_eq world mount) e
       ∙ ap (λ k. going_from nat_eq world mount place (is_shared k)) f
       ∙ ap (λ rs. map (λ gone. gone.number) (filter_map (goes_at nat_eq world place.node) rs))
-      (receivers_of_shared world (mount_at nat_eq world place) group f))
-      ∙ is_among_numbers _ child.number
+      (receivers_of_shared world (mount_at nat_eq world place) group f)) ∙ is_among_numbers _ child.number
       (among-map (λ gone. gone.number) _ child
       (among-filter_map (goes_at nat_eq world place.node) (receivers nat_eq world group) receiver child heard
       (child_goes_so world place.node receiver child found may)))
@@ -123,8 +111,7 @@ module _ (world : World ℕ) (live : GroupsLive world) (mount : Mount ℕ) where
 pub what_goes_is_named : WhatGoesIsNamed
 what_goes_is_named world one number live = (
   is_named world live (mount_numbered nat_eq world one) number,
-  goes_so_named world live
-      (mount_numbered nat_eq world one) number,
+  goes_so_named world live (mount_numbered nat_eq world one) number,
 )
 
 -- a granted umount has unmounted

@@ -1,19 +1,17 @@
 -- A namespace that ends leaves at most one mount at a place in the others.
-use Rattle.std.proofs.Common.{arith}
+use Rattle.std.proofs.Common.{arith, ◌≡◌, refl, sym, ap, ◌∙◌, true, false, zero, suc, nat_eq, ℕ, List, None, Option, Some, eqb-true, filter, is_some, map, not, option_map, true≢false, ◌&&◌}
 use Rattle.std.proofs.lemmas.Grind.{common_steps}
-use Rattle.std.proofs.Common.{◌≡◌, refl, sym, ap, subst, ◌∙◌, true, false, zero, suc, nat_eq, ℕ, List, None, Option, Some, eqb-true, filter, is_some, map, not, option_map, true≢false, ◌&&◌}
-use Rattle.vt_spec.specs.Machine.Mounts.{Location, Mount, mount_in}
+use Rattle.vt_spec.specs.Machine.Mounts.{Location, Mount}
 use Rattle.vt_spec.proofs.Lists.{Among, among-filter, among-from_filter, among-from_map, among-map, among_from_list_all, among_numbers, chain_ends, chain_goes_on, is_among_numbers, last_of_chain}
 use Rattle.vt_laws_mounts.specs.Mounts.Invariants.{EndedNamespacesLeaveOneMountAMountPoint, OneNumberEach}
 use Rattle.vt_laws_mounts.specs.Mounts.Unmounting.{ChainsEnd}
 use Rattle.vt_spec.specs.Machine.World.{World, mount_at, Namespace}
 use Rattle.std.proofs.lemmas.Bool.{and_parts, not-true}
-use Rattle.vt_spec.specs.Lists.{chain, holds_of, last_or, same_option}
+use Rattle.vt_spec.specs.Lists.{chain, last_or, same_option}
 use Rattle.vt_laws_mounts.proofs.ends.UnmountingTrees.{AreClosed, closed_keeps_apart}
 use Rattle.vt_laws_mounts.proofs.mounts.MountsReplaced.{found_itself}
-use Rattle.vt_spec.specs.Machine.Namespaces.{has_tasks, is_in_ended}
+use Rattle.vt_spec.specs.Machine.Namespaces.{is_in_ended}
 use Rattle.vt_spec.specs.Machine.Invariants.{last_parent, stands_in_its_namespace}
-use Rattle.std.specs.List.{list_any}
 use Rattle.vt_spec.proofs.Found.{length_from_among}
 
 -- one step more changes no chain that has ended
@@ -35,8 +33,7 @@ module _ (world : World ℕ) (ends : ChainsEnd world) where
   no_more : (mount : Mount ℕ) → is_some mount.mount_point ≡ false → under mount ≡ None
   no_more mount e = grind (arith, common_steps, true≢false)
 
-  parts : (mount : Mount ℕ) → Among mount world.mounts
-      → (is_some (last_parent nat_eq world mount).mount_point ≡ false)
+  parts : (mount : Mount ℕ) → Among mount world.mounts → (is_some (last_parent nat_eq world mount).mount_point ≡ false)
       × (mount.namespace ≡ (last_parent nat_eq world mount).namespace)
   parts mount m =
       let both : (not (is_some (last_parent nat_eq world mount).mount_point) ≡ true)
@@ -46,8 +43,7 @@ module _ (world : World ℕ) (ends : ChainsEnd world) where
 
   -- a mount is in the namespace of the one that it stands on
   pub same_namespace : (x : Mount ℕ) (place : Location ℕ) → Among x world.mounts → x.mount_point ≡ Some place
-      → Among (mount_at nat_eq world place) world.mounts
-      → x.namespace ≡ (mount_at nat_eq world place).namespace
+      → Among (mount_at nat_eq world place) world.mounts → x.namespace ≡ (mount_at nat_eq world place).namespace
   same_namespace x place m e n =
       let on = mount_at nat_eq world place in
       let size = length_from_among world.mounts x m in
@@ -60,8 +56,7 @@ module _ (world : World ℕ) (ends : ChainsEnd world) where
       let same : last_parent nat_eq world on ≡ last_parent nat_eq world x =
       ap (λ k. last_or on (chain k under on)) size.1
       ∙ last_longer under size.0 on (no_more (last_or on (chain size.0 under on))
-      (ap (λ l. is_some l.mount_point) (sym shorter) ∙ first.0))
-      ∙ sym shorter in
+      (ap (λ l. is_some l.mount_point) (sym shorter) ∙ first.0)) ∙ sym shorter in
       first.1 ∙ sym (other.1 ∙ ap (λ l. l.namespace) same)
 
 -- the mounts of namespaces that end
@@ -69,23 +64,18 @@ abbrev pub in_ended : World ℕ → List ℕ
 in_ended world = map (λ (mount : Mount ℕ). mount.number) (filter (is_in_ended nat_eq world) world.mounts)
 
 pub ended_closed : (world : World ℕ) → ChainsEnd world → OneNumberEach world → AreClosed world (in_ended world)
-ended_closed world ends one x place m e goes =
-    let from =
-    among-from_map (λ (mount : Mount ℕ). mount.number) (filter (is_in_ended nat_eq world) world.mounts) place.mount
-    (among_numbers (in_ended world) place.mount goes) in
-    let end = among-from_filter (is_in_ended nat_eq world) world.mounts from.0 from.1 in
-    let it : mount_at nat_eq world place ≡ from.0 =
-    ap (mount_in nat_eq world.mounts) from.2 ∙ found_itself world.mounts one from.0 end.0 in
-    let there : Among (mount_at nat_eq world place) world.mounts = subst (λ z. Among z world.mounts) (sym it) end.0 in
-    let namespace : x.namespace ≡ from.0.namespace =
-    same_namespace world ends x place m e there ∙ ap (λ z. z.namespace) it in
-    is_among_numbers (in_ended world) x.number
-    (among-map (λ (mount : Mount ℕ). mount.number) (filter (is_in_ended nat_eq world) world.mounts) x
-    (among-filter (is_in_ended nat_eq world) world.mounts x m
-    (ap (holds_of
-    (λ number. not
-    (list_any (λ (listed : Namespace ℕ). nat_eq number listed.number
-    && has_tasks nat_eq world listed) world.namespaces))) namespace ∙ end.1)))
+ended_closed world ends one x place m e goes = grind (
+  arith,
+  common_steps,
+  among-from_map,
+  among_numbers,
+  among-from_filter,
+  found_itself,
+  same_namespace,
+  is_among_numbers,
+  among-map,
+  among-filter,
+)
 
 pub ended_namespaces_leave_one_mount_a_place : EndedNamespacesLeaveOneMountAMountPoint
 ended_namespaces_leave_one_mount_a_place world ends both =

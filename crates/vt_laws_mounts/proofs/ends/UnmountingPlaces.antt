@@ -1,7 +1,6 @@
 -- An unmount leaves at most one mount at a place.
-use Rattle.std.proofs.Common.{arith}
+use Rattle.std.proofs.Common.{arith, ◌≡◌, refl, sym, ap, subst, ◌∙◌, true, false, zero, suc, Bool, List, None, Option, Some, [], eq-eqb, is_some, length, nat_eq, option_map, true≢false, ⊎_elim, ◌∷◌, ◌⊎◌, ℕ, inl, inr}
 use Rattle.std.proofs.lemmas.Grind.{common_steps}
-use Rattle.std.proofs.Common.{◌≡◌, refl, sym, ap, subst, ◌∙◌, true, false, zero, suc, Bool, List, None, Option, Some, [], eq-eqb, is_some, length, nat_eq, option_map, true≢false, ⊎_elim, ◌∷◌, ◌⊎◌, ℕ, inl, inr}
 use Rattle.vt_spec.proofs.Lists.{Among, among-filter, among-from_filter_map, among-from_map, among_numbers, chain_ends, chain_goes_on, last_of_chain, none_among, pair-map}
 use Rattle.vt_laws_mounts.specs.Mounts.Invariants.{AreApart, OneMountEachMountPoint, UnmountLeavesOneMountAMountPoint}
 use Rattle.vt_spec.specs.Machine.Mounts.{Location, children, is_shared, mount_in, stands_at, stands_on, Mount}
@@ -45,14 +44,7 @@ module _ (world : World ℕ) (gone : List ℕ) where
           → ((next : Location ℕ) → Falls world gone a next
           → Falls world gone a (last_or next (chain n (mount_point_of_parent nat_eq world gone) next)))
           → Falls world gone a (last_or place (chain (suc n) (mount_point_of_parent nat_eq world gone) place))
-      by None e later =
-          subst (λ ps. Falls world gone a (last_or place ps))
-          (sym (chain_ends (mount_point_of_parent nat_eq world gone) n place e)) fall
-      by (Some next) e later =
-          subst (Falls world gone a)
-          (sym (ap (last_or place) (chain_goes_on (mount_point_of_parent nat_eq world gone) n place next e)
-          ∙ last_of_chain (mount_point_of_parent nat_eq world gone) n next place))
-          (later next (step next (is_going nat_eq gone place.mount) refl e))
+      by found e later = grind (arith, common_steps, chain_ends, chain_goes_on, last_of_chain, step)
 
   -- where a mount stands after the event
   pub stood : (a : Mount ℕ) (rest : Location ℕ) → (after_going nat_eq world gone a).mount_point ≡ Some rest
@@ -60,8 +52,7 @@ module _ (world : World ℕ) (gone : List ℕ) where
   stood a rest e = by (is_going nat_eq gone a.number) refl
     where
       at : (place : Option (Location ℕ)) → a.mount_point ≡ place
-          → option_map (mount_point_left nat_eq world gone) place ≡ Some rest
-          → Falls world gone a rest
+          → option_map (mount_point_left nat_eq world gone) place ≡ Some rest → Falls world gone a rest
       at None f g = cc
       at (Some place) f g =
           let same : mount_point_left nat_eq world gone place ≡ rest =
@@ -76,8 +67,7 @@ module _ (world : World ℕ) (gone : List ℕ) where
 
 -- one child alone
 one_child_alone : (mount : Mount ℕ) (list : List (Mount ℕ)) → only_cover nat_eq mount list ≡ true → (a b : Mount ℕ)
-    → Among a list
-    → Among b list → a ≡ b
+    → Among a list → Among b list → a ≡ b
 one_child_alone mount [] h a b m n = absurd m
 one_child_alone mount (child ∷ []) h a b m n = grind (arith, common_steps)
 one_child_alone mount (child ∷ other ∷ rest) h a b m n = absurd (true≢false (sym h))
@@ -93,14 +83,12 @@ module _ (world : World ℕ) (gone : List ℕ) (apart_all : AreApart world)
 
   -- two that stand on a mount that goes stand at one place
   one_root : (x y : Mount ℕ) (p q : Location ℕ) → Among x world.mounts → Among y world.mounts → x.mount_point ≡ Some p
-      → y.mount_point ≡ Some q
-      → is_going nat_eq gone p.mount ≡ true → q.mount ≡ p.mount → p ≡ q
+      → y.mount_point ≡ Some q → is_going nat_eq gone p.mount ≡ true → q.mount ≡ p.mount → p ≡ q
   one_root x y p q m n e f goes same =
       let under = mount_at nat_eq world p in
       let number : under.number ≡ p.mount = number-mount_in world.mounts p.mount in
       let on_it : (z : Mount ℕ) (r : Location ℕ) → z.mount_point ≡ Some r → r.mount ≡ p.mount
-      → stands_on nat_eq under.number z ≡ true =
-      λ z r g h. ap (holds_of (λ place. nat_eq under.number place.mount)) g
+      → stands_on nat_eq under.number z ≡ true = λ z r g h. ap (holds_of (λ place. nat_eq under.number place.mount)) g
       ∙ eq-eqb under.number r.mount (number ∙ sym h) in
       let both : x ≡ y = one_child_alone under (children nat_eq world.mounts under.number) (may x p m e goes) x y
       (among-filter (stands_on nat_eq under.number) world.mounts x m (on_it x p e refl))
@@ -109,10 +97,8 @@ module _ (world : World ℕ) (gone : List ℕ) (apart_all : AreApart world)
 
   -- what stays is no mount that goes
   not_both : (a : Mount ℕ) (place : Location ℕ) → is_going nat_eq gone a.number ≡ false
-      → is_going nat_eq gone place.mount ≡ true
-      → mount_at nat_eq world place ≡ a → ⊥
-  not_both a place stays goes same =
-      true≢false (sym goes ∙ ap (is_going nat_eq gone)
+      → is_going nat_eq gone place.mount ≡ true → mount_at nat_eq world place ≡ a → ⊥
+  not_both a place stays goes same = true≢false (sym goes ∙ ap (is_going nat_eq gone)
       (sym (number-mount_in world.mounts place.mount) ∙ ap (λ z. z.number) same) ∙ stays)
 
   -- two that stay fall to one place only where they are one
@@ -121,12 +107,10 @@ module _ (world : World ℕ) (gone : List ℕ) (apart_all : AreApart world)
       → (r : Location ℕ) → Falls world gone a r → (q : Location ℕ) → Falls world gone b q → q ≡ r → a ≡ b
   one_falls a b m n stays also r (direct rest e) q (direct end f) same =
       one_stander world.mounts apart_all.by_place a b m n rest e (f ∙ ap Some same)
-  one_falls a b m n stays also r (direct rest e) q (down at end fall goes under) same =
-      absurd (not_both a at stays goes
+  one_falls a b m n stays also r (direct rest e) q (down at end fall goes under) same = absurd (not_both a at stays goes
       (one_stander world.mounts apart_all.by_place (mount_at nat_eq world at) a
       (placed_among world.mounts at.mount end under) m end under (e ∙ ap Some (sym same))))
-  one_falls a b m n stays also r (down at rest fall goes under) q (direct end f) same =
-      absurd (not_both b at also goes
+  one_falls a b m n stays also r (down at rest fall goes under) q (direct end f) same = absurd (not_both b at also goes
       (one_stander world.mounts apart_all.by_place (mount_at nat_eq world at) b
       (placed_among world.mounts at.mount rest under) n rest under (f ∙ ap Some same)))
   one_falls a b m n stays also r (down at rest fall goes under) q (down at_too end fall_too goes_too under_too) same =
@@ -160,24 +144,20 @@ module _ (world : World ℕ) (gone : List ℕ) (apart_all : AreApart world)
       had_place x place (down at rest fall goes under) = had_place x at fall
 
   pub taking_away_leaves_one : OneMountEachMountPoint (taken_away nat_eq world gone)
-  taking_away_leaves_one =
-      ap (any_pair (share_a_mount_point nat_eq)) (mounts-regrouped (middle world gone))
+  taking_away_leaves_one = ap (any_pair (share_a_mount_point nat_eq)) (mounts-regrouped (middle world gone))
       ∙ pair-map (share_a_mount_point nat_eq) (share_a_mount_point nat_eq) (inheriting nat_eq (middle world gone))
-      (middle world gone).mounts (λ a b m n e. e)
-      (pair-map (share_a_mount_point nat_eq) (share_a_mount_point nat_eq)
+      (middle world gone).mounts (λ a b m n e. e) (pair-map (share_a_mount_point nat_eq) (share_a_mount_point nat_eq)
       (after_going nat_eq world gone) world.mounts one_place_left apart_all.by_place)
 
 -- At an unmount
 -- what goes is the mount itself, or one that stands at a place and may go
 pub goes_or_may : (world : World ℕ) (mount : Mount ℕ) (number : ℕ)
-    → is_going nat_eq (going nat_eq world mount) number ≡ true
-    → (number ≡ mount.number)
+    → is_going nat_eq (going nat_eq world mount) number ≡ true → (number ≡ mount.number)
     ⊎ ((child : Mount ℕ) × Among child world.mounts × (may_go nat_eq world child ≡ true) × (number ≡ child.number)
     × (is_some child.mount_point ≡ true))
 goes_or_may world mount number h = by mount.mount_point refl
   where
-    alone : Among number (mount.number ∷ [])
-        → (number ≡ mount.number)
+    alone : Among number (mount.number ∷ []) → (number ≡ mount.number)
         ⊎ ((child : Mount ℕ) × Among child world.mounts × (may_go nat_eq world child ≡ true) × (number ≡ child.number)
         × (is_some child.mount_point ≡ true))
     alone m = inl (⊎_elim (λ e. e) (λ none. absurd none) m)
@@ -200,13 +180,11 @@ goes_or_may world mount number h = by mount.mount_point refl
         inr (gone.0, found.0, child.1, gone.2, ap is_some (stands_there at gone.0 found.1))
     on place false m = alone m
 
-    by : (place : Option (Location ℕ)) → mount.mount_point ≡ place
-        → (number ≡ mount.number)
+    by : (place : Option (Location ℕ)) → mount.mount_point ≡ place → (number ≡ mount.number)
         ⊎ ((child : Mount ℕ) × Among child world.mounts × (may_go nat_eq world child ≡ true) × (number ≡ child.number)
         × (is_some child.mount_point ≡ true))
     by None e = alone (listed (mount.number ∷ []) (ap (going_at nat_eq world mount) e))
-    by (Some place) e =
-        on place (is_shared (mount_at nat_eq world place).propagation)
+    by (Some place) e = on place (is_shared (mount_at nat_eq world place).propagation)
         (listed (going_from nat_eq world mount place (is_shared (mount_at nat_eq world place).propagation))
         (ap (going_at nat_eq world mount) e))
 
@@ -215,9 +193,7 @@ unmount_leaves_one_mount_a_place world one apart_all childless = record {
   by_number = unmount_keeps_numbers world one apart_all.by_number;
   by_place = taking_away_leaves_one world (going nat_eq world (mount_numbered nat_eq world one)) apart_all
       (λ x place m e goes.
-      ⊎_elim
-      (λ itself. absurd (no_child x place m e (itself ∙ number-mount_in world.mounts one)))
-      (λ t.
+      ⊎_elim (λ itself. absurd (no_child x place m e (itself ∙ number-mount_in world.mounts one))) (λ t.
       subst (λ z. may_go nat_eq world z ≡ true)
       (sym (ap (mount_in nat_eq world.mounts) t.3 ∙ found_itself world.mounts apart_all.by_number t.0 t.1)) t.2)
       (goes_or_may world (mount_numbered nat_eq world one) place.mount goes));

@@ -1,6 +1,6 @@
 -- Mounts that go with all that stands on them leave at most one mount at a place.
 use Rattle.std.proofs.lemmas.Grind.{common_steps}
-use Rattle.std.proofs.Common.{◌≡◌, refl, sym, ap, subst, ◌∙◌, true, zero, suc, nat_eq, ℕ, List, None, Option, Some, arith, eq-eqb, eqb-true, flat_map, inl, inr, is_some, length, map, option_map, true≢false, ⊎_elim, ◌⊎◌}
+use Rattle.std.proofs.Common.{◌≡◌, refl, sym, ap, subst, ◌∙◌, true, zero, suc, nat_eq, ℕ, List, Option, Some, arith, eq-eqb, eqb-true, flat_map, inl, inr, is_some, length, map, option_map, true≢false, ⊎_elim, ◌⊎◌}
 use Rattle.vt_spec.specs.Machine.Mounts.{Location, Mount, children, mount_tree, stands_on, tree_from}
 use Rattle.vt_spec.proofs.Lists.{Among, among-filter, among-flat_map, among-from_filter, among-from_flat_map, among-from_map, among-map, among_from_list_all, among_numbers, chain_goes_on, is_among_numbers, last_of_chain, pair-map}
 use Rattle.vt_laws_mounts.specs.Mounts.Invariants.{AreApart, OneNumberEach, TreesLeaveOneMountAMountPoint}
@@ -19,15 +19,13 @@ use Rattle.vt_laws_mounts.proofs.mounts.MountsKept.{taking_away_keeps_numbers}
 
 -- what stands on a mount that goes, goes
 abbrev pub AreClosed : World ℕ → List ℕ → Type 0
-AreClosed world gone =
-    (x : Mount ℕ) (place : Location ℕ) → Among x world.mounts → x.mount_point ≡ Some place
+AreClosed world gone = (x : Mount ℕ) (place : Location ℕ) → Among x world.mounts → x.mount_point ≡ Some place
     → is_going nat_eq gone place.mount ≡ true → is_going nat_eq gone x.number ≡ true
 
 module _ (world : World ℕ) (gone : List ℕ) (closed : AreClosed world gone) where
   -- then what stays stands where it stood
   stood_there : (a : Mount ℕ) (rest : Location ℕ) → Among a world.mounts
-      → (after_going nat_eq world gone a).mount_point ≡ Some rest
-      → a.mount_point ≡ Some rest
+      → (after_going nat_eq world gone a).mount_point ≡ Some rest → a.mount_point ≡ Some rest
   stood_there a rest m e = grind (arith, common_steps, true≢false, left_at_rest, going_is_detached, staying_is_placed)
 
   pub closed_keeps_apart : AreApart world → AreApart (taken_away nat_eq world gone)
@@ -40,8 +38,7 @@ module _ (world : World ℕ) (gone : List ℕ) (closed : AreClosed world gone) w
         (λ a b m n differ. false_from_ne_true _ (λ together.
         let place = place_of_both (after_going nat_eq world gone a) (after_going nat_eq world gone b) together in
         true≢false (sym (one_place_of_two place.0 a b (stood_there a place.0 m place.1)
-        (stood_there b place.0 n place.2)) ∙ differ)))
-        both.by_place);
+        (stood_there b place.0 n place.2)) ∙ differ))) both.by_place);
   }
 
 -- Trees
@@ -54,8 +51,7 @@ module _ (world : World ℕ) where
   data Reaches : ℕ → Mount ℕ → Mount ℕ → Type 0 where
     arrived : (mount : Mount ℕ) → Reaches zero mount mount
     down : (n : ℕ) (mount end : Mount ℕ) (place : Location ℕ) → mount.mount_point ≡ Some place
-        → Reaches n (mount_at nat_eq world place) end
-        → Reaches (suc n) mount end
+        → Reaches n (mount_at nat_eq world place) end → Reaches (suc n) mount end
 
   one_more : (n : ℕ) (mount end : Mount ℕ) (place : Location ℕ) → Reaches n mount end → end.mount_point ≡ Some place
       → Reaches (suc n) mount (mount_at nat_eq world place)
@@ -69,18 +65,14 @@ module _ (world : World ℕ) where
       → is_some (last_or mount (chain n mount_below mount)).mount_point ≡ true
   not_ended n k mount end (arrived it) e = absurd (omega (arith, e))
   not_ended zero k mount end (down j it last at f later) e = ap is_some f
-  not_ended (suc n) k mount end (down j it last at f later) e =
-      ap (λ m. is_some m.mount_point)
+  not_ended (suc n) k mount end (down j it last at f later) e = ap (λ m. is_some m.mount_point)
       (ap (last_or it) (chain_goes_on mount_below n it (mount_at nat_eq world at)
-      (ap (option_map (mount_at nat_eq world)) f))
-      ∙ last_of_chain mount_below n (mount_at nat_eq world at) it)
+      (ap (option_map (mount_at nat_eq world)) f)) ∙ last_of_chain mount_below n (mount_at nat_eq world at) it)
       ∙ not_ended n j (mount_at nat_eq world at) last later (omega (arith, e))
 
   module _ (one : OneNumberEach world) (ends : ChainsEnd world) where
     ended : (mount end : Mount ℕ) → Among mount world.mounts → Reaches (suc (length world.mounts)) mount end → ⊥
-    ended mount end m r =
-        true≢false
-        (sym (not_ended (length world.mounts) (suc (length world.mounts)) mount end r refl)
+    ended mount end m r = true≢false (sym (not_ended (length world.mounts) (suc (length world.mounts)) mount end r refl)
         ∙ not-true _ (and_parts _ _ (among_from_list_all
         (stands_in_its_namespace nat_eq world) world.mounts ends mount m)).0)
 
@@ -94,27 +86,19 @@ module _ (world : World ℕ) where
         let number : place.mount ≡ top.number = ⊎_elim (λ f. same ∙ ap (λ z. z.number) f) (λ none. absurd none) m in
         inr (subst (λ k. Reaches 1 x (mount_numbered nat_eq world k)) number
         (down zero x (mount_at nat_eq world place) place e (arrived (mount_at nat_eq world place))))
-    in_tree (suc depth) top under x place m n e same =
-        ⊎_elim
-        (λ f.
+    in_tree (suc depth) top under x place m n e same = ⊎_elim (λ f.
         let number : place.mount ≡ top.number = same ∙ ap (λ z. z.number) f in
         inl (inr (among-flat_map (tree_from nat_eq depth world.mounts) (children nat_eq world.mounts top.number) x x
         (among-filter (stands_on nat_eq top.number) world.mounts x n (ap (holds_of (λ p. nat_eq top.number p.mount)) e
-        ∙ eq-eqb top.number place.mount (sym number)))
-        (top_among depth x))))
-        (λ later.
+        ∙ eq-eqb top.number place.mount (sym number))) (top_among depth x)))) (λ later.
         let from = among-from_flat_map (tree_from nat_eq depth world.mounts)
         (children nat_eq world.mounts top.number) under later in
         let child = among-from_filter (stands_on nat_eq top.number) world.mounts from.0 from.1 in
-        ⊎_elim
-        (λ found. inl
-        (inr (among-flat_map (tree_from nat_eq depth world.mounts)
-        (children nat_eq world.mounts top.number) from.0 x from.1 found)))
-        (λ deep. inr
+        ⊎_elim (λ found. inl (inr (among-flat_map (tree_from nat_eq depth world.mounts)
+        (children nat_eq world.mounts top.number) from.0 x from.1 found))) (λ deep. inr
         (deeper depth x from.0 child.0 child.1
         (subst (Reaches (suc depth) x) (found_itself world.mounts one from.0 child.0) deep)))
-        (in_tree depth from.0 under x place from.2 n e same))
-        m
+        (in_tree depth from.0 under x place from.2 n e same)) m
       where
         top_among : (d : ℕ) (z : Mount ℕ) → Among z (tree_from nat_eq d world.mounts z)
         top_among zero z = inl refl
@@ -122,16 +106,7 @@ module _ (world : World ℕ) where
 
         deeper : (d : ℕ) (z child : Mount ℕ) → Among child world.mounts → stands_on nat_eq top.number child ≡ true
             → Reaches (suc d) z child → Reaches (suc (suc d)) z (mount_numbered nat_eq world top.number)
-        deeper d z child c on r = by child.mount_point refl
-          where
-            by : (found : Option (Location ℕ)) → child.mount_point ≡ found
-                → Reaches (suc (suc d)) z (mount_numbered nat_eq world top.number)
-            by None f = absurd (true≢false (sym on ∙ ap (holds_of (λ p. nat_eq top.number p.mount)) f))
-            by (Some p) f =
-                let number : top.number ≡ p.mount =
-                eqb-true top.number p.mount (sym (ap (holds_of (λ q. nat_eq top.number q.mount)) f) ∙ on) in
-                subst (λ k. Reaches (suc (suc d)) z (mount_numbered nat_eq world k)) (sym number)
-                (one_more (suc d) z child p r f)
+        deeper d z child c on r = grind (arith, common_steps, true≢false, eqb-true, one_more)
 
     pub trees_closed : (tops : List (Mount ℕ))
         → AreClosed world (map (λ (mount : Mount ℕ). mount.number) (flat_map (mount_tree nat_eq world.mounts) tops))
@@ -141,8 +116,7 @@ module _ (world : World ℕ) where
         among-from_map (λ (mount : Mount ℕ). mount.number) (flat_map (mount_tree nat_eq world.mounts) tops) place.mount
         (among_numbers numbers place.mount goes) in
         let tree = among-from_flat_map (mount_tree nat_eq world.mounts) tops gone.0 gone.1 in
-        ⊎_elim
-        (λ found.
+        ⊎_elim (λ found.
         is_among_numbers numbers x.number
         (among-map (λ (mount : Mount ℕ). mount.number) (flat_map (mount_tree nat_eq world.mounts) tops) x
         (among-flat_map (mount_tree nat_eq world.mounts) tops tree.0 x tree.1 found)))

@@ -1,5 +1,6 @@
 -- Chains that come to an end: how many steps they have, and that another step that agrees on the way gives the same.
-use Rattle.std.proofs.Common.{◌≡◌, refl, sym, ap, subst, ◌∙◌, ⊎_elim, inl, inr, ℕ, zero, suc, nat_eq, eqb-true, false, true≢false, List, [], ◌∷◌, ◌≤◌, length, Option, Some, None, is_some, arith}
+use Rattle.std.proofs.lemmas.Grind.{common_steps}
+use Rattle.std.proofs.Common.{◌≡◌, refl, sym, ap, subst, ◌∙◌, ⊎_elim, inl, inr, ℕ, zero, suc, nat_eq, eqb-true, false, true≢false, List, [], ◌∷◌, ◌≤◌, length, Option, Some, None, arith}
 use Rattle.std.specs.Cmp.{nat_eq_equiv}
 use Rattle.std.specs.List.{AllByRecursion, IsDistinct}
 use Rattle.std.proofs.lemmas.Bool.{false_from_ne_true}
@@ -32,18 +33,15 @@ module _ {A : Type 0} (next other : A → Option A) (key : A → ℕ) (there : L
   same_length : (a : A) (way : WayFrom a) (c : A) (road : WayFrom c) → next a ≡ next c
       → length (keys a way) ≡ length (keys c road)
   same_length a (ends it e f) c (ends x g h) same = refl
-  same_length a (ends it e f) c (goes_on x y g h m rest) same =
-      absurd (true≢false (sym (ap is_some (same ∙ g)) ∙ ap is_some e))
-  same_length a (goes_on it b e f m rest) c (ends x g h) same =
-      absurd (true≢false (sym (ap is_some e) ∙ ap is_some (same ∙ g)))
+  same_length a (ends it e f) c (goes_on x y g h m rest) same = grind (arith, common_steps, true≢false)
+  same_length a (goes_on it b e f m rest) c (ends x g h) same = grind (arith, common_steps, true≢false)
   same_length a (goes_on it b e f m rest) c (goes_on x y g h n later) same =
-      ap suc (same_length b rest y later (ap next (same_Some b y (sym e ∙ same ∙ g))))
+      grind (arith, common_steps, same_Some, same_length b rest y later (ap next (same_Some b y (sym e ∙ same ∙ g))))
 
   rest_of : (a : A) (way : WayFrom a) (number : ℕ) → Among number (keys a way)
       → (c : A) × (road : WayFrom c) × (number ≡ key c) × (length (keys c road) ≤ length (keys a way))
   rest_of a (ends it e f) number m = absurd m
-  rest_of a (goes_on it b e f n rest) number m =
-      ⊎_elim (λ same. (it, goes_on it b e f n rest, same, omega arith))
+  rest_of a (goes_on it b e f n rest) number m = ⊎_elim (λ same. (it, goes_on it b e f n rest, same, omega arith))
       (λ later. let t = rest_of b rest number later in (t.0, t.1, t.2, omega (arith, t.3))) m
 
   -- no key comes twice
@@ -53,8 +51,7 @@ module _ {A : Type 0} (next other : A → Option A) (key : A → ℕ) (there : L
   apart a (goes_on it b e f m rest) = (
     differs (key it) (keys b rest) (λ number n. false_from_ne_true (nat_eq (key it) number) (λ h.
         let t = rest_of b rest number n in
-        let same : length (keys t.0 t.1) ≡ suc (length (keys b rest)) =
-        same_length t.0 t.1 it (goes_on it b e f m rest)
+        let same : length (keys t.0 t.1) ≡ suc (length (keys b rest)) = same_length t.0 t.1 it (goes_on it b e f m rest)
         (by_key t.0 it (sym (eqb-true (key it) number h ∙ t.2))) in
         absurd (omega (arith, t.3, same)))),
     apart b rest,
@@ -74,9 +71,7 @@ module _ {A : Type 0} (next other : A → Option A) (key : A → ℕ) (there : L
   alike zero m a (goes_on it b e f t rest) few less = absurd (omega (arith, few))
   alike (suc n) zero a (goes_on it b e f t rest) few less = absurd (omega (arith, less))
   alike (suc n) (suc m) a (goes_on it b e f t rest) few less =
-      chain_goes_on next n it b e
-      ∙ ap (λ xs. it ∷ xs) (alike n m b rest (omega (arith, few)) (omega (arith, less)))
-      ∙ sym (chain_goes_on other m it b f)
+      grind (arith, common_steps, chain_goes_on, alike n m b rest (omega (arith, few)) (omega (arith, less)))
 
   -- chains of no fewer steps than the list has are the same
   pub chains_alike : (n m : ℕ) (a : A) → WayFrom a → length there ≤ n → length there ≤ m

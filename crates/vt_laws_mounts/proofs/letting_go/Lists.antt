@@ -25,8 +25,7 @@ module _ {A : Type 0} where
   -- where nothing passes nothing is found
   pub find_none : (test : A → Bool) (xs : List A) → ((x : A) → Among x xs → test x ≡ false) → find test xs ≡ None
   find_none test [] none = refl
-  find_none test (first ∷ rest) none =
-      ap (λ b. cond b (Some first) (find test rest)) (none first (inl refl))
+  find_none test (first ∷ rest) none = ap (λ b. cond b (Some first) (find test rest)) (none first (inl refl))
       ∙ find_none test rest (λ x m. none x (inr m))
 
   -- what is there is found by its number
@@ -40,13 +39,10 @@ module _ {A : Type 0} where
       by parts.0 (nat_eq (number x) (number first)) refl m (λ n. found_by number default rest parts.1 x n)
     where
       by : list_any (λ b. nat_eq (number first) (number b)) rest ≡ false → (b : Bool)
-          → nat_eq (number x) (number first) ≡ b
-          → Among x (first ∷ rest)
+          → nat_eq (number x) (number first) ≡ b → Among x (first ∷ rest)
           → (Among x rest → unwrap_or (find (λ y. nat_eq (number x) (number y)) rest) default ≡ x)
           → unwrap_or (cond b (Some first) (find (λ y. nat_eq (number x) (number y)) rest)) default ≡ x
-      by others true e n next =
-          ⊎_elim (λ same. sym same)
-          (λ later. absurd (true≢false
+      by others true e n next = ⊎_elim (λ same. sym same) (λ later. absurd (true≢false
           (sym (eq-eqb (number first) (number x) (sym (eqb-true (number x) (number first) e)))
           ∙ fails (λ y. nat_eq (number first) (number y)) rest others x later))) n
       by others false e n next =
@@ -66,13 +62,7 @@ module _ {A : Type 0} where
   pub any-filter : (t q : A → Bool) (xs : List A) → ((x : A) → Among x xs → q x ≡ false → t x ≡ false)
       → list_any t (filter q xs) ≡ list_any t xs
   any-filter t q [] h = refl
-  any-filter t q (y ∷ ys) h = by (q y) refl (any-filter t q ys (λ x m. h x (inr m)))
-    where
-      by : (b : Bool) → q y ≡ b → list_any t (filter q ys) ≡ list_any t ys
-          → list_any t (filter q (y ∷ ys)) ≡ (t y || list_any t ys)
-      by true e later = ap (list_any t) (filter_here q y ys e) ∙ ap (λ b. t y || b) later
-      by false e later = ap (list_any t) (filter_skip q y ys e) ∙ later
-          ∙ ap (λ b. b || list_any t ys) (sym (h y (inl refl) e))
+  any-filter t q (y ∷ ys) h = grind (arith, common_steps, any-filter t q ys)
 
 module _ {A B : Type 0} where
   pub any-map : (p : B → Bool) {q : A → Bool} (f : A → B) (xs : List A) → ((x : A) → p (f x) ≡ q x)
@@ -89,8 +79,7 @@ module _ {A B : Type 0} where
   pub flat_map-step : (f : A → A) (g : A → List B) (xs : List A) → ((x : A) → Among x xs → g (f x) ≡ g x)
       → flat_map g (map f xs) ≡ flat_map g xs
   flat_map-step f g [] h = refl
-  flat_map-step f g (y ∷ ys) h =
-      ap (λ l. l ++ flat_map g (map f ys)) (h y (inl refl))
+  flat_map-step f g (y ∷ ys) h = ap (λ l. l ++ flat_map g (map f ys)) (h y (inl refl))
       ∙ ap (λ l. g y ++ l) (flat_map-step f g ys (λ x m. h x (inr m)))
 
   pub flat_map-map : (f : A → A) (g : A → List B) (xs : List A) → ((x : A) → g (f x) ≡ g x)
@@ -122,12 +111,7 @@ module _ {A B C : Type 0} where
 pub filter_less : {A : Type 0} (p q : A → Bool) (xs : List A) → ((x : A) → Among x xs → q x ≡ false → p x ≡ false)
     → filter p (filter q xs) ≡ filter p xs
 filter_less p q [] h = refl
-filter_less p q (y ∷ ys) h = by (q y) refl (filter_less p q ys (λ x m. h x (inr m)))
-  where
-    by : (b : Bool) → q y ≡ b → filter p (filter q ys) ≡ filter p ys
-        → filter p (cond b (y ∷ filter q ys) (filter q ys)) ≡ filter p (y ∷ ys)
-    by true e later = ap (λ l. cond (p y) (y ∷ l) l) later
-    by false e later = later ∙ sym (filter_skip p y ys (h y (inl refl) e))
+filter_less p q (y ∷ ys) h = grind (arith, common_steps, filter_less p q ys)
 
 module _ {A : Type 0} where
   -- some pass just where their count is not zero
@@ -139,8 +123,7 @@ module _ {A : Type 0} where
   pub times_around : (test : A → Bool) (front back : List A) (a : A)
       → times test (front ++ (a ∷ back)) ≡ times test (front ++ back) + cond (test a) 1 0
   times_around test [] back a = omega arith
-  times_around test (b ∷ front) back a =
-      ap (λ n. cond (test b) 1 0 + n) (times_around test front back a)
+  times_around test (b ∷ front) back a = ap (λ n. cond (test b) 1 0 + n) (times_around test front back a)
       ∙ sym (add_assoc (cond (test b) 1 0) (times test (front ++ back)) (cond (test a) 1 0))
 
 -- a number that is the one there may be is the one that is there

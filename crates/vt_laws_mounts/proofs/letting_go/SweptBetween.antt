@@ -1,7 +1,6 @@
 -- A change after which the world is swept: a sweep before it as well makes no difference.
-use Rattle.std.proofs.Common.{arith}
+use Rattle.std.proofs.Common.{arith, ◌≡◌, refl, sym, ap, subst, ◌∙◌, ⊎_elim, ℕ, nat_eq, Bool, true, false, cond, not, ◌||◌, ◌&&◌, List, [], ◌∷◌, filter, map, true≢false, flat_map, ◌++◌, Option, Some, None, option_map}
 use Rattle.std.proofs.lemmas.Grind.{common_steps}
-use Rattle.std.proofs.Common.{◌≡◌, refl, sym, ap, subst, ◌∙◌, ⊎_elim, ℕ, nat_eq, Bool, true, false, cond, not, ◌||◌, ◌&&◌, List, [], ◌∷◌, filter, map, true≢false, flat_map, ◌++◌, Option, Some, None, option_map}
 use Rattle.std.specs.Prelude.{All, filter_map}
 use Rattle.std.specs.List.{list_all, list_any}
 use Rattle.std.proofs.lemmas.Bool.{and_parts, not-true, or_cases, cases_Bool}
@@ -9,7 +8,7 @@ use Rattle.vt_spec.specs.Lists.{holds_of, is_among}
 use Rattle.vt_spec.specs.Machine.Locked.{of_overlay, overlay_or}
 use Rattle.vt_spec.specs.Machine.Mounts.{Mount}
 use Rattle.vt_spec.specs.Machine.Receives.{has_members}
-use Rattle.vt_spec.specs.Machine.Settled.{filesystem_lives, has_layer_on, is_mounted, layers_in, located_in, mount_lives, named_in, objects_of_overlay, only_used, only_used_of, settled, used_in, without_dead_filesystems, without_dead_in, without_dead_mounts}
+use Rattle.vt_spec.specs.Machine.Settled.{filesystem_lives, has_layer_on, is_mounted, layers_in, located_in, mount_lives, named_in, objects_of_overlay, only_used, only_used_of, settled, used_in, without_dead_filesystems, without_dead_in, without_dead_mounts, without_dead_groups}
 use Rattle.vt_spec.specs.Machine.World.{Filesystem, Namespace, Overlay, Task, World, is_overlay, layers_of, upper_object, with_mounts}
 use Rattle.vt_spec.specs.Machine.Invariants.{ListsNumbers}
 use Rattle.vt_laws_mounts.specs.LettingGo.InUse.{HasTrees, IsListedTree, UppersArePlain, has_upper_in, is_inode_used}
@@ -18,9 +17,7 @@ use Rattle.vt_laws_mounts.proofs.letting_go.sweeps.InUse.{layers_stay, UnusedAre
 use Rattle.vt_laws_mounts.proofs.letting_go.sweeps.Inodes.{numbers_without}
 use Rattle.vt_laws_mounts.proofs.letting_go.Lists.{Among, among-append, among-append_left, among-append_right, among-filter, among-filter_map, among-flat_map, among-from_filter, among-from_filter_map, among-from_flat_map, among-from_map, among-map, among_from_all, among_numbers, any-filter, any-map, any_passes, filter-map, filter_twice, flat_map-map, flat_map-of_map, flat_map_alike, flat_map_none, is_among_numbers, one_passes, or_first, or_second}
 use Rattle.vt_laws_mounts.proofs.letting_go.sweeps.Merged.{HasReals, left_of, reals_without, without_all, without_both}
-use Rattle.vt_spec.proofs.Lists.{map_alike, map_twice}
-use Rattle.vt_spec.proofs.Lists.{none-filter}
-use Rattle.vt_spec.specs.Machine.Settled.{without_dead_groups}
+use Rattle.vt_spec.proofs.Lists.{map_alike, map_twice, none-filter}
 
 -- one of two tests that follows from the other
 pub follows : (a b : Bool) → (a ≡ true → b ≡ true) → a ≡ (b && a)
@@ -30,17 +27,14 @@ follows false false h = refl
 
 -- the real objects of an overlay without fewer inodes
 objects_more : (some more : ℕ → Bool) (number : ℕ) (g : Filesystem ℕ) → ((k : ℕ) → some k ≡ true → more k ≡ true)
-    → (object : ℕ)
-    → Among object (objects_of_overlay nat_eq number (without_all more g))
+    → (object : ℕ) → Among object (objects_of_overlay nat_eq number (without_all more g))
     → Among object (objects_of_overlay nat_eq number (without_all some g))
 objects_more some more number g within object = over g.overlay
   where
-    over : (o : Option (Overlay ℕ))
-        → Among object (overlay_or [] (λ overlay.
+    over : (o : Option (Overlay ℕ)) → Among object (overlay_or [] (λ overlay.
         cond (holds_of (λ layer. nat_eq number layer.filesystem) overlay.upper)
         (filter_map (λ k. upper_object (overlay.real k)) (filter (λ k. not (more k)) g.files.numbers)) [])
-        (option_map (reals_without more) o))
-        → Among object (overlay_or [] (λ overlay.
+        (option_map (reals_without more) o)) → Among object (overlay_or [] (λ overlay.
         cond (holds_of (λ layer. nat_eq number layer.filesystem) overlay.upper)
         (filter_map (λ k. upper_object (overlay.real k)) (filter (λ k. not (some k)) g.files.numbers)) [])
         (option_map (reals_without some) o))
@@ -76,8 +70,7 @@ pub record SameUses (world once again : World ℕ) : Type 0 where
       → again.master group ≡ once.master group
   pub mounted : (number : ℕ) → is_mounted nat_eq (without_dead_mounts nat_eq once) number ≡ true
       → is_mounted nat_eq (without_dead_mounts nat_eq world) number ≡ true
-  pub located : (filesystem number : ℕ)
-      → Among number (located_in nat_eq (without_dead_mounts nat_eq once) filesystem)
+  pub located : (filesystem number : ℕ) → Among number (located_in nat_eq (without_dead_mounts nat_eq once) filesystem)
       → Among number (located_in nat_eq (without_dead_mounts nat_eq world) filesystem)
 
 -- The world with other mounts, masters, namespaces and tasks
@@ -133,10 +126,8 @@ module _ (world : World ℕ) (once_mounts again_mounts : List (Mount ℕ)) (once
       && is_mounted nat_eq (without_dead_mounts nat_eq once) merged.number
 
   lived_first : (f : Filesystem ℕ) → lives_last f ≡ true → lives_first f ≡ true
-  lived_first f lives =
-      ⊎_elim (λ here. or_first (is_mounted nat_eq (without_dead_mounts nat_eq world) f.number) _
-      (last_mounted_was f.number here))
-      (λ layered.
+  lived_first f lives = ⊎_elim (λ here. or_first (is_mounted nat_eq (without_dead_mounts nat_eq world) f.number) _
+      (last_mounted_was f.number here)) (λ layered.
       let t = one_passes (layered_by f.number) world.filesystems layered in
       let parts = and_parts (has_layer_on nat_eq f.number t.0)
       (is_mounted nat_eq (without_dead_mounts nat_eq once) t.0.number) t.2 in
@@ -164,53 +155,31 @@ module _ (world : World ℕ) (once_mounts again_mounts : List (Mount ℕ)) (once
       ≡ is_mounted nat_eq (without_dead_mounts nat_eq once) number
   same_mounted number = ap (list_any (λ mount. nat_eq number mount.filesystem)) same_mounts
 
-  same_layered : (number : ℕ)
-      → list_any (λ merged. has_layer_on nat_eq number merged
-      && is_mounted nat_eq (without_dead_mounts nat_eq again) merged.number)
-      (settled nat_eq world).filesystems
+  same_layered : (number : ℕ) → list_any (λ merged. has_layer_on nat_eq number merged
+      && is_mounted nat_eq (without_dead_mounts nat_eq again) merged.number) (settled nat_eq world).filesystems
       ≡ list_any (layered_by number) world.filesystems
-  same_layered number =
-      ap (list_any (λ merged. has_layer_on nat_eq number merged && is_mounted nat_eq
+  same_layered number = ap (list_any (λ merged. has_layer_on nat_eq number merged && is_mounted nat_eq
       (without_dead_mounts nat_eq again) merged.number)) first_sweep
       ∙ any-map (λ merged. has_layer_on nat_eq number merged && is_mounted nat_eq
-      (without_dead_mounts nat_eq again) merged.number) {q = layered_by number}
-      swept first_living.filesystems
+      (without_dead_mounts nat_eq again) merged.number) {q = layered_by number} swept first_living.filesystems
       (λ g. ap (λ b. b && is_mounted nat_eq (without_dead_mounts nat_eq again) (swept g).number)
       (layers_on world number (swept g) ∙ ap (list_any (λ layer. nat_eq number layer.filesystem)) (layers-swept g)
-      ∙ sym (layers_on world number g))
-      ∙ ap (λ b. has_layer_on nat_eq number g && b) (same_mounted (swept g).number
+      ∙ sym (layers_on world number g)) ∙ ap (λ b. has_layer_on nat_eq number g && b) (same_mounted (swept g).number
       ∙ ap (is_mounted nat_eq (without_dead_mounts nat_eq once)) (number-swept g)))
       ∙ any-filter (layered_by number) lives_first world.filesystems
       (λ g m dead. none g (layered_by number g) refl dead)
     where
       none : (g : Filesystem ℕ) (b : Bool) → layered_by number g ≡ b → lives_first g ≡ false
           → layered_by number g ≡ false
-      none g false e dead = e
-      none g true e dead =
-          let parts = and_parts (has_layer_on nat_eq number g)
-          (is_mounted nat_eq (without_dead_mounts nat_eq once) g.number) e in
-          absurd (true≢false
-          (sym (or_first (is_mounted nat_eq (without_dead_mounts nat_eq world) g.number) _
-          (last_mounted_was g.number parts.1)) ∙ dead))
+      none g b e dead = grind (arith, common_steps, and_parts, true≢false, or_first, last_mounted_was)
 
   same_lives : (f : Filesystem ℕ) → filesystem_lives nat_eq (without_dead_mounts nat_eq again) (swept f) ≡ lives_last f
-  same_lives f =
-      ap (λ n. is_mounted nat_eq (without_dead_mounts nat_eq again) n
-      || list_any (λ merged. has_layer_on nat_eq n merged
-      && is_mounted nat_eq (without_dead_mounts nat_eq again) merged.number)
-      (settled nat_eq world).filesystems)
-      (number-swept f)
-      ∙ ap (λ b. b || list_any (λ merged. has_layer_on nat_eq f.number merged
-      && is_mounted nat_eq (without_dead_mounts nat_eq again) merged.number) (settled nat_eq world).filesystems)
-      (same_mounted f.number)
-      ∙ ap (λ b. is_mounted nat_eq (without_dead_mounts nat_eq once) f.number || b) (same_layered f.number)
+  same_lives f = grind (arith, common_steps, number-swept f, same_mounted f.number, same_layered f.number)
 
   same_filesystems : again_living.filesystems ≡ map swept once_living.filesystems
-  same_filesystems =
-      ap (filter (filesystem_lives nat_eq (without_dead_mounts nat_eq again))) first_sweep
+  same_filesystems = ap (filter (filesystem_lives nat_eq (without_dead_mounts nat_eq again))) first_sweep
       ∙ filter-map (filesystem_lives nat_eq
-      (without_dead_mounts nat_eq again)) {q = lives_last} swept first_living.filesystems same_lives
-      ∙ ap (map swept)
+      (without_dead_mounts nat_eq again)) {q = lives_last} swept first_living.filesystems same_lives ∙ ap (map swept)
       (filter_twice lives_last lives_first lives_last
       (λ f. follows (lives_last f) (lives_first f) (lived_first f)) world.filesystems)
 
@@ -234,8 +203,7 @@ module _ (world : World ℕ) (once_mounts again_mounts : List (Mount ℕ)) (once
 
   -- what is used in the end is the same, with a sweep in between and without
   same_uses : (with_sweep without : List (Filesystem ℕ)) (used : List ℕ) (f : Filesystem ℕ) → UnusedAreEmpty used f
-      → (all : Bool)
-      → ((number : ℕ) → layers_in nat_eq (record again_living { filesystems = with_sweep }) number
+      → (all : Bool) → ((number : ℕ) → layers_in nat_eq (record again_living { filesystems = with_sweep }) number
       ≡ layers_in nat_eq (record once_living { filesystems = without }) number)
       → flat_map (objects_of_overlay nat_eq f.number) with_sweep ≡ flat_map (objects_of_overlay nat_eq f.number) without
       → used_in nat_eq (record again_living { filesystems = with_sweep }) (left_by used f all)
@@ -251,8 +219,7 @@ module _ (world : World ℕ) (once_mounts again_mounts : List (Mount ℕ)) (once
   swept_twice : (used later : List ℕ) (f : Filesystem ℕ) → Among f world.filesystems
       → ((number : ℕ) → is_among nat_eq number later ≡ true → is_among nat_eq number used ≡ true)
       → only_used_of nat_eq later (only_used_of nat_eq used f) ≡ only_used_of nat_eq later f
-  swept_twice used later f m within =
-      ap (only_used_of nat_eq later) (left_of used f numbers has)
+  swept_twice used later f m within = ap (only_used_of nat_eq later) (left_of used f numbers has)
       ∙ left_of later (without_all went f) (numbers_without went f numbers) reals_left
       ∙ without_both went goes goes (λ number.
       by number (is_among nat_eq number later) refl (is_among nat_eq number used) refl) f
@@ -271,15 +238,7 @@ module _ (world : World ℕ) (once_mounts again_mounts : List (Mount ℕ)) (once
       goes number = not (is_among nat_eq number later)
 
       reals_left : HasReals (without_all went f)
-      reals_left number none = over f.overlay (has number) (went number) refl none
-        where
-          over : (o : Option (Overlay ℕ))
-              → (f.files.tree.node number ≡ None → overlay_or None (λ overlay. overlay.real number) o ≡ None)
-              → (b : Bool) → went number ≡ b → cond b None (f.files.tree.node number) ≡ None
-              → overlay_or None (λ overlay. overlay.real number) (option_map (reals_without went) o) ≡ None
-          over None h b e n = refl
-          over (Some overlay) h true e n = ap (λ b. cond b None (overlay.real number)) e
-          over (Some overlay) h false e n = ap (λ b. cond b None (overlay.real number)) e ∙ h n
+      reals_left number none = grind (arith, common_steps, none, has, reals_without)
 
       by : (number : ℕ) (b : Bool) → is_among nat_eq number later ≡ b → (c : Bool) → is_among nat_eq number used ≡ c
           → not (is_among nat_eq number later)
@@ -298,19 +257,16 @@ module _ (world : World ℕ) (once_mounts again_mounts : List (Mount ℕ)) (once
       → Among number (flat_map (objects_of_overlay nat_eq f.number) with_sweep.filesystems))
       → (number : ℕ) → is_inode_used without f number ≡ true → is_inode_used with_sweep f number ≡ true
   used_before with_sweep without f located layers objects number is =
-      is_among_numbers number (used_in nat_eq with_sweep f)
-      (⊎_elim
+      is_among_numbers number (used_in nat_eq with_sweep f) (⊎_elim
       (λ front. among-append_left (names ++ located_in nat_eq with_sweep f.number
-      ++ layers_in nat_eq with_sweep f.number) objects_then number
-      (⊎_elim
+      ++ layers_in nat_eq with_sweep f.number) objects_then number (⊎_elim
       (λ first. among-append_left (names ++ located_in nat_eq with_sweep f.number)
       (layers_in nat_eq with_sweep f.number) number
       (⊎_elim (λ named. among-append_left names (located_in nat_eq with_sweep f.number) number named)
       (λ at. among-append_right names (located_in nat_eq with_sweep f.number) number (located number at))
       (among-append names (located_in nat_eq without f.number) number first)))
       (λ layer. among-append_right (names ++ located_in nat_eq with_sweep f.number)
-      (layers_in nat_eq with_sweep f.number) number
-      (layers number layer))
+      (layers_in nat_eq with_sweep f.number) number (layers number layer))
       (among-append (names ++ located_in nat_eq without f.number) (layers_in nat_eq without f.number) number front)))
       (λ object. among-append_right (names ++ located_in nat_eq with_sweep f.number
       ++ layers_in nat_eq with_sweep f.number) objects_then number (objects number object))
@@ -336,24 +292,19 @@ module _ (world : World ℕ) (once_mounts again_mounts : List (Mount ℕ)) (once
 
   no_upper_in : (f : Filesystem ℕ) → Among f once_living.filesystems → is_overlay f ≡ true → (g : Filesystem ℕ)
       → Among g once_living.filesystems → has_upper_in f.number g ≡ false
-  no_upper_in f m is g n =
-      among_from_all (λ x. has_upper_in f.number x ≡ false) world.filesystems
+  no_upper_in f m is g n = among_from_all (λ x. has_upper_in f.number x ≡ false) world.filesystems
       (among_from_all (λ x. is_overlay x ≡ true → All (λ y. has_upper_in x.number y
-      ≡ false) world.filesystems) world.filesystems uppers f (of_world f m) is)
-      g (of_world g n)
+      ≡ false) world.filesystems) world.filesystems uppers f (of_world f m) is) g (of_world g n)
 
   upper-swept : (number : ℕ) (g : Filesystem ℕ) → has_upper_in number (swept g) ≡ has_upper_in number g
   upper-swept number g = grind (arith, common_steps, upper-left)
 
   overlay_alike : (f : Filesystem ℕ) → Among f once_living.filesystems → is_overlay f ≡ true
       → after_first again (swept f) ≡ after_first once f
-  overlay_alike f m is =
-      ap (λ x. only_used nat_eq again_living (is_overlay x) x) is_left
+  overlay_alike f m is = ap (λ x. only_used nat_eq again_living (is_overlay x) x) is_left
       ∙ ap (λ b. only_used nat_eq again_living b left) (overlay-left used f all ∙ is)
-      ∙ ap (λ u. only_used_of nat_eq u left)
-      (same_uses again_living.filesystems once_living.filesystems used f
-      (unused_are_empty first_living f (tree_of f m)) all again_layers
-      (no_objects_again ∙ sym no_objects_once))
+      ∙ ap (λ u. only_used_of nat_eq u left) (same_uses again_living.filesystems once_living.filesystems used f
+      (unused_are_empty first_living f (tree_of f m)) all again_layers (no_objects_again ∙ sym no_objects_once))
       ∙ swept_twice used (used_in nat_eq once_living f) f (of_world f m)
       (used_before first_living once_living f (λ n at. was_located_in f n at) (was_layer f.number)
       (λ n object. absurd (subst (Among n) no_objects_once object)))
@@ -369,19 +320,15 @@ module _ (world : World ℕ) (once_mounts again_mounts : List (Mount ℕ)) (once
       left = only_used_of nat_eq used f
 
       is_left : swept f ≡ left
-      is_left =
-          second_leaves world (after_first world f) (ap (λ b. is_overlay (only_used nat_eq first_living b f)) is
-          ∙ overlay-left used f all ∙ is)
-          ∙ ap (λ b. only_used nat_eq first_living b f) is
+      is_left = second_leaves world (after_first world f) (ap (λ b. is_overlay (only_used nat_eq first_living b f)) is
+          ∙ overlay-left used f all ∙ is) ∙ ap (λ b. only_used nat_eq first_living b f) is
 
       no_objects_once : flat_map (objects_of_overlay nat_eq f.number) once_living.filesystems ≡ []
-      no_objects_once =
-          flat_map_none (objects_of_overlay nat_eq f.number) once_living.filesystems
+      no_objects_once = flat_map_none (objects_of_overlay nat_eq f.number) once_living.filesystems
           (λ g n. no_upper_objects world f.number g (no_upper_in f m is g n))
 
       no_objects_again : flat_map (objects_of_overlay nat_eq f.number) again_living.filesystems ≡ []
-      no_objects_again =
-          ap (flat_map (objects_of_overlay nat_eq f.number)) same_filesystems
+      no_objects_again = ap (flat_map (objects_of_overlay nat_eq f.number)) same_filesystems
           ∙ flat_map_none (objects_of_overlay nat_eq f.number) (map swept once_living.filesystems) (λ x n.
           let from = among-from_map swept once_living.filesystems x n in
           no_upper_objects world f.number x (ap (has_upper_in f.number) from.2 ∙ upper-swept f.number from.0
@@ -390,24 +337,20 @@ module _ (world : World ℕ) (once_mounts again_mounts : List (Mount ℕ)) (once
   -- Plain trees
   plain_swept : (f : Filesystem ℕ) → is_overlay f ≡ false
       → swept f ≡ only_used_of nat_eq (used_in nat_eq (without_dead_in nat_eq is_overlay first_living) f) f
-  plain_swept f isnt =
-      ap (after_second world) (ap (λ b. only_used nat_eq first_living b f) isnt)
+  plain_swept f isnt = ap (after_second world) (ap (λ b. only_used nat_eq first_living b f) isnt)
       ∙ ap (λ b. only_used nat_eq (without_dead_in nat_eq is_overlay first_living) (not b) f) isnt
 
   -- objects that overlays have in a tree
   same_objects_of : (number : ℕ) (g : Filesystem ℕ) → Among g once_living.filesystems
       → objects_of_overlay nat_eq number (after_first again (swept g))
       ≡ objects_of_overlay nat_eq number (after_first once g)
-  same_objects_of number g m =
-      ⊎_elim
-      (λ is. ap (objects_of_overlay nat_eq number) (overlay_alike g m is))
+  same_objects_of number g m = ⊎_elim (λ is. ap (objects_of_overlay nat_eq number) (overlay_alike g m is))
       (λ isnt. let left = ap is_overlay (plain_swept g isnt)
       ∙ overlay-left (used_in nat_eq (without_dead_in nat_eq is_overlay first_living) g) g _ ∙ isnt in
       ap (λ b. objects_of_overlay nat_eq number (only_used nat_eq again_living b (swept g))) left
       ∙ no_objects world number (swept g) left
       ∙ sym (ap (λ b. objects_of_overlay nat_eq number (only_used nat_eq once_living b g)) isnt
-      ∙ no_objects world number g isnt))
-      (cases_Bool (is_overlay g))
+      ∙ no_objects world number g isnt)) (cases_Bool (is_overlay g))
 
   same_objects_in : (number : ℕ)
       → flat_map (objects_of_overlay nat_eq number) (without_dead_in nat_eq is_overlay again_living).filesystems
@@ -417,16 +360,13 @@ module _ (world : World ℕ) (once_mounts again_mounts : List (Mount ℕ)) (once
       ∙ ap (flat_map (objects_of_overlay nat_eq number)) (map_twice (after_first again) swept once_living.filesystems)
       ∙ flat_map-of_map (objects_of_overlay nat_eq number) (λ g. after_first again (swept g)) once_living.filesystems
       ∙ flat_map_alike (λ g. objects_of_overlay nat_eq number (after_first again (swept g)))
-      (λ g. objects_of_overlay nat_eq number (after_first once g))
-      once_living.filesystems (same_objects_of number)
+      (λ g. objects_of_overlay nat_eq number (after_first once g)) once_living.filesystems (same_objects_of number)
       ∙ sym (flat_map-of_map (objects_of_overlay nat_eq number) (after_first once) once_living.filesystems)
 
   object_before : (number object : ℕ) (g : Filesystem ℕ) → Among g once_living.filesystems
       → Among object (objects_of_overlay nat_eq number (after_first once g))
       → Among object (objects_of_overlay nat_eq number (after_first world g))
-  object_before number object g m n =
-      ⊎_elim
-      (λ is.
+  object_before number object g m n = ⊎_elim (λ is.
       subst (λ x. Among object (objects_of_overlay nat_eq number x))
       (sym (ap (λ b. only_used nat_eq first_living b g) is ∙ left_of (used_in nat_eq first_living g) g numbers has))
       (objects_more (λ k. not (is_among nat_eq k (used_in nat_eq first_living g)))
@@ -436,8 +376,7 @@ module _ (world : World ℕ) (once_mounts again_mounts : List (Mount ℕ)) (once
       (ap (λ b. only_used nat_eq once_living b g) is ∙ left_of (used_in nat_eq once_living g) g numbers has) n)))
       (λ isnt. absurd (subst (Among object)
       (ap (λ b. objects_of_overlay nat_eq number (only_used nat_eq once_living b g)) isnt
-      ∙ no_objects world number g isnt) n))
-      (cases_Bool (is_overlay g))
+      ∙ no_objects world number g isnt) n)) (cases_Bool (is_overlay g))
     where
       numbers : ListsNumbers nat_eq g.files
       numbers = (tree_of g m).numbers
@@ -449,28 +388,23 @@ module _ (world : World ℕ) (once_mounts again_mounts : List (Mount ℕ)) (once
           → not (is_among nat_eq k (used_in nat_eq first_living g)) ≡ true
           → not (is_among nat_eq k (used_in nat_eq once_living g)) ≡ true
       by k false e is went = ap not e
-      by k true e is went =
-          absurd (true≢false (sym went ∙ ap not
+      by k true e is went = absurd (true≢false (sym went ∙ ap not
           (used_before first_living once_living g (λ x at. was_located_in g x at) (was_layer g.number)
-          (λ x o. absurd (subst (Among x)
-          (flat_map_none (objects_of_overlay nat_eq g.number) once_living.filesystems
+          (λ x o. absurd (subst (Among x) (flat_map_none (objects_of_overlay nat_eq g.number) once_living.filesystems
           (λ h l. no_upper_objects world g.number h (no_upper_in g m is h l))) o)) k e)))
 
   plain_alike : (f : Filesystem ℕ) → Among f once_living.filesystems → is_overlay f ≡ false
       → after_second again (after_first again (swept f)) ≡ after_second once (after_first once f)
-  plain_alike f m isnt =
-      ap (λ x. after_second again (after_first again x)) (plain_swept f isnt)
+  plain_alike f m isnt = ap (λ x. after_second again (after_first again x)) (plain_swept f isnt)
       ∙ ap (λ b. after_second again (only_used nat_eq again_living b left)) left_plain
       ∙ ap (λ b. only_used nat_eq (without_dead_in nat_eq is_overlay again_living) (not b) left) left_plain
-      ∙ ap (λ u. only_used_of nat_eq u left)
-      (same_uses (without_dead_in nat_eq is_overlay again_living).filesystems
+      ∙ ap (λ u. only_used_of nat_eq u left) (same_uses (without_dead_in nat_eq is_overlay again_living).filesystems
       (without_dead_in nat_eq is_overlay once_living).filesystems used f
       (unused_are_empty (without_dead_in nat_eq is_overlay first_living) f (tree_of f m)) all
       (λ n. first_layers again n ∙ again_layers n ∙ sym (first_layers once n)) (same_objects_in f.number))
       ∙ swept_twice used (used_in nat_eq (without_dead_in nat_eq is_overlay once_living) f) f (of_world f m)
       (used_before (without_dead_in nat_eq is_overlay first_living) (without_dead_in nat_eq is_overlay once_living) f
-      (λ n at. was_located_in f n at)
-      (λ n layer. subst (Among n) (sym (first_layers world f.number))
+      (λ n at. was_located_in f n at) (λ n layer. subst (Among n) (sym (first_layers world f.number))
       (was_layer f.number n (subst (Among n) (first_layers once f.number) layer)))
       (λ n object. let from = among-from_flat_map (objects_of_overlay nat_eq f.number)
       (without_dead_in nat_eq is_overlay once_living).filesystems n object in
@@ -500,8 +434,7 @@ module _ (world : World ℕ) (once_mounts again_mounts : List (Mount ℕ)) (once
   overlay_left_so f m is = grind (arith, common_steps, overlay_alike f m is, second_leaves, overlay-left)
 
   same_swept : (settled nat_eq again).filesystems ≡ (settled nat_eq once).filesystems
-  same_swept =
-      ap (λ fs. map (after_second again) (map (after_first again) fs)) same_filesystems
+  same_swept = ap (λ fs. map (after_second again) (map (after_first again) fs)) same_filesystems
       ∙ ap (map (after_second again)) (map_twice (after_first again) swept once_living.filesystems)
       ∙ map_twice (after_second again) (λ f. after_first again (swept f)) once_living.filesystems
       ∙ map_alike (λ f. after_second again (after_first again (swept f)))

@@ -1,7 +1,6 @@
 -- Names of a tree, and inodes that are used no more.
-use Rattle.std.proofs.Common.{arith}
+use Rattle.std.proofs.Common.{arith, ◌≡◌, ◌≢◌, refl, sym, ap, ◌∙◌, true≢false, ⊎_elim, ℕ, nat_eq, true, false, List, [], map, Option, Some, None, is_some}
 use Rattle.std.proofs.lemmas.Grind.{common_steps}
-use Rattle.std.proofs.Common.{◌≡◌, ◌≢◌, refl, sym, ap, ◌∙◌, true≢false, ⊎_elim, ℕ, nat_eq, true, false, List, [], map, Option, Some, None, is_some}
 use Rattle.vt_spec.specs.Tree.{Node, entries_in, entry_named, is_directory_node}
 use Rattle.vt_spec.specs.TreeInvariant.{HasName}
 use Rattle.vt_spec.specs.FileTree.{FileTree, targets_in}
@@ -27,8 +26,7 @@ no_targets (Some node) e = grind (arith, common_steps, true≢false)
 -- the named ones are those that have a name
 pub named_among : (files : FileTree ℕ) → IsListedTree files → (number : ℕ) → HasName files.tree number
     → is_among nat_eq number (named_in files) ≡ true
-named_among files conditions number named =
-    is_among_numbers number (named_in files)
+named_among files conditions number named = is_among_numbers number (named_in files)
     (among-flat_map (λ directory. targets_in (files.tree.node directory)) files.numbers named.0 number
     (among_numbers named.0 files.numbers
     (conditions.numbers named.0 ∙ there_with_entry named.1 number (files.tree.node named.0) named.2))
@@ -38,9 +36,7 @@ named_among files conditions number named =
 -- an inode other than the root that has no name has no entries
 pub unnamed_is_empty : (files : FileTree ℕ) → IsListedTree files → (number : ℕ) → number ≢ files.tree.root
     → is_among nat_eq number (named_in files) ≡ false → targets_in (files.tree.node number) ≡ []
-unnamed_is_empty files conditions number root unnamed =
-    ⊎_elim
+unnamed_is_empty files conditions number root unnamed = ⊎_elim
     (λ is. ap (map (λ e. e.1)) (conditions.tree.unnamed_empty number is root
     (λ named. true≢false (sym (named_among files conditions number named) ∙ unnamed))))
-    (λ isnt. no_targets (files.tree.node number) isnt)
-    (cases_Bool (is_directory_node (files.tree.node number)))
+    (λ isnt. no_targets (files.tree.node number) isnt) (cases_Bool (is_directory_node (files.tree.node number)))

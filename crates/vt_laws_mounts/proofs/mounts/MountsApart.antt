@@ -1,7 +1,6 @@
 -- Mounts stay apart, by number and by place.
-use Rattle.std.proofs.Common.{arith}
+use Rattle.std.proofs.Common.{arith, ◌≡◌, refl, ap, ◌∙◌, true, false, nat_eq, ℕ, Bool, List, [], eqb-true, is_some, map, ◌&&◌, ◌∷◌, ⊎_elim, ◌++◌}
 use Rattle.std.proofs.lemmas.Grind.{common_steps}
-use Rattle.std.proofs.Common.{◌≡◌, refl, sym, ap, ◌∙◌, true, false, nat_eq, ℕ, Bool, List, [], eqb-true, is_some, map, ◌&&◌, ◌∷◌, ⊎_elim, ◌++◌}
 use Rattle.vt_spec.specs.Machine.Mounts.{Mount, mount_in, mount_tree, replaced_if_same, same_location, with_mount, numbers_by}
 use Rattle.vt_spec.proofs.Lists.{Among, pair-filter, pair-map, among-append, among-from_map, among_from_list_all, list_all_from_among}
 use Rattle.vt_laws_mounts.specs.Mounts.Invariants.{AreApart, KeptByFlags, KeptByInheritance, KeptByLazyUnmount, KeptBySettling, KeptByType, NowhereOrAttached, OneNumberEach, FlagsKeepNowhere, KeptByUnshare}
@@ -26,13 +25,10 @@ use Rattle.vt_spec.proofs.Worlds.{number-mount_in}
 places_same : (f : Mount ℕ → Mount ℕ) (mounts : List (Mount ℕ))
     → ((mount : Mount ℕ) → Among mount mounts → (f mount).mount_point ≡ mount.mount_point)
     → OneMountAMountPoint mounts → OneMountAMountPoint (map f mounts)
-places_same f mounts same one =
-    pair-map (share_a_mount_point nat_eq) (share_a_mount_point nat_eq) f mounts
+places_same f mounts same one = pair-map (share_a_mount_point nat_eq) (share_a_mount_point nat_eq) f mounts
     (λ a b m n differ.
     ap (λ p. is_some p && same_option (same_location nat_eq) p (f b).mount_point) (same a m)
-    ∙ ap (λ q. is_some a.mount_point && same_option (same_location nat_eq) a.mount_point q) (same b n)
-    ∙ differ)
-    one
+    ∙ ap (λ q. is_some a.mount_point && same_option (same_location nat_eq) a.mount_point q) (same b n) ∙ differ) one
 
 -- a mount in the place of the one with its number, at the same place
 replaced_same_place : (mounts : List (Mount ℕ)) → OneNumberAMount mounts → (new : Mount ℕ)
@@ -47,8 +43,7 @@ flags_keep_apart world here flags both =
     record {
       by_number = flags_keep_numbers world here flags both.by_number;
       by_place = places_same (replaced_if_same nat_eq new) world.mounts
-          (replaced_same_place world.mounts both.by_number new
-          (ap (λ n. (mount_in nat_eq world.mounts n).mount_point)
+          (replaced_same_place world.mounts both.by_number new (ap (λ n. (mount_in nat_eq world.mounts n).mount_point)
           (number-mount_in world.mounts here.mount))) both.by_place;
     }
 
@@ -82,8 +77,7 @@ settling_keeps_apart world both = record {
 lazy_numbers : (mounts : List (Mount ℕ)) (world : World ℕ) → OneNumberEach world
     → OneNumberEach (folded (unmounted_if_there nat_eq) world mounts)
 lazy_numbers [] world e = e
-lazy_numbers (mount ∷ mounts) world e =
-    lazy_numbers mounts (unmounted_if_there nat_eq world mount)
+lazy_numbers (mount ∷ mounts) world e = lazy_numbers mounts (unmounted_if_there nat_eq world mount)
     (by (is_some (mount_numbered nat_eq world mount.number).namespace))
   where
     by : (b : Bool) → OneNumberEach (if b then unmounted nat_eq world mount.number else world)
@@ -97,8 +91,7 @@ lazy_keeps_numbers world one e =
 lazy_nowhere : (mounts : List (Mount ℕ)) (world : World ℕ) → NowhereOrAttached world
     → NowhereOrAttached (folded (unmounted_if_there nat_eq) world mounts)
 lazy_nowhere [] world e = e
-lazy_nowhere (mount ∷ mounts) world e =
-    lazy_nowhere mounts (unmounted_if_there nat_eq world mount)
+lazy_nowhere (mount ∷ mounts) world e = lazy_nowhere mounts (unmounted_if_there nat_eq world mount)
     (by (is_some (mount_numbered nat_eq world mount.number).namespace))
   where
     by : (b : Bool) → NowhereOrAttached (if b then unmounted nat_eq world mount.number else world)
@@ -131,11 +124,5 @@ flags_keep_nowhere world here flags one e =
         → is_nowhere_or_attached (replaced_if_same nat_eq (record (mount_at nat_eq world here) { flags = flags }) old)
         ≡ true
     by old m true f =
-        let same : mount_at nat_eq world here ≡ old =
-        ap (mount_in nat_eq world.mounts) (sym (number-mount_in world.mounts here.mount) ∙ eqb-true _ _ f)
-        ∙ found_itself world.mounts one old m in
-        ap is_nowhere_or_attached (replaced_there (record (mount_at nat_eq world here) { flags = flags }) old f)
-        ∙ ap is_nowhere_or_attached same ∙ among_from_list_all is_nowhere_or_attached world.mounts e old m
-    by old m false f =
-        ap is_nowhere_or_attached (replaced_elsewhere (record (mount_at nat_eq world here) { flags = flags }) old f)
-        ∙ among_from_list_all is_nowhere_or_attached world.mounts e old m
+        grind (arith, common_steps, number-mount_in, eqb-true, found_itself, replaced_there, among_from_list_all)
+    by old m false f = grind (arith, common_steps, replaced_elsewhere, among_from_list_all)

@@ -1,12 +1,11 @@
 -- What is attached leaves the mounts that were there.
-use Rattle.std.proofs.Common.{arith}
+use Rattle.std.proofs.Common.{arith, ◌≡◌, refl, sym, ap, ◌∙◌, Bool, List, None, Some, [], ℕ, ◌∷◌, nat_eq, append_assoc, cond, eq-eqb, find, flat_map, inl, inr, map, subst, ◌++◌, false, true, length, ◌⊎◌}
 use Rattle.std.proofs.lemmas.Grind.{common_steps}
 use Rattle.std.specs.List.{list_any}
 use Rattle.std.proofs.lemmas.List.{map-append}
-use Rattle.std.proofs.Common.{◌≡◌, refl, sym, ap, ◌∙◌, Bool, List, None, Some, [], ℕ, ◌∷◌, nat_eq, append_assoc, cond, eq-eqb, find, flat_map, inl, inr, map, subst, ◌++◌, false, true, length, ◌⊎◌}
-use Rattle.vt_spec.specs.Machine.Attach.{Copies, Graft, added_mounts, attached_by, copies_at, copies_from, copy_at, copy_number, graft_of, moved_tree, parts_of, pushed_onto, pushed_up, twig_of, with_moved_mounts}
+use Rattle.vt_spec.specs.Machine.Attach.{Copies, Graft, added_mounts, attached_by, copies_at, copies_from, copy_number, graft_of, moved_tree, parts_of, pushed_onto, pushed_up, with_moved_mounts}
 use Rattle.vt_laws_mounts.specs.Mounts.Attaching.{KeepsAllButMountPoint, AttachKeepsMounts, AttachLeavesMounts, KeepsWhatItShows, MoveKeepsMounts, MoveLeavesMounts, NewMountsFollow, is_mount, numbers_of, stands_at_a_receiver, MovedMountsShow}
-use Rattle.vt_spec.specs.Machine.Mounts.{Mount, group_of, no_mount, stands_at, Location, mount_in, with_mount}
+use Rattle.vt_spec.specs.Machine.Mounts.{Mount, no_mount, stands_at, Location, mount_in, with_mount}
 use Rattle.vt_spec.specs.Machine.World.{World, mount_at, mount_numbered}
 use Rattle.vt_spec.specs.Lists.{folded, rest_of, Fresh, is_among}
 use Rattle.std.specs.Prelude.{if◌then◌else◌}
@@ -34,11 +33,9 @@ module _ (world : World ℕ) (new : Copies ℕ) (graft : Graft ℕ) (parts : Lis
       (record { mount = receiver.number; node = graft.destination.node }) mount
 
   -- what stands at no receiver's place is left
-  pub none_pushes : (mount : Mount ℕ)
-      → list_any (is_pushed_by mount) (rest_of parts) ≡ false
+  pub none_pushes : (mount : Mount ℕ) → list_any (is_pushed_by mount) (rest_of parts) ≡ false
       → pushed_up nat_eq world new graft parts mount ≡ mount
-  none_pushes mount h =
-      ap (pushed_onto nat_eq world new graft parts mount)
+  none_pushes mount h = ap (pushed_onto nat_eq world new graft parts mount)
       (none_found (is_pushed_by mount) (rest_of parts) h)
 
   stands_nowhere : (number : ℕ) (receivers : List (Mount ℕ))
@@ -86,8 +83,7 @@ module _ (world : World ℕ) (new : Copies ℕ) (place : Location ℕ) (moves : 
   others = added_mounts moves arriving ++ flat_map (copies_at nat_eq world new graft parts) (rest_of parts)
 
   pub in_front : (attached_by nat_eq world new place moves mounts).mounts ≡ map push moved_ones ++ others
-  in_front =
-      append_assoc (map push moved_ones) (added_mounts moves arriving)
+  in_front = append_assoc (map push moved_ones) (added_mounts moves arriving)
       (flat_map (copies_at nat_eq world new graft parts) (rest_of parts))
 
   push_number : (mount : Mount ℕ) → (push mount).number ≡ mount.number
@@ -101,8 +97,7 @@ module _ (world : World ℕ) (new : Copies ℕ) (place : Location ℕ) (moves : 
 
   pub numbers_attached : numbers_of (attached_by nat_eq world new place moves mounts).mounts
       ≡ numbers_of world.mounts ++ numbers_of others
-  numbers_attached =
-      ap numbers_of in_front
+  numbers_attached = ap numbers_of in_front
       ∙ map-append (λ (mount : Mount ℕ). mount.number) (map push moved_ones) others
       ∙ ap (λ ns. ns ++ numbers_of others) numbers_pushed
 
@@ -110,8 +105,7 @@ module _ (world : World ℕ) (new : Copies ℕ) (place : Location ℕ) (moves : 
   pub found_attached : (number : ℕ) → is_mount world number ≡ true
       → mount_numbered nat_eq (attached_by nat_eq world new place moves mounts) number
       ≡ push (mount_in nat_eq moved_ones number)
-  found_attached number there =
-      ap (λ ms. mount_in nat_eq ms number) in_front
+  found_attached number there = ap (λ ms. mount_in nat_eq ms number) in_front
       ∙ found-append (map push moved_ones) others number (ap (is_among nat_eq number) numbers_pushed ∙ there)
       ∙ found-map push push_number moved_ones number (none_pushed world new graft parts number)
 
@@ -149,37 +143,19 @@ module _ (world : World ℕ) (new : Copies ℕ) (place : Location ℕ) (mounts :
 
   -- at the destination a mount that moves keeps its number
   pub keeps_number : (origin : ℕ) → copy_number nat_eq new move (mount_at nat_eq world place).number origin ≡ origin
-  keeps_number origin =
-      ap (λ b. if b then origin else new.copy (mount_at nat_eq world place).number origin)
+  keeps_number origin = ap (λ b. if b then origin else new.copy (mount_at nat_eq world place).number origin)
       (eq-eqb (mount_at nat_eq world place).number place.mount (number-mount_in world.mounts place.mount))
 
   -- each mount that arrives is one that moves, with all that it shows
   pub arrives : (copy : Mount ℕ) → Among copy (arriving world new place true mounts)
       → (origin : Mount ℕ) × Among origin mounts × KeepsWhatItShows origin copy
-  arrives copy m =
-      let from =
-      among-from_map (copy_at nat_eq world new move (parts_of nat_eq world place) (mount_at nat_eq world place))
-      move.twigs copy m in
-      let twig =
-      among-from_map (twig_of new (group_of (mount_at nat_eq world place).propagation)) mounts from.0 from.1 in
-      let origin : from.0.origin ≡ twig.0 = ap (λ t. t.origin) twig.2 in (
-        twig.0,
-        twig.1,
-        record {
-          number = ap (λ c. c.number) from.2 ∙ keeps_number from.0.origin.number ∙ ap (λ o. o.number) origin;
-          filesystem = ap (λ c. c.filesystem) from.2 ∙ ap (λ o. o.filesystem) origin;
-          root = ap (λ c. c.root) from.2 ∙ ap (λ o. o.root) origin;
-          flags = ap (λ c. c.flags) from.2 ∙ ap (λ o. o.flags) origin;
-        },
-      )
+  arrives copy m = grind (arith, common_steps, among-from_map, keeps_number)
 
   pub stays_put : (number : ℕ) → is_among nat_eq number (numbers_of mounts) ≡ false
       → mount_in nat_eq (moved_ones world new place true mounts) number ≡ mount_numbered nat_eq world number
-  stays_put number other =
-      found-folded_other world.mounts (arriving world new place true mounts) number (λ copy m.
+  stays_put number other = found-folded_other world.mounts (arriving world new place true mounts) number (λ copy m.
       let from = arrives copy m in
-      nat_eq_false_turned number copy.number
-      (ap (nat_eq number) from.2.number
+      nat_eq_false_turned number copy.number (ap (nat_eq number) from.2.number
       ∙ none_among (nat_eq number) (numbers_of mounts) other from.0.number
       (among-map (λ (mount : Mount ℕ). mount.number) mounts from.0 from.1)))
 
@@ -204,13 +180,7 @@ shows_itself : (mount : Mount ℕ) → KeepsWhatItShows mount mount
 shows_itself mount = record { number = refl; filesystem = refl; root = refl; flags = refl }
 
 shows_on : (a b c : Mount ℕ) → KeepsWhatItShows a b → KeepsWhatItShows b c → KeepsWhatItShows a c
-shows_on a b c r s =
-    record {
-      number = s.number ∙ r.number;
-      filesystem = s.filesystem ∙ r.filesystem;
-      root = s.root ∙ r.root;
-      flags = s.flags ∙ r.flags;
-    }
+shows_on a b c r s = grind (arith, common_steps)
 
 shows_back : (a b : Mount ℕ) → KeepsWhatItShows a b → KeepsWhatItShows b a
 shows_back a b r =
@@ -218,20 +188,17 @@ shows_back a b r =
 
 shown_by_all : (before mounts copies : List (Mount ℕ))
     → ((number : ℕ) → KeepsWhatItShows (mount_in nat_eq before number) (mount_in nat_eq mounts number))
-    → ((copy : Mount ℕ) → Among copy copies → KeepsWhatItShows (mount_in nat_eq before copy.number) copy)
-    → (number : ℕ)
+    → ((copy : Mount ℕ) → Among copy copies → KeepsWhatItShows (mount_in nat_eq before copy.number) copy) → (number : ℕ)
     → KeepsWhatItShows (mount_in nat_eq before number)
     (mount_in nat_eq (folded (with_mount nat_eq) mounts copies) number)
 shown_by_all before mounts [] so each number = so number
-shown_by_all before mounts (copy ∷ copies) so each number =
-    shown_by_all before (with_mount nat_eq mounts copy) copies
+shown_by_all before mounts (copy ∷ copies) so each number = shown_by_all before (with_mount nat_eq mounts copy) copies
     (λ n. shows_on (mount_in nat_eq before n) (mount_in nat_eq mounts n)
     (mount_in nat_eq (with_mount nat_eq mounts copy) n) (so n)
     (related-with_mount KeepsWhatItShows shows_itself mounts copy
     (shows_on (mount_in nat_eq mounts copy.number) (mount_in nat_eq before copy.number) copy
     (shows_back (mount_in nat_eq before copy.number) (mount_in nat_eq mounts copy.number) (so copy.number))
-    (each copy (inl refl))) n))
-    (λ c m. each c (inr m)) number
+    (each copy (inl refl))) n)) (λ c m. each c (inr m)) number
 
 pub moved_mounts_show : MovedMountsShow
 moved_mounts_show world fresh source place number one there =
@@ -244,11 +211,8 @@ moved_mounts_show world fresh source place number one there =
     let from = arrives world new place mounts copy m in
     subst (λ origin. KeepsWhatItShows origin copy)
     (sym (itself from.0 (tree_among (length world.mounts) world.mounts (mount_at nat_eq world source) from.0 from.1))
-    ∙ ap (mount_in nat_eq world.mounts) (sym from.2.number))
-    from.2)
-    number in
-    let pushed =
-    push_keeps world new (graft_of nat_eq world new place true mounts) (parts_of nat_eq world place)
+    ∙ ap (mount_in nat_eq world.mounts) (sym from.2.number)) from.2) number in
+    let pushed = push_keeps world new (graft_of nat_eq world new place true mounts) (parts_of nat_eq world place)
     (mount_in nat_eq (moved_ones world new place true mounts) number) in
     subst (KeepsWhatItShows (mount_numbered nat_eq world number))
     (sym (found_attached world new place true mounts number there))
@@ -257,7 +221,6 @@ moved_mounts_show world fresh source place number one there =
   where
     itself : (origin : Mount ℕ) → (origin ≡ mount_at nat_eq world source) ⊎ Among origin world.mounts
         → mount_in nat_eq world.mounts origin.number ≡ origin
-    itself origin (inl e) =
-        ap (λ m. mount_in nat_eq world.mounts m.number) e
+    itself origin (inl e) = ap (λ m. mount_in nat_eq world.mounts m.number) e
         ∙ ap (mount_in nat_eq world.mounts) (number-mount_in world.mounts source.mount) ∙ sym e
     itself origin (inr m) = found_itself world.mounts one origin m

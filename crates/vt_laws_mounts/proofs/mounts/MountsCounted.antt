@@ -1,5 +1,6 @@
 -- How many mounts a namespace has, and how many root mounts.
-use Rattle.std.proofs.Common.{◌≡◌, refl, sym, ap, ◌∙◌, true, false, nat_eq, ℕ, Bool, List, [], filter, inl, inr, is_some, length, map, not, ◌∷◌}
+use Rattle.std.proofs.Common.{arith, ◌≡◌, refl, ap, ◌∙◌, nat_eq, ℕ, Bool, List, [], filter, is_some, length, map, not, ◌∷◌}
+use Rattle.std.proofs.lemmas.Grind.{common_steps}
 use Rattle.std.proofs.lemmas.List.{length-map}
 use Rattle.vt_spec.proofs.Lists.{Among, among-from_filter, filter_here, filter_skip}
 use Rattle.vt_spec.specs.Lists.{holds_of}
@@ -13,16 +14,7 @@ use Rattle.vt_laws_mounts.specs.Mounts.Ending.{is_in}
 pub filter-map : {A B : Type 0} (later : B → Bool) (p : A → Bool) (f : A → B) (xs : List A)
     → ((x : A) → Among x xs → later (f x) ≡ p x) → filter later (map f xs) ≡ map f (filter p xs)
 filter-map later p f [] same = refl
-filter-map later p f (y ∷ ys) same =
-    by (p y) refl (same y (inl refl)) (filter-map later p f ys (λ x m. same x (inr m)))
-  where
-    by : (b : Bool) → p y ≡ b → later (f y) ≡ p y → filter later (map f ys) ≡ map f (filter p ys)
-        → filter later (map f (y ∷ ys)) ≡ map f (filter p (y ∷ ys))
-    by true e here rest =
-        filter_here later (f y) (map f ys) (here ∙ e) ∙ ap (λ l. f y ∷ l) rest
-        ∙ ap (map f) (sym (filter_here p y ys e))
-    by false e here rest =
-        filter_skip later (f y) (map f ys) (here ∙ e) ∙ rest ∙ ap (map f) (sym (filter_skip p y ys e))
+filter-map later p f (y ∷ ys) same = grind (arith, common_steps, filter_here, filter_skip, filter-map later p f ys)
 
 pub same_root : (a b : Mount ℕ) → a.mount_point ≡ b.mount_point → is_root_mount nat_eq a ≡ is_root_mount nat_eq b
 same_root a b e = ap (λ p. not (is_some p)) e
@@ -31,8 +23,7 @@ same_root a b e = ap (λ p. not (is_some p)) e
 pub as_many_mounts : (world after : World ℕ) (f : Mount ℕ → Mount ℕ) → after.mounts ≡ map f world.mounts
     → ((mount : Mount ℕ) → Among mount world.mounts → (f mount).namespace ≡ mount.namespace)
     → (namespace : ℕ) → mounts_of nat_eq after namespace ≡ map f (mounts_of nat_eq world namespace)
-as_many_mounts world after f changed inside namespace =
-    ap (filter (is_in namespace)) changed
+as_many_mounts world after f changed inside namespace = ap (filter (is_in namespace)) changed
     ∙ filter-map (is_in namespace) (is_in namespace) f world.mounts
     (λ mount m. ap (holds_of (nat_eq namespace)) (inside mount m))
 
@@ -47,8 +38,7 @@ as_many world after f changed inside placed namespace =
     record {
       mounts = ap length these ∙ length-map before f;
       roots = ap (λ l. length (filter (is_root_mount nat_eq) l)) these
-          ∙ ap length (filter-map (is_root_mount nat_eq) (is_root_mount nat_eq) f before
-          (λ mount m.
+          ∙ ap length (filter-map (is_root_mount nat_eq) (is_root_mount nat_eq) f before (λ mount m.
           same_root (f mount) mount (placed mount (among-from_filter (is_in namespace) world.mounts mount m).0)))
           ∙ length-map (filter (is_root_mount nat_eq) before) f;
     }

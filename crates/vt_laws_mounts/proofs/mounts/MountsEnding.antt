@@ -1,7 +1,6 @@
 -- The places below places come to an end through changes of types and flags.
-use Rattle.std.proofs.Common.{arith}
+use Rattle.std.proofs.Common.{arith, ◌≡◌, refl, sym, ap, subst, ◌∙◌, zero, suc, nat_eq, ℕ, Option, is_some, length, not, option_map, ◌&&◌}
 use Rattle.std.proofs.lemmas.Grind.{common_steps}
-use Rattle.std.proofs.Common.{◌≡◌, refl, sym, ap, subst, ◌∙◌, zero, suc, nat_eq, ℕ, Option, is_some, length, not, option_map, ◌&&◌}
 use Rattle.vt_spec.specs.Machine.Mounts.{Mount, mount_in}
 use Rattle.vt_spec.proofs.Lists.{Among, among-map, among_from_list_all, chain_ends, chain_goes_on, is_among_numbers, last_of_chain, list_all_from_among}
 use Rattle.vt_laws_mounts.specs.Mounts.Invariants.{FlagsKeepChainsEnding, InheritanceKeepsChainsEnding, OneNumberEach, TypeKeepsChainsEnding}
@@ -10,7 +9,7 @@ use Rattle.vt_spec.specs.Machine.World.{World, mount_at, mount_numbered, with_fl
 use Rattle.vt_spec.specs.Lists.{chain, is_among, last_or, same_option}
 use Rattle.vt_laws_mounts.proofs.mounts.MountsFound.{found-map, found_there, numbers-map}
 use Rattle.vt_laws_mounts.proofs.mounts.MountsReplaced.{found_itself, numbers-with_mount, one_number_by_numbers, related-with_mount}
-use Rattle.vt_spec.specs.Machine.Receives.{inheriting, regrouped}
+use Rattle.vt_spec.specs.Machine.Receives.{regrouped}
 use Rattle.vt_spec.specs.Machine.Invariants.{last_parent, stands_in_its_namespace}
 use Rattle.std.proofs.lemmas.List.{length-map}
 use Rattle.vt_laws_mounts.proofs.Groups.{mounts-regrouped}
@@ -46,16 +45,14 @@ module _ (world after : World ℕ)
       found_itself after.mounts (one_number_by_numbers world.mounts after.mounts numbers one) mount m in
       let r : StandsAlike old mount = subst (StandsAlike old) found (alike mount.number) in
       let there : Among old world.mounts = found_there world.mounts mount.number
-      (ap (is_among nat_eq mount.number) (sym numbers)
-      ∙ is_among_numbers (numbers_of after.mounts) mount.number
+      (ap (is_among nat_eq mount.number) (sym numbers) ∙ is_among_numbers (numbers_of after.mounts) mount.number
       (among-map (λ (x : Mount ℕ). x.number) after.mounts mount m)) in
       let long : length after.mounts ≡ length world.mounts =
       sym (length-map after.mounts (λ (x : Mount ℕ). x.number)) ∙ ap length numbers
       ∙ length-map world.mounts (λ (x : Mount ℕ). x.number) in
       let last = same_last (length world.mounts) old mount r in
       ap (λ n. not (is_some (last_or mount (chain n below_after mount)).mount_point)
-      && same_option nat_eq mount.namespace
-      (last_or mount (chain n below_after mount)).namespace) long
+      && same_option nat_eq mount.namespace (last_or mount (chain n below_after mount)).namespace) long
       ∙ ap (λ p. not (is_some p) && same_option nat_eq mount.namespace
       (last_or mount (chain (length world.mounts) below_after mount)).namespace) last.mount_point
       ∙ ap (λ s. not (is_some (last_parent nat_eq world old).mount_point)
@@ -77,16 +74,8 @@ flags_keep_places_ending world here flags one ends =
     places_end_alike world (with_flags nat_eq world here.mount flags)
     (related-with_mount StandsAlike (λ mount. record { mount_point = refl; namespace = refl }) world.mounts new
     (subst (λ m. StandsAlike m new) (sym (ap (mount_in nat_eq world.mounts) (number-mount_in world.mounts here.mount)))
-    (record { mount_point = refl; namespace = refl })))
-    one (numbers-with_mount new world.mounts) ends
+    (record { mount_point = refl; namespace = refl }))) one (numbers-with_mount new world.mounts) ends
 
 pub inheritance_keeps_places_ending : InheritanceKeepsChainsEnding
 inheritance_keeps_places_ending world one ends =
-    places_end_alike world (regrouped nat_eq world)
-    (λ number.
-    subst (StandsAlike (mount_numbered nat_eq world number))
-    (sym (ap (λ mounts. mount_in nat_eq mounts number) (mounts-regrouped world)
-    ∙ found-map (inheriting nat_eq world) (λ mount. refl) world.mounts number refl))
-    (record { mount_point = refl; namespace = refl }))
-    one (ap numbers_of (mounts-regrouped world)
-    ∙ numbers-map (inheriting nat_eq world) (λ mount. refl) world.mounts) ends
+    grind (arith, common_steps, places_end_alike, mounts-regrouped, found-map, numbers-map)

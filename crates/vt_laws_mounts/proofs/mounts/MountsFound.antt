@@ -1,7 +1,6 @@
 -- Mounts found by their numbers.
-use Rattle.std.proofs.Common.{arith}
+use Rattle.std.proofs.Common.{arith, ◌≡◌, refl, sym, ap, ◌∙◌, ⊎_elim, ℕ, nat_eq, Bool, true, false, cond, List, [], ◌∷◌, map, true≢false, None, Some, find, is_some}
 use Rattle.std.proofs.lemmas.Grind.{common_steps}
-use Rattle.std.proofs.Common.{◌≡◌, refl, sym, ap, ◌∙◌, ⊎_elim, ℕ, nat_eq, Bool, true, false, cond, List, [], ◌∷◌, map, true≢false, None, Some, find, is_some}
 use Rattle.std.specs.Prelude.{unwrap_or}
 use Rattle.vt_spec.specs.Machine.Mounts.{Location, Mount, mount_in, no_mount}
 use Rattle.vt_spec.specs.Lists.{is_among}
@@ -31,8 +30,7 @@ found_there (first ∷ rest) number h = grind (arith, common_steps, found_there 
 -- a mount that has a place is one of the list
 pub placed_among : (mounts : List (Mount ℕ)) (number : ℕ) (place : Location ℕ)
     → (mount_in nat_eq mounts number).mount_point ≡ Some place → Among (mount_in nat_eq mounts number) mounts
-placed_among mounts number place e =
-    ⊎_elim (λ m. m)
+placed_among mounts number place e = ⊎_elim (λ m. m)
     (λ none. absurd (true≢false (sym (ap is_some e) ∙ ap (λ m. is_some m.mount_point) none)))
     (found_or_none mounts number)
 
@@ -66,6 +64,5 @@ found-map_there f numbers (first ∷ rest) number there =
 pub numbers-map : (f : Mount ℕ → Mount ℕ) → ((mount : Mount ℕ) → (f mount).number ≡ mount.number)
     → (mounts : List (Mount ℕ)) → map (λ mount. mount.number) (map f mounts) ≡ map (λ mount. mount.number) mounts
 numbers-map f numbers [] = refl
-numbers-map f numbers (first ∷ rest) =
-    ap (λ n. n ∷ map (λ mount. mount.number) (map f rest)) (numbers first)
+numbers-map f numbers (first ∷ rest) = ap (λ n. n ∷ map (λ mount. mount.number) (map f rest)) (numbers first)
     ∙ ap (λ ns. first.number ∷ ns) (numbers-map f numbers rest)

@@ -1,7 +1,6 @@
 -- What a granted call leaves.
-use Rattle.std.proofs.Common.{arith}
+use Rattle.std.proofs.Common.{arith, ◌≡◌, refl, sym, ap, ◌∙◌, ℕ, nat_eq, Bool, true, false, not, ◌||◌, List, [], ◌∷◌, Some, is_ok, ok_or, Ok, Result, flat_map, inl, inr, is_some, map, subst, ◌++◌, ◌⊎◌}
 use Rattle.std.proofs.lemmas.Grind.{common_steps}
-use Rattle.std.proofs.Common.{◌≡◌, refl, sym, ap, ◌∙◌, ℕ, nat_eq, Bool, true, false, not, ◌||◌, List, [], ◌∷◌, Some, is_ok, ok_or, Ok, Result, flat_map, inl, inr, is_some, map, subst, ◌++◌, ◌⊎◌}
 use Rattle.vt_spec.specs.declared.errors.Rule.TheVariants.{S2}
 use Rattle.vt_spec.specs.Errors.{denial}
 use Rattle.vt_spec.specs.Language.Calls.{Call, TaskName}
@@ -49,8 +48,7 @@ lives_then before world name changed mount =
 
 living_then : (before world : World ℕ) (name : TaskName) (changed : List ℕ)
     → HasLiving (numbers_raised nat_eq before name changed (settled nat_eq world)) world.mounts
-living_then before world name changed =
-    filter_agree (mount_lives nat_eq world)
+living_then before world name changed = filter_agree (mount_lives nat_eq world)
     (mount_lives nat_eq (numbers_raised nat_eq before name changed (settled nat_eq world)))
     (lives_then before world name changed) world.mounts
 
@@ -74,8 +72,7 @@ module _ (fresh : Fresh ℕ) (world : World ℕ) (name : TaskName) (task : Task 
 
   policy_is : policy nat_eq fresh world name call ≡ finished nat_eq world name call (changed task)
       (call_outcome nat_eq fresh world task call)
-  policy_is =
-      ap (λ found. after world (ok_or found (denial S2))
+  policy_is = ap (λ found. after world (ok_or found (denial S2))
       (λ t. finished nat_eq world name call (changed t) (call_outcome nat_eq fresh world t call))) is
 
   answer_stays : (b : Bool) (outcome : Outcome ℕ)
@@ -85,8 +82,7 @@ module _ (fresh : Fresh ℕ) (world : World ℕ) (name : TaskName) (task : Task 
 
   -- a call is answered as its outcome is
   pub answered : (policy nat_eq fresh world name call).answer ≡ (call_outcome nat_eq fresh world task call).answer
-  answered =
-      ap (λ o. o.answer) policy_is
+  answered = ap (λ o. o.answer) policy_is
       ∙ answer_stays (only_looks call || not (is_ok (call_outcome nat_eq fresh world task call).answer))
       (call_outcome nat_eq fresh world task call)
 
@@ -96,17 +92,14 @@ module _ (fresh : Fresh ℕ) (world : World ℕ) (name : TaskName) (task : Task 
   settles answer looks e =
       let outcome = call_outcome nat_eq fresh world task call in
       let ends : policy nat_eq fresh world name call ≡ finished_by nat_eq false world name (changed task) outcome =
-      policy_is
-      ∙ ap (λ b. finished_by nat_eq (b || not (is_ok outcome.answer)) world name (changed task) outcome) looks
+      policy_is ∙ ap (λ b. finished_by nat_eq (b || not (is_ok outcome.answer)) world name (changed task) outcome) looks
       ∙ ap (λ a. finished_by nat_eq (not (is_ok a)) world name (changed task) outcome) (sym answered ∙ e) in
       subst (λ o. HasLiving o.world outcome.world.mounts) (sym ends)
       (living_then world outcome.world name (changed task))
 
 -- a call that leaves these mounts, where it is granted
 pub leaves_mounts : (fresh : Fresh ℕ) (world : World ℕ) (name : TaskName) (task : Task ℕ) (call : Call)
-    (left : List (Mount ℕ)) (answer : Answer)
-    → only_looks call ≡ false
-    → ((permit : Permit ℕ)
+    (left : List (Mount ℕ)) (answer : Answer) → only_looks call ≡ false → ((permit : Permit ℕ)
     → IsGranted nat_eq (looks_of nat_eq world) (overfills nat_eq fresh world task) task call permit
     → (apply nat_eq fresh world task permit).world.mounts ≡ left)
     → task_called world name ≡ Some task → (policy nat_eq fresh world name call).answer ≡ Ok answer
@@ -114,5 +107,4 @@ pub leaves_mounts : (fresh : Fresh ℕ) (world : World ℕ) (name : TaskName) (t
 leaves_mounts fresh world name task call left answer looks makes is e =
     subst (HasLiving (policy nat_eq fresh world name call).world)
     (answered_holds (λ later. later.mounts ≡ left) fresh world task call answer
-    (sym (answered fresh world name task call is) ∙ e) makes)
-    (settles fresh world name task call is answer looks e)
+    (sym (answered fresh world name task call is) ∙ e) makes) (settles fresh world name task call is answer looks e)

@@ -1,9 +1,8 @@
 -- Conditions of a world that changes of mounts keep.
-use Rattle.std.proofs.Common.{arith}
+use Rattle.std.proofs.Common.{arith, ◌≡◌, refl, ap, ◌∙◌, true, List, filter, map, true≢false, ℕ, nat_eq}
 use Rattle.std.proofs.lemmas.Grind.{common_steps}
 use Rattle.vt_spec.specs.Machine.World.{World, mount_at, mount_numbered, with_flags}
 use Rattle.vt_laws_mounts.proofs.mounts.MountsReplaced.{one_number_by_numbers, numbers-with_mount}
-use Rattle.std.proofs.Common.{◌≡◌, refl, ap, ◌∙◌, true, List, filter, map, true≢false, ℕ, nat_eq}
 use Rattle.std.specs.List.{list_all}
 use Rattle.vt_laws_mounts.specs.Mounts.Invariants.{KeptByEndedNamespaces, KeptByFlags, KeptByInheritance, KeptByPivot, KeptBySettling, KeptByTakingAway, KeptByType, KeptByUnmount, NowhereOrAttached, OneNumberEach}
 use Rattle.vt_spec.specs.Machine.Mounts.{Mount}
@@ -71,8 +70,7 @@ nowhere_after : (world : World ℕ) (gone : List ℕ) (mount : Mount ℕ) → is
 nowhere_after world gone mount e = grind (arith, common_steps)
 
 pub taking_away_keeps_nowhere : KeptByTakingAway NowhereOrAttached
-taking_away_keeps_nowhere world gone e =
-    ap (list_all is_nowhere_or_attached) (mounts-regrouped (middle world gone))
+taking_away_keeps_nowhere world gone e = ap (list_all is_nowhere_or_attached) (mounts-regrouped (middle world gone))
     ∙ all-map is_nowhere_or_attached (inheriting nat_eq (middle world gone)) (nowhere_inherits (middle world gone))
     (map (after_going nat_eq world gone) world.mounts)
     (all-map is_nowhere_or_attached (after_going nat_eq world gone) (nowhere_after world gone) world.mounts e)
@@ -86,8 +84,7 @@ ended_namespaces_keep_nowhere world e =
     taking_away_keeps_nowhere world (map (λ mount. mount.number) (filter (is_in_ended nat_eq world) world.mounts)) e
 
 pub inheritance_keeps_nowhere : KeptByInheritance NowhereOrAttached
-inheritance_keeps_nowhere world e =
-    ap (list_all is_nowhere_or_attached) (mounts-regrouped world)
+inheritance_keeps_nowhere world e = ap (list_all is_nowhere_or_attached) (mounts-regrouped world)
     ∙ all-map is_nowhere_or_attached (inheriting nat_eq world) (nowhere_inherits world) world.mounts e
 
 pub settling_keeps_nowhere : KeptBySettling NowhereOrAttached

@@ -1,7 +1,6 @@
 -- Calls that are of no mount leave the mounts as they were.
-use Rattle.std.proofs.Common.{arith}
+use Rattle.std.proofs.Common.{arith, ◌≡◌, refl, sym, ℕ, nat_eq, Bool, true, false, true≢false, List, [], ◌∷◌}
 use Rattle.std.proofs.lemmas.Grind.{common_steps}
-use Rattle.std.proofs.Common.{◌≡◌, refl, sym, ℕ, nat_eq, Bool, true, false, true≢false, List, [], ◌∷◌}
 use Rattle.vt_spec.specs.Language.Calls.{Call}
 use Rattle.vt_spec.specs.Language.Calls.Call.{Bind, Exit, Lazy, MountOverlay, MountPlain, MoveMount, PivotRoot, Remount, Rename, Rmdir, SetType, Setns, Umount, Unshare}
 use Rattle.vt_spec.specs.Language.Changes.{Change}
@@ -36,8 +35,7 @@ module _ (world : World ℕ) where
   pwritten_leaves : (fresh : Fresh ℕ) (file : Location ℕ) (offset : ℕ) (bytes : List ℕ)
       → (pwritten nat_eq fresh world file offset bytes).mounts ≡ world.mounts
   pwritten_leaves fresh file offset [] = refl
-  pwritten_leaves fresh file offset (byte ∷ bytes) =
-      mounts-with_change fresh file (SetBytes file.node
+  pwritten_leaves fresh file offset (byte ∷ bytes) = mounts-with_change fresh file (SetBytes file.node
       (overwritten offset (byte ∷ bytes) (bytes_in (node_at nat_eq world file))))
 
   -- each way in which a call is granted
@@ -91,7 +89,6 @@ module _ (world : World ℕ) where
   granted_leaves fresh task call permit e granted = refl
 
 pub file_calls_leave_mounts : FileCallsLeaveMounts
-file_calls_leave_mounts fresh world name call e =
-    policy_leaves fresh world name call (λ task.
+file_calls_leave_mounts fresh world name call e = policy_leaves fresh world name call (λ task.
     call_holds (λ later. later.mounts ≡ world.mounts) fresh world task call refl
     (λ permit. granted_leaves world fresh task call permit e))

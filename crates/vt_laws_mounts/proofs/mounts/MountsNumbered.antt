@@ -1,11 +1,12 @@
 -- New mounts have numbers of their own.
-use Rattle.std.proofs.Common.{◌≡◌, refl, sym, ap, subst, ◌∙◌, true, false, suc, nat_eq, ℕ, Bool, List, [], arith, eqb-true, flat_map, inl, inr, is_some, length, map, not, option_map, true≢false, unwrap_or, ⊎_elim, ◌&&◌, ◌++◌, ◌+◌, ◌<◌, ◌∷◌, Some, None, Option, eq-eqb, filter, ◌/◌}
+use Rattle.std.proofs.lemmas.Grind.{common_steps}
+use Rattle.std.proofs.Common.{◌≡◌, refl, sym, ap, subst, ◌∙◌, true, false, suc, nat_eq, ℕ, Bool, List, [], arith, eqb-true, flat_map, inl, inr, length, map, not, option_map, true≢false, unwrap_or, ⊎_elim, ◌&&◌, ◌++◌, ◌+◌, ◌<◌, ◌∷◌, Some, None, Option, eq-eqb, filter, ◌/◌}
 use Rattle.std.specs.List.{list_any}
 use Rattle.vt_spec.specs.Machine.Mounts.{Mount, Location, group_of, numbers_by, index_of}
 use Rattle.vt_spec.proofs.Lists.{Among, among-append, among-append_left, among-flat_map, among-from_filter, among-from_flat_map, among-from_map, any_among, is_among_numbers, none_among, none_from_among, among-map, pair-filter, pair-map}
 use Rattle.vt_laws_mounts.proofs.GroupsKept.{member_shared}
 use Rattle.vt_spec.specs.Lists.{Fresh, any_pair, evens, holds_of, odds, index_from}
-use Rattle.vt_spec.specs.Machine.Attach.{Copies, Graft, Twig, attached_by, copies_at, copies_from, copy_at, graft_of, index_of_group, is_destination, index_in_rows, parts_of, reaches, receivers_of, takes_part, twig_of}
+use Rattle.vt_spec.specs.Machine.Attach.{Copies, Graft, Twig, attached_by, copies_at, copies_from, copy_at, graft_of, index_of_group, is_destination, index_in_rows, parts_of, receivers_of, takes_part, twig_of}
 use Rattle.vt_spec.specs.Machine.Receives.{has_members, is_member_of, receivers, receives}
 use Rattle.vt_spec.specs.Machine.Run.{Serves, numbers_in_use, used_by_filesystem, used_by_mount}
 use Rattle.vt_spec.specs.Machine.World.{World, Namespace, mount_at, mounts_of}
@@ -31,8 +32,7 @@ pair-append test [] ys e f cross = f
 pair-append test (x ∷ xs) ys e f cross =
     let parts : (list_any (test x) xs ≡ false) × (any_pair test xs ≡ false) =
     or_parts (list_any (test x) xs) (any_pair test xs) e in
-    or_from (list_any (test x) (xs ++ ys)) (any_pair test (xs ++ ys))
-    (none_from_among (test x) (xs ++ ys) (λ y m.
+    or_from (list_any (test x) (xs ++ ys)) (any_pair test (xs ++ ys)) (none_from_among (test x) (xs ++ ys) (λ y m.
     ⊎_elim (λ l. none_among (test x) xs parts.0 y l) (λ r. cross x y (inl refl) r) (among-append xs ys y m)))
     (pair-append test xs ys parts.1 f (λ a b m n. cross a b (inr m) n))
 
@@ -44,8 +44,7 @@ mount_uses world mount m number used =
     let of_filesystems = flat_map used_by_filesystem world.filesystems in
     among-append_left (of_mounts ++ of_filesystems)
     (map (λ (namespace : Namespace ℕ). namespace.number) world.namespaces) number
-    (among-append_left of_mounts of_filesystems number
-    (among-flat_map used_by_mount world.mounts mount number m used))
+    (among-append_left of_mounts of_filesystems number (among-flat_map used_by_mount world.mounts mount number m used))
 
 pub number_in_use : (world : World ℕ) (mount : Mount ℕ) → Among mount world.mounts
     → Among mount.number (numbers_in_use world)
@@ -57,11 +56,9 @@ pub number_is_old : (world : World ℕ) (fresh : Fresh ℕ) → Serves nat_eq wo
 number_is_old world fresh serves number m k =
     apart (fresh k) number (false_from_ne_true (nat_eq (fresh k) number) (λ same.
     let from = among-from_map (λ (mount : Mount ℕ). mount.number) world.mounts number m in
-    true≢false
-    (sym (is_among_numbers (numbers_in_use world) (fresh k)
+    true≢false (sym (is_among_numbers (numbers_in_use world) (fresh k)
     (subst (λ n. Among n (numbers_in_use world)) (sym (eqb-true (fresh k) number same ∙ from.2))
-    (number_in_use world from.0 from.1)))
-    ∙ serves.unused k)))
+    (number_in_use world from.0 from.1))) ∙ serves.unused k)))
 
 -- What is found at the place of a number in a list
 place_found : {A : Type 0} (p : A → Bool) (k : ℕ) (xs : List A) (a : A) → Among a xs → p a ≡ true
@@ -74,18 +71,14 @@ place_found p k (y ∷ ys) a m e = by (p y) refl (place_found p (k + 1) ys a)
         × (slice_get ys i ≡ Some x) × (p x ≡ true))
         → (i : ℕ) × (x : _) × (index_from p k (y ∷ ys) ≡ Some (i + k)) × (slice_get (y ∷ ys) i ≡ Some x) × (p x ≡ true)
     by true f later = (0, y, ap (λ b. if b then Some k else index_from p (k + 1) ys) f ∙ ap Some (omega arith), refl, f)
-    by false f later =
-        ⊎_elim
-        (λ same. absurd (true≢false (sym e ∙ ap p same ∙ f)))
-        (λ l.
+    by false f later = ⊎_elim (λ same. absurd (true≢false (sym e ∙ ap p same ∙ f))) (λ l.
         let t = later l e in (
           suc t.0,
           t.1,
           ap (λ b. if b then Some k else index_from p (k + 1) ys) f ∙ t.2 ∙ ap Some (omega arith),
           t.3,
           t.4,
-        ))
-        m
+        )) m
 
 -- a mount of this number stands in the list at its index
 indexed : (mounts : List (Mount ℕ)) (number : ℕ) → IsOneOf mounts number
@@ -100,11 +93,7 @@ indexed mounts number one =
 
 pub one_index : (mounts : List (Mount ℕ)) (a b : ℕ) → IsOneOf mounts a → IsOneOf mounts b
     → index_of nat_eq mounts a ≡ index_of nat_eq mounts b → a ≡ b
-one_index mounts a b m n e =
-    let s = indexed mounts a m in
-    let t = indexed mounts b n in
-    let same : s.1 ≡ t.1 = same_Some s.1 t.1 (sym s.3 ∙ ap (slice_get mounts) (sym s.2 ∙ e ∙ t.2) ∙ t.3) in
-    sym s.4 ∙ ap (λ mount. mount.number) same ∙ t.4
+one_index mounts a b m n e = grind (arith, common_steps, indexed mounts a m, indexed mounts b n)
 
 index_below : (mounts : List (Mount ℕ)) (number : ℕ) → IsOneOf mounts number
     → index_of nat_eq mounts number < length mounts
@@ -131,10 +120,7 @@ one_index_of_groups : (parts : List (Mount ℕ)) (group other : ℕ) → has_mem
     → has_members nat_eq parts other ≡ true
     → index_of_group nat_eq parts group ≡ index_of_group nat_eq parts other → group ≡ other
 one_index_of_groups parts group other m n e =
-    let s = indexed_group parts group m in
-    let t = indexed_group parts other n in
-    let same : s.1 ≡ t.1 = same_Some s.1 t.1 (sym s.3 ∙ ap (slice_get parts) (sym s.2 ∙ e ∙ t.2) ∙ t.3) in
-    one_group group other s.1 s.4 (ap (is_member_of nat_eq other) same ∙ t.4)
+    grind (arith, common_steps, indexed_group parts group m, indexed_group parts other n)
 
 -- the i-th of the k-th is no other, where each has so many
 numbered_apart : (size k i m j : ℕ) → i < size → j < size → index_in_rows size k i ≡ index_in_rows size m j → (k
@@ -159,8 +145,7 @@ module _ (world : World ℕ) (fresh : Fresh ℕ) (serves : Serves nat_eq world f
   copies_serve parts mounts = record {
     unused = λ part origin m n. serves.unused (2 * copy_index parts mounts part origin);
     apart = λ part origin other_part other m n o p e.
-        let at =
-        numbered_apart (length mounts) (index_of nat_eq parts part) (index_of nat_eq mounts origin)
+        let at = numbered_apart (length mounts) (index_of nat_eq parts part) (index_of nat_eq mounts origin)
         (index_of nat_eq parts other_part) (index_of nat_eq mounts other)
         (index_below mounts origin n) (index_below mounts other p)
         (evens-distinct fresh (served-distinct world fresh serves) (copy_index parts mounts part origin)
@@ -173,8 +158,7 @@ module _ (world : World ℕ) (fresh : Fresh ℕ) (serves : Serves nat_eq world f
   images_serve parts mounts = record {
     unused = λ group origin m n. serves.unused (2 * image_index parts mounts group origin + 1);
     apart = λ group origin other_group other m n o p e.
-        let at =
-        numbered_apart (length mounts) (index_of_group nat_eq parts group) (index_of nat_eq mounts origin)
+        let at = numbered_apart (length mounts) (index_of_group nat_eq parts group) (index_of nat_eq mounts origin)
         (index_of_group nat_eq parts other_group) (index_of nat_eq mounts other)
         (index_below mounts origin n) (index_below mounts other p)
         (odds-distinct fresh (served-distinct world fresh serves) (image_index parts mounts group origin)
@@ -203,15 +187,13 @@ same_origin a b = same_number a.origin b.origin
 pub pair-flat_map : (test : Mount ℕ → Mount ℕ → Bool) (f : Mount ℕ → List (Mount ℕ)) (xs : List (Mount ℕ))
     → any_pair same_number xs ≡ false → ((x : Mount ℕ) → Among x xs → any_pair test (f x) ≡ false)
     → ((x y a b : Mount ℕ) → Among x xs → Among y xs → same_number x y ≡ false
-    → Among a (f x) → Among b (f y) → test a b ≡ false)
-    → any_pair test (flat_map f xs) ≡ false
+    → Among a (f x) → Among b (f y) → test a b ≡ false) → any_pair test (flat_map f xs) ≡ false
 pair-flat_map test f [] h own cross = refl
 pair-flat_map test f (x ∷ xs) h own cross =
     let parts : (list_any (same_number x) xs ≡ false) × (any_pair same_number xs ≡ false) =
     or_parts (list_any (same_number x) xs) (any_pair same_number xs) h in
     pair-append test (f x) (flat_map f xs) (own x (inl refl))
-    (pair-flat_map test f xs parts.1 (λ y m. own y (inr m)) (λ y z a b m n. cross y z a b (inr m) (inr n)))
-    (λ a b m n.
+    (pair-flat_map test f xs parts.1 (λ y m. own y (inr m)) (λ y z a b m n. cross y z a b (inr m) (inr n))) (λ a b m n.
     let from = among-from_flat_map f xs b n in
     cross x from.0 a b (inl refl) (inr from.1) (none_among (same_number x) xs parts.0 from.0 from.1) m from.2)
 
@@ -220,36 +202,25 @@ is_one_of mounts mount m =
     is_among_numbers (numbers_of mounts) mount.number (among-map (λ (other : Mount ℕ). other.number) mounts mount m)
 
 module _ (world : World ℕ) (place : Location ℕ) where
-  takers_apart : OneNumberAMount world.mounts → (group : Option ℕ)
-      → any_pair same_number
+  takers_apart : OneNumberAMount world.mounts → (group : Option ℕ) → any_pair same_number
       (filter (takes_part nat_eq world place) (unwrap_or (option_map (receivers nat_eq world) group) [])) ≡ false
   takers_apart one None = refl
-  takers_apart one (Some group) =
-      pair-filter same_number (takes_part nat_eq world place) (receivers nat_eq world group)
+  takers_apart one (Some group) = pair-filter same_number (takes_part nat_eq world place) (receivers nat_eq world group)
       (pair-filter same_number (receives nat_eq world group) world.mounts one)
 
   -- a receiver that takes part is not the destination
   pub taker_elsewhere : (mount : Mount ℕ) → takes_part nat_eq world place mount ≡ true
       → nat_eq place.mount mount.number ≡ false
-  taker_elsewhere mount h =
-      let elsewhere = not (nat_eq place.mount mount.number) in
-      let attached = is_some mount.namespace in
-      let alike = nat_eq (mount_at nat_eq world place).filesystem mount.filesystem in
-      not-true (nat_eq place.mount mount.number)
-      (and_parts elsewhere attached
-      (and_parts (elsewhere && attached) alike
-      (and_parts (elsewhere && attached && alike) (reaches nat_eq world place.node mount) h).0).0).0
+  taker_elsewhere mount h = grind (arith, common_steps, not-true, and_parts)
 
   pub parts_apart : OneNumberAMount world.mounts → any_pair same_number (parts_of nat_eq world place) ≡ false
   parts_apart one =
       let takers = filter (takes_part nat_eq world place) (receivers_of nat_eq world (mount_at nat_eq world place)) in
       or_from (list_any (same_number (mount_at nat_eq world place)) takers) (any_pair same_number takers)
       (none_from_among (same_number (mount_at nat_eq world place)) takers (λ mount m.
-      ap (λ n. nat_eq n mount.number) (number-mount_in world.mounts place.mount)
-      ∙ taker_elsewhere mount
+      ap (λ n. nat_eq n mount.number) (number-mount_in world.mounts place.mount) ∙ taker_elsewhere mount
       (among-from_filter (takes_part nat_eq world place) (receivers_of nat_eq world (mount_at nat_eq world place))
-      mount m).1))
-      (takers_apart one (group_of (mount_at nat_eq world place).propagation))
+      mount m).1)) (takers_apart one (group_of (mount_at nat_eq world place).propagation))
 
 module _ (world : World ℕ) (new : Copies ℕ) (place : Location ℕ) (moves : Bool) (mounts : List (Mount ℕ))
     (serve : ServeAsCopies world (parts_of nat_eq world place) mounts new) (own : OneNumberAMount mounts)
@@ -275,15 +246,7 @@ module _ (world : World ℕ) (new : Copies ℕ) (place : Location ℕ) (moves : 
 
   copied_from : (part : Mount ℕ) → IsCopied part → (copy : Mount ℕ) → Among copy (copies part)
       → (origin : Mount ℕ) × Among origin mounts × (copy.number ≡ new.copy part.number origin.number)
-  copied_from part copied copy m =
-      let from = among-from_map (made part) tree.twigs copy m in
-      let origin = among-from_map twig mounts from.0 from.1 in (
-        origin.0,
-        origin.1,
-        ap (λ c. c.number) from.2
-            ∙ ap (λ b. if b then from.0.origin.number else new.copy part.number from.0.origin.number) copied
-            ∙ ap (λ (t : Twig ℕ). new.copy part.number t.origin.number) origin.2,
-      )
+  copied_from part copied copy m = grind (arith, common_steps, among-from_map)
 
   -- copies of two mounts, or at two parts, have two numbers
   two_copies : (x y a b : Mount ℕ) → Among x parts → Among y parts → IsCopied x → IsCopied y
@@ -298,8 +261,7 @@ module _ (world : World ℕ) (new : Copies ℕ) (place : Location ℕ) (moves : 
       true≢false (sym (eq-eqb x.number y.number at.0) ∙ differ))
 
   copies_apart : (part : Mount ℕ) → Among part parts → IsCopied part → any_pair same_number (copies part) ≡ false
-  copies_apart part m copied =
-      pair-map same_origin same_number (made part) tree.twigs
+  copies_apart part m copied = pair-map same_origin same_number (made part) tree.twigs
       (λ a b k l differ. false_from_ne_true (same_number (made part a) (made part b)) (λ same.
       let number : (t : Twig ℕ) → (made part t).number ≡ new.copy part.number t.origin.number =
       λ t. ap (λ b. if b then t.origin.number else new.copy part.number t.origin.number) copied in
@@ -310,8 +272,7 @@ module _ (world : World ℕ) (new : Copies ℕ) (place : Location ℕ) (moves : 
       let part_one = is_one_of parts part m in
       let at : (part.number ≡ part.number) × (a.origin.number ≡ b.origin.number) =
       serve.apart part.number a.origin.number part.number b.origin.number part_one (origin a from_a.0 from_a.2 from_a.1)
-      part_one (origin b from_b.0 from_b.2 from_b.1)
-      (sym (number a) ∙ eqb-true _ _ same ∙ number b) in
+      part_one (origin b from_b.0 from_b.2 from_b.1) (sym (number a) ∙ eqb-true _ _ same ∙ number b) in
       true≢false (sym (eq-eqb a.origin.number b.origin.number at.1) ∙ differ)))
       (pair-map same_number same_origin twig mounts (λ a b k l differ. differ) own)
 
@@ -330,8 +291,7 @@ module _ (world : World ℕ) (new : Copies ℕ) (place : Location ℕ) (moves : 
       let e = each from.0 from.1 in
       let t = copied_from from.0 e.1 copy from.2 in
       apart copy.number old.number (false_from_ne_true (nat_eq copy.number old.number) (λ same.
-      true≢false
-      (sym (is_among_numbers (numbers_in_use world) (new.copy from.0.number t.0.number)
+      true≢false (sym (is_among_numbers (numbers_in_use world) (new.copy from.0.number t.0.number)
       (subst (λ number. Among number (numbers_in_use world)) (sym (sym t.2 ∙ eqb-true copy.number old.number same))
       (number_in_use world old m)))
       ∙ serve.unused from.0.number t.0.number (is_one_of parts from.0 e.0) (is_one_of mounts t.0 t.1))))
@@ -340,14 +300,12 @@ module _ (world : World ℕ) (new : Copies ℕ) (place : Location ℕ) (moves : 
       → ((part : Mount ℕ) → Among part list → Among part parts × IsCopied part)
       → others world new place moves mounts ≡ flat_map copies list
       → OneNumberAMount (attached_by nat_eq world new place moves mounts).mounts
-  finish list apart_too each is =
-      pair_by_numbers (attached_by nat_eq world new place moves mounts).mounts
+  finish list apart_too each is = pair_by_numbers (attached_by nat_eq world new place moves mounts).mounts
       ∙ ap (any_pair nat_eq)
       (numbers_attached world new place moves mounts ∙ ap (λ added. numbers_of world.mounts ++ numbers_of added) is)
       ∙ pair-append nat_eq (numbers_of world.mounts) (numbers_of (flat_map copies list))
       (sym (pair_by_numbers world.mounts) ∙ one)
-      (sym (pair_by_numbers (flat_map copies list)) ∙ all_apart list apart_too each)
-      (λ x y m n.
+      (sym (pair_by_numbers (flat_map copies list)) ∙ all_apart list apart_too each) (λ x y m n.
       let old = among-from_map (λ (mount : Mount ℕ). mount.number) world.mounts x m in
       let copy = among-from_map (λ (mount : Mount ℕ). mount.number) (flat_map copies list) y n in
       ap (nat_eq x) copy.2 ∙ ap (λ number. nat_eq number copy.0.number) old.2
@@ -357,18 +315,13 @@ pub copies_keep_numbers : CopiesKeepNumbers
 copies_keep_numbers world new place false mounts serve own one =
     finish world new place false mounts serve own one (parts_of nat_eq world place) (parts_apart world place one)
     (λ part m. (m, refl)) refl
-copies_keep_numbers world new place true mounts serve own one =
-    finish world new place true mounts serve own one
+copies_keep_numbers world new place true mounts serve own one = finish world new place true mounts serve own one
     (filter (takes_part nat_eq world place) (receivers_of nat_eq world (mount_at nat_eq world place)))
-    (takers_apart world place one (group_of (mount_at nat_eq world place).propagation))
-    (λ part m. (
+    (takers_apart world place one (group_of (mount_at nat_eq world place).propagation)) (λ part m. (
       inr m,
-      apart place.mount part.number
-          (taker_elsewhere world place part
-          (among-from_filter (takes_part nat_eq world place)
+      apart place.mount part.number (taker_elsewhere world place part (among-from_filter (takes_part nat_eq world place)
           (receivers_of nat_eq world (mount_at nat_eq world place)) part m).1),
-    ))
-    refl
+    )) refl
 
 pub attach_keeps_numbers : AttachKeepsNumbers
 attach_keeps_numbers world fresh place moves mounts serves own one =
@@ -382,10 +335,8 @@ unshare_keeps_numbers world fresh task serves one =
     let copy = copied_mount (numbers_by nat_eq (odds fresh) copied) (evens fresh 0) in
     let numbered_copy : (mount : Mount ℕ) → Among mount copied
     → (i : ℕ) × ((copy mount).number ≡ fresh (2 * i + 1)) × (x : Mount ℕ) × (slice_get copied i ≡ Some x)
-    × (mount.number ≡ x.number) =
-    λ mount m.
-    let t =
-    place_found (λ (other : Mount ℕ). nat_eq mount.number other.number) 0 copied mount m
+    × (mount.number ≡ x.number) = λ mount m.
+    let t = place_found (λ (other : Mount ℕ). nat_eq mount.number other.number) 0 copied mount m
     (eq-eqb mount.number mount.number refl) in (
       t.0,
       ap (λ found. odds fresh (unwrap_or found 0)) t.2 ∙ ap (λ n. fresh (2 * n + 1)) (omega arith),
@@ -393,19 +344,16 @@ unshare_keeps_numbers world fresh task serves one =
       t.3,
       eqb-true mount.number t.1.number t.4,
     ) in
-    pair-append same_number world.mounts (map copy copied) one
-    (pair-map same_number same_number copy copied
+    pair-append same_number world.mounts (map copy copied) one (pair-map same_number same_number copy copied
     (λ a b m n differ. false_from_ne_true (nat_eq (copy a).number (copy b).number) (λ together.
     let s = numbered_copy a m in
     let t = numbered_copy b n in
-    let odd : 2 * s.0 + 1 ≡ 2 * t.0 + 1 =
-    serves.apart (2 * s.0 + 1) (2 * t.0 + 1)
+    let odd : 2 * s.0 + 1 ≡ 2 * t.0 + 1 = serves.apart (2 * s.0 + 1) (2 * t.0 + 1)
     (ap (λ x. nat_eq x (fresh (2 * t.0 + 1))) (sym s.1) ∙ ap (nat_eq (copy a).number) (sym t.1) ∙ together) in
     let index : s.0 ≡ t.0 = omega (arith, odd) in
     let same : s.2 ≡ t.2 = same_Some s.2 t.2 (sym s.3 ∙ ap (slice_get copied) index ∙ t.3) in
     true≢false (sym (eq-eqb a.number b.number (s.4 ∙ ap (λ x. x.number) same ∙ sym t.4)) ∙ differ)))
-    (pair-filter same_number (λ x. holds_of (nat_eq task.namespace) x.namespace) world.mounts one))
-    (λ a b m n.
+    (pair-filter same_number (λ x. holds_of (nat_eq task.namespace) x.namespace) world.mounts one)) (λ a b m n.
     let from = among-from_map copy copied b n in
     let t = numbered_copy from.0 from.1 in
     ap (nat_eq a.number) (ap (λ x. x.number) from.2 ∙ t.1)

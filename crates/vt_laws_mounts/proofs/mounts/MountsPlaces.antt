@@ -1,11 +1,9 @@
 -- Where mounts stand.
-use Rattle.std.proofs.Common.{arith}
+use Rattle.std.proofs.Common.{arith, ◌≡◌, refl, sym, ap, ◌∙◌, ℕ, nat_eq, eq-eqb, true, false, true≢false, ◌&&◌, List, [], ◌∷◌, Some, is_some}
 use Rattle.std.proofs.lemmas.Grind.{common_steps}
-use Rattle.std.proofs.Common.{◌≡◌, refl, sym, ap, ◌∙◌, ⊎_elim, ℕ, nat_eq, eq-eqb, Bool, true, false, true≢false, cond, ◌&&◌, List, [], ◌∷◌, Some, is_some, find}
-use Rattle.std.specs.List.{list_any}
 use Rattle.std.proofs.lemmas.Bool.{and_from, or_parts}
 use Rattle.std.proofs.lemmas.Option.{same_Some}
-use Rattle.vt_spec.specs.Lists.{any_pair, holds_of, same_option}
+use Rattle.vt_spec.specs.Lists.{holds_of, same_option}
 use Rattle.vt_spec.specs.Machine.Mounts.{Location, Mount, child_at, same_location, stands_at}
 use Rattle.vt_spec.specs.Machine.Invariants.{share_a_mount_point}
 use Rattle.vt_laws_mounts.specs.Mounts.MountPoints.{OneMountAMountPoint, StandsAloneAtItsMountPoint}
@@ -28,37 +26,27 @@ stands_at_its_place place mount e = ap (holds_of (same_location nat_eq place)) e
 
 pub one_place_of_two : (place : Location ℕ) (a b : Mount ℕ) → a.mount_point ≡ Some place → b.mount_point ≡ Some place
     → share_a_mount_point nat_eq a b ≡ true
-one_place_of_two place a b e f =
-    ap (λ p. is_some p && same_option (same_location nat_eq) p b.mount_point) e
-    ∙ ap (same_option (same_location nat_eq) (Some place)) f
-    ∙ same_location_itself place
+one_place_of_two place a b e f = ap (λ p. is_some p && same_option (same_location nat_eq) p b.mount_point) e
+    ∙ ap (same_option (same_location nat_eq) (Some place)) f ∙ same_location_itself place
 
 -- where no two stand at one place, one that stands there is found there
 pub found_at_its_place : (mounts : List (Mount ℕ)) → OneMountAMountPoint mounts → (mount : Mount ℕ) → Among mount mounts
-    → (place : Location ℕ)
-    → mount.mount_point ≡ Some place → child_at nat_eq mounts place ≡ Some mount
+    → (place : Location ℕ) → mount.mount_point ≡ Some place → child_at nat_eq mounts place ≡ Some mount
 found_at_its_place [] one mount m place e = absurd m
-found_at_its_place (first ∷ rest) one mount m place e =
-    let apart : (list_any (share_a_mount_point nat_eq first) rest ≡ false)
-    × (any_pair (share_a_mount_point nat_eq) rest ≡ false) =
-    or_parts _ _ one in
-    ⊎_elim
-    (λ same. ap (λ b. cond b (Some first) (find (stands_at nat_eq place) rest))
-    (stands_at_its_place place first (ap (λ x. x.mount_point) (sym same) ∙ e)) ∙ ap Some (sym same))
-    (λ later.
-    by (stands_at nat_eq place first) refl (none_among (share_a_mount_point nat_eq first) rest apart.0 mount later)
-    (found_at_its_place rest apart.1 mount later place e))
-    m
-  where
-    by : (b : Bool) → stands_at nat_eq place first ≡ b → share_a_mount_point nat_eq first mount ≡ false
-        → find (stands_at nat_eq place) rest ≡ Some mount → child_at nat_eq (first ∷ rest) place ≡ Some mount
-    by true here differ found = absurd
-        (true≢false (sym (one_place_of_two place first mount (stands_there place first here) e) ∙ differ))
-    by false here differ found = ap (λ b. cond b (Some first) (find (stands_at nat_eq place) rest)) here ∙ found
+found_at_its_place (first ∷ rest) one mount m place e = grind (
+  arith,
+  common_steps,
+  or_parts,
+  stands_at_its_place,
+  none_among,
+  true≢false,
+  one_place_of_two,
+  stands_there,
+  found_at_its_place rest,
+)
 
 pub stands_alone : StandsAloneAtItsMountPoint
-stands_alone mounts one =
-    all_from_among
+stands_alone mounts one = all_from_among
     (λ mount. (place : Location ℕ) → mount.mount_point ≡ Some place → child_at nat_eq mounts place ≡ Some mount) mounts
     (λ mount m place e. found_at_its_place mounts one mount m place e)
 

@@ -1,7 +1,6 @@
 -- A mount in the place of the one with its number.
-use Rattle.std.proofs.Common.{arith}
+use Rattle.std.proofs.Common.{arith, ◌≡◌, refl, sym, ap, ◌∙◌, List, [], eq-eqb, eqb-true, nat_eq, true≢false, ℕ, ◌++◌, ◌||◌, ◌∷◌, false, true}
 use Rattle.std.proofs.lemmas.Grind.{common_steps}
-use Rattle.std.proofs.Common.{◌≡◌, refl, sym, ap, ◌∙◌, List, Some, [], cond, eq-eqb, eqb-true, find, nat_eq, true≢false, unwrap_or, ℕ, ⊎_elim, ◌++◌, ◌||◌, ◌∷◌, false, true}
 use Rattle.vt_spec.specs.Machine.Mounts.{Mount, mount_in, no_mount, replaced_if_same, with_mount}
 use Rattle.vt_laws_mounts.proofs.mounts.MountsFound.{found-map, numbers-map}
 use Rattle.std.specs.Prelude.{if◌then◌else◌}
@@ -46,29 +45,22 @@ module _ (new : Mount ℕ) where
 pub none_numbered : (mounts : List (Mount ℕ)) (number : ℕ) → is_among nat_eq number (numbers_of mounts) ≡ false
     → mount_in nat_eq mounts number ≡ no_mount number
 none_numbered [] number h = refl
-none_numbered (first ∷ rest) number h =
-    let parts : (nat_eq number first.number ≡ false) × (is_among nat_eq number (numbers_of rest) ≡ false) =
-    or_parts (nat_eq number first.number) (is_among nat_eq number (numbers_of rest)) h in
-    ap (λ b. unwrap_or (cond b (Some first) (find (λ mount. nat_eq number mount.number) rest))
-    (no_mount number)) parts.0
-    ∙ none_numbered rest number parts.1
+none_numbered (first ∷ rest) number h = grind (arith, common_steps, or_parts, none_numbered rest number)
 
 -- A mount that is changed where it stands, as it is found: what holds between the old and the new holds of what is
 -- found before and after.
 module _ (R : Mount ℕ → Mount ℕ → Type 0) (same : (mount : Mount ℕ) → R mount mount) where
   pub related-with_mount : (mounts : List (Mount ℕ)) (new : Mount ℕ) → R (mount_in nat_eq mounts new.number) new
-      → (number : ℕ)
-      → R (mount_in nat_eq mounts number) (mount_in nat_eq (with_mount nat_eq mounts new) number)
-  related-with_mount mounts new r number =
-      grind (
-        arith,
-        common_steps,
-        found-with_mount_itself,
-        none_numbered,
-        numbers-with_mount,
-        eqb-true,
-        found-with_mount_other,
-      )
+      → (number : ℕ) → R (mount_in nat_eq mounts number) (mount_in nat_eq (with_mount nat_eq mounts new) number)
+  related-with_mount mounts new r number = grind (
+    arith,
+    common_steps,
+    found-with_mount_itself,
+    none_numbered,
+    numbers-with_mount,
+    eqb-true,
+    found-with_mount_other,
+  )
 
 -- what stands first in a list is found there
 pub found-append : (mounts others : List (Mount ℕ)) (number : ℕ) → is_among nat_eq number (numbers_of mounts) ≡ true
@@ -81,18 +73,7 @@ pub found_itself : (mounts : List (Mount ℕ)) → OneNumberAMount mounts → (m
     → mount_in nat_eq mounts mount.number ≡ mount
 found_itself [] one mount m = absurd m
 found_itself (first ∷ rest) one mount m =
-    let parts : (list_any (λ (other : Mount ℕ). nat_eq first.number other.number) rest ≡ false)
-    × OneNumberAMount rest = or_parts _ _ one in
-    ⊎_elim
-    (λ e. ap (λ b. unwrap_or (cond b (Some first) (find (λ other. nat_eq mount.number other.number) rest))
-    (no_mount mount.number)) (eq-eqb mount.number first.number (ap (λ x. x.number) e)) ∙ sym e)
-    (λ later.
-    ap (λ b. unwrap_or (cond b (Some first) (find (λ other. nat_eq mount.number other.number) rest))
-    (no_mount mount.number))
-    (nat_eq_false_turned first.number mount.number
-    (none_among (λ (other : Mount ℕ). nat_eq first.number other.number) rest parts.0 mount later))
-    ∙ found_itself rest parts.1 mount later)
-    m
+    grind (arith, common_steps, or_parts, eq-eqb, nat_eq_false_turned, none_among, found_itself rest)
 
 any_by_numbers : (number : ℕ) (mounts : List (Mount ℕ))
     → list_any (λ (other : Mount ℕ). nat_eq number other.number) mounts ≡ list_any (nat_eq number) (numbers_of mounts)
@@ -107,7 +88,6 @@ pair_by_numbers (mount ∷ mounts) =
     ∙ ap (λ b. list_any (nat_eq mount.number) (numbers_of mounts) || b) (pair_by_numbers mounts)
 
 pub one_number_by_numbers : (before later : List (Mount ℕ)) → numbers_of later ≡ numbers_of before
-    → OneNumberAMount before
-    → OneNumberAMount later
+    → OneNumberAMount before → OneNumberAMount later
 one_number_by_numbers before later same e =
     pair_by_numbers later ∙ ap (any_pair nat_eq) same ∙ sym (pair_by_numbers before) ∙ e

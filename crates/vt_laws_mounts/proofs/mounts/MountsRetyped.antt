@@ -1,7 +1,6 @@
 -- A change of flags or of type is of the mounts that it names.
-use Rattle.std.proofs.Common.{arith}
+use Rattle.std.proofs.Common.{arith, ◌≡◌, refl, sym, ap, ◌∙◌, true, false, Bool, ℕ, nat_eq, List, None, [], inl, map, ◌∷◌, ◌||◌}
 use Rattle.std.proofs.lemmas.Grind.{common_steps}
-use Rattle.std.proofs.Common.{◌≡◌, refl, sym, ap, ◌∙◌, true, false, Bool, ℕ, nat_eq, List, None, [], inl, map, ◌∷◌, ◌||◌}
 use Rattle.std.specs.List.{list_any}
 use Rattle.vt_spec.specs.Machine.Mounts.Propagation.{Private, Shared, Slave, Unbindable}
 use Rattle.vt_spec.specs.Language.Calls.TypeWord.{ToSlave}
@@ -66,11 +65,9 @@ module _ (world : World ℕ) (group : ℕ → ℕ) (word : TypeWord) (named : Li
       ap numbers_of (mounts-regrouped between) ∙ numbers-map (inheriting nat_eq between) (λ mount. refl) between.mounts
       ∙ numbers-map retype (λ mount. (retype_keeps mount).number) world.mounts
 
-  pub retyped_found : (number : ℕ) → is_mount world number ≡ true
-      → mount_numbered nat_eq next_world number
+  pub retyped_found : (number : ℕ) → is_mount world number ≡ true → mount_numbered nat_eq next_world number
       ≡ inheriting nat_eq between (retype (mount_numbered nat_eq world number))
-  retyped_found number there =
-      ap (λ mounts. mount_in nat_eq mounts number) (mounts-regrouped between)
+  retyped_found number there = ap (λ mounts. mount_in nat_eq mounts number) (mounts-regrouped between)
       ∙ found-map (inheriting nat_eq between) (λ mount. refl) between.mounts number refl
       ∙ ap (inheriting nat_eq between)
       (found-map_there retype (λ mount. (retype_keeps mount).number) world.mounts number there)
@@ -116,13 +113,7 @@ module _ (world : World ℕ) (group : ℕ → ℕ) (word : TypeWord) (named : Li
   pub type_of_named : (number : ℕ) → is_mount world number ≡ true → is_among nat_eq number (numbers_of named) ≡ true
       → (mount_numbered nat_eq next_world number).propagation
       ≡ inherited nat_eq between (type_after (group number) word (mount_numbered nat_eq world number).propagation)
-  type_of_named number there chosen =
-      let one = mount_numbered nat_eq world number in
-      ap (λ m. m.propagation) (retyped_found number there)
-      ∙ ap (λ b. inherited nat_eq between (retyped_if one b).propagation)
-      (named_by_number number ∙ chosen)
-      ∙ ap (λ n. inherited nat_eq between (type_after (group n) word one.propagation))
-      (number-mount_in world.mounts number)
+  type_of_named number there chosen = grind (arith, common_steps, retyped_found, named_by_number, number-mount_in)
 
   pub retyping_is_of_mounts : KeepsAllButMounts world next_world
   retyping_is_of_mounts = grind (arith, common_steps)
@@ -150,9 +141,7 @@ pub type_is_taken : TypeIsTaken
 type_is_taken world fresh number word recursive other there chosen has =
     let group = groups_by world fresh number recursive in
     let named = named_mounts nat_eq world number recursive in
-    type_of_named world group word named other there chosen
-    ∙ kept_where_master world group word named
-    (type_after (group other) word (mount_numbered nat_eq world other).propagation) has
+    grind (arith, common_steps, type_of_named, kept_where_master)
 
 pub alone_is_private : AloneIsPrivate
 alone_is_private world fresh number one there shared no_master none =

@@ -1,10 +1,9 @@
 -- What the policy takes for the receivers of a group is what receives from it.
-use Rattle.std.proofs.Common.{arith}
+use Rattle.std.proofs.Common.{arith, ◌≡◌, refl, sym, ap, subst, ◌∙◌, ⊎_elim, ℕ, zero, suc, nat_eq, Bool, true, false, true≢false, ◌&&◌, [], ◌∷◌, length, Option, Some, None, is_some}
 use Rattle.std.proofs.lemmas.Grind.{common_steps}
-use Rattle.std.proofs.Common.{◌≡◌, refl, sym, ap, subst, ◌∙◌, inl, ⊎_elim, ℕ, zero, suc, nat_eq, Bool, true, false, true≢false, ◌&&◌, [], ◌∷◌, length, Option, Some, None, is_some}
-use Rattle.std.specs.Prelude.{◌↔◌, option_to_list}
+use Rattle.std.specs.Prelude.{◌↔◌}
 use Rattle.std.specs.List.{list_all}
-use Rattle.std.proofs.lemmas.Bool.{and_parts, not-true}
+use Rattle.std.proofs.lemmas.Bool.{not-true}
 use Rattle.std.proofs.lemmas.Option.{same_Some}
 use Rattle.vt_spec.specs.Lists.{chain, holds_of, is_among, last_or}
 use Rattle.vt_spec.specs.Machine.Mounts.{Mount, Propagation, source_of}
@@ -33,11 +32,9 @@ module _ (master : ℕ → Option ℕ) where
     where
       by : (found : Option ℕ) → master source ≡ found
           → ((above : ℕ) → P above → is_among nat_eq group (chain n master above) ≡ true → P group) → P group
-      by None e next =
-          ⊎_elim (λ same. subst P (sym same) p) (λ none. absurd (true≢false (sym none)))
+      by None e next = ⊎_elim (λ same. subst P (sym same) p) (λ none. absurd (true≢false (sym none)))
           (among_cases group source [] (sym (ap (is_among nat_eq group) (chain_ends master n source e)) ∙ h))
-      by (Some above) e next =
-          ⊎_elim (λ same. subst P (sym same) p) (λ later. next above (up above source e p) later)
+      by (Some above) e next = ⊎_elim (λ same. subst P (sym same) p) (λ later. next above (up above source e p) later)
           (among_cases group source (chain n master above)
           (sym (ap (is_among nat_eq group) (chain_goes_on master n source above e)) ∙ h))
 
@@ -55,12 +52,10 @@ module _ (master : ℕ → Option ℕ) where
 
   -- a chain that ends holds the master of each of its groups
   pub chain_is_closed : (n source lower group : ℕ) → Ends n source → master lower ≡ Some group
-      → is_among nat_eq lower (chain n master source) ≡ true
-      → is_among nat_eq group (chain n master source) ≡ true
+      → is_among nat_eq lower (chain n master source) ≡ true → is_among nat_eq group (chain n master source) ≡ true
   chain_is_closed zero source lower group ends above h =
       ⊎_elim (λ same. absurd (no_end source group (ap master (sym same) ∙ above) ends))
-      (λ none. absurd (true≢false (sym none)))
-      (among_cases lower source [] h)
+      (λ none. absurd (true≢false (sym none))) (among_cases lower source [] h)
   chain_is_closed (suc n) source lower group ends above h =
       by (master source) refl (λ next. chain_is_closed n next lower group)
     where
@@ -68,9 +63,7 @@ module _ (master : ℕ → Option ℕ) where
           → ((next : ℕ) → Ends n next → master lower ≡ Some group → is_among nat_eq lower (chain n master next) ≡ true
           → is_among nat_eq group (chain n master next) ≡ true)
           → is_among nat_eq group (chain (suc n) master source) ≡ true
-      by None e go =
-          ⊎_elim
-          (λ same. absurd (no_end source group (ap master (sym same) ∙ above) (ap is_some e)))
+      by None e go = ⊎_elim (λ same. absurd (no_end source group (ap master (sym same) ∙ above) (ap is_some e)))
           (λ none. absurd (true≢false (sym none)))
           (among_cases lower source [] (sym (ap (is_among nat_eq lower) (chain_ends master n source e)) ∙ h))
       by (Some next) e go =
@@ -78,10 +71,7 @@ module _ (master : ℕ → Option ℕ) where
           chain_goes_on master n source next e in
           let last : last_or source (chain (suc n) master source) ≡ last_or next (chain n master next) =
           ap (last_or source) longer ∙ last_of_chain master n next source in
-          ap (is_among nat_eq group) longer
-          ∙ tail_among group source (chain n master next)
-          (⊎_elim
-          (λ same.
+          ap (is_among nat_eq group) longer ∙ tail_among group source (chain n master next) (⊎_elim (λ same.
           let it : next ≡ group = same_Some next group (sym e ∙ ap master (sym same) ∙ above) in
           subst (λ g. is_among nat_eq g (chain n master next) ≡ true) it (start_among n next))
           (λ later. go next (sym (ap (λ g. is_some (master g)) last) ∙ ends) above later)
@@ -93,12 +83,7 @@ pub groups_live_at : (world : World ℕ) → GroupsLive world → (mount : Mount
     → (list_all (has_members nat_eq world.mounts) (groups_up world source) ≡ true)
     × (masters_end nat_eq world source ≡ true)
 groups_live_at world live mount m source e =
-    and_parts _ _
-    (among_from_list_all (λ group. list_all (has_members nat_eq world.mounts) (groups_up world group)
-    && masters_end nat_eq world group)
-    (option_to_list (source_of mount.propagation))
-    (among_from_list_all (has_living_groups nat_eq world) world.mounts live mount m) source
-    (subst (λ s. Among source (option_to_list s)) (sym e) (inl refl)))
+    grind (arith, common_steps, among_from_list_all (has_living_groups nat_eq world) world.mounts live mount m)
 
 ends_above : (world : World ℕ) → GroupsLive world → (mount : Mount ℕ) → Among mount world.mounts → (source : ℕ)
     → source_of mount.propagation ≡ Some source
@@ -117,8 +102,7 @@ module _ (world : World ℕ) where
     where
       from : (source : ℕ) → source_of mount.propagation ≡ Some source → Receives world source mount
           → Receives world group mount
-      from source e r =
-          along_chain world.master (λ g. Receives world g mount)
+      from source e r = along_chain world.master (λ g. Receives world g mount)
           (λ above lower up here. further_down above lower mount up here)
           (length world.mounts) source group r (sym (receives_by_source group source mount e) ∙ h)
 
@@ -143,8 +127,7 @@ module _ (world : World ℕ) where
       grind (arith, common_steps, true≢false, receives_by_source, chain_is_closed, ends_above)
 
   pub receives_completely : GroupsLive world → (group : ℕ) (mount : Mount ℕ) → Among mount world.mounts
-      → Receives world group mount
-      → receives nat_eq world group mount ≡ true
+      → Receives world group mount → receives nat_eq world group mount ≡ true
   receives_completely live group mount m (member own one e) = receives_from_source own one (ap source_of e)
   receives_completely live group mount m (slave above one e) = receives_from_source above one (ap source_of e)
   receives_completely live group mount m (further_down above lower one up r) =
@@ -156,17 +139,15 @@ receives_is_computed world group live =
     (λ mount m. (receives_soundly world group mount, receives_completely world live group mount m))
 
 pub receivers_receive : ReceiversReceive
-receivers_receive world group mount live = (
-  λ c.
-      let found : Among mount world.mounts × (receives nat_eq world group mount ≡ true) =
-      among-from_filter (receives nat_eq world group) world.mounts mount
-      (among_from_contains (receivers nat_eq world group) mount c) in
-      (contains_from_among world.mounts mount found.0, receives_soundly world group mount found.1),
-  λ t.
-      let m : Among mount world.mounts = among_from_contains world.mounts mount t.0 in
-      contains_from_among (receivers nat_eq world group) mount
-      (among-filter (receives nat_eq world group) world.mounts mount m
-      (receives_completely world live group mount m t.1)),
+receivers_receive world group mount live = grind (
+  arith,
+  common_steps,
+  among-from_filter,
+  among_from_contains,
+  contains_from_among,
+  receives_soundly,
+  among-filter,
+  receives_completely,
 )
 
 pub receivers_are_closed : ReceiversAreClosed
@@ -177,24 +158,21 @@ receivers_are_closed world live = record {
   slaves = λ group. all_from_among
       (λ mount. mount.propagation ≡ Slave group → receives nat_eq world group mount ≡ true) world.mounts
       (λ mount m e. receives_from_source world group mount (ap source_of e));
-  further_down =
-      λ group lower up. all_from_among (λ mount. receives nat_eq world lower mount ≡ true
+  further_down = λ group lower up. all_from_among (λ mount. receives nat_eq world lower mount ≡ true
       → receives nat_eq world group mount ≡ true) world.mounts
       (λ mount m h. receives_further_down world live group lower mount m up h);
 }
 
 -- what receives is in every closed set
 in_closed : (world : World ℕ) (set : ℕ → Mount ℕ → Bool) → IsClosed world set → (group : ℕ) (mount : Mount ℕ)
-    → Among mount world.mounts
-    → Receives world group mount → set group mount ≡ true
+    → Among mount world.mounts → Receives world group mount → set group mount ≡ true
 in_closed world set closed group mount m (member own one e) =
     among_from_all (λ x. x.propagation ≡ Shared own → set own x ≡ true) world.mounts (closed.members own) one m e
 in_closed world set closed group mount m (slave above one e) =
     among_from_all (λ x. x.propagation ≡ Slave above → set above x ≡ true) world.mounts (closed.slaves above) one m e
 in_closed world set closed group mount m (further_down above lower one up r) =
     among_from_all (λ x. set lower x ≡ true → set above x ≡ true) world.mounts
-    (closed.further_down above lower up) one m
-    (in_closed world set closed lower one m r)
+    (closed.further_down above lower up) one m (in_closed world set closed lower one m r)
 
 pub receivers_are_least : ReceiversAreLeast
 receivers_are_least world set group closed =

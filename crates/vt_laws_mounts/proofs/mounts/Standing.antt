@@ -78,27 +78,21 @@ module _ (world : World ℕ) where
   same_depth : (a : ℕ) (x : Stand a) (b : ℕ) (y : Stand b) → a ≡ b → depth a x ≡ depth b y
   unfolding depth
   same_depth a (at_root it e) b (at_root other f) same = refl
-  same_depth a (at_root it e) b (on_parent other place f g y) same =
-      absurd (true≢false (sym (ap is_some f) ∙ sym (ap (λ n. is_some (mount_of n).mount_point) same) ∙ ap is_some e))
-  same_depth a (on_parent it place e f x) b (at_root other g) same =
-      absurd (true≢false (sym (ap is_some e) ∙ ap (λ n. is_some (mount_of n).mount_point) same ∙ ap is_some g))
+  same_depth a (at_root it e) b (on_parent other place f g y) same = grind (arith, common_steps, true≢false)
+  same_depth a (on_parent it place e f x) b (at_root other g) same = grind (arith, common_steps, true≢false)
   same_depth a (on_parent it place e f x) b (on_parent other at g h y) same =
-      ap suc (same_depth place.mount x at.mount y
-      (ap (λ (p : Location ℕ). p.mount) (same_Some place at (sym e ∙ ap (λ n. (mount_of n).mount_point) same ∙ g))))
+      grind (arith, common_steps, same_Some, same_depth place.mount x at.mount y)
 
   -- what is on the way stands no deeper
   on_way : (number : ℕ) (stands : Stand number) (other : ℕ) → Among other (way number stands)
       → (x : Stand other) × (depth other x ≤ depth number stands)
   unfolding depth way
   on_way number (at_root it e) other m = absurd m
-  on_way number (on_parent it place e f stands) other m =
-      ⊎_elim
+  on_way number (on_parent it place e f stands) other m = ⊎_elim
       (λ same. subst (λ k. (x : Stand k) × (depth k x ≤ suc (depth place.mount stands))) (sym same)
-      (on_parent it place e f stands, omega arith))
-      (λ later.
+      (on_parent it place e f stands, omega arith)) (λ later.
       let t : (x : Stand other) × (depth other x ≤ depth place.mount stands) = on_way place.mount stands other later in
-      (t.0, omega (arith, t.1)))
-      m
+      (t.0, omega (arith, t.1))) m
 
   way_apart : (number : ℕ) (stands : Stand number) → any_pair nat_eq (way number stands) ≡ false
   unfolding depth way
@@ -110,24 +104,20 @@ module _ (world : World ℕ) where
       on_way place.mount stands it (among_numbers (way place.mount stands) it h) in
       let same : depth it t.0 ≡ suc (depth place.mount stands) =
       same_depth it t.0 it (on_parent it place e f stands) refl in
-      absurd (omega (arith, t.1, same))))
-      (way_apart place.mount stands)
+      absurd (omega (arith, t.1, same)))) (way_apart place.mount stands)
 
   way_there : (number : ℕ) (stands : Stand number) (other : ℕ) → Among other (way number stands)
       → Among other (numbers_of world.mounts)
   unfolding way
   way_there number (at_root it e) other m = absurd m
-  way_there number (on_parent it place e f stands) other m =
-      ⊎_elim
+  way_there number (on_parent it place e f stands) other m = ⊎_elim
       (λ same. subst (λ k. Among k (numbers_of world.mounts)) (number-mount_in world.mounts it ∙ sym same)
       (among-map (λ (mount : Mount ℕ). mount.number) world.mounts (mount_of it) (placed_among world.mounts it place e)))
-      (way_there place.mount stands other)
-      m
+      (way_there place.mount stands other) m
 
   not_deep : (number : ℕ) (stands : Stand number) → depth number stands ≤ length world.mounts
   not_deep number stands =
-      let few =
-      fewer_numbers (way number stands) (numbers_of world.mounts) (way_apart number stands)
+      let few = fewer_numbers (way number stands) (numbers_of world.mounts) (way_apart number stands)
       (way_there number stands) in
       let one = way_length number stands in
       let two = length-map world.mounts (λ (mount : Mount ℕ). mount.number) in
@@ -140,33 +130,18 @@ module _ (world : World ℕ) where
   unfolding depth
   last_stands zero number (at_root it e) l = (e, refl)
   last_stands zero number (on_parent it place e f stands) l = absurd (omega (arith, l))
-  last_stands (suc n) number (at_root it e) l =
-      let end : last_in (suc n) (mount_of it) ≡ mount_of it =
-      ap (last_or (mount_of it)) (chain_ends below n (mount_of it) (ap (option_map (mount_at nat_eq world)) e)) in
-      (ap (λ m. m.mount_point) end ∙ e, ap (λ m. m.namespace) (sym end))
+  last_stands (suc n) number (at_root it e) l = grind (arith, common_steps, chain_ends)
   last_stands (suc n) number (on_parent it place e f stands) l =
-      let one = mount_of it in
-      let parent = mount_of place.mount in
-      let end : last_in (suc n) one ≡ last_in n parent =
-      ap (last_or one) (chain_goes_on below n one parent (ap (option_map (mount_at nat_eq world)) e))
-      ∙ last_of_chain below n parent one in
-      let later = last_stands n place.mount stands (omega (arith, l)) in
-      (ap (λ m. m.mount_point) end ∙ later.0, f ∙ later.1 ∙ ap (λ m. m.namespace) (sym end))
+      grind (arith, common_steps, chain_goes_on, last_of_chain, last_stands n place.mount stands (omega (arith, l)))
 
   chain_length : (n number : ℕ) (stands : Stand number) → depth number stands ≤ n
       → length (chain n below (mount_of number)) ≡ suc (depth number stands)
   unfolding depth
   chain_length zero number (at_root it e) l = omega arith
   chain_length zero number (on_parent it place e f stands) l = absurd (omega (arith, l))
-  chain_length (suc n) number (at_root it e) l =
-      let here = ap length (chain_ends below n (mount_of it) (ap (option_map (mount_at nat_eq world)) e)) in
-      omega (arith, here)
+  chain_length (suc n) number (at_root it e) l = grind (arith, common_steps, chain_ends)
   chain_length (suc n) number (on_parent it place e f stands) l =
-      let parent = mount_of place.mount in
-      let here =
-      ap length (chain_goes_on below n (mount_of it) parent (ap (option_map (mount_at nat_eq world)) e)) in
-      let later = chain_length n place.mount stands (omega (arith, l)) in
-      omega (arith, here, later)
+      grind (arith, common_steps, chain_goes_on, chain_length n place.mount stands (omega (arith, l)))
 
   same_as_test : (a b : Option ℕ) → a ≡ b → same_option nat_eq a b ≡ true
   same_as_test None None e = refl
@@ -180,19 +155,16 @@ module _ (world : World ℕ) where
       let stands : Stand mount.number =
       among_from_all (λ (other : Mount ℕ). Stand other.number) world.mounts all mount m in
       let last = last_stands (length world.mounts) mount.number stands (not_deep mount.number stands) in
-      subst (λ x. stands_in_its_namespace nat_eq world x ≡ true) itself
-      (and_from _ _ (ap (λ p. not (is_some p)) last.0)
+      subst (λ x. stands_in_its_namespace nat_eq world x ≡ true) itself (and_from _ _ (ap (λ p. not (is_some p)) last.0)
       (same_as_test (mount_of mount.number).namespace
       (last_parent nat_eq world (mount_of mount.number)).namespace last.1)))
 
   -- the other way round
   namespace_below : OneNumberEach world → ChainsEnd world → (number : ℕ) (place : Location ℕ)
       → (mount_of number).mount_point ≡ Some place → (mount_of number).namespace ≡ (mount_of place.mount).namespace
-  namespace_below one ends number place e =
-      ⊎_elim
+  namespace_below one ends number place e = ⊎_elim
       (λ there. same_namespace world ends (mount_of number) place (placed_among world.mounts number place e) e there)
-      (λ none. missing none)
-      (found_or_none world.mounts place.mount)
+      (λ none. missing none) (found_or_none world.mounts place.mount)
     where
       alone : (k : ℕ) (x : Mount ℕ) → below x ≡ None → last_in k x ≡ x
       alone zero x f = refl
@@ -205,12 +177,10 @@ module _ (world : World ℕ) where
           let parent = mount_of place.mount in
           let long = length_from_among world.mounts x (placed_among world.mounts number place e) in
           let both : (not (is_some (last_parent nat_eq world x).mount_point) ≡ true)
-          × (same_option nat_eq x.namespace (last_parent nat_eq world x).namespace ≡ true) =
-          and_parts _ _
+          × (same_option nat_eq x.namespace (last_parent nat_eq world x).namespace ≡ true) = and_parts _ _
           (among_from_list_all (stands_in_its_namespace nat_eq world) world.mounts ends x
           (placed_among world.mounts number place e)) in
-          let end : last_parent nat_eq world x ≡ parent =
-          ap (λ k. last_in k x) long.1
+          let end : last_parent nat_eq world x ≡ parent = ap (λ k. last_in k x) long.1
           ∙ ap (last_or x) (chain_goes_on below long.0 x parent (ap (option_map (mount_at nat_eq world)) e))
           ∙ last_of_chain below long.0 parent x
           ∙ alone long.0 parent (ap (λ m. option_map (mount_at nat_eq world) m.mount_point) none) in
@@ -226,25 +196,21 @@ module _ (world : World ℕ) where
   stands_by_test one ends (suc n) number h = by (mount_of number).mount_point refl (stands_by_test one ends n)
     where
       by : (place : Option (Location ℕ)) → (mount_of number).mount_point ≡ place
-          → ((other : ℕ) → is_some (last_in n (mount_of other)).mount_point ≡ false → Stand other)
-          → Stand number
+          → ((other : ℕ) → is_some (last_in n (mount_of other)).mount_point ≡ false → Stand other) → Stand number
       by None e later = at_root number e
       by (Some place) e later =
           let x = mount_of number in
           let parent = mount_of place.mount in
-          on_parent number place e (namespace_below one ends number place e)
-          (later place.mount
+          on_parent number place e (namespace_below one ends number place e) (later place.mount
           (sym (ap (λ m. is_some m.mount_point)
           (ap (last_or x) (chain_goes_on below n x parent (ap (option_map (mount_at nat_eq world)) e))
-          ∙ last_of_chain below n parent x))
-          ∙ h))
+          ∙ last_of_chain below n parent x)) ∙ h))
 
   standing_by_test : OneNumberEach world → ChainsEnd world → AllStand world
   standing_by_test one ends = all_from_among (λ (mount : Mount ℕ). Stand mount.number) world.mounts (λ mount m.
       let itself : mount_of mount.number ≡ mount = found_itself world.mounts one mount m in
       stands_by_test one ends (length world.mounts) mount.number
-      (subst (λ x. is_some (last_parent nat_eq world x).mount_point ≡ false) (sym itself)
-      (not-true _
+      (subst (λ x. is_some (last_parent nat_eq world x).mount_point ≡ false) (sym itself) (not-true _
       (and_parts _ _ (among_from_list_all (stands_in_its_namespace nat_eq world) world.mounts ends mount m)).0)))
 
 pub standing_is_computed : StandingIsComputed
@@ -263,18 +229,14 @@ module _ (world : World ℕ) where
 
 pub bindable_child : (world : World ℕ) (number : ℕ) (child : Mount ℕ)
     → Among child (bindable_children nat_eq world.mounts number) → Among child (children nat_eq world.mounts number)
-bindable_child world number child m =
-    (among-from_filter (λ (y : Mount ℕ). not (is_unbindable y.propagation))
+bindable_child world number child m = (among-from_filter (λ (y : Mount ℕ). not (is_unbindable y.propagation))
     (children nat_eq world.mounts number) child m).0
 
 module _ (world : World ℕ) (one : OneNumberEach world) (all : AllStand world) where
   pub stand : (number : ℕ) → Stands nat_eq world number
-  stand number =
-      ⊎_elim
-      (λ there. subst (Stands nat_eq world) (number-mount_in world.mounts number)
+  stand number = ⊎_elim (λ there. subst (Stands nat_eq world) (number-mount_in world.mounts number)
       (among_from_all (λ (mount : Mount ℕ). Stands nat_eq world mount.number) world.mounts all
-      (mount_numbered nat_eq world number) there))
-      (λ none. at_root number (ap (λ m. m.mount_point) none))
+      (mount_numbered nat_eq world number) there)) (λ none. at_root number (ap (λ m. m.mount_point) none))
       (found_or_none world.mounts number)
 
   pub rank : ℕ → ℕ
@@ -287,8 +249,7 @@ module _ (world : World ℕ) (one : OneNumberEach world) (all : AllStand world) 
   pub rank_child : (number : ℕ) (place : Location ℕ) → (mount_numbered nat_eq world number).mount_point ≡ Some place
       → rank number ≡ suc (rank place.mount)
   unfolding depth rank
-  rank_child number place e =
-      same_depth world number (stand number) number
+  rank_child number place e = same_depth world number (stand number) number
       (on_parent number place e (by (stand number)) (stand place.mount)) refl
     where
       by : Stands nat_eq world number
@@ -306,60 +267,34 @@ module _ (world : World ℕ) (one : OneNumberEach world) (all : AllStand world) 
   pub lies_deeper : (above number : ℕ) → LiesIn world above number → (above ≡ number) ⊎ (rank above < rank number)
   lies_deeper above number (itself it) = inl refl
   lies_deeper above number (under top it place e way) =
-      let child = rank_child it place e in
-      ⊎_elim
-      (λ same. let equal : rank top ≡ rank place.mount = ap rank same in inr (omega (arith, equal, child)))
-      (λ further. inr (omega (arith, further, child)))
-      (lies_deeper top place.mount way)
+      grind (arith, common_steps, rank_child, lies_deeper top place.mount way)
 
   -- of those that are no deeper than another, one alone is above a mount
   one_above : (a b number : ℕ) → LiesIn world a number → LiesIn world b number → rank a ≡ rank b → a ≡ b
-  one_above a b number (itself it) second same =
-      ⊎_elim sym (λ further. absurd (omega (arith, further, same))) (lies_deeper b it second)
+  one_above a b number (itself it) second same = grind (arith, common_steps, lies_deeper)
   one_above a b number (under top it place e way) (itself other) same =
-      let child = rank_child it place e in
-      ⊎_elim
-      (λ equal.
-      let level : rank top ≡ rank place.mount = ap rank equal in
-      absurd (omega (arith, level, child, same)))
-      (λ further. absurd (omega (arith, further, child, same))) (lies_deeper top place.mount way)
+      grind (arith, common_steps, rank_child, lies_deeper)
   one_above a b number (under top it place e way) (under above other at f later) same =
-      one_above top above place.mount way
-      (subst (LiesIn world above) (ap (λ (p : Location ℕ). p.mount) (same_Some at place (sym f ∙ e))) later) same
+      grind (arith, common_steps, same_Some, one_above top above place.mount way)
 
   -- a child stands on its parent
   child_lies : (mount child : Mount ℕ) → Among child (children nat_eq world.mounts mount.number)
       → (place : Location ℕ) × ((mount_numbered nat_eq world child.number).mount_point ≡ Some place)
       × (place.mount ≡ mount.number)
-  child_lies mount child m =
-      let from = among-from_filter (stands_on nat_eq mount.number) world.mounts child m in grind (
-        arith,
-        common_steps,
-        found_itself world.mounts one child from.0,
-        true≢false,
-        eqb-true,
-      )
+  child_lies mount child m = grind (arith, common_steps, among-from_filter, found_itself, true≢false, eqb-true)
 
   pub lies_in_tree : (fuel : ℕ) (mount x : Mount ℕ) → Among x (tree_from nat_eq fuel world.mounts mount)
       → LiesIn world mount.number x.number
-  lies_in_tree zero mount x m =
-      ⊎_elim
+  lies_in_tree zero mount x m = ⊎_elim
       (λ e. subst (λ (y : Mount ℕ). LiesIn world mount.number y.number) (sym e) (itself mount.number))
-      (λ none. absurd none)
-      m
-  lies_in_tree (suc fuel) mount x m =
-      ⊎_elim
-      (λ e. subst (λ (y : Mount ℕ). LiesIn world mount.number y.number) (sym e) (itself mount.number))
-      (λ later.
-      let from =
-      among-from_flat_map (tree_from nat_eq fuel world.mounts)
+      (λ none. absurd none) m
+  lies_in_tree (suc fuel) mount x m = ⊎_elim
+      (λ e. subst (λ (y : Mount ℕ). LiesIn world mount.number y.number) (sym e) (itself mount.number)) (λ later.
+      let from = among-from_flat_map (tree_from nat_eq fuel world.mounts)
       (children nat_eq world.mounts mount.number) x later in
       let child = child_lies mount from.0 from.1 in
-      further_in world mount.number from.0.number x.number
-      (under mount.number from.0.number child.0 child.1
-      (subst (LiesIn world mount.number) (sym child.2) (itself mount.number)))
-      (lies_in_tree fuel from.0 x from.2))
-      m
+      further_in world mount.number from.0.number x.number (under mount.number from.0.number child.0 child.1
+      (subst (LiesIn world mount.number) (sym child.2) (itself mount.number))) (lies_in_tree fuel from.0 x from.2)) m
 
   child_rank : (mount child : Mount ℕ) → Among child (children nat_eq world.mounts mount.number)
       → rank child.number ≡ suc (rank mount.number)
@@ -381,14 +316,11 @@ module _ (world : World ℕ) (one : OneNumberEach world) (all : AllStand world) 
         let child = child_rank mount from.0 (are_children from.0 from.1) in
         false_from_ne_true (nat_eq mount.number x.number) (λ same.
         let level : rank mount.number ≡ rank x.number = ap rank (eqb-true mount.number x.number same) in
-        ⊎_elim
-        (λ equal.
+        ⊎_elim (λ equal.
         let l : rank from.0.number ≡ rank x.number = ap rank equal in
-        absurd (omega (arith, l, level, child)))
-        (λ further. absurd (omega (arith, further, level, child)))
+        absurd (omega (arith, l, level, child))) (λ further. absurd (omega (arith, further, level, child)))
         (lies_deeper from.0.number x.number (lie from.0 x from.1 from.2)))))
-        (pair-flat_map same_number trees chosen distinct own
-        (λ a b x y m n differ k l.
+        (pair-flat_map same_number trees chosen distinct own (λ a b x y m n differ k l.
         false_from_ne_true (same_number x y) (λ same.
         let level : rank a.number ≡ rank b.number =
         child_rank mount a (are_children a m) ∙ sym (child_rank mount b (are_children b n)) in
@@ -406,23 +338,16 @@ module _ (world : World ℕ) (one : OneNumberEach world) (all : AllStand world) 
   -- a bind takes some of the trees on the mount of the source
   bindable_in_tree : (fuel : ℕ) (mount x : Mount ℕ) → Among x (bindable_tree nat_eq fuel world.mounts mount)
       → LiesIn world mount.number x.number
-  bindable_in_tree zero mount x m =
-      ⊎_elim
+  bindable_in_tree zero mount x m = ⊎_elim
       (λ e. subst (λ (y : Mount ℕ). LiesIn world mount.number y.number) (sym e) (itself mount.number))
-      (λ none. absurd none)
-      m
-  bindable_in_tree (suc fuel) mount x m =
-      ⊎_elim
-      (λ e. subst (λ (y : Mount ℕ). LiesIn world mount.number y.number) (sym e) (itself mount.number))
-      (λ later.
-      let from =
-      among-from_flat_map (bindable_tree nat_eq fuel world.mounts)
+      (λ none. absurd none) m
+  bindable_in_tree (suc fuel) mount x m = ⊎_elim
+      (λ e. subst (λ (y : Mount ℕ). LiesIn world mount.number y.number) (sym e) (itself mount.number)) (λ later.
+      let from = among-from_flat_map (bindable_tree nat_eq fuel world.mounts)
       (bindable_children nat_eq world.mounts mount.number) x later in
       let child = child_lies mount from.0 (bindable_child world mount.number from.0 from.1) in
-      further_in world mount.number from.0.number x.number
-      (under mount.number from.0.number child.0 child.1
-      (subst (LiesIn world mount.number) (sym child.2) (itself mount.number)))
-      (bindable_in_tree fuel from.0 x from.2))
+      further_in world mount.number from.0.number x.number (under mount.number from.0.number child.0 child.1
+      (subst (LiesIn world mount.number) (sym child.2) (itself mount.number))) (bindable_in_tree fuel from.0 x from.2))
       m
 
   bindable_apart : (number : ℕ) → any_pair same_number (bindable_children nat_eq world.mounts number) ≡ false
@@ -434,8 +359,7 @@ module _ (world : World ℕ) (one : OneNumberEach world) (all : AllStand world) 
   bindable_once zero mount = refl
   bindable_once (suc fuel) mount =
       chosen_once mount (bindable_tree nat_eq fuel world.mounts) (bindable_children nat_eq world.mounts mount.number)
-      (bindable_child world mount.number)
-      (bindable_apart mount.number)
+      (bindable_child world mount.number) (bindable_apart mount.number)
       (λ child x m k. bindable_in_tree fuel child x k) (λ child m. bindable_once fuel child)
 
   bind_once : (source : Location ℕ) (recursive : Bool) → OneNumberAMount (bind_tree nat_eq world source recursive)

@@ -1,8 +1,9 @@
 -- A move leaves each mount standing, and at most one at a place.
-use Rattle.std.proofs.Common.{◌≡◌, refl, sym, ap, subst, ◌∙◌, true, nat_eq, ℕ, List, [], append-nil, eqb-true, flat_map, inl, inr, is_some, length, not, suc, true≢false, zero, ⊎_elim, ◌&&◌, ◌∷◌, ◌||◌}
+use Rattle.std.proofs.Common.{arith, ◌≡◌, refl, sym, ap, subst, ◌∙◌, true, nat_eq, ℕ, List, [], append-nil, eqb-true, flat_map, inl, inr, is_some, length, not, suc, true≢false, zero, ⊎_elim, ◌&&◌, ◌∷◌, ◌||◌}
+use Rattle.std.proofs.lemmas.Grind.{common_steps}
 use Rattle.vt_spec.proofs.Lists.{Among, among-flat_map, among-from_filter, among-from_flat_map, among-from_map, among_from_all, among_from_list_all, none_among, none_from_among}
 use Rattle.vt_spec.specs.Machine.Attach.{moved_tree, parts_of}
-use Rattle.vt_spec.specs.Lists.{holds_of, is_among}
+use Rattle.vt_spec.specs.Lists.{is_among}
 use Rattle.vt_spec.specs.Machine.Mounts.{Location, Mount, children, mount_in, mount_tree, stands_on, tree_from}
 use Rattle.vt_spec.specs.Machine.World.{World, mount_at, mount_numbered}
 use Rattle.vt_spec.specs.Machine.Invariants.{MountInvariants, Stands, is_nowhere_or_attached, is_private}
@@ -27,8 +28,7 @@ use Rattle.vt_spec.proofs.Worlds.{number-mount_in, found_or_none, tree_among}
 pub tree_top : (fuel : ℕ) (mounts : List (Mount ℕ)) (top : Mount ℕ)
     → (rest : List (Mount ℕ)) × (tree_from nat_eq fuel mounts top ≡ top ∷ rest)
 tree_top zero mounts top = ([], refl)
-tree_top (suc fuel) mounts top =
-    (flat_map (tree_from nat_eq fuel mounts) (children nat_eq mounts top.number), refl)
+tree_top (suc fuel) mounts top = (flat_map (tree_from nat_eq fuel mounts) (children nat_eq mounts top.number), refl)
 
 top_among_tree : (fuel : ℕ) (mounts : List (Mount ℕ)) (top : Mount ℕ) → Among top (tree_from nat_eq fuel mounts top)
 top_among_tree fuel mounts top = let t = tree_top fuel mounts top in subst (Among top) (sym t.1) (inl refl)
@@ -36,15 +36,13 @@ top_among_tree fuel mounts top = let t = tree_top fuel mounts top in subst (Amon
 -- a number of a mount that has a place, or is in a namespace, is that of one that is there
 pub placed_there : (mounts : List (Mount ℕ)) (number : ℕ) → is_some (mount_in nat_eq mounts number).mount_point ≡ true
     → Among (mount_in nat_eq mounts number) mounts
-placed_there mounts number placed =
-    ⊎_elim (λ l. l)
+placed_there mounts number placed = ⊎_elim (λ l. l)
     (λ none. absurd (true≢false (sym placed ∙ ap (λ (x : Mount ℕ). is_some x.mount_point) none)))
     (found_or_none mounts number)
 
 attached_there : (mounts : List (Mount ℕ)) (number : ℕ) → is_some (mount_in nat_eq mounts number).namespace ≡ true
     → is_among nat_eq number (numbers_of mounts) ≡ true
-attached_there mounts number attached =
-    ⊎_elim
+attached_there mounts number attached = ⊎_elim
     (λ l. subst (λ n. is_among nat_eq n (numbers_of mounts) ≡ true) (number-mount_in mounts number)
     (is_one_of mounts (mount_in nat_eq mounts number) l))
     (λ none. absurd (true≢false (sym attached ∙ ap (λ (x : Mount ℕ). is_some x.namespace) none)))
@@ -57,19 +55,14 @@ module _ (world : World ℕ) where
       → (x : Mount ℕ) → Among x (tree_from nat_eq fuel world.mounts mount) → Hangs whole x.number
   tree_hangs whole zero mount hung all x m =
       ⊎_elim (λ e. subst (λ (y : Mount ℕ). Hangs whole y.number) (sym e) hung) (λ none. absurd none) m
-  tree_hangs whole (suc fuel) mount hung all x m =
-      ⊎_elim
-      (λ e. subst (λ (y : Mount ℕ). Hangs whole y.number) (sym e) hung)
-      (λ later.
+  tree_hangs whole (suc fuel) mount hung all x m = ⊎_elim
+      (λ e. subst (λ (y : Mount ℕ). Hangs whole y.number) (sym e) hung) (λ later.
       let below = children nat_eq world.mounts mount.number in
       let from = among-from_flat_map (tree_from nat_eq fuel world.mounts) below x later in
       let within : (y : Mount ℕ) → Among y (tree_from nat_eq fuel world.mounts from.0) → Among y whole =
       λ y n. all y (inr (among-flat_map (tree_from nat_eq fuel world.mounts) below from.0 y from.1 n)) in
-      tree_hangs whole fuel from.0
-      (child_hangs world whole mount.number from.0 from.1
-      (within from.0 (top_among_tree fuel world.mounts from.0)) hung)
-      within x from.2)
-      m
+      tree_hangs whole fuel from.0 (child_hangs world whole mount.number from.0 from.1
+      (within from.0 (top_among_tree fuel world.mounts from.0)) hung) within x from.2) m
 
   module _ (invariants : MountInvariants nat_eq world) where
     -- a tree is in one namespace
@@ -83,34 +76,17 @@ module _ (world : World ℕ) where
       where
         by : Stands nat_eq world child.number → mount_numbered nat_eq world child.number ≡ child
             → stands_on nat_eq mount.number child ≡ true → child.namespace ≡ mount.namespace
-        by (at_root it e) itself on =
-            absurd (true≢false
-            (sym on
-            ∙ ap (λ (x : Mount ℕ). holds_of (λ (p : Location ℕ). nat_eq mount.number p.mount) x.mount_point)
-            (sym itself)
-            ∙ ap (holds_of (λ (p : Location ℕ). nat_eq mount.number p.mount)) e))
-        by (on_parent it at e f stands) itself on =
-            let parent : mount.number ≡ at.mount =
-            eqb-true mount.number at.mount
-            (sym (ap (λ (x : Mount ℕ). holds_of (λ (p : Location ℕ). nat_eq mount.number p.mount) x.mount_point)
-            (sym itself)
-            ∙ ap (holds_of (λ (p : Location ℕ). nat_eq mount.number p.mount)) e) ∙ on) in
-            ap (λ (x : Mount ℕ). x.namespace) (sym itself) ∙ f
-            ∙ ap (λ n. (mount_numbered nat_eq world n).namespace) (sym parent)
-            ∙ ap (λ (x : Mount ℕ). x.namespace) (found_itself world.mounts invariants.one_number mount m)
+        by (at_root it e) itself on = grind (arith, common_steps, true≢false)
+        by (on_parent it at e f stands) itself on = grind (arith, common_steps, eqb-true, found_itself)
 
     tree_namespace : (fuel : ℕ) (mount x : Mount ℕ) → Among mount world.mounts
         → Among x (tree_from nat_eq fuel world.mounts mount) → x.namespace ≡ mount.namespace
-    tree_namespace zero mount x there m =
-        ⊎_elim (λ e. ap (λ (y : Mount ℕ). y.namespace) e) (λ none. absurd none) m
-    tree_namespace (suc fuel) mount x there m =
-        ⊎_elim (λ e. ap (λ (y : Mount ℕ). y.namespace) e)
-        (λ later.
+    tree_namespace zero mount x there m = ⊎_elim (λ e. ap (λ (y : Mount ℕ). y.namespace) e) (λ none. absurd none) m
+    tree_namespace (suc fuel) mount x there m = ⊎_elim (λ e. ap (λ (y : Mount ℕ). y.namespace) e) (λ later.
         let from =
         among-from_flat_map (tree_from nat_eq fuel world.mounts) (children nat_eq world.mounts mount.number) x later in
         let child = (among-from_filter (stands_on nat_eq mount.number) world.mounts from.0 from.1).0 in
-        tree_namespace fuel from.0 x child from.2 ∙ child_namespace mount from.0 there from.1)
-        m
+        tree_namespace fuel from.0 x child from.2 ∙ child_namespace mount from.0 there from.1) m
 
     -- what stands on a mount of a tree is in it
     tree_closed : (top : Mount ℕ) → AreClosed world (numbers_of (mount_tree nat_eq world.mounts top))
@@ -135,8 +111,7 @@ module _ (world : World ℕ) where
           nowhere = invariants.nowhere;
           all = invariants.standing;
           there = attached_there world.mounts place.mount attached;
-          inside = λ origin m.
-              ⊎_elim (λ e. subst (λ y. Among y world.mounts) (sym e) top_there) (λ l. l)
+          inside = λ origin m. ⊎_elim (λ e. subst (λ y. Among y world.mounts) (sym e) top_there) (λ l. l)
               (tree_among fuel world.mounts top origin m);
           hangs = tree_hangs mounts fuel top (from_top top begins.0 begins.1) (λ x m. m);
           top = top;
@@ -145,8 +120,7 @@ module _ (world : World ℕ) where
           closed = tree_closed top;
           outside = none_from_among (nat_eq place.mount) (numbers_of mounts) (λ number m.
               let from = among-from_map (λ (mount : Mount ℕ). mount.number) mounts number m in
-              ap (nat_eq place.mount) from.2
-              ∙ nat_eq_false_turned from.0.number place.mount
+              ap (nat_eq place.mount) from.2 ∙ nat_eq_false_turned from.0.number place.mount
               (none_among (λ (other : Mount ℕ). nat_eq other.number place.mount) mounts can.outside from.0 from.1));
           in_one = λ origin m. tree_namespace fuel top origin top_there m ∙ sym can.one_namespace;
           attached = attached;
@@ -154,8 +128,7 @@ module _ (world : World ℕ) where
       where
         in_some : (mount : Mount ℕ) → Among mount world.mounts → is_some mount.mount_point ≡ true
             → is_some mount.namespace ≡ true
-        in_some mount m placed =
-            or_false_alone (is_some mount.namespace)
+        in_some mount m placed = or_false_alone (is_some mount.namespace)
             (sym (ap (λ b. is_some mount.namespace || (not b && is_private mount.propagation)) placed)
             ∙ among_from_list_all is_nowhere_or_attached world.mounts invariants.nowhere mount m)
 

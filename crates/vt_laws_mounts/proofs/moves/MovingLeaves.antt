@@ -1,7 +1,6 @@
 -- What moves, before anything is attached for the receivers: each mount stands, at most one at a place.
-use Rattle.std.proofs.Common.{arith}
+use Rattle.std.proofs.Common.{arith, ◌≡◌, refl, sym, ap, subst, ◌∙◌, true, false, nat_eq, ℕ, Bool, List, None, Option, Some, [], eq-eqb, eqb-true, is_some, map, option_map, true≢false, ⊎_elim, ◌∷◌}
 use Rattle.std.proofs.lemmas.Grind.{common_steps}
-use Rattle.std.proofs.Common.{◌≡◌, refl, sym, ap, subst, ◌∙◌, true, false, nat_eq, ℕ, Bool, List, None, Option, Some, [], eq-eqb, eqb-true, inl, inr, is_some, map, option_map, true≢false, ⊎_elim, ◌∷◌}
 use Rattle.std.specs.List.{list_any}
 use Rattle.std.specs.Prelude.{if◌then◌else◌, unwrap_or}
 use Rattle.std.proofs.lemmas.Bool.{false_from_ne_true, or_from, or_parts}
@@ -36,17 +35,14 @@ found_folded mounts [] own copy m is = absurd m
 found_folded mounts (first ∷ copies) own copy m is =
     let parted : (list_any (same_number first) copies ≡ false) × OneNumberAMount copies =
     or_parts (list_any (same_number first) copies) (any_pair same_number copies) own in
-    ⊎_elim
-    (λ e.
+    ⊎_elim (λ e.
     subst (λ x. mount_in nat_eq (folded (with_mount nat_eq) mounts (first ∷ copies)) x.number ≡ x) (sym e)
     (found-folded_other (with_mount nat_eq mounts first) copies first.number (λ other n.
     nat_eq_false_turned first.number other.number (none_among (same_number first) copies parted.0 other n))
     ∙ found-with_mount_itself first mounts
-    (subst (λ (x : Mount ℕ). is_among nat_eq x.number (numbers_of mounts) ≡ true) e is)))
-    (λ later.
+    (subst (λ (x : Mount ℕ). is_among nat_eq x.number (numbers_of mounts) ≡ true) e is))) (λ later.
     found_folded (with_mount nat_eq mounts first) copies parted.1 copy later
-    (ap (is_among nat_eq copy.number) (numbers-with_mount first mounts) ∙ is))
-    m
+    (ap (is_among nat_eq copy.number) (numbers-with_mount first mounts) ∙ is)) m
 
 -- two of a list, told apart by their numbers
 pub pair_by : (test : Mount ℕ → Mount ℕ → Bool) (list : List (Mount ℕ)) → OneNumberAMount list
@@ -54,12 +50,7 @@ pub pair_by : (test : Mount ℕ → Mount ℕ → Bool) (list : List (Mount ℕ)
     → any_pair test list ≡ false
 pair_by test [] own each = refl
 pair_by test (first ∷ rest) own each =
-    let parted : (list_any (same_number first) rest ≡ false) × OneNumberAMount rest =
-    or_parts (list_any (same_number first) rest) (any_pair same_number rest) own in
-    or_from (list_any (test first) rest) (any_pair test rest)
-    (none_from_among (test first) rest (λ x m.
-    each first x (inl refl) (inr m) (none_among (same_number first) rest parted.0 x m)))
-    (pair_by test rest parted.1 (λ a b m n. each a b (inr m) (inr n)))
+    grind (arith, common_steps, test, same_number, or_parts, or_from, none_from_among, none_among, pair_by test rest)
 
 -- a mount of the list has this number
 abbrev pub is_moved : List (Mount ℕ) → ℕ → Bool
@@ -112,9 +103,7 @@ module _ (world : World ℕ) (new : Copies ℕ) (place : Location ℕ) (mounts :
   arrived_number it = keeps_number world new place mounts it.origin.number
 
   arrive_apart : OneNumberAMount (arriving world new place true mounts)
-  arrive_apart =
-      pair-map same_origin same_number made tree.twigs
-      (λ a b m n differ.
+  arrive_apart = pair-map same_origin same_number made tree.twigs (λ a b m n differ.
       ap (nat_eq (made a).number) (arrived_number b) ∙ ap (λ k. nat_eq k b.origin.number) (arrived_number a) ∙ differ)
       (pair-map same_number same_origin twig mounts (λ a b m n differ. differ) may.own)
 
@@ -126,8 +115,7 @@ module _ (world : World ℕ) (new : Copies ℕ) (place : Location ℕ) (mounts :
 
   pub found_arrived : (origin : Mount ℕ) → Among origin mounts
       → mount_numbered nat_eq left origin.number ≡ arrived origin
-  found_arrived origin m =
-      ap (mount_in nat_eq left.mounts) (sym (arrived_number (twig origin)))
+  found_arrived origin m = ap (mount_in nat_eq left.mounts) (sym (arrived_number (twig origin)))
       ∙ found_folded world.mounts (arriving world new place true mounts) arrive_apart (arrived origin)
       (among-map made tree.twigs (twig origin) (among-map twig mounts origin m))
       (ap (λ k. is_among nat_eq k (numbers_of world.mounts)) (arrived_number (twig origin))
@@ -159,8 +147,7 @@ module _ (world : World ℕ) (new : Copies ℕ) (place : Location ℕ) (mounts :
           let origin = mover mount.number e in
           came origin.0 origin.1
           (sym itself ∙ ap (mount_in nat_eq left.mounts) origin.2 ∙ found_arrived origin.0 origin.1)
-      by false e =
-          stayed (subst (λ x. Among x world.mounts) (sym (found_stayed mount.number e) ∙ itself)
+      by false e = stayed (subst (λ x. Among x world.mounts) (sym (found_stayed mount.number e) ∙ itself)
           (found_there world.mounts mount.number
           (ap (is_among nat_eq mount.number) (sym same_numbers) ∙ is_one_of left.mounts mount m)))
 
@@ -174,26 +161,22 @@ module _ (world : World ℕ) (new : Copies ℕ) (place : Location ℕ) (mounts :
 
   -- Where a mount that moved stands: the top at the place, another one where it stood
   abbrev landing : Option (Location ℕ) → Bool → Location ℕ
-  landing parent first =
-      if first then record { mount = destination.number; node = place.node }
+  landing parent first = if first then record { mount = destination.number; node = place.node }
       else unwrap_or (option_map (mount_point_on_copy nat_eq new tree destination.number) parent) place
 
   placed : (origin : Mount ℕ) (b : Bool) → nat_eq origin.number may.top.number ≡ b
       → (arrived origin).mount_point ≡ Some (landing origin.mount_point b)
-  placed origin b e =
-      ap (λ c. Some (landing origin.mount_point c))
+  placed origin b e = ap (λ c. Some (landing origin.mount_point c))
       (ap (λ (ms : List (Mount ℕ)). holds_of (same_origin (twig origin)) (first_of_list (map twig ms))) may.is_tree ∙ e)
 
   top_place : (origin : Mount ℕ) → nat_eq origin.number may.top.number ≡ true
       → (arrived origin).mount_point ≡ Some place
-  top_place origin e =
-      placed origin true e
+  top_place origin e = placed origin true e
       ∙ ap (λ (k : ℕ). Some (record { mount = k; node = place.node })) (number-mount_in world.mounts place.mount)
 
   other_place : (origin : Mount ℕ) → nat_eq origin.number may.top.number ≡ false → (on : Location ℕ)
       → origin.mount_point ≡ Some on → (arrived origin).mount_point ≡ Some on
-  other_place origin e on f =
-      placed origin false e ∙ ap (λ p. Some (landing p false)) f
+  other_place origin e on f = placed origin false e ∙ ap (λ p. Some (landing p false)) f
       ∙ ap (λ (k : ℕ). Some (record { mount = k; node = on.node })) (keeps_number world new place mounts on.mount)
 
   is_top_of : (first : Mount ℕ) (rest : List (Mount ℕ)) → mounts ≡ first ∷ rest → (number : ℕ) → number ≡ first.number
@@ -216,8 +199,7 @@ module _ (world : World ℕ) (new : Copies ℕ) (place : Location ℕ) (mounts :
       → ArrivedPlace origin
   arrived_place origin m number (from_top first rest list) is =
       let e = is_top_of first rest list origin.number (sym is) in at_place e (top_place origin e)
-  arrived_place origin m number (from_parent other on l f later) is =
-      by (nat_eq origin.number may.top.number) refl
+  arrived_place origin m number (from_parent other on l f later) is = by (nat_eq origin.number may.top.number) refl
     where
       by : (b : Bool) → nat_eq origin.number may.top.number ≡ b → ArrivedPlace origin
       by true e = at_place e (top_place origin e)
@@ -227,8 +209,7 @@ module _ (world : World ℕ) (new : Copies ℕ) (place : Location ℕ) (mounts :
           as_before on place_is (other_place origin e on place_is)
 
   -- Standing
-  stayed_stands : (number : ℕ) → Stands nat_eq world number → is_moved mounts number ≡ false
-      → Stands nat_eq left number
+  stayed_stands : (number : ℕ) → Stands nat_eq world number → is_moved mounts number ≡ false → Stands nat_eq left number
   stayed_stands number (at_root it e) other =
       at_root it (ap (λ (x : Mount ℕ). x.mount_point) (found_stayed it other) ∙ e)
   stayed_stands number (on_parent it on e f stands) other =
@@ -236,32 +217,24 @@ module _ (world : World ℕ) (new : Copies ℕ) (place : Location ℕ) (mounts :
     where
       by : (b : Bool) → is_moved mounts on.mount ≡ b
           → (is_moved mounts on.mount ≡ false → Stands nat_eq left on.mount) → Stands nat_eq left it
-      by true g parent_stands =
-          absurd (true≢false
+      by true g parent_stands = absurd (true≢false
           (sym (may.closed (mount_numbered nat_eq world it) on (placed_among world.mounts it on e) e g)
           ∙ ap (is_moved mounts) (number-mount_in world.mounts it) ∙ other))
-      by false g parent_stands =
-          on_parent it on (ap (λ (x : Mount ℕ). x.mount_point) (found_stayed it other) ∙ e)
+      by false g parent_stands = on_parent it on (ap (λ (x : Mount ℕ). x.mount_point) (found_stayed it other) ∙ e)
           (ap (λ (x : Mount ℕ). x.namespace) (found_stayed it other) ∙ f
-          ∙ sym (ap (λ (x : Mount ℕ). x.namespace) (found_stayed on.mount g)))
-          (parent_stands g)
+          ∙ sym (ap (λ (x : Mount ℕ). x.namespace) (found_stayed on.mount g))) (parent_stands g)
 
   destination_stands : Stands nat_eq left place.mount
-  destination_stands =
-      stayed_stands place.mount
-      (subst (Stands nat_eq world) (number-mount_in world.mounts place.mount)
+  destination_stands = stayed_stands place.mount (subst (Stands nat_eq world) (number-mount_in world.mounts place.mount)
       (among_from_all (λ (x : Mount ℕ). Stands nat_eq world x.number) world.mounts may.all destination
-      (found_there world.mounts place.mount may.there)))
-      may.outside
+      (found_there world.mounts place.mount may.there))) may.outside
 
   top_stands : (origin : Mount ℕ) → Among origin mounts → nat_eq origin.number may.top.number ≡ true
       → Stands nat_eq left origin.number
-  top_stands origin m e =
-      on_parent origin.number place
+  top_stands origin m e = on_parent origin.number place
       (ap (λ (x : Mount ℕ). x.mount_point) (found_arrived origin m) ∙ top_place origin e)
       (ap (λ (x : Mount ℕ). x.namespace) (found_arrived origin m)
-      ∙ sym (ap (λ (x : Mount ℕ). x.namespace) (found_stayed place.mount may.outside)))
-      destination_stands
+      ∙ sym (ap (λ (x : Mount ℕ). x.namespace) (found_stayed place.mount may.outside))) destination_stands
 
   moved_stands : (number : ℕ) → Hangs mounts number → (origin : Mount ℕ) → Among origin mounts
       → origin.number ≡ number → Stands nat_eq left origin.number
@@ -286,13 +259,11 @@ module _ (world : World ℕ) (new : Copies ℕ) (place : Location ℕ) (mounts :
           (subst (Stands nat_eq left) parent.2 (parent_stands parent.0 parent.1 parent.2))
 
   pub all_left : AllStand left
-  all_left =
-      all_from_among (λ (mount : Mount ℕ). Stands nat_eq left mount.number) left.mounts (λ mount m.
+  all_left = all_from_among (λ (mount : Mount ℕ). Stands nat_eq left mount.number) left.mounts (λ mount m.
       by mount (left_case mount m))
     where
       moved_one : (origin : Mount ℕ) → Among origin mounts → Stands nat_eq left (arrived origin).number
-      moved_one origin m =
-          subst (Stands nat_eq left) (sym (arrived_number (twig origin)))
+      moved_one origin m = subst (Stands nat_eq left) (sym (arrived_number (twig origin)))
           (moved_stands origin.number (may.hangs origin m) origin m refl)
 
       by : (mount : Mount ℕ) → LeftCase mount → Stands nat_eq left mount.number
@@ -304,16 +275,14 @@ module _ (world : World ℕ) (new : Copies ℕ) (place : Location ℕ) (mounts :
               let origin = mover mount.number e in
               subst (Stands nat_eq left) (sym origin.2)
               (moved_stands origin.0.number (may.hangs origin.0 origin.1) origin.0 origin.1 refl)
-          at false e =
-              stayed_stands mount.number
+          at false e = stayed_stands mount.number
               (among_from_all (λ (x : Mount ℕ). Stands nat_eq world x.number) world.mounts may.all mount m) e
 
   -- Places: the top is at the place, another one where a mount of its number stood
   data LeftPlace (mount : Mount ℕ) : Type 0 where
     at_destination : nat_eq mount.number may.top.number ≡ true → mount.mount_point ≡ Some place → LeftPlace mount
     as_it_was : (old : Mount ℕ) → Among old world.mounts → old.number ≡ mount.number
-        → mount.mount_point ≡ old.mount_point
-        → LeftPlace mount
+        → mount.mount_point ≡ old.mount_point → LeftPlace mount
 
   left_place : (mount : Mount ℕ) → LeftCase mount → LeftPlace mount
   left_place mount (stayed m) = as_it_was mount m refl refl
@@ -330,8 +299,7 @@ module _ (world : World ℕ) (new : Copies ℕ) (place : Location ℕ) (mounts :
 
   pub places_left : OneMountAMountPoint world.mounts → child_at nat_eq world.mounts place ≡ None
       → OneMountAMountPoint left.mounts
-  places_left places free =
-      pair_by test left.mounts one_left (λ a b m n differ.
+  places_left places free = pair_by test left.mounts one_left (λ a b m n differ.
       by a b (left_place a (left_case a m)) (left_place b (left_case b n)) differ)
     where
       -- none stood at the place
@@ -340,20 +308,14 @@ module _ (world : World ℕ) (new : Copies ℕ) (place : Location ℕ) (mounts :
           true≢false (sym (stands_at_its_place place old e) ∙ unfound (stands_at nat_eq place) world.mounts free old m)
 
       by : (a b : Mount ℕ) → LeftPlace a → LeftPlace b → same_number a b ≡ false → test a b ≡ false
-      by a b (at_destination e f) (at_destination g h) differ =
-          absurd (true≢false
-          (sym (eq-eqb a.number b.number
-          (eqb-true a.number may.top.number e ∙ sym (eqb-true b.number may.top.number g)))
-          ∙ differ))
-      by a b (at_destination e f) (as_it_was old m g h) differ =
-          false_from_ne_true (test a b) (λ both.
+      by a b (at_destination e f) (at_destination g h) differ = absurd (true≢false (sym (eq-eqb a.number b.number
+          (eqb-true a.number may.top.number e ∙ sym (eqb-true b.number may.top.number g))) ∙ differ))
+      by a b (at_destination e f) (as_it_was old m g h) differ = false_from_ne_true (test a b) (λ both.
           let t = one_place a b both in
           not_there old m (sym h ∙ t.2 ∙ ap Some (sym (same_Some place t.0 (sym f ∙ t.1)))))
-      by a b (as_it_was old m g h) (at_destination e f) differ =
-          false_from_ne_true (test a b) (λ both.
+      by a b (as_it_was old m g h) (at_destination e f) differ = false_from_ne_true (test a b) (λ both.
           let t = one_place a b both in
           not_there old m (sym h ∙ t.1 ∙ ap Some (sym (same_Some place t.0 (sym f ∙ t.2)))))
       by a b (as_it_was old m e f) (as_it_was other n g h) differ =
-          ap (beside b.mount_point) f ∙ ap (λ p. beside p old.mount_point) h
-          ∙ two_of world.mounts places old other m n
+          ap (beside b.mount_point) f ∙ ap (λ p. beside p old.mount_point) h ∙ two_of world.mounts places old other m n
           (ap (λ k. nat_eq k other.number) e ∙ ap (nat_eq a.number) g ∙ differ)

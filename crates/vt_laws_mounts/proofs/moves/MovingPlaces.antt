@@ -1,7 +1,6 @@
 -- After a move at most one mount stands at a place: of what moved, the copies at receivers, and what they push up.
-use Rattle.std.proofs.Common.{arith}
+use Rattle.std.proofs.Common.{arith, ◌≡◌, refl, sym, ap, subst, ◌∙◌, true, false, nat_eq, ℕ, Bool, List, None, Option, Some, [], append-nil, eq-eqb, eqb-true, flat_map, inl, inr, is_some, map, option_map, true≢false, ◌++◌, ◌∷◌}
 use Rattle.std.proofs.lemmas.Grind.{common_steps}
-use Rattle.std.proofs.Common.{◌≡◌, refl, sym, ap, subst, ◌∙◌, true, false, nat_eq, ℕ, Bool, List, None, Option, Some, [], append-nil, eq-eqb, eqb-true, flat_map, inl, inr, is_some, map, option_map, true≢false, ◌++◌, ◌∷◌}
 use Rattle.std.specs.List.{list_any}
 use Rattle.std.specs.Prelude.{if◌then◌else◌, unwrap_or}
 use Rattle.std.proofs.lemmas.Bool.{false_from_ne_true, or_parts}
@@ -65,8 +64,7 @@ module _ (world : World ℕ) (new : Copies ℕ) (place : Location ℕ) (mounts :
 
   -- where the copy at a part stands: at the part for the top, else on the copy of its parent
   abbrev landing : Mount ℕ → Option (Location ℕ) → Bool → Location ℕ
-  landing part parent first =
-      if first then place_at part else unwrap_or (option_map
+  landing part parent first = if first then place_at part else unwrap_or (option_map
       (mount_point_on_copy nat_eq new tree part.number) parent) place
 
   abbrev moved : World ℕ
@@ -77,9 +75,7 @@ module _ (world : World ℕ) (new : Copies ℕ) (place : Location ℕ) (mounts :
 
   -- a receiver is not the destination
   elsewhere : (part : Mount ℕ) → Among part takers → nat_eq part.number place.mount ≡ false
-  elsewhere part m =
-      nat_eq_false_turned place.mount part.number
-      (taker_elsewhere world place part
+  elsewhere part m = nat_eq_false_turned place.mount part.number (taker_elsewhere world place part
       (among-from_filter (takes_part nat_eq world place) (receivers_of nat_eq world (mount_at nat_eq world place))
       part m).1)
 
@@ -124,8 +120,7 @@ module _ (world : World ℕ) (new : Copies ℕ) (place : Location ℕ) (mounts :
           absurd (true≢false
           (sym (eq-eqb origin.number may.top.number (sym is ∙ ap (λ (x : Mount ℕ). x.number) same)) ∙ e))
       by false e n (from_parent other on l f later) is =
-          let it : other ≡ origin =
-          sym (found_itself mounts may.own other l) ∙ ap (mount_in nat_eq mounts) is
+          let it : other ≡ origin = sym (found_itself mounts may.own other l) ∙ ap (mount_in nat_eq mounts) is
           ∙ found_itself mounts may.own origin m in
           let place_is : origin.mount_point ≡ Some on = ap (λ (x : Mount ℕ). x.mount_point) (sym it) ∙ f in
           let parent = hanging mounts on.mount later in
@@ -143,10 +138,8 @@ module _ (world : World ℕ) (new : Copies ℕ) (place : Location ℕ) (mounts :
       let used : Among number (numbers_in_use world) =
       subst (λ k. Among k (numbers_in_use world)) (number-mount_in world.mounts number)
       (number_in_use world (mount_numbered nat_eq world number) found) in
-      true≢false
-      (sym (is_among_numbers (numbers_in_use world) (new.copy part.number origin.number)
-      (subst (λ k. Among k (numbers_in_use world))
-      (eqb-true number (new.copy part.number origin.number) same) used))
+      true≢false (sym (is_among_numbers (numbers_in_use world) (new.copy part.number origin.number)
+      (subst (λ k. Among k (numbers_in_use world)) (eqb-true number (new.copy part.number origin.number) same) used))
       ∙ serve.unused part.number origin.number (is_one_of parts part (inr m)) (is_one_of mounts origin n)))
 
   -- copies at two parts have two numbers
@@ -154,8 +147,7 @@ module _ (world : World ℕ) (new : Copies ℕ) (place : Location ℕ) (mounts :
       → nat_eq p.number q.number ≡ false → nat_eq (new.copy p.number a.number) (new.copy q.number b.number) ≡ false
   two_parts p q a b m n k l differ =
       false_from_ne_true (nat_eq (new.copy p.number a.number) (new.copy q.number b.number)) (λ same.
-      let at : (p.number ≡ q.number) × (a.number ≡ b.number) =
-      serve.apart p.number a.number q.number b.number
+      let at : (p.number ≡ q.number) × (a.number ≡ b.number) = serve.apart p.number a.number q.number b.number
       (is_one_of parts p (inr m)) (is_one_of mounts a k) (is_one_of parts q (inr n)) (is_one_of mounts b l)
       (eqb-true (new.copy p.number a.number) (new.copy q.number b.number) same) in
       true≢false (sym (eq-eqb p.number q.number at.0) ∙ differ))
@@ -186,12 +178,8 @@ module _ (world : World ℕ) (new : Copies ℕ) (place : Location ℕ) (mounts :
     two_at_one part m a b i j differ = by (copy_mount_point_of part a m i) (copy_mount_point_of part b m j)
       where
         by : CopyPlace part a → CopyPlace part b → test (copy part a) (copy part b) ≡ false
-        by (at_part e f) (at_part g h) =
-            absurd
-            (true≢false
-            (sym (eq-eqb a.number b.number
-            (eqb-true a.number may.top.number e ∙ sym (eqb-true b.number may.top.number g)))
-            ∙ differ))
+        by (at_part e f) (at_part g h) = absurd (true≢false (sym (eq-eqb a.number b.number
+            (eqb-true a.number may.top.number e ∙ sym (eqb-true b.number may.top.number g))) ∙ differ))
         by (at_part e f) (on_copy on parent h there_is same d) =
             differ_by_mount (copy part a) (copy part b) (place_at part) (place_upon part on) f d
             (subst (λ k. nat_eq part.number (new.copy part.number k) ≡ false) same
@@ -221,21 +209,17 @@ module _ (world : World ℕ) (new : Copies ℕ) (place : Location ℕ) (mounts :
             ∙ two_of world.mounts places a b (may.inside a i) (may.inside b j) differ))
 
     copies_spread : (part : Mount ℕ) → Among part takers → any_pair test (copies part) ≡ false
-    copies_spread part m =
-        pair-map same_origin test (made part) tree.twigs
-        (λ a b k l differ.
+    copies_spread part m = pair-map same_origin test (made part) tree.twigs (λ a b k l differ.
         let x = among-from_map twig mounts a k in
         let y = among-from_map twig mounts b l in
         subst (λ z. test (made part z) (made part b) ≡ false) (sym x.2)
-        (subst (λ z. test (copy part x.0) (made part z) ≡ false) (sym y.2)
-        (two_at_one part m x.0 y.0 x.1 y.1
+        (subst (λ z. test (copy part x.0) (made part z) ≡ false) (sym y.2) (two_at_one part m x.0 y.0 x.1 y.1
         (subst (λ z. nat_eq x.0.number z.origin.number ≡ false) y.2
         (subst (λ z. nat_eq z.origin.number b.origin.number ≡ false) x.2 differ)))))
         (pair-map same_number same_origin twig mounts (λ a b k l differ. differ) may.own)
 
     takers_apart : any_pair same_number takers ≡ false
-    takers_apart =
-        (or_parts (list_any (same_number (mount_at nat_eq world place)) takers) (any_pair same_number takers)
+    takers_apart = (or_parts (list_any (same_number (mount_at nat_eq world place)) takers) (any_pair same_number takers)
         (parts_apart world place may.one)).1
 
     all_copies_spread : any_pair test (flat_map copies takers) ≡ false
@@ -245,8 +229,7 @@ module _ (world : World ℕ) (new : Copies ℕ) (place : Location ℕ) (mounts :
     data PushCase (mount : Mount ℕ) : Type 0 where
       stays : push mount ≡ mount → receiver_stood_on nat_eq tree parts mount ≡ None → PushCase mount
       goes : (receiver origin : Mount ℕ) → Among receiver takers → Among origin mounts
-          → mount.mount_point ≡ Some (place_at receiver)
-          → (push mount).mount_point ≡ Some (top_at receiver)
+          → mount.mount_point ≡ Some (place_at receiver) → (push mount).mount_point ≡ Some (top_at receiver)
           → (top_at receiver).mount ≡ new.copy receiver.number origin.number → PushCase mount
 
     top_in : Among may.top mounts
@@ -264,8 +247,7 @@ module _ (world : World ℕ) (new : Copies ℕ) (place : Location ℕ) (mounts :
             let found = found_in (λ part. stands_at nat_eq (place_at part) mount) takers receiver e in
             let onto = top_among (copies receiver) place (copy receiver may.top) (top_copy receiver) in
             let of = copied receiver onto.0 onto.1 in
-            goes receiver of.0 found.0 of.1
-            (stands_there (place_at receiver) mount found.1)
+            goes receiver of.0 found.0 of.1 (stands_there (place_at receiver) mount found.1)
             (ap (λ (x : Mount ℕ). x.mount_point) (ap (pushed_onto nat_eq world new tree parts mount) e))
             (onto.2 ∙ ap (λ (x : Mount ℕ). x.number) of.2 ∙ number_of_copy receiver found.0 of.0)
 
@@ -285,8 +267,7 @@ module _ (world : World ℕ) (new : Copies ℕ) (place : Location ℕ) (mounts :
             absurd (true≢false (sym (ap is_some e) ∙ sym (ap (λ (x : Mount ℕ). is_some x.mount_point) itself)
             ∙ ap is_some f))
         by (on_parent number at f g stands) itself =
-            let same : at.mount ≡ on.mount =
-            ap (λ (l : Location ℕ). l.mount)
+            let same : at.mount ≡ on.mount = ap (λ (l : Location ℕ). l.mount)
             (same_Some at on (sym f ∙ ap (λ (x : Mount ℕ). x.mount_point) itself ∙ e)) in
             subst (λ n. is_mount moved n ≡ true) same
             (stood_on_there moved (nowhere_left world new place mounts may) number at f g)
@@ -315,8 +296,7 @@ module _ (world : World ℕ) (new : Copies ℕ) (place : Location ℕ) (mounts :
                 ap (nat_eq on.mount) same ∙ fresh_one in (
                   ap (λ (z : Mount ℕ). test z (push y)) keeps
                       ∙ differ_by_mount x (push y) on (top_at receiver) e f other_mount,
-                  ap (λ (z : Mount ℕ). test (push y) z) keeps
-                      ∙ differ_by_mount (push y) x (top_at receiver) on f e
+                  ap (λ (z : Mount ℕ). test (push y) z) keeps ∙ differ_by_mount (push y) x (top_at receiver) on f e
                       (nat_eq_false_turned on.mount (top_at receiver).mount other_mount),
                 )
 
@@ -328,16 +308,8 @@ module _ (world : World ℕ) (new : Copies ℕ) (place : Location ℕ) (mounts :
             two (nat_eq receiver.number other.number) refl
           where
             two : (c : Bool) → nat_eq receiver.number other.number ≡ c → test (push a) (push b) ≡ false
-            two true equal =
-                let number : receiver.number ≡ other.number = eqb-true receiver.number other.number equal in
-                absurd (true≢false
-                (sym (stand_together a b (place_at other)
-                (e ∙ (λ i. Some (record { mount = number i; node = place.node }))) g) ∙ differ))
-            two false apart_too =
-                differ_by_mount (push a) (push b) (top_at receiver) (top_at other) f h
-                (ap (λ k. nat_eq k (top_at other).mount) same
-                ∙ ap (nat_eq (new.copy receiver.number origin.number)) same_too
-                ∙ two_parts receiver other origin second r t o u apart_too)
+            two true equal = grind (arith, common_steps, eqb-true, true≢false, stand_together)
+            two false apart_too = grind (arith, common_steps, differ_by_mount, two_parts)
 
     -- nothing stands on the topmost copy
     free_top : (part : Mount ℕ) → Among part takers → child_at nat_eq (copies part) (top_at part) ≡ None
@@ -346,14 +318,12 @@ module _ (world : World ℕ) (new : Copies ℕ) (place : Location ℕ) (mounts :
         by : (list : List (Mount ℕ)) → copies part ≡ list → Among (copy part may.top) list
             → child_at nat_eq list (top_of_copies nat_eq list place) ≡ None
         by [] e absent = absurd absent
-        by (first ∷ rest) e present =
-            topmost_free (first ∷ rest) (after world new place mounts may serve)
+        by (first ∷ rest) e present = topmost_free (first ∷ rest) (after world new place mounts may serve)
             (one_after world new place mounts may serve) (all_after world new place mounts may serve)
             (λ x n. copies_after world new place mounts may serve part m x (subst (Among x) (sym e) n)) (root_of first)
 
     same_part : (p q : Mount ℕ) → Among p takers → Among q takers → p.number ≡ q.number → p ≡ q
-    same_part p q i j equal =
-        sym (found_itself takers takers_apart p i) ∙ ap (mount_in nat_eq takers) equal
+    same_part p q i j equal = sym (found_itself takers takers_apart p i) ∙ ap (mount_in nat_eq takers) equal
         ∙ found_itself takers takers_apart q j
 
     -- what was there, and a copy
@@ -366,14 +336,11 @@ module _ (world : World ℕ) (new : Copies ℕ) (place : Location ℕ) (mounts :
       where
         by : (origin : Mount ℕ) → Among origin mounts → CopyPlace part origin → PushCase a
             → Among (copy part origin) (copies part) → test (push a) (copy part origin) ≡ false
-        by origin o (at_part e f) (stays g h) in_copies =
-            false_from_ne_true (test (push a) (copy part origin)) (λ both.
+        by origin o (at_part e f) (stays g h) in_copies = false_from_ne_true (test (push a) (copy part origin)) (λ both.
             let t = one_place (push a) (copy part origin) both in
-            let stands : a.mount_point ≡ Some (place_at part) =
-            ap (λ (z : Mount ℕ). z.mount_point) (sym g) ∙ t.1
+            let stands : a.mount_point ≡ Some (place_at part) = ap (λ (z : Mount ℕ). z.mount_point) (sym g) ∙ t.1
             ∙ ap Some (sym (same_Some (place_at part) t.0 (sym f ∙ t.2))) in
-            true≢false
-            (sym (stands_at_its_place (place_at part) a stands)
+            true≢false (sym (stands_at_its_place (place_at part) a stands)
             ∙ unfound (λ other. stands_at nat_eq (place_at other) a) takers h part n))
         by origin o (at_part e f) (goes receiver second r u g h same) in_copies =
             differ_by_mount (push a) (copy part origin) (top_at receiver) (place_at part) h f
@@ -384,8 +351,7 @@ module _ (world : World ℕ) (new : Copies ℕ) (place : Location ℕ) (mounts :
           where
             at : (found : Option (Location ℕ)) → a.mount_point ≡ found → test (push a) (copy part origin) ≡ false
             at None d = ap (λ (z : Mount ℕ). test z (copy part origin)) g ∙ ap (beside (copy part origin).mount_point) d
-            at (Some stands_on) d =
-                ap (λ (z : Mount ℕ). test z (copy part origin)) g
+            at (Some stands_on) d = ap (λ (z : Mount ℕ). test z (copy part origin)) g
                 ∙ differ_by_mount a (copy part origin) stands_on (place_upon part on) d c
                 (subst (λ q. nat_eq stands_on.mount (new.copy part.number q) ≡ false) same
                 (copy_is_new part parent n there_is stands_on.mount (on_is_there a m stands_on d)))
@@ -401,12 +367,10 @@ module _ (world : World ℕ) (new : Copies ℕ) (place : Location ℕ) (mounts :
                 let top_place : (copy part origin).mount_point ≡ Some (top_at part) =
                 t.2 ∙ ap Some (sym (same_Some (top_at receiver) t.0 (sym h ∙ t.1)))
                 ∙ ap (λ (z : Mount ℕ). Some (top_at z)) itself in
-                true≢false
-                (sym (stands_at_its_place (top_at part) (copy part origin) top_place)
+                true≢false (sym (stands_at_its_place (top_at part) (copy part origin) top_place)
                 ∙ unfound (stands_at nat_eq (top_at part)) (copies part) (free_top part n)
                 (copy part origin) in_copies))
-            at false differ =
-                differ_by_mount (push a) (copy part origin) (top_at receiver) (place_upon part on) h c
+            at false differ = differ_by_mount (push a) (copy part origin) (top_at receiver) (place_upon part on) h c
                 (ap (λ q. nat_eq q (new.copy part.number on.mount)) same_too
                 ∙ subst (λ q. nat_eq (new.copy receiver.number second.number) (new.copy part.number q) ≡ false) same
                 (two_parts receiver part second parent r n u there_is differ))
@@ -417,8 +381,7 @@ module _ (world : World ℕ) (new : Copies ℕ) (place : Location ℕ) (mounts :
         ap (λ list. any_pair test (list ++ flat_map copies takers)) (append-nil old)
         ∙ pair-append test old (flat_map copies takers)
         (pair-map test test push moved.mounts two_old (places_left world new place mounts may places free))
-        all_copies_spread
-        (λ x y m n.
+        all_copies_spread (λ x y m n.
         let from = among-from_map push moved.mounts x m in
         let part = among-from_flat_map copies takers y n in
         subst (λ z. test z y ≡ false) (sym from.2) (old_and_copy from.0 from.1 part.0 y part.1 part.2))

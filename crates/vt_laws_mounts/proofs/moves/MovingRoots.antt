@@ -1,7 +1,6 @@
 -- What is attached has a place, and is in the namespace of the mount that it is attached on.
-use Rattle.std.proofs.Common.{arith}
+use Rattle.std.proofs.Common.{arith, ◌≡◌, refl, sym, ap, subst, ◌∙◌, true, false, suc, nat_eq, ℕ, Bool, List, None, Option, Some, [], add-zero, cond, filter, flat_map, inl, inr, is_some, length, map, not, true≢false, ⊎_elim, ◌&&◌, ◌++◌, ◌+◌, ◌∷◌, zero, eqb-true, ◌⊎◌}
 use Rattle.std.proofs.lemmas.Grind.{common_steps}
-use Rattle.std.proofs.Common.{◌≡◌, refl, sym, ap, subst, ◌∙◌, true, false, suc, nat_eq, ℕ, Bool, List, None, Option, Some, [], add-zero, cond, filter, flat_map, inl, inr, is_some, length, map, not, true≢false, ⊎_elim, ◌&&◌, ◌++◌, ◌+◌, ◌∷◌, zero, eqb-true, ◌⊎◌}
 use Rattle.std.proofs.lemmas.List.{length-append}
 use Rattle.std.proofs.lemmas.List.Elements.{filter-append}
 use Rattle.vt_spec.specs.Machine.Attach.{Copies, Graft, added_mounts, attached_by, bind_tree, copies_at, copy_at, moved_tree, parts_of, pushed_onto, receiver_stood_on}
@@ -22,8 +21,7 @@ use Rattle.vt_spec.proofs.Worlds.{among-folded_mounts, found_or_none, tree_among
 
 -- the root mounts of a namespace, and whether a mount is one
 abbrev count : ℕ → List (Mount ℕ) → ℕ
-count namespace mounts =
-    length (filter (is_root_mount nat_eq)
+count namespace mounts = length (filter (is_root_mount nat_eq)
     (filter (λ (mount : Mount ℕ). holds_of (nat_eq namespace) mount.namespace) mounts))
 
 abbrev is_root_in : ℕ → Mount ℕ → Bool
@@ -41,23 +39,17 @@ module _ (namespace : ℕ) where
       → ((x : Mount ℕ) → Among x xs → is_root_in namespace (f x) ≡ is_root_in namespace x)
       → count namespace (map f xs) ≡ count namespace xs
   count_map f [] same = refl
-  count_map f (x ∷ xs) same =
-      count_step (f x) (map f xs)
-      ∙ ap (λ b. cond b (suc (count namespace (map f xs))) (count namespace (map f xs))) (same x (inl refl))
-      ∙ ap (λ n. cond (is_root_in namespace x) (suc n) n) (count_map f xs (λ y m. same y (inr m)))
-      ∙ sym (count_step x xs)
+  count_map f (x ∷ xs) same = grind (arith, common_steps, count_step, count_map f xs)
 
   count_none : (xs : List (Mount ℕ)) → ((x : Mount ℕ) → Among x xs → is_root_in namespace x ≡ false)
       → count namespace xs ≡ 0
   count_none [] all = refl
-  count_none (x ∷ xs) all =
-      count_step x xs
+  count_none (x ∷ xs) all = count_step x xs
       ∙ ap (λ b. cond b (suc (count namespace xs)) (count namespace xs)) (all x (inl refl))
       ∙ count_none xs (λ y m. all y (inr m))
 
   count_append : (xs ys : List (Mount ℕ)) → count namespace (xs ++ ys) ≡ count namespace xs + count namespace ys
-  count_append xs ys =
-      ap (λ list. length (filter (is_root_mount nat_eq) list)) (filter-append is_in xs ys)
+  count_append xs ys = ap (λ list. length (filter (is_root_mount nat_eq) list)) (filter-append is_in xs ys)
       ∙ ap length (filter-append (is_root_mount nat_eq) (filter is_in xs) (filter is_in ys))
       ∙ length-append (filter (is_root_mount nat_eq) (filter is_in xs))
       (filter (is_root_mount nat_eq) (filter is_in ys))
@@ -105,9 +97,7 @@ module _ (world : World ℕ) (new : Copies ℕ) (place : Location ℕ) (moves : 
 
   other_has : (x : Mount ℕ) → Among x (others world new place moves mounts)
       → (part : Mount ℕ) × Among part parts × Among x (copies part)
-  other_has x m =
-      ⊎_elim
-      (λ l. (destination, inl refl, added_has moves x l))
+  other_has x m = ⊎_elim (λ l. (destination, inl refl, added_has moves x l))
       (λ l. let from = among-from_flat_map copies (rest_of parts) x l in (from.0, inr from.1, from.2))
       (among-append (added_mounts moves (copies destination)) (flat_map copies (rest_of parts)) x m)
 
@@ -128,33 +118,26 @@ module _ (world : World ℕ) (new : Copies ℕ) (place : Location ℕ) (moves : 
   -- no root mount is added
   attached_roots : (namespace : ℕ) → count namespace left ≡ count namespace world.mounts
       → count namespace after.mounts ≡ count namespace world.mounts
-  attached_roots namespace same =
-      ap (count namespace) (in_front world new place moves mounts)
+  attached_roots namespace same = ap (count namespace) (in_front world new place moves mounts)
       ∙ count_append namespace (map pushing left) (others world new place moves mounts)
       ∙ ap (λ n. count namespace (map pushing left) + n)
       (count_none namespace (others world new place moves mounts) (λ x m.
       let t = other_has x m in
-      placed_no_root namespace x (copy_has t.0 x t.2).0))
-      ∙ add-zero (count namespace (map pushing left))
+      placed_no_root namespace x (copy_has t.0 x t.2).0)) ∙ add-zero (count namespace (map pushing left))
       ∙ count_map namespace pushing left (λ x m.
       ap (λ b. not b && is_in namespace (pushing x)) (pushed_alike x)
-      ∙ ap (λ o. is_root_mount nat_eq x && holds_of (nat_eq namespace) o)
-      (push_keeps world new tree parts x).namespace)
+      ∙ ap (λ o. is_root_mount nat_eq x && holds_of (nat_eq namespace) o) (push_keeps world new tree parts x).namespace)
       ∙ same
 
   -- nor a namespace
   part_has_one : (part : Mount ℕ) → Among part parts → (namespace : ℕ) → part.namespace ≡ Some namespace
       → HasOne world namespace
-  part_has_one part m namespace e =
-      ⊎_elim
+  part_has_one part m namespace e = ⊎_elim
       (λ is_destination. there (ap (λ (x : Mount ℕ). x.namespace) (sym is_destination) ∙ e))
-      (λ taker. (part, contains_from_among world.mounts part (taker_there world place part taker), e))
-      m
+      (λ taker. (part, contains_from_among world.mounts part (taker_there world place part taker), e)) m
     where
       there : destination.namespace ≡ Some namespace → HasOne world namespace
-      there f =
-          ⊎_elim
-          (λ l. (destination, contains_from_among world.mounts destination l, f))
+      there f = ⊎_elim (λ l. (destination, contains_from_among world.mounts destination l, f))
           (λ none. absurd (true≢false (sym (ap is_some f) ∙ ap (λ (x : Mount ℕ). is_some x.namespace) none)))
           (found_or_none world.mounts place.mount)
 
@@ -163,13 +146,10 @@ module _ (world : World ℕ) (new : Copies ℕ) (place : Location ℕ) (moves : 
   attached_namespaces old =
       all_from_among (λ (mount : Mount ℕ). (namespace : ℕ) → mount.namespace ≡ Some namespace → HasOne world namespace)
       after.mounts (λ mount m namespace e.
-      ⊎_elim
-      (λ l.
+      ⊎_elim (λ l.
       let from = among-from_map pushing left mount l in
       old from.0 from.1 namespace
-      (sym (ap (λ (x : Mount ℕ). x.namespace) from.2 ∙ (push_keeps world new tree parts from.0).namespace)
-      ∙ e))
-      (λ l.
+      (sym (ap (λ (x : Mount ℕ). x.namespace) from.2 ∙ (push_keeps world new tree parts from.0).namespace) ∙ e)) (λ l.
       let t = other_has mount l in
       part_has_one t.0 t.1 namespace (sym (copy_has t.0 mount t.2).1 ∙ e))
       (among-append (map pushing left) (others world new place moves mounts) mount
@@ -212,27 +192,19 @@ count_folded : (namespace : ℕ) (mounts copies : List (Mount ℕ))
     → count namespace (folded (with_mount nat_eq) mounts copies) ≡ count namespace mounts
 count_folded namespace mounts [] placed had = refl
 count_folded namespace mounts (copy ∷ copies) placed had =
-    count_folded namespace (with_mount nat_eq mounts copy) copies (λ c m. placed c (inr m))
-    (λ x c m n e.
+    count_folded namespace (with_mount nat_eq mounts copy) copies (λ c m. placed c (inr m)) (λ x c m n e.
     let from = among-from_map (replaced_if_same nat_eq copy) mounts x m in
     by from.0 from.1 x from.2 c n e (nat_eq copy.number from.0.number) refl)
-    ∙ count_map namespace (replaced_if_same nat_eq copy) mounts (λ x m.
-    alike x m (nat_eq copy.number x.number) refl)
+    ∙ count_map namespace (replaced_if_same nat_eq copy) mounts (λ x m. alike x m (nat_eq copy.number x.number) refl)
   where
     by : (old : Mount ℕ) → Among old mounts → (x : Mount ℕ) → x ≡ replaced_if_same nat_eq copy old
         → (c : Mount ℕ) → Among c copies → nat_eq c.number x.number ≡ true
         → (b : Bool) → nat_eq copy.number old.number ≡ b → is_some x.mount_point ≡ true
-    by old l x e c n same true f =
-        ap (λ (y : Mount ℕ). is_some y.mount_point) (e ∙ replaced_there copy old f) ∙ placed copy (inl refl)
-    by old l x e c n same false f =
-        let kept : x ≡ old = e ∙ replaced_elsewhere copy old f in
-        ap (λ (y : Mount ℕ). is_some y.mount_point) kept
-        ∙ had old c l (inr n) (ap (λ (y : Mount ℕ). nat_eq c.number y.number) (sym kept) ∙ same)
+    by old l x e c n same b f = grind (arith, common_steps, replaced_there, replaced_elsewhere)
 
     alike : (x : Mount ℕ) → Among x mounts → (b : Bool) → nat_eq copy.number x.number ≡ b
         → is_root_in namespace (replaced_if_same nat_eq copy x) ≡ is_root_in namespace x
-    alike x m true f =
-        ap (is_root_in namespace) (replaced_there copy x f)
+    alike x m true f = ap (is_root_in namespace) (replaced_there copy x f)
         ∙ placed_no_root namespace copy (placed copy (inl refl))
         ∙ sym (placed_no_root namespace x (had x copy m (inl refl) f))
     alike x m false f = ap (is_root_in namespace) (replaced_elsewhere copy x f)
@@ -242,13 +214,11 @@ pub tree_placed : (fuel : ℕ) (mounts : List (Mount ℕ)) (top x : Mount ℕ) �
     → Among x (tree_from nat_eq fuel mounts top) → is_some x.mount_point ≡ true
 tree_placed zero mounts top x e m =
     ⊎_elim (λ same. ap (λ (y : Mount ℕ). is_some y.mount_point) same ∙ e) (λ none. absurd none) m
-tree_placed (suc fuel) mounts top x e m =
-    ⊎_elim (λ same. ap (λ (y : Mount ℕ). is_some y.mount_point) same ∙ e)
+tree_placed (suc fuel) mounts top x e m = ⊎_elim (λ same. ap (λ (y : Mount ℕ). is_some y.mount_point) same ∙ e)
     (λ later.
     let from = among-from_flat_map (tree_from nat_eq fuel mounts) (children nat_eq mounts top.number) x later in
     let on = (among-from_filter (stands_on nat_eq top.number) mounts from.0 from.1).1 in
-    tree_placed fuel mounts from.0 x (by from.0.mount_point on) from.2)
-    m
+    tree_placed fuel mounts from.0 x (by from.0.mount_point on) from.2) m
   where
     by : (place : Option (Location ℕ)) → holds_of (λ (p : Location ℕ). nat_eq top.number p.mount) place ≡ true
         → is_some place ≡ true
@@ -261,14 +231,11 @@ moves_keep_root_mounts world fresh source place one placed namespace =
     let new = supplied world fresh place mounts in
     attached_roots world new place true mounts namespace
     (count_folded namespace world.mounts (arriving world new place true mounts)
-    (λ copy m. (copy_has world new place true mounts (mount_at nat_eq world place) copy m).0)
-    (λ x copy m n same.
+    (λ copy m. (copy_has world new place true mounts (mount_at nat_eq world place) copy m).0) (λ x copy m n same.
     let from = arrives world new place mounts copy n in
-    let of_tree =
-    tree_among (length world.mounts) world.mounts (mount_at nat_eq world source) from.0 from.1 in
+    let of_tree = tree_among (length world.mounts) world.mounts (mount_at nat_eq world source) from.0 from.1 in
     let number : x.number ≡ from.0.number = sym (eqb-true copy.number x.number same) ∙ from.2.number in
-    let itself : x ≡ from.0 =
-    sym (found_itself world.mounts one x m) ∙ ap (mount_in nat_eq world.mounts) number
+    let itself : x ≡ from.0 = sym (found_itself world.mounts one x m) ∙ ap (mount_in nat_eq world.mounts) number
     ∙ found_itself world.mounts one from.0 (there of_tree) in
     ap (λ (y : Mount ℕ). is_some y.mount_point) itself
     ∙ tree_placed (length world.mounts) world.mounts (mount_at nat_eq world source) from.0 placed from.1))
@@ -289,9 +256,7 @@ moves_stay_in_namespaces world fresh source place =
     let mounts = moved_tree nat_eq world source.mount in
     let new = supplied world fresh place mounts in
     attached_namespaces world new place true mounts (λ x m namespace e.
-    ⊎_elim
-    (λ l. still_there world new place true mounts x l namespace e)
-    (λ l.
+    ⊎_elim (λ l. still_there world new place true mounts x l namespace e) (λ l.
     part_has_one world new place true mounts (mount_at nat_eq world place) (inl refl) namespace
     (sym (copy_has world new place true mounts (mount_at nat_eq world place) x l).1 ∙ e))
     (among-folded_mounts world.mounts (arriving world new place true mounts) x m))

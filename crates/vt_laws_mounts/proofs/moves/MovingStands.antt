@@ -51,8 +51,7 @@ module _ (world : World ℕ) (new : Copies ℕ) (place : Location ℕ) (mounts :
 
   -- where the copy at a part stands: at the part for the top, else on the copy of its parent
   abbrev landing : Mount ℕ → Option (Location ℕ) → Bool → Location ℕ
-  landing part parent first =
-      if first then place_at part else unwrap_or (option_map
+  landing part parent first = if first then place_at part else unwrap_or (option_map
       (mount_point_on_copy nat_eq new tree part.number) parent) place
 
   -- the world when all has moved, and in the end
@@ -84,26 +83,19 @@ module _ (world : World ℕ) (new : Copies ℕ) (place : Location ℕ) (mounts :
     is_copy : (part : Mount ℕ) → Among part takers → Among mount (copies part) → AfterCase mount
 
   pub after_case : (mount : Mount ℕ) → Among mount after.mounts → AfterCase mount
-  after_case mount m =
-      ⊎_elim
-      (λ l.
-      ⊎_elim
-      (λ k. let from = among-from_map push moved.mounts mount k in was from.0 from.1 from.2)
-      (λ none. absurd none)
-      (among-append (map push moved.mounts) [] mount l))
+  after_case mount m = ⊎_elim (λ l.
+      ⊎_elim (λ k. let from = among-from_map push moved.mounts mount k in was from.0 from.1 from.2)
+      (λ none. absurd none) (among-append (map push moved.mounts) [] mount l))
       (λ l. let from = among-from_flat_map copies takers mount l in is_copy from.0 from.1 from.2)
       (among-append (map push moved.mounts ++ []) (flat_map copies takers) mount m)
 
-  pub copies_after : (part : Mount ℕ) → Among part takers → (x : Mount ℕ) → Among x (copies part)
-      → Among x after.mounts
-  copies_after part m x n =
-      among-append_right (map push moved.mounts ++ []) (flat_map copies takers) x
+  pub copies_after : (part : Mount ℕ) → Among part takers → (x : Mount ℕ) → Among x (copies part) → Among x after.mounts
+  copies_after part m x n = among-append_right (map push moved.mounts ++ []) (flat_map copies takers) x
       (among-flat_map copies takers part x m n)
 
   found_copy : (part origin : Mount ℕ) → Among part takers → Among origin mounts
       → mount_numbered nat_eq after (copy part origin).number ≡ copy part origin
-  found_copy part origin m n =
-      found_itself after.mounts one_after (copy part origin)
+  found_copy part origin m n = found_itself after.mounts one_after (copy part origin)
       (copies_after part m (copy part origin) (copy_among part origin n))
 
   -- the copies at a part that stands
@@ -120,8 +112,7 @@ module _ (world : World ℕ) (new : Copies ℕ) (place : Location ℕ) (mounts :
 
     copies_stand : (number : ℕ) → Hangs mounts number → (origin : Mount ℕ) → Among origin mounts
         → origin.number ≡ number → Stands nat_eq after (copy part origin).number
-    copies_stand number (from_top first rest list) origin m same =
-        top_stands origin m
+    copies_stand number (from_top first rest list) origin m same = top_stands origin m
         (ap (λ (ms : List (Mount ℕ)). holds_of (same_origin (twig origin)) (first_of_list (map twig ms))) list
         ∙ eq-eqb origin.number first.number same)
     copies_stand number (from_parent other on l f later) origin m same =
@@ -133,16 +124,13 @@ module _ (world : World ℕ) (new : Copies ℕ) (place : Location ℕ) (mounts :
         by true e parent_stands = top_stands origin m e
         by false e parent_stands =
             let found = found_copy part origin is_part m in
-            let it : other ≡ origin =
-            sym (found_itself mounts may.own other l) ∙ ap (mount_in nat_eq mounts) (sym same)
+            let it : other ≡ origin = sym (found_itself mounts may.own other l) ∙ ap (mount_in nat_eq mounts) (sym same)
             ∙ found_itself mounts may.own origin m in
             let parent = hanging mounts on.mount later in
             let place_is : origin.mount_point ≡ Some on = ap (λ (x : Mount ℕ). x.mount_point) (sym it) ∙ f in
             on_parent (copy part origin).number (mount_point_on_copy nat_eq new tree part.number on)
-            (ap (λ (x : Mount ℕ). x.mount_point) found
-            ∙ ap (λ b. Some (landing part origin.mount_point b)) e
-            ∙ ap (λ p. Some (landing part p false)) place_is)
-            (ap (λ (x : Mount ℕ). x.namespace) found
+            (ap (λ (x : Mount ℕ). x.mount_point) found ∙ ap (λ b. Some (landing part origin.mount_point b)) e
+            ∙ ap (λ p. Some (landing part p false)) place_is) (ap (λ (x : Mount ℕ). x.namespace) found
             ∙ sym (ap (λ k. (mount_numbered nat_eq after k).namespace)
             (ap (copy_number nat_eq new tree part.number) (sym parent.2))
             ∙ ap (λ (x : Mount ℕ). x.namespace) (found_copy part parent.0 is_part parent.1)))
@@ -154,8 +142,7 @@ module _ (world : World ℕ) (new : Copies ℕ) (place : Location ℕ) (mounts :
 
   -- a receiver is there, in the namespace in which it was
   taker_is : (part : Mount ℕ) → Among part takers → is_mount moved part.number ≡ true
-  taker_is part m =
-      ap (is_among nat_eq part.number) (same_numbers world new place mounts may)
+  taker_is part m = ap (is_among nat_eq part.number) (same_numbers world new place mounts may)
       ∙ is_one_of world.mounts part (taker_there world place part m)
 
   taker_kept : (part : Mount ℕ) → Among part takers
@@ -163,27 +150,22 @@ module _ (world : World ℕ) (new : Copies ℕ) (place : Location ℕ) (mounts :
   taker_kept part m = namespace_kept world new place mounts may part (taker_there world place part m)
 
   in_its : (part : Mount ℕ) → Among part takers → (mount_numbered nat_eq after part.number).namespace ≡ part.namespace
-  in_its part m =
-      ap (λ (x : Mount ℕ). x.namespace) (found_old part.number (taker_is part m))
+  in_its part m = ap (λ (x : Mount ℕ). x.namespace) (found_old part.number (taker_is part m))
       ∙ push_namespace (mount_numbered nat_eq moved part.number) ∙ taker_kept part m
 
   top_in : Among may.top mounts
   top_in = subst (Among may.top) (sym may.is_tree) (inl refl)
 
   -- what was there goes on standing
-  stands_after : (number : ℕ) → Stands nat_eq moved number → is_mount moved number ≡ true
-      → Stands nat_eq after number
-  stands_after number (at_root it e) is =
-      at_root it
-      (ap (λ (x : Mount ℕ). x.mount_point) (found_old it is)
+  stands_after : (number : ℕ) → Stands nat_eq moved number → is_mount moved number ≡ true → Stands nat_eq after number
+  stands_after number (at_root it e) is = at_root it (ap (λ (x : Mount ℕ). x.mount_point) (found_old it is)
       ∙ ap (λ (x : Mount ℕ). x.mount_point)
       (none_pushes world new tree parts (mount_numbered nat_eq moved it) (at_no_place takers)) ∙ e)
     where
       at_no_place : (list : List (Mount ℕ))
           → list_any (λ receiver. stands_at nat_eq (place_at receiver) (mount_numbered nat_eq moved it)) list ≡ false
       at_no_place [] = refl
-      at_no_place (receiver ∷ list) =
-          ap (λ p. holds_of (same_location nat_eq (place_at receiver)) p
+      at_no_place (receiver ∷ list) = ap (λ p. holds_of (same_location nat_eq (place_at receiver)) p
           || list_any (λ other. stands_at nat_eq (place_at other) (mount_numbered nat_eq moved it)) list) e
           ∙ at_no_place list
   stands_after number (on_parent it on e f stands) is =
@@ -192,20 +174,15 @@ module _ (world : World ℕ) (new : Copies ℕ) (place : Location ℕ) (mounts :
       (stands_after on.mount stands parent_is)
     where
       by : (receiver : Option (Mount ℕ)) → receiver_stood_on nat_eq tree parts (mount_numbered nat_eq moved it)
-          ≡ receiver
-          → is_mount moved on.mount ≡ true → Stands nat_eq after on.mount → Stands nat_eq after it
-      by None none parent_is parent =
-          on_parent it on
-          (ap (λ (x : Mount ℕ). x.mount_point) (found_old it is)
+          ≡ receiver → is_mount moved on.mount ≡ true → Stands nat_eq after on.mount → Stands nat_eq after it
+      by None none parent_is parent = on_parent it on (ap (λ (x : Mount ℕ). x.mount_point) (found_old it is)
           ∙ ap (λ (x : Mount ℕ). x.mount_point)
           (ap (pushed_onto nat_eq world new tree parts (mount_numbered nat_eq moved it)) none) ∙ e)
           (ap (λ (x : Mount ℕ). x.namespace) (found_old it is) ∙ push_namespace (mount_numbered nat_eq moved it) ∙ f
           ∙ sym (ap (λ (x : Mount ℕ). x.namespace) (found_old on.mount parent_is)
-          ∙ push_namespace (mount_numbered nat_eq moved on.mount)))
-          parent
+          ∙ push_namespace (mount_numbered nat_eq moved on.mount))) parent
       by (Some receiver) some parent_is parent =
-          let found =
-          found_in (λ part. stands_at nat_eq (place_at part) (mount_numbered nat_eq moved it)) takers
+          let found = found_in (λ part. stands_at nat_eq (place_at part) (mount_numbered nat_eq moved it)) takers
           receiver some in
           let part_place = stands_there (place_at receiver) (mount_numbered nat_eq moved it) found.1 in
           let same : on.mount ≡ receiver.number =
@@ -217,8 +194,7 @@ module _ (world : World ℕ) (new : Copies ℕ) (place : Location ℕ) (mounts :
           let new_place = top_of_copies nat_eq (copies receiver) place in
           let number : new_place.mount ≡ (copy receiver origin.0).number =
           onto.2 ∙ ap (λ (x : Mount ℕ). x.number) it_is in
-          on_parent it new_place
-          (ap (λ (x : Mount ℕ). x.mount_point) (found_old it is)
+          on_parent it new_place (ap (λ (x : Mount ℕ). x.mount_point) (found_old it is)
           ∙ ap (λ (x : Mount ℕ). x.mount_point)
           (ap (pushed_onto nat_eq world new tree parts (mount_numbered nat_eq moved it)) some))
           (ap (λ (x : Mount ℕ). x.namespace) (found_old it is) ∙ push_namespace (mount_numbered nat_eq moved it) ∙ f
@@ -230,21 +206,16 @@ module _ (world : World ℕ) (new : Copies ℕ) (place : Location ℕ) (mounts :
           origin.0.number (may.hangs origin.0 origin.1) origin.0 origin.1 refl))
 
   old_stands : (number : ℕ) → is_mount moved number ≡ true → Stands nat_eq after number
-  old_stands number is =
-      stands_after number
-      (subst (Stands nat_eq moved) (number-mount_in moved.mounts number)
+  old_stands number is = stands_after number (subst (Stands nat_eq moved) (number-mount_in moved.mounts number)
       (among_from_all (λ (x : Mount ℕ). Stands nat_eq moved x.number) moved.mounts (all_left world new place mounts may)
-      (mount_numbered nat_eq moved number) (found_there moved.mounts number is)))
-      is
+      (mount_numbered nat_eq moved number) (found_there moved.mounts number is))) is
 
   pub all_after : AllStand after
-  all_after =
-      all_from_among (λ (mount : Mount ℕ). Stands nat_eq after mount.number) after.mounts (λ mount m.
+  all_after = all_from_among (λ (mount : Mount ℕ). Stands nat_eq after mount.number) after.mounts (λ mount m.
       by mount (after_case mount m))
     where
       by : (mount : Mount ℕ) → AfterCase mount → Stands nat_eq after mount.number
-      by mount (was old m e) =
-          subst (Stands nat_eq after)
+      by mount (was old m e) = subst (Stands nat_eq after)
           (sym (ap (λ (x : Mount ℕ). x.number) e ∙ (push_keeps world new tree parts old).number))
           (old_stands old.number (is_one_of moved.mounts old m))
       by mount (is_copy part p n) =

@@ -1,7 +1,6 @@
 -- Changes of types and flags keep the invariants of mounts.
-use Rattle.std.proofs.Common.{arith}
+use Rattle.std.proofs.Common.{arith, ◌≡◌, refl, sym, ap, ◌∙◌, true, false, nat_eq, ℕ, Bool, List, None, Option, Some, eqb-true, is_some, map, not, ◌&&◌, ◌||◌}
 use Rattle.std.proofs.lemmas.Grind.{common_steps}
-use Rattle.std.proofs.Common.{◌≡◌, refl, sym, ap, ◌∙◌, true, false, nat_eq, ℕ, Bool, List, None, Option, Some, eqb-true, is_some, map, not, ⊎_elim, ◌&&◌, ◌||◌}
 use Rattle.std.specs.List.{list_any}
 use Rattle.vt_spec.proofs.Lists.{Among, among-from_map, among_from_list_all, any_among, list_all_from_among}
 use Rattle.vt_spec.specs.Lists.{Fresh}
@@ -39,25 +38,13 @@ module _ (world : World ℕ) (mounts : MountInvariants nat_eq world) where
       by : (found : Option ℕ) → (mount_numbered nat_eq world it).namespace ≡ found
           → is_some (mount_numbered nat_eq world it).namespace ≡ true
       by (Some namespace) f = ap is_some f
-      by None f =
-          absurd
+      by None f = absurd
           (placed_inside world mounts (mount_numbered nat_eq world it) (placed_among world.mounts it place e) place e f)
 
   named_inside : (number : ℕ) (recursive : Bool) → is_some (mount_numbered nat_eq world number).namespace ≡ true
       → (other : Mount ℕ) → Among other (named_mounts nat_eq world number recursive)
       → is_some (mount_numbered nat_eq world other.number).namespace ≡ true
-  named_inside number false h other m =
-      ⊎_elim
-      (λ same.
-      ap (λ (x : Mount ℕ). is_some (mount_numbered nat_eq world x.number).namespace) same
-      ∙ ap (λ n. is_some (mount_numbered nat_eq world n).namespace) (number-mount_in world.mounts number) ∙ h)
-      (λ none. absurd none)
-      m
-  named_inside number true h other m =
-      let top = mount_numbered nat_eq world number in
-      inside top.number other.number
-      (lies_in_tree world mounts.one_number mounts.standing _ top other m)
-      (ap (λ n. is_some (mount_numbered nat_eq world n).namespace) (number-mount_in world.mounts number) ∙ h)
+  named_inside number recursive h other m = grind (arith, common_steps, number-mount_in, inside, lies_in_tree)
 
   type_keeps_nowhere : (fresh : Fresh ℕ) (number : ℕ) (word : _) (recursive : Bool)
       → is_some (mount_numbered nat_eq world number).namespace ≡ true
@@ -69,8 +56,7 @@ module _ (world : World ℕ) (mounts : MountInvariants nat_eq world) where
       (list_all_from_among is_nowhere_or_attached (map (retype world group word named) world.mounts) (λ mount m.
       let from = among-from_map (retype world group word named) world.mounts mount m in
       ap is_nowhere_or_attached from.2
-      ∙ by group named from.0 from.1 (list_any (λ (other : Mount ℕ). nat_eq from.0.number other.number) named)
-      (λ there.
+      ∙ by group named from.0 from.1 (list_any (λ (other : Mount ℕ). nat_eq from.0.number other.number) named) (λ there.
       let one = any_among (λ (other : Mount ℕ). nat_eq from.0.number other.number) named there in
       ap (λ (x : Mount ℕ). is_some x.namespace) (sym (found_itself world.mounts mounts.one_number from.0 from.1))
       ∙ ap (λ n. is_some (mount_numbered nat_eq world n).namespace) (eqb-true from.0.number one.0.number one.2)
@@ -88,8 +74,7 @@ pub type_keeps_mounts : SetTypeKeepsMounts
 type_keeps_mounts world fresh number word recursive serves named mounts =
     let after = with_type nat_eq fresh world number word recursive in
     let one = types_keep_numbers world fresh number word recursive mounts.one_number in
-    let apart =
-    types_keep_apart world fresh number word recursive
+    let apart = types_keep_apart world fresh number word recursive
     (record { by_number = mounts.one_number; by_place = mounts.one_child }) in
     record {
       one_number = one;
@@ -111,8 +96,7 @@ flags_keep_mounts world here flags mounts =
     record {
       one_number = one;
       one_child = apart.by_place;
-      standing = (standing_is_computed after one).1
-          (flags_keep_places_ending world here flags mounts.one_number
+      standing = (standing_is_computed after one).1 (flags_keep_places_ending world here flags mounts.one_number
           ((standing_is_computed world mounts.one_number).0 mounts.standing));
       nowhere = flags_keep_nowhere world here flags mounts.one_number mounts.nowhere;
       groups = all_live after (flags_keep_groups world here flags mounts.one_number (tested_live world mounts.groups));
@@ -124,12 +108,10 @@ type_keeps_counts world fresh number word recursive namespace =
     let group = groups_by world fresh number recursive in
     let named = named_mounts nat_eq world number recursive in
     let middle = between world group word named in
-    let first =
-    as_many world middle (retype world group word named) refl
+    let first = as_many world middle (retype world group word named) refl
     (λ mount m. (retype_keeps world group word named mount).namespace)
     (λ mount m. (retype_keeps world group word named mount).mount_point) namespace in
-    let second =
-    as_many middle (with_type nat_eq fresh world number word recursive) (inheriting nat_eq middle)
+    let second = as_many middle (with_type nat_eq fresh world number word recursive) (inheriting nat_eq middle)
     (mounts-regrouped middle) (λ mount m. refl) (λ mount m. refl) namespace in
     record { mounts = second.mounts ∙ first.mounts; roots = second.roots ∙ first.roots }
 
@@ -144,8 +126,7 @@ module _ (world : World ℕ) (here : Location ℕ) (flags : MountFlags) (one : O
       grind (arith, common_steps, number-mount_in, eqb-true, found_itself, replaced_there, replaced_elsewhere)
 
 pub flags_keep_counts : SetFlagsKeepCounts
-flags_keep_counts world here flags namespace one =
-    as_many world (with_flags nat_eq world here.mount flags)
+flags_keep_counts world here flags namespace one = as_many world (with_flags nat_eq world here.mount flags)
     (replaced_if_same nat_eq (record (mount_at nat_eq world here) { flags = flags })) refl
     (λ mount m. (replaced_keeps world here flags one mount m).0)
     (λ mount m. (replaced_keeps world here flags one mount m).1) namespace

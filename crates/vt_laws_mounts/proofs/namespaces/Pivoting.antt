@@ -1,6 +1,6 @@
 -- A pivot of the root: the new root mount stands where the old one stood, and that one over it.
 use Rattle.std.proofs.lemmas.Grind.{common_steps}
-use Rattle.std.proofs.Common.{◌≡◌, refl, sym, ap, subst, ◌∙◌, true, false, zero, suc, nat_eq, ℕ, Bool, None, Option, Some, arith, cond, eq-eqb, eqb-true, inl, inr, is_some, length, true≢false, ⊎_elim, ◌<◌, ◌⊎◌}
+use Rattle.std.proofs.Common.{◌≡◌, refl, sym, ap, subst, ◌∙◌, true, false, zero, suc, nat_eq, ℕ, Bool, None, Option, Some, arith, cond, eq-eqb, eqb-true, is_some, length, true≢false, ⊎_elim, ◌<◌, ◌⊎◌}
 use Rattle.std.specs.Prelude.{if◌then◌else◌}
 use Rattle.std.proofs.lemmas.Bool.{and_parts, false_from_ne_true}
 use Rattle.std.proofs.lemmas.Option.{same_Some}
@@ -8,8 +8,6 @@ use Rattle.vt_spec.proofs.Lists.{Among, all_from_among, among-from_map, among-ma
 use Rattle.vt_spec.specs.Lists.{any_pair, chain, rest_of}
 use Rattle.vt_spec.specs.Machine.Mounts.{Location, Mount, root_of, stands_at}
 use Rattle.vt_spec.specs.Machine.Namespaces.{pivoted, pivoted_mount}
-use Rattle.vt_spec.specs.Machine.Looks.{looks_of}
-use Rattle.vt_spec.specs.Machine.Rules.Mounting.{is_on_descendant, lies_under_location}
 use Rattle.vt_spec.specs.Machine.World.{World, mount_at, mount_numbered}
 use Rattle.vt_spec.specs.Machine.Invariants.{MountInvariants, Stands, is_nowhere_or_attached, share_a_mount_point}
 use Rattle.vt_spec.specs.Machine.Invariants.Stands.{at_root, on_parent}
@@ -33,23 +31,18 @@ module _ (world : World ℕ) where
 
   pub on_chain : (n : ℕ) (here place : Location ℕ) → Among place (chain n next here)
       → LiesIn world place.mount here.mount
-  on_chain zero here place m =
-      ⊎_elim
+  on_chain zero here place m = ⊎_elim
       (λ e. subst (λ (p : Location ℕ). LiesIn world p.mount here.mount) (sym e) (itself here.mount))
-      (λ none. absurd none)
-      m
+      (λ none. absurd none) m
   on_chain (suc n) here place m = by (next here) refl (on_chain n)
     where
       by : (found : Option (Location ℕ)) → next here ≡ found
           → ((at : Location ℕ) (p : Location ℕ) → Among p (chain n next at) → LiesIn world p.mount at.mount)
           → LiesIn world place.mount here.mount
-      by None e later =
-          ⊎_elim
+      by None e later = ⊎_elim
           (λ same. subst (λ (p : Location ℕ). LiesIn world p.mount here.mount) (sym same) (itself here.mount))
-          (λ none. absurd none)
-          (subst (Among place) (chain_ends next n here e) m)
-      by (Some at) e later =
-          ⊎_elim
+          (λ none. absurd none) (subst (Among place) (chain_ends next n here e) m)
+      by (Some at) e later = ⊎_elim
           (λ same. subst (λ (p : Location ℕ). LiesIn world p.mount here.mount) (sym same) (itself here.mount))
           (λ l. under place.mount here.mount at e (later at place l))
           (subst (Among place) (chain_goes_on next n here at e) m)
@@ -72,19 +65,16 @@ module _ (world : World ℕ) (namespace : ℕ) (root new : Mount ℕ) (put : Loc
 
   pub inside_there : (number : ℕ) → (mount_numbered nat_eq world number).namespace ≡ Some namespace
       → Among (mount_numbered nat_eq world number) world.mounts
-  inside_there number e =
-      ⊎_elim (λ m. m)
+  inside_there number e = ⊎_elim (λ m. m)
       (λ none. absurd (true≢false (sym (ap is_some e) ∙ ap (λ x. is_some x.namespace) none)))
       (found_or_none world.mounts number)
 
   pub root_among : Among root world.mounts
-  root_among =
-      subst (λ x. Among x world.mounts) may.root_there
+  root_among = subst (λ x. Among x world.mounts) may.root_there
       (inside_there root.number (ap (λ x. x.namespace) may.root_there ∙ may.root_inside))
 
   pub new_among : Among new world.mounts
-  new_among =
-      subst (λ x. Among x world.mounts) may.new_there
+  new_among = subst (λ x. Among x world.mounts) may.new_there
       (inside_there new.number (ap (λ x. x.namespace) may.new_there ∙ may.new_inside))
 
   put_among : Among (mount_at nat_eq world put) world.mounts
@@ -109,10 +99,7 @@ module _ (world : World ℕ) (namespace : ℕ) (root new : Mount ℕ) (put : Loc
       let t = new_stands_over in
       let step = rank_child world mounts.one_number mounts.standing new.number t.0
       (ap (λ x. x.mount_point) may.new_there ∙ t.1) in
-      ⊎_elim
-      (λ same. let equal : level root.number ≡ level t.0.mount = ap level same in omega (arith, equal, step))
-      (λ more. omega (arith, more, step))
-      (lies_deeper world mounts.one_number mounts.standing root.number t.0.mount t.2)
+      grind (arith, common_steps, lies_deeper)
 
   put_lies_over : LiesIn world new.number put.mount
   put_lies_over =
@@ -128,28 +115,23 @@ module _ (world : World ℕ) (namespace : ℕ) (root new : Mount ℕ) (put : Loc
 
   -- a mount with the number of one of them is it
   pub is_new : (mount : Mount ℕ) → Among mount world.mounts → nat_eq mount.number new.number ≡ true → mount ≡ new
-  is_new mount m e =
-      sym (found_itself world.mounts mounts.one_number mount m)
+  is_new mount m e = sym (found_itself world.mounts mounts.one_number mount m)
       ∙ ap (mount_numbered nat_eq world) (eqb-true mount.number new.number e) ∙ may.new_there
 
   pub is_root : (mount : Mount ℕ) → Among mount world.mounts → nat_eq mount.number root.number ≡ true → mount ≡ root
-  is_root mount m e =
-      sym (found_itself world.mounts mounts.one_number mount m)
+  is_root mount m e = sym (found_itself world.mounts mounts.one_number mount m)
       ∙ ap (mount_numbered nat_eq world) (eqb-true mount.number root.number e) ∙ may.root_there
 
   -- what becomes of each
   abbrev moved_if : Bool → Bool → Mount ℕ → Mount ℕ
-  moved_if first second mount =
-      if first then record mount { mount_point = root.mount_point }
+  moved_if first second mount = if first then record mount { mount_point = root.mount_point }
       else if second then record mount { mount_point = Some put } else mount
 
   pub moved_new : (move new).mount_point ≡ root.mount_point
-  moved_new =
-      ap (λ b. (moved_if b (nat_eq new.number root.number) new).mount_point) (eq-eqb new.number new.number refl)
+  moved_new = ap (λ b. (moved_if b (nat_eq new.number root.number) new).mount_point) (eq-eqb new.number new.number refl)
 
   pub moved_root : (move root).mount_point ≡ Some put
-  moved_root =
-      ap (λ b. (moved_if b (nat_eq root.number root.number) root).mount_point) two
+  moved_root = ap (λ b. (moved_if b (nat_eq root.number root.number) root).mount_point) two
       ∙ ap (λ b. (moved_if false b root).mount_point) (eq-eqb root.number root.number refl)
 
   pub moved_other : (mount : Mount ℕ) → nat_eq mount.number new.number ≡ false
@@ -164,8 +146,7 @@ module _ (world : World ℕ) (namespace : ℕ) (root new : Mount ℕ) (put : Loc
   one_after = pivot_keeps_numbers world namespace root new put mounts.one_number
 
   found_after : (mount : Mount ℕ) → Among mount world.mounts → mount_numbered nat_eq after mount.number ≡ move mount
-  found_after mount m =
-      ap (mount_numbered nat_eq after) (sym (number-pivoted_mount root new put mount))
+  found_after mount m = ap (mount_numbered nat_eq after) (sym (number-pivoted_mount root new put mount))
       ∙ found_itself after.mounts one_after (move mount) (among-map move world.mounts mount m)
 
   -- Standing
@@ -198,8 +179,7 @@ module _ (world : World ℕ) (namespace : ℕ) (root new : Mount ℕ) (put : Loc
   -- a mount that is found under a number has the place that is found there
   found_place : (number : ℕ) (mount : Mount ℕ) → Among mount world.mounts → mount.number ≡ number
       → (mount_numbered nat_eq world number).mount_point ≡ mount.mount_point
-  found_place number mount m same =
-      ap (λ n. (mount_numbered nat_eq world n).mount_point) (sym same)
+  found_place number mount m same = ap (λ n. (mount_numbered nat_eq world n).mount_point) (sym same)
       ∙ ap (λ x. x.mount_point) (found_itself world.mounts mounts.one_number mount m)
 
   no_place : (number : ℕ) (mount : Mount ℕ) → Among mount world.mounts → mount.number ≡ number
@@ -215,15 +195,7 @@ module _ (world : World ℕ) (namespace : ℕ) (root new : Mount ℕ) (put : Loc
     where
       other : (mount : Mount ℕ) → level mount.number < level root.number
           → (nat_eq mount.number new.number ≡ false) × (nat_eq mount.number root.number ≡ false)
-      other mount low = (
-        false_from_ne_true (nat_eq mount.number new.number) (λ e.
-            let equal : level mount.number ≡ level new.number = ap level (eqb-true mount.number new.number e) in
-            let more = new_higher in
-            absurd (omega (arith, equal, more, low))),
-        false_from_ne_true (nat_eq mount.number root.number) (λ e.
-            let equal : level mount.number ≡ level root.number = ap level (eqb-true mount.number root.number e) in
-            absurd (omega (arith, equal, low))),
-      )
+      other mount low = grind (arith, common_steps, false_from_ne_true, eqb-true, new_higher)
 
       by : (number : ℕ) → Stands nat_eq world number → (mount : Mount ℕ) → Among mount world.mounts
           → mount.number ≡ number → level number < level root.number → Stands nat_eq after mount.number
@@ -236,8 +208,7 @@ module _ (world : World ℕ) (namespace : ℕ) (root new : Mount ℕ) (put : Loc
           carry mount m not_these.0 not_these.1 (λ place g.
           let at_is : at ≡ place = same_Some at place (sym e ∙ found_place it mount m same ∙ g) in
           let parent = parent_of world mounts mount m place g in
-          subst (Stands nat_eq after) parent.number
-          (by at.mount stands parent.parent parent.there
+          subst (Stands nat_eq after) parent.number (by at.mount stands parent.parent parent.there
           (parent.number ∙ ap (λ (p : Location ℕ). p.mount) (sym at_is)) (omega (arith, step, low))))
 
   -- so the new one stands, where the old one stood,
@@ -254,8 +225,7 @@ module _ (world : World ℕ) (namespace : ℕ) (root new : Mount ℕ) (put : Loc
           stand_on new parent.parent new_among parent.there place (moved_new ∙ e) parent.number
           (may.new_inside ∙ sym may.root_inside ∙ parent.namespace)
           (below_root parent.parent.number (stands_itself world mounts parent.parent parent.there) parent.parent
-          parent.there
-          refl (omega (arith, step, level_is)))
+          parent.there refl (omega (arith, step, level_is)))
 
   -- and what stands over it,
   over_new : (top number : ℕ) → LiesIn world top number → top ≡ new.number → Stands nat_eq after number
@@ -273,22 +243,13 @@ module _ (world : World ℕ) (namespace : ℕ) (root new : Mount ℕ) (put : Loc
       higher =
           let step = rank_child world mounts.one_number mounts.standing it place e in
           let new_level : level new.number ≡ level above = ap level (sym same) in
-          ⊎_elim
-          (λ equal.
-          let levels : level above ≡ level place.mount = ap level equal in
-          omega (arith, levels, step, new_level))
-          (λ more. omega (arith, more, step, new_level))
-          (lies_deeper world mounts.one_number mounts.standing above place.mount way)
+          grind (arith, common_steps, lies_deeper)
 
       by : (b : Bool) → nat_eq it new.number ≡ b → Stands nat_eq after place.mount → Stands nat_eq after it
       by true f below = subst (Stands nat_eq after) (sym (eqb-true it new.number f)) new_stands
-      by false f below =
-          subst (Stands nat_eq after) number_is
-          (carry mount (placed_among world.mounts it place e)
-          (ap (λ n. nat_eq n new.number) number_is ∙ f)
-          (false_from_ne_true (nat_eq mount.number root.number) (λ g.
-          let equal : level it ≡ level root.number =
-          ap level (sym number_is ∙ eqb-true mount.number root.number g) in
+      by false f below = subst (Stands nat_eq after) number_is (carry mount (placed_among world.mounts it place e)
+          (ap (λ n. nat_eq n new.number) number_is ∙ f) (false_from_ne_true (nat_eq mount.number root.number) (λ g.
+          let equal : level it ≡ level root.number = ap level (sym number_is ∙ eqb-true mount.number root.number g) in
           let more = new_higher in
           let most = higher in
           absurd (omega (arith, equal, more, most))))
@@ -310,10 +271,8 @@ module _ (world : World ℕ) (namespace : ℕ) (root new : Mount ℕ) (put : Loc
 
   rise : (number : ℕ) → Stands nat_eq world number → (mount : Mount ℕ) → Among mount world.mounts
       → mount.number ≡ number → Stands nat_eq after mount.number
-  rise number (at_root it e) mount m same =
-      either mount m (λ place f. absurd (no_place it mount m same e place f))
-  rise number (on_parent it at e f stands) mount m same =
-      either mount m (λ place g.
+  rise number (at_root it e) mount m same = either mount m (λ place f. absurd (no_place it mount m same e place f))
+  rise number (on_parent it at e f stands) mount m same = either mount m (λ place g.
       let at_is : at ≡ place = same_Some at place (sym e ∙ found_place it mount m same ∙ g) in
       let parent = parent_of world mounts mount m place g in
       subst (Stands nat_eq after) parent.number
@@ -333,64 +292,33 @@ module _ (world : World ℕ) (namespace : ℕ) (root new : Mount ℕ) (put : Loc
   came_from : (mount : Mount ℕ) → Among mount world.mounts → (place : Location ℕ)
       → (move mount).mount_point ≡ Some place
       → ((before : Mount ℕ) × Among before world.mounts × (before.mount_point ≡ Some place)
-      × (mount.number ≡ swapped before.number))
-      ⊎ ((mount.number ≡ root.number) × (put ≡ place))
+      × (mount.number ≡ swapped before.number)) ⊎ ((mount.number ≡ root.number) × (put ≡ place))
   came_from mount m place e = by (nat_eq mount.number new.number) refl (nat_eq mount.number root.number) refl
     where
       by : (a : Bool) → nat_eq mount.number new.number ≡ a → (b : Bool) → nat_eq mount.number root.number ≡ b
           → ((before : Mount ℕ) × Among before world.mounts × (before.mount_point ≡ Some place)
-          × (mount.number ≡ swapped before.number))
-          ⊎ ((mount.number ≡ root.number) × (put ≡ place))
-      by true f b g =
-          inl (
-            root,
-            root_among,
-            sym (ap (λ x. (move x).mount_point) (is_new mount m f) ∙ moved_new) ∙ e,
-            eqb-true mount.number new.number f
-                ∙ ap (λ c. cond c new.number root.number) (sym (eq-eqb root.number root.number refl)),
-          )
-      by false f true g =
-          inr (
-            eqb-true mount.number root.number g,
-            same_Some put place (sym (ap (λ x. (move x).mount_point) (is_root mount m g) ∙ moved_root) ∙ e),
-          )
-      by false f false g =
-          inl (
-            mount,
-            m,
-            ap (λ x. x.mount_point) (sym (moved_other mount f g)) ∙ e,
-            ap (λ c. cond c new.number mount.number) (sym g),
-          )
+          × (mount.number ≡ swapped before.number)) ⊎ ((mount.number ≡ root.number) × (put ≡ place))
+      by true f b g = grind (arith, common_steps, root_among, is_new, moved_new, eqb-true, eq-eqb)
+      by false f true g = grind (arith, common_steps, eqb-true, same_Some, is_root, moved_root)
+      by false f false g = grind (arith, common_steps, moved_other)
 
   two_after : (a b : Mount ℕ) → Among a world.mounts → Among b world.mounts → same_number a b ≡ false
       → share_a_mount_point nat_eq (move a) (move b) ≡ false
   two_after a b m n differ = false_from_ne_true (share_a_mount_point nat_eq (move a) (move b)) (λ together.
       let both = place_of_both (move a) (move b) together in
-      let none_at_put : (x : Mount ℕ) → Among x world.mounts → x.mount_point ≡ Some put → ⊥ =
-      λ x k e.
+      let none_at_put : (x : Mount ℕ) → Among x world.mounts → x.mount_point ≡ Some put → ⊥ = λ x k e.
       true≢false (sym (stands_at_its_place put x e) ∙ unfound (stands_at nat_eq put) world.mounts may.put_free x k) in
       let one : a.number ≡ b.number → ⊥ = λ same. true≢false (sym (eq-eqb a.number b.number same) ∙ differ) in
-      ⊎_elim
-      (λ s.
-      ⊎_elim
-      (λ t.
-      one
-      (s.3
-      ∙ ap (λ (x : Mount ℕ). swapped x.number)
-      (one_stander world.mounts mounts.one_child s.0 t.0 s.1 t.1 both.0 s.2 t.2)
-      ∙ sym t.3))
-      (λ t. none_at_put s.0 s.1 (s.2 ∙ ap Some (sym t.1)))
-      (came_from b n both.0 both.2))
-      (λ s.
-      ⊎_elim
-      (λ t. none_at_put t.0 t.1 (t.2 ∙ ap Some (sym s.1)))
-      (λ t. one (s.0 ∙ sym t.0))
-      (came_from b n both.0 both.2))
+      ⊎_elim (λ s.
+      ⊎_elim (λ t.
+      one (s.3 ∙ ap (λ (x : Mount ℕ). swapped x.number)
+      (one_stander world.mounts mounts.one_child s.0 t.0 s.1 t.1 both.0 s.2 t.2) ∙ sym t.3))
+      (λ t. none_at_put s.0 s.1 (s.2 ∙ ap Some (sym t.1))) (came_from b n both.0 both.2)) (λ s. ⊎_elim
+      (λ t. none_at_put t.0 t.1 (t.2 ∙ ap Some (sym s.1))) (λ t. one (s.0 ∙ sym t.0)) (came_from b n both.0 both.2))
       (came_from a m both.0 both.1))
 
   one_child_after : any_pair (share_a_mount_point nat_eq) after.mounts ≡ false
-  one_child_after =
-      pair-map same_number (share_a_mount_point nat_eq) move world.mounts two_after mounts.one_number
+  one_child_after = pair-map same_number (share_a_mount_point nat_eq) move world.mounts two_after mounts.one_number
 
   -- Mounts outside every namespace are not moved
   nowhere_after : (mount : Mount ℕ) → Among mount world.mounts → is_nowhere_or_attached (move mount) ≡ true
@@ -413,19 +341,4 @@ pivot_keeps_mounts world namespace root new put may mounts =
 
 pub numbered_mounts_can_pivot : NumberedMountsCanPivot
 numbered_mounts_can_pivot world namespace root new put root_inside new_inside put_inside node_is over put_under free =
-    let root_number : (mount_numbered nat_eq world root).number ≡ root = number-mount_in world.mounts root in
-    let new_number : (mount_at nat_eq world new).number ≡ new.mount = number-mount_in world.mounts new.mount in
-    let top : new ≡ root_of (mount_at nat_eq world new) =
-    λ i. record { mount = sym new_number i; node = node_is i } in
-    record {
-      root_there = ap (mount_numbered nat_eq world) root_number;
-      new_there = ap (mount_numbered nat_eq world) new_number;
-      root_inside = root_inside;
-      new_inside = new_inside;
-      put_inside = put_inside;
-      new_over = ap (λ n. is_on_descendant nat_eq (looks_of nat_eq world) n (root_of (mount_at nat_eq world new)))
-          root_number
-          ∙ ap (is_on_descendant nat_eq (looks_of nat_eq world) root) (sym top) ∙ over;
-      put_over = ap (λ here. lies_under_location nat_eq (looks_of nat_eq world) here put) (sym top) ∙ put_under;
-      put_free = free;
-    }
+    grind (arith, common_steps, number-mount_in world.mounts root, number-mount_in world.mounts new.mount)

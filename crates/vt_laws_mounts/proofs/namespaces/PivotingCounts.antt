@@ -1,7 +1,6 @@
 -- A pivot of the root leaves each namespace as many mounts and as many root mounts.
-use Rattle.std.proofs.Common.{arith}
+use Rattle.std.proofs.Common.{arith, ◌≡◌, refl, sym, ap, ◌∙◌, true, false, suc, nat_eq, ℕ, Bool, List, [], eq-eqb, eqb-true, filter, is_some, length, not, true≢false, ⊎_elim, ◌&&◌, ◌∷◌}
 use Rattle.std.proofs.lemmas.Grind.{common_steps}
-use Rattle.std.proofs.Common.{◌≡◌, refl, sym, ap, ◌∙◌, true, false, suc, nat_eq, ℕ, Bool, List, [], eq-eqb, eqb-true, filter, is_some, length, not, true≢false, ⊎_elim, ◌&&◌, ◌∷◌}
 use Rattle.std.specs.List.{list_any}
 use Rattle.std.proofs.lemmas.Bool.{or_parts}
 use Rattle.std.proofs.lemmas.List.{length-map}
@@ -31,20 +30,15 @@ one_more p [] one a m e = absurd m
 one_more p (y ∷ ys) one a m e =
     let parts : (list_any (same_number y) ys ≡ false) × OneNumberAMount ys =
     or_parts (list_any (same_number y) ys) (any_pair same_number ys) one in
-    ⊎_elim
-    (λ same.
-    ap length (filter_here p y ys (ap p (sym same) ∙ e))
-    ∙ ap (λ l. suc (length l))
+    ⊎_elim (λ same.
+    ap length (filter_here p y ys (ap p (sym same) ∙ e)) ∙ ap (λ l. suc (length l))
     (filter_alike p (besides p a) ys (λ x k.
     sym (and_true (p x) (nat_eq a.number x.number)
     (ap (λ (z : Mount ℕ). nat_eq z.number x.number) same ∙ none_among (same_number y) ys parts.0 x k))))
-    ∙ ap (λ l. suc (length l))
-    (sym (filter_skip (besides p a) y ys (and_false (p y) (nat_eq a.number y.number)
-    (eq-eqb a.number y.number (ap (λ (z : Mount ℕ). z.number) same))))))
-    (λ later.
+    ∙ ap (λ l. suc (length l)) (sym (filter_skip (besides p a) y ys (and_false (p y) (nat_eq a.number y.number)
+    (eq-eqb a.number y.number (ap (λ (z : Mount ℕ). z.number) same)))))) (λ later.
     by (p y) refl (nat_eq_false_turned y.number a.number (none_among (same_number y) ys parts.0 a later))
-    (one_more p ys parts.1 a later e))
-    m
+    (one_more p ys parts.1 a later e)) m
   where
     and_true : (b c : Bool) → c ≡ false → (b && not c) ≡ b
     and_true true c f = ap not f
@@ -57,13 +51,9 @@ one_more p (y ∷ ys) one a m e =
     by : (b : Bool) → p y ≡ b → nat_eq a.number y.number ≡ false
         → length (filter p ys) ≡ suc (length (filter (besides p a) ys))
         → length (filter p (y ∷ ys)) ≡ suc (length (filter (besides p a) (y ∷ ys)))
-    by true f g rest =
-        ap length (filter_here p y ys f) ∙ ap suc rest
-        ∙ ap (λ l. suc (length l))
+    by true f g rest = ap length (filter_here p y ys f) ∙ ap suc rest ∙ ap (λ l. suc (length l))
         (sym (filter_here (besides p a) y ys (and_true (p y) (nat_eq a.number y.number) g ∙ f)))
-    by false f g rest =
-        ap length (filter_skip p y ys f) ∙ rest
-        ∙ ap (λ l. suc (length l))
+    by false f g rest = ap length (filter_skip p y ys f) ∙ rest ∙ ap (λ l. suc (length l))
         (sym (filter_skip (besides p a) y ys (and_true (p y) (nat_eq a.number y.number) g ∙ f)))
 
 -- two tests, of which each passes one mount that the other does not
@@ -106,32 +96,29 @@ module _ (world : World ℕ) (namespace : ℕ) (root new : Mount ℕ) (put : Loc
   -- in another namespace none is moved
   elsewhere : (other : ℕ) → nat_eq other namespace ≡ false → (mount : Mount ℕ) → Among mount world.mounts
       → is_in other mount ≡ true → later mount ≡ before mount
-  elsewhere other differ mount m here =
-      grind (
-        arith,
-        common_steps,
-        other_later,
-        is_new world namespace root new put may mounts mount m,
-        is_root world
-            namespace root new put may mounts mount m,
-        true≢false,
-      )
+  elsewhere other differ mount m here = grind (
+    arith,
+    common_steps,
+    other_later,
+    is_new world namespace root new put may mounts mount m,
+    is_root world namespace root new put may mounts mount m,
+    true≢false,
+  )
 
   -- in its own the new root mount begins where the old one ends
   besides_alike : (mount : Mount ℕ) → Among mount world.mounts → besides later new mount ≡ besides before root mount
-  besides_alike mount m =
-      grind (
-        arith,
-        common_steps,
-        is_new,
-        eq-eqb,
-        eqb-true,
-        new_not_before,
-        is_root,
-        root_not_later,
-        other_later,
-        nat_eq_false_turned,
-      )
+  besides_alike mount m = grind (
+    arith,
+    common_steps,
+    is_new,
+    eq-eqb,
+    eqb-true,
+    new_not_before,
+    is_root,
+    root_not_later,
+    other_later,
+    nat_eq_false_turned,
+  )
 
   roots_of : (other : ℕ) → length (filter later (mounts_of nat_eq world other))
       ≡ length (filter before (mounts_of nat_eq world other))
@@ -143,14 +130,11 @@ module _ (world : World ℕ) (namespace : ℕ) (root new : Mount ℕ) (put : Loc
 
       by : (b : Bool) → before root ≡ b → (c : Bool) → nat_eq other namespace ≡ c
           → length (filter later (mounts_of nat_eq world other)) ≡ length (filter before (mounts_of nat_eq world other))
-      by false e c f =
-          ap length (filter_alike later before (mounts_of nat_eq world other) (λ mount m.
+      by false e c f = ap length (filter_alike later before (mounts_of nat_eq world other) (λ mount m.
           alike e mount (here mount m).0))
-      by true e false f =
-          ap length (filter_alike later before (mounts_of nat_eq world other) (λ mount m.
+      by true e false f = ap length (filter_alike later before (mounts_of nat_eq world other) (λ mount m.
           elsewhere other f mount (here mount m).0 (here mount m).1))
-      by true e true f =
-          as_many_pass later before (mounts_of nat_eq world other)
+      by true e true f = as_many_pass later before (mounts_of nat_eq world other)
           (pair-filter same_number (is_in other) world.mounts mounts.one_number) new root
           (among-filter (is_in other) world.mounts new (new_among world namespace root new put may mounts)
           (ap (holds_of (nat_eq other)) may.new_inside ∙ f))
@@ -161,15 +145,12 @@ module _ (world : World ℕ) (namespace : ℕ) (root new : Mount ℕ) (put : Loc
 pub pivot_keeps_counts : PivotKeepsCounts
 pivot_keeps_counts world namespace root new put may mounts other =
     let change_of = move world namespace root new put may mounts in
-    let these =
-    as_many_mounts world (pivoted nat_eq world namespace root new put) change_of refl
-    (λ mount m. moved_namespace world namespace root new put may mounts mount)
-    other in
+    let these = as_many_mounts world (pivoted nat_eq world namespace root new put) change_of refl
+    (λ mount m. moved_namespace world namespace root new put may mounts mount) other in
     let before_these = mounts_of nat_eq world other in
     record {
       mounts = ap length these ∙ length-map before_these change_of;
-      roots = ap (λ l. length (filter (is_root_mount nat_eq) l)) these
-          ∙ ap length
+      roots = ap (λ l. length (filter (is_root_mount nat_eq) l)) these ∙ ap length
           (filter-map (is_root_mount nat_eq) (λ mount. is_root_mount nat_eq (change_of mount)) change_of before_these
           (λ mount m. refl))
           ∙ length-map (filter (λ mount. is_root_mount nat_eq (change_of mount)) before_these) change_of

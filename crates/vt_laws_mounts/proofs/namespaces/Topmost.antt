@@ -1,4 +1,5 @@
 -- The topmost mount over a place.
+use Rattle.std.proofs.lemmas.Grind.{common_steps}
 use Rattle.std.proofs.Common.{◌≡◌, refl, ap, ◌∙◌, zero, suc, nat_eq, ℕ, None, Option, Some, arith, length, option_map, ◌+◌, ◌≤◌}
 use Rattle.vt_spec.specs.Lists.{chain, last_or}
 use Rattle.vt_spec.specs.Machine.Mounts.{Location, Mount, child_at, root_of, stands_at}
@@ -23,9 +24,7 @@ module _ (world : World ℕ) (mounts : MountInvariants nat_eq world) where
       → level child.number ≡ suc (level here.mount)
   higher here child e =
       let found = found_in (stands_at nat_eq here) world.mounts child e in
-      rank_child world mounts.one_number mounts.standing child.number here
-      (ap (λ x. x.mount_point) (found_itself world.mounts mounts.one_number child found.0)
-      ∙ stands_there here child found.1)
+      grind (arith, common_steps, rank_child, found_itself, stands_there)
 
   free_after : (n : ℕ) (here : Location ℕ) → length world.mounts ≤ n + level here.mount
       → child_at nat_eq world.mounts (last_or here (chain n over here)) ≡ None
@@ -51,8 +50,7 @@ module _ (world : World ℕ) (mounts : MountInvariants nat_eq world) where
           let one = higher here child e in
           ap (child_at nat_eq world.mounts)
           (ap (last_or here) (chain_goes_on over n here (root_of child) (ap (option_map root_of) e))
-          ∙ last_of_chain over n (root_of child) here)
-          ∙ later (root_of child) (omega (arith, far, one))
+          ∙ last_of_chain over n (root_of child) here) ∙ later (root_of child) (omega (arith, far, one))
 
 pub topmost_is_free : TopmostIsFree
 topmost_is_free world place mounts = free_after world mounts (length world.mounts) place (omega arith)

@@ -1,7 +1,6 @@
 -- An unshare: the copies of a namespace's mounts stand on copies.
-use Rattle.std.proofs.Common.{arith}
+use Rattle.std.proofs.Common.{arith, ◌≡◌, refl, sym, ap, subst, ◌∙◌, false, nat_eq, ℕ, List, None, Some, eq-eqb, is_some, map, not, option_map, true≢false, ⊎_elim, ◌&&◌, ◌||◌, ◌+◌, ◌*◌, true}
 use Rattle.std.proofs.lemmas.Grind.{common_steps}
-use Rattle.std.proofs.Common.{◌≡◌, refl, sym, ap, subst, ◌∙◌, false, nat_eq, ℕ, List, None, Some, eq-eqb, is_some, map, not, option_map, true≢false, ⊎_elim, ◌&&◌, ◌||◌, ◌+◌, ◌*◌, true}
 use Rattle.std.proofs.lemmas.Bool.{false_from_ne_true}
 use Rattle.std.proofs.lemmas.Option.{same_Some}
 use Rattle.vt_spec.proofs.Lists.{Among, all_from_among, among-append, among-append_left, among-append_right, among-filter, among-from_filter, among-from_map, among-map, among_from_all, among_from_list_all, pair-filter, pair-map}
@@ -40,10 +39,8 @@ module _ (world : World ℕ) (mounts : MountInvariants nat_eq world) where
 
   -- a mount outside every namespace has no place
   pub placed_inside : (mount : Mount ℕ) → Among mount world.mounts → (place : Location ℕ)
-      → mount.mount_point ≡ Some place
-      → mount.namespace ≡ None → ⊥
-  placed_inside mount m place e none =
-      true≢false
+      → mount.mount_point ≡ Some place → mount.namespace ≡ None → ⊥
+  placed_inside mount m place e none = true≢false
       (sym (among_from_list_all is_nowhere_or_attached world.mounts mounts.nowhere mount m)
       ∙ ap (λ n. is_some n || (not (is_some mount.mount_point) && is_private mount.propagation)) none
       ∙ ap (λ q. not (is_some q) && is_private mount.propagation) e)
@@ -61,14 +58,12 @@ module _ (world : World ℕ) (mounts : MountInvariants nat_eq world) where
           let inside : mount.namespace ≡ (mount_numbered nat_eq world place.mount).namespace =
           ap (λ x. x.namespace) (sym same) ∙ g
           ∙ ap (λ (p : Location ℕ). (mount_numbered nat_eq world p.mount).namespace) at_is in
-          ⊎_elim
-          (λ there. record {
+          ⊎_elim (λ there. record {
             parent = mount_numbered nat_eq world place.mount;
             there = there;
             number = number-mount_in world.mounts place.mount;
             namespace = inside;
-          })
-          (λ none. absurd (placed_inside mount m place e (inside ∙ ap (λ x. x.namespace) none)))
+          }) (λ none. absurd (placed_inside mount m place e (inside ∙ ap (λ x. x.namespace) none)))
           (found_or_none world.mounts place.mount)
 
   -- and that is a mount of the world
@@ -104,13 +99,7 @@ module _ (world : World ℕ) (fresh : Fresh ℕ) (task : Task ℕ) (serves : Ser
       → (parent : Mount ℕ) × Among parent copied × (parent.number ≡ place.mount)
   copied_parent mount m place e =
       let parent = parent_of world mounts mount (is_copied_from mount m) place e in
-      let inside =
-      (among-from_filter (λ (x : Mount ℕ). holds_of (nat_eq task.namespace) x.namespace) world.mounts mount m).1 in (
-        parent.parent,
-        among-filter (λ (x : Mount ℕ). holds_of (nat_eq task.namespace) x.namespace) world.mounts parent.parent
-            parent.there (ap (holds_of (nat_eq task.namespace)) (sym parent.namespace) ∙ inside),
-        parent.number,
-      )
+      grind (arith, common_steps, among-from_filter, among-filter)
 
   -- a mount that was there is found as it was, and each copy by its own number
   pub old_found : (mount : Mount ℕ) → Among mount world.mounts → mount_numbered nat_eq after mount.number ≡ mount
@@ -118,14 +107,12 @@ module _ (world : World ℕ) (fresh : Fresh ℕ) (task : Task ℕ) (serves : Ser
       found_itself after.mounts one_after mount (among-append_left world.mounts (map copy copied) mount m)
 
   pub copy_found : (mount : Mount ℕ) → Among mount copied → mount_numbered nat_eq after (copy mount).number ≡ copy mount
-  copy_found mount m =
-      found_itself after.mounts one_after (copy mount)
+  copy_found mount m = found_itself after.mounts one_after (copy mount)
       (among-append_right world.mounts (map copy copied) (copy mount) (among-map copy copied mount m))
 
   old_stands : (number : ℕ) → Stands nat_eq world number → (mount : Mount ℕ) → Among mount world.mounts
       → mount.number ≡ number → Stands nat_eq after number
-  old_stands number (at_root it e) mount m same =
-      at_root it
+  old_stands number (at_root it e) mount m same = at_root it
       (ap (λ n. (mount_numbered nat_eq after n).mount_point) (sym same) ∙ ap (λ x. x.mount_point) (old_found mount m)
       ∙ ap (λ x. x.mount_point) (sym (itself world mounts mount m))
       ∙ ap (λ n. (mount_numbered nat_eq world n).mount_point) same ∙ e)
@@ -144,10 +131,8 @@ module _ (world : World ℕ) (fresh : Fresh ℕ) (task : Task ℕ) (serves : Ser
 
   copy_stands : (number : ℕ) → Stands nat_eq world number → (mount : Mount ℕ) → Among mount copied
       → mount.number ≡ number → Stands nat_eq after (copy mount).number
-  copy_stands number (at_root it e) mount m same =
-      at_root (copy mount).number
-      (ap (λ x. x.mount_point) (copy_found mount m)
-      ∙ ap (option_map (location_on_copy new_number))
+  copy_stands number (at_root it e) mount m same = at_root (copy mount).number
+      (ap (λ x. x.mount_point) (copy_found mount m) ∙ ap (option_map (location_on_copy new_number))
       (ap (λ x. x.mount_point) (sym (itself world mounts mount (is_copied_from mount m)))
       ∙ ap (λ n. (mount_numbered nat_eq world n).mount_point) same ∙ e))
   copy_stands number (on_parent it place e f stands) mount m same =
@@ -164,10 +149,8 @@ module _ (world : World ℕ) (fresh : Fresh ℕ) (task : Task ℕ) (serves : Ser
       (subst (Stands nat_eq after) number_is (copy_stands place.mount stands parent.0 parent.1 parent.2))
 
   all_stand_after : (mount : Mount ℕ) → Among mount after.mounts → Stands nat_eq after mount.number
-  all_stand_after mount m =
-      ⊎_elim
-      (λ old. old_stands mount.number (stands_itself world mounts mount old) mount old refl)
-      (λ new.
+  all_stand_after mount m = ⊎_elim
+      (λ old. old_stands mount.number (stands_itself world mounts mount old) mount old refl) (λ new.
       let from = among-from_map copy copied mount new in
       subst (λ (x : Mount ℕ). Stands nat_eq after x.number) (sym from.2)
       (copy_stands from.0.number (stands_itself world mounts from.0 (is_copied_from from.0 from.1)) from.0 from.1 refl))
@@ -191,11 +174,9 @@ module _ (world : World ℕ) (fresh : Fresh ℕ) (task : Task ℕ) (serves : Ser
       odds-distinct fresh (served-distinct world fresh serves) (index_of nat_eq copied on_p.0.number)
       (index_of nat_eq copied on_q.0.number)
       (ap new_number on_p.2 ∙ ap (λ (l : Location ℕ). l.mount) same ∙ ap new_number (sym on_q.2)) in
-      let mount_same : p.0.mount ≡ q.0.mount =
-      sym on_p.2
+      let mount_same : p.0.mount ≡ q.0.mount = sym on_p.2
       ∙ one_index copied on_p.0.number on_q.0.number (is_one_of copied on_p.0 on_p.1)
-      (is_one_of copied on_q.0 on_q.1) index
-      ∙ on_q.2 in
+      (is_one_of copied on_q.0 on_q.1) index ∙ on_q.2 in
       let node_same : p.0.node ≡ q.0.node = ap (λ (l : Location ℕ). l.node) same in
       let place_same : p.0 ≡ q.0 = λ i. record { mount = mount_same i; node = node_same i } in
       true≢false (sym (one_place_of_two p.0 a b p.1 (q.1 ∙ ap Some (sym place_same))) ∙ differ))
@@ -208,18 +189,15 @@ module _ (world : World ℕ) (fresh : Fresh ℕ) (task : Task ℕ) (serves : Ser
       let index = index_of nat_eq copied q.0.mount in
       let same : parent.parent.number ≡ fresh (2 * index + 1) =
       parent.number ∙ ap (λ (l : Location ℕ). l.mount) (sym q.2) in
-      true≢false
-      (sym (eq-eqb parent.parent.number (fresh (2 * index + 1)) same)
+      true≢false (sym (eq-eqb parent.parent.number (fresh (2 * index + 1)) same)
       ∙ number_is_old world fresh serves parent.parent.number
       (among-map (λ (mount : Mount ℕ). mount.number) world.mounts parent.parent parent.there) (2 * index + 1)))
 
   one_child_after : any_pair (share_a_mount_point nat_eq) after.mounts ≡ false
-  one_child_after =
-      pair-append (share_a_mount_point nat_eq) world.mounts (map copy copied) mounts.one_child
+  one_child_after = pair-append (share_a_mount_point nat_eq) world.mounts (map copy copied) mounts.one_child
       (pair-map (share_a_mount_point nat_eq) (share_a_mount_point nat_eq) copy copied two_copies
       (pair-filter (share_a_mount_point nat_eq) (λ (x : Mount ℕ). holds_of (nat_eq task.namespace) x.namespace)
-      world.mounts mounts.one_child))
-      (λ a b m n.
+      world.mounts mounts.one_child)) (λ a b m n.
       let from = among-from_map copy copied b n in
       ap (share_a_mount_point nat_eq a) from.2 ∙ old_and_copy a from.0 m from.1)
 

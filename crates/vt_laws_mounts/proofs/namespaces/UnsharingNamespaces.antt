@@ -1,7 +1,6 @@
 -- An unshare: the mounts of each namespace.
-use Rattle.std.proofs.Common.{arith}
+use Rattle.std.proofs.Common.{arith, ◌≡◌, refl, sym, ap, subst, ◌∙◌, true, false, nat_eq, ℕ, None, Option, Some, eq-eqb, eqb-true, filter, flat_map, map, option_to_list, true≢false, ◌++◌}
 use Rattle.std.proofs.lemmas.Grind.{common_steps}
-use Rattle.std.proofs.Common.{◌≡◌, refl, sym, ap, subst, ◌∙◌, true, false, nat_eq, ℕ, None, Option, Some, eq-eqb, eqb-true, filter, flat_map, map, option_to_list, true≢false, ◌++◌}
 use Rattle.std.specs.List.{list_all}
 use Rattle.std.proofs.lemmas.Bool.{and_parts, false_from_ne_true}
 use Rattle.std.proofs.lemmas.List.{append-nil, length-map}
@@ -22,16 +21,13 @@ pub unshare_leaves_namespaces : UnshareLeavesNamespaces
 unshare_leaves_namespaces world fresh task namespace other =
     let copied = mounts_of nat_eq world task.namespace in
     let copy = copied_mount (numbers_by nat_eq (odds fresh) copied) (evens fresh 0) in
-    filter-append (is_in namespace) world.mounts (map copy copied)
-    ∙ ap (λ l. mounts_of nat_eq world namespace ++ l)
-    (filter_none (is_in namespace) (map copy copied)
-    (none_from_among (is_in namespace) (map copy copied) (λ mount m.
+    filter-append (is_in namespace) world.mounts (map copy copied) ∙ ap (λ l. mounts_of nat_eq world namespace ++ l)
+    (filter_none (is_in namespace) (map copy copied) (none_from_among (is_in namespace) (map copy copied) (λ mount m.
     ap (is_in namespace) (among-from_map copy copied mount m).2 ∙ other)))
     ∙ append-nil (mounts_of nat_eq world namespace)
 
 pub new_namespace_is_empty : NewNamespaceIsEmpty
-new_namespace_is_empty world fresh serves listed =
-    filter_none (is_in (evens fresh 0)) world.mounts
+new_namespace_is_empty world fresh serves listed = filter_none (is_in (evens fresh 0)) world.mounts
     (none_from_among (is_in (evens fresh 0)) world.mounts (λ mount m.
     by mount.namespace
     (among_from_list_all (λ (x : Mount ℕ). list_all (is_listed nat_eq world) (option_to_list x.namespace)) world.mounts
@@ -46,8 +42,7 @@ new_namespace_is_empty world fresh serves listed =
         among-append_right (flat_map used_by_mount world.mounts ++ flat_map used_by_filesystem world.filesystems)
         (map (λ (other : Namespace ℕ). other.number) world.namespaces) namespace
         (among_numbers (map (λ (other : Namespace ℕ). other.number) world.namespaces) namespace there) in
-        true≢false
-        (sym (is_among_numbers (numbers_in_use world) (evens fresh 0)
+        true≢false (sym (is_among_numbers (numbers_in_use world) (evens fresh 0)
         (subst (λ n. Among n (numbers_in_use world)) (sym (eqb-true (evens fresh 0) namespace same)) used))
         ∙ serves.unused 0))
 
@@ -69,6 +64,5 @@ unshare_keeps_counts world fresh task empty =
       common_steps,
       length-map copied copy,
       filter-map,
-      length-map (filter (is_root_mount nat_eq) copied)
-          copy,
+      length-map (filter (is_root_mount nat_eq) copied) copy,
     )

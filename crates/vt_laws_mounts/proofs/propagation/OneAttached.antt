@@ -13,8 +13,7 @@ use Rattle.vt_laws_mounts.specs.Mounts.Propagation.{Attachment, IsPart, world_af
 use Rattle.vt_laws_mounts.proofs.attached.Attaching.{taker_there}
 use Rattle.vt_laws_mounts.proofs.mounts.MountsAttached.{new_mounts_follow}
 use Rattle.vt_laws_mounts.proofs.mounts.MountsFound.{found_there}
-use Rattle.vt_laws_mounts.proofs.mounts.Receivers.{receives_from_source}
-use Rattle.vt_laws_mounts.proofs.mounts.Receivers.{receiver_receives}
+use Rattle.vt_laws_mounts.proofs.mounts.Receivers.{receives_from_source, receiver_receives}
 
 -- the attachment of one mount, of which no copy goes onto another mount
 abbrev pub one_of : World ℕ → Fresh ℕ → Location ℕ → Mount ℕ → Attachment
@@ -39,29 +38,21 @@ module _ (world : World ℕ) (fresh : Fresh ℕ) (place : Location ℕ) (first :
   pub later_number : (one : ℕ) → is_mount world one ≡ true → is_mount after one ≡ true
   later_number one old =
       let t = new_mounts_follow world fresh place false (first ∷ []) in
-      ap (is_among nat_eq one) t.1
-      ∙ is_among_numbers (numbers_of world.mounts ++ t.0) one
+      ap (is_among nat_eq one) t.1 ∙ is_among_numbers (numbers_of world.mounts ++ t.0) one
       (among-append_left (numbers_of world.mounts) t.0 one (among_numbers (numbers_of world.mounts) one old))
 
   -- parts were there, and hear the group of the destination
   pub part_old : (part : Mount ℕ) → IsPart it part → Among part world.mounts
-  part_old part c =
-      ⊎_elim
+  part_old part c = ⊎_elim
       (λ same. subst (λ x. Among x world.mounts) (sym same) (found_there world.mounts place.mount there))
-      (λ rest. taker_there world place part rest)
-      (among_from_contains parts part c)
+      (λ rest. taker_there world place part rest) (among_from_contains parts part c)
 
   pub hears_group : (part : Mount ℕ) → IsPart it part → (group : ℕ) → destination.propagation ≡ Shared group
       → receives nat_eq world group part ≡ true
-  hears_group part c group e =
-      ⊎_elim
-      (λ same.
+  hears_group part c group e = ⊎_elim (λ same.
       subst (λ x. receives nat_eq world group x ≡ true) (sym same)
-      (receives_from_source world group destination (ap source_of e)))
-      (λ rest.
-      let t =
-      receiver_receives world destination part
+      (receives_from_source world group destination (ap source_of e))) (λ rest.
+      let t = receiver_receives world destination part
       (among-from_filter (takes_part nat_eq world place) (receivers_of nat_eq world destination) part rest).0 in
-      subst (λ g. receives nat_eq world g part ≡ true)
-      (same_Some t.0 group (ap group_of (sym t.1 ∙ e))) t.3)
+      subst (λ g. receives nat_eq world g part ≡ true) (same_Some t.0 group (ap group_of (sym t.1 ∙ e))) t.3)
       (among_from_contains parts part c)

@@ -1,8 +1,7 @@
 -- Receivers that take part, but for members of the destination's group, have a group above them of which a part is a
 -- member: the destination's, or a nearer one.
-use Rattle.std.proofs.Common.{arith}
+use Rattle.std.proofs.Common.{arith, ◌≡◌, refl, sym, ap, ◌∙◌, true, false, nat_eq, eq-eqb, ne_eqb, ℕ, zero, suc, List, Option, Some, inl, true≢false, ◌||◌}
 use Rattle.std.proofs.lemmas.Grind.{common_steps}
-use Rattle.std.proofs.Common.{◌≡◌, refl, sym, ap, ◌∙◌, true, false, nat_eq, eq-eqb, ne_eqb, ℕ, zero, suc, Bool, List, None, Option, Some, inl, true≢false, ◌||◌}
 use Rattle.vt_spec.proofs.Lists.{among-from_filter, among_from_contains, any_among, any_from_among, chain_ends, chain_goes_on, contains_from_among}
 use Rattle.vt_spec.specs.Lists.{chain, holds_of, is_among}
 use Rattle.vt_spec.specs.Machine.Attach.{parts_of, receivers_of, takes_part}
@@ -22,18 +21,7 @@ longer next (suc n) a d h = by (next a) refl (λ b. longer next n b d)
     by : (o : Option ℕ) → next a ≡ o
         → ((b : ℕ) → is_among nat_eq d (chain n next b) ≡ true → is_among nat_eq d (chain (suc n) next b) ≡ true)
         → is_among nat_eq d (chain (suc (suc n)) next a) ≡ true
-    by None e on =
-        ap (is_among nat_eq d) (chain_ends next (suc n) a e ∙ sym (chain_ends next n a e)) ∙ h
-    by (Some b) e on =
-        ap (is_among nat_eq d) (chain_goes_on next (suc n) a b e)
-        ∙ at (nat_eq d a) refl (sym (ap (is_among nat_eq d) (chain_goes_on next n a b e)) ∙ h)
-      where
-        at : (c : Bool) → nat_eq d a ≡ c → (nat_eq d a || is_among nat_eq d (chain n next b)) ≡ true
-            → (nat_eq d a || is_among nat_eq d (chain (suc n) next b)) ≡ true
-        at true s t = ap (λ x. x || is_among nat_eq d (chain (suc n) next b)) s
-        at false s t =
-            ap (λ x. x || is_among nat_eq d (chain (suc n) next b)) s
-            ∙ on b (sym (ap (λ x. x || is_among nat_eq d (chain n next b)) s) ∙ t)
+    by o e on = grind (arith, common_steps, chain_ends, chain_goes_on)
 
 -- what is in a chain after its start is in that from the next one
 above_in : (next : ℕ → Option ℕ) (n a d : ℕ) → is_among nat_eq d (chain n next a) ≡ true → nat_eq d a ≡ false
@@ -49,15 +37,14 @@ module _ (it : Attachment) where
   hears : (one : Mount ℕ) → IsPart it one → (one ≡ destination_of it → ⊥)
       → (group : ℕ) × (group_of (destination_of it).propagation ≡ Some group)
       × (receives nat_eq it.world group one ≡ true)
-  hears one is differs =
-      grind (
-        arith,
-        common_steps,
-        among-from_filter (takes_part nat_eq it.world it.mount_point) (receivers_of nat_eq
-            it.world (destination_of it)) one,
-        among_from_contains parts one is,
-        among-from_filter,
-      )
+  hears one is differs = grind (
+    arith,
+    common_steps,
+    among-from_filter (takes_part nat_eq it.world it.mount_point) (receivers_of nat_eq
+        it.world (destination_of it)) one,
+    among_from_contains parts one is,
+    among-from_filter,
+  )
 
   -- the destination is a part, so where its group is up from another there is a nearest one
   nearest_is : (group master : ℕ) → group_of (destination_of it).propagation ≡ Some group
@@ -74,9 +61,7 @@ pub slaves_have_a_group_above : SlavesHaveAGroupAbove
 slaves_have_a_group_above it one master is away slave =
     let heard = hears it one is (λ same. true≢false (sym (eq-eqb one.number it.mount_point.mount
     (ap (λ (x : Mount ℕ). x.number) same ∙ number_found it.world.mounts it.mount_point.mount)) ∙ away)) in
-    nearest_is it heard.0 master heard.1
-    (sym (ap (λ k. holds_of (λ source. is_among nat_eq heard.0 (groups_up it.world source)) (source_of k)) slave)
-    ∙ heard.2)
+    grind (arith, common_steps, nearest_is)
 
 pub lower_groups_have_a_group_above : LowerGroupsHaveAGroupAbove
 lower_groups_have_a_group_above it one own is shared lacks =
@@ -84,7 +69,6 @@ lower_groups_have_a_group_above it one own is shared lacks =
     ∙ ap (is_member_of nat_eq own) same ∙ lacks)) in
     let above = above_in it.world.master (Rattle.std.proofs.Common.length it.world.mounts) own heard.0
     (sym (ap (λ k. holds_of (λ source. is_among nat_eq heard.0 (groups_up it.world source)) (source_of k)) shared)
-    ∙ heard.2)
-    (ne_eqb heard.0 own (λ same. true≢false (sym (eq-eqb own heard.0 (sym same))
+    ∙ heard.2) (ne_eqb heard.0 own (λ same. true≢false (sym (eq-eqb own heard.0 (sym same))
     ∙ sym (ap (holds_of (nat_eq own)) heard.1) ∙ lacks))) in
     (above.0, above.1, nearest_is it heard.0 above.0 heard.1 above.2)

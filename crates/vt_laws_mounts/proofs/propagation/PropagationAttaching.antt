@@ -1,7 +1,6 @@
 -- Copies of a tree that is attached: that they are there, where they stand, and their types.
-use Rattle.std.proofs.Common.{arith}
+use Rattle.std.proofs.Common.{arith, ◌≡◌, refl, sym, ap, subst, ◌∙◌, true, false, nat_eq, ℕ, Bool, List, None, Some, inl, is_some, true≢false, ⊎_elim, ◌&&◌, ◌∷◌}
 use Rattle.std.proofs.lemmas.Grind.{common_steps}
-use Rattle.std.proofs.Common.{◌≡◌, refl, sym, ap, subst, ◌∙◌, true, false, nat_eq, ℕ, Bool, List, None, Some, inl, is_some, true≢false, ⊎_elim, ◌&&◌, ◌∷◌}
 use Rattle.std.specs.Prelude.{Contains, if◌then◌else◌}
 use Rattle.std.specs.List.{list_any}
 use Rattle.std.proofs.lemmas.Bool.{false_from_ne_true}
@@ -60,13 +59,11 @@ module _ (it : Attachment) (can : CanAttach it) where
       → copy_of it part origin ≡ arrived_at part origin
   is_copy part origin c d =
       found_copy it.world supply it.mount_point it.moves it.mounts serve_copies can.each_once can.one_number
-      moving_there part
-      origin (part_among part c) (tree_among origin d)
+      moving_there part origin (part_among part c) (tree_among origin d)
 
   pub copy_keeps : (part origin : Mount ℕ) → IsPart it part → IsOfTree it origin
       → KeepsAllButMountPoint (made_at part origin) (copy_of it part origin)
-  copy_keeps part origin c d =
-      subst (KeepsAllButMountPoint (made_at part origin)) (sym (is_copy part origin c d))
+  copy_keeps part origin c d = subst (KeepsAllButMountPoint (made_at part origin)) (sym (is_copy part origin c d))
       (arrived_keeps it.world supply it.mount_point it.moves it.mounts part origin)
 
   pub copy_kind : (part origin : Mount ℕ) → IsPart it part → IsOfTree it origin
@@ -79,9 +76,7 @@ module _ (it : Attachment) (can : CanAttach it) where
 
   there : (part origin : Mount ℕ) → IsPart it part → IsOfTree it origin
       → Contains (world_after it).mounts (copy_of it part origin)
-  there part origin c d =
-      contains_from_among (world_after it).mounts (copy_of it part origin)
-      (⊎_elim (λ m. m)
+  there part origin c d = contains_from_among (world_after it).mounts (copy_of it part origin) (⊎_elim (λ m. m)
       (λ none. absurd (true≢false (sym (placed part origin)
       ∙ ap (λ (x : Mount ℕ). is_some x.mount_point) (sym (is_copy part origin c d))
       ∙ ap (λ (x : Mount ℕ). is_some x.mount_point) none)))
@@ -90,11 +85,9 @@ module _ (it : Attachment) (can : CanAttach it) where
   number_new : (part origin : Mount ℕ) → IsPart it part → IsOfTree it origin
       → is_mount it.world (supply.copy part.number origin.number) ≡ false
   number_new part origin c d = false_from_ne_true (is_mount it.world (supply.copy part.number origin.number)) (λ is.
-      let old =
-      among-from_map (λ (x : Mount ℕ). x.number) it.world.mounts (supply.copy part.number origin.number)
+      let old = among-from_map (λ (x : Mount ℕ). x.number) it.world.mounts (supply.copy part.number origin.number)
       (among_numbers (numbers_of it.world.mounts) (supply.copy part.number origin.number) is) in
-      true≢false
-      (sym (is_among_numbers (numbers_in_use it.world) old.0.number (number_in_use it.world old.0 old.1))
+      true≢false (sym (is_among_numbers (numbers_in_use it.world) old.0.number (number_in_use it.world old.0 old.1))
       ∙ ap (λ n. is_among nat_eq n (numbers_in_use it.world)) (sym old.2)
       ∙ serve_copies.unused part.number origin.number
       (is_one_of (parts_of nat_eq it.world it.mount_point) part (part_among part c))
@@ -102,9 +95,7 @@ module _ (it : Attachment) (can : CanAttach it) where
 
   first_stands : (part first : Mount ℕ) (rest : List (Mount ℕ)) → IsPart it part → it.mounts ≡ first ∷ rest
       → (copy_of it part first).mount_point ≡ Some (record { mount = part.number; node = it.mount_point.node })
-  first_stands part first rest c e =
-      ap (λ (x : Mount ℕ). x.mount_point)
-      (is_copy part first c
+  first_stands part first rest c e = ap (λ (x : Mount ℕ). x.mount_point) (is_copy part first c
       (contains_from_among it.mounts first (subst (λ ms. Among first ms) (sym e) (inl refl)))
       ∙ first_not_pushed it.world supply it.mount_point it.moves it.mounts part first rest e)
       ∙ first_location it.world supply it.mount_point it.moves it.mounts part first rest e
@@ -114,11 +105,9 @@ module _ (it : Attachment) (can : CanAttach it) where
       → origin.mount_point ≡ Some at → at.mount ≡ below.number
       → (moves_to it part && stands_at_a_receiver it.world it.mount_point origin) ≡ false
       → (copy_of it part origin).mount_point ≡ Some (record { mount = (copy_of it part below).number; node = at.node })
-  other_stands part first origin below rest at c e d differ f stood on free =
-      ap (λ (x : Mount ℕ). x.mount_point)
+  other_stands part first origin below rest at c e d differ f stood on free = ap (λ (x : Mount ℕ). x.mount_point)
       (is_copy part origin c d
-      ∙ not_pushed it.world supply it.mount_point it.moves it.mounts part origin (by (moves_to it part) refl))
-      ∙ place
+      ∙ not_pushed it.world supply it.mount_point it.moves it.mounts part origin (by (moves_to it part) refl)) ∙ place
       ∙ ap (λ n. Some (record { mount = n; node = at.node }))
       (sym (number-mount_in (world_after it).mounts (number_at it part below)))
     where
@@ -133,30 +122,20 @@ module _ (it : Attachment) (can : CanAttach it) where
       by : (b : Bool) → moves_to it part ≡ b
           → (b && list_any (is_pushed_by it.world supply (tree it.world supply it.mount_point it.moves it.mounts)
           (parts_of nat_eq it.world it.mount_point) (made_at part origin))
-          (rest_of (parts_of nat_eq it.world it.mount_point)))
-          ≡ false
+          (rest_of (parts_of nat_eq it.world it.mount_point))) ≡ false
       by false g = refl
       by true g =
-          let same : (made_at part origin).mount_point ≡ origin.mount_point =
-          place
-          ∙ ap (λ b. Some (record {
-            mount = if b then below.number
-                else supply.copy part.number below.number;
+          let same : (made_at part origin).mount_point ≡ origin.mount_point = place ∙ ap (λ b. Some (record {
+            mount = if b then below.number else supply.copy part.number below.number;
             node = at.node;
-          }))
-          g
-          ∙ ap (λ n. Some (record { mount = n; node = at.node })) (sym on) ∙ sym stood in
-          ap
-          (λ p. list_any
-          (λ (receiver : Mount ℕ).
+          })) g ∙ ap (λ n. Some (record { mount = n; node = at.node })) (sym on) ∙ sym stood in
+          ap (λ p. list_any (λ (receiver : Mount ℕ).
           holds_of (same_location nat_eq (record { mount = receiver.number; node = it.mount_point.node })) p)
-          (rest_of (parts_of nat_eq it.world it.mount_point)))
-          same
+          (rest_of (parts_of nat_eq it.world it.mount_point))) same
           ∙ sym (ap (λ b. b && stands_at_a_receiver it.world it.mount_point origin) g) ∙ free
 
   destination_part : IsPart it (destination_of it)
-  destination_part =
-      contains_from_among (parts_of nat_eq it.world it.mount_point) (destination_of it) (inl refl)
+  destination_part = contains_from_among (parts_of nat_eq it.world it.mount_point) (destination_of it) (inl refl)
 
 pub each_is_copied : EachIsCopied
 each_is_copied it part origin can c d = record {
@@ -196,8 +175,7 @@ shared_group Unbindable e = absurd (true≢false (sym e))
 module _ (it : Attachment) (can : CanAttach it) (origin : Mount ℕ) (d : IsOfTree it origin) where
   pub kind_at_destination : (copy_of it (destination_of it) origin).propagation
       ≡ type_at (supply it can) (group_of (destination_of it).propagation) origin
-  kind_at_destination =
-      copy_kind it can (destination_of it) origin (destination_part it can) d
+  kind_at_destination = copy_kind it can (destination_of it) origin (destination_part it can) d
       ∙ kind_there it.world (supply it can) it.mount_point it.moves it.mounts (serve_images it can) can.each_once origin
 
   abbrev new_group : ℕ → ℕ
@@ -208,8 +186,7 @@ module _ (it : Attachment) (can : CanAttach it) (origin : Mount ℕ) (d : IsOfTr
   kind_on_shared group e = kind_at_destination ∙ ap (λ o. type_at (supply it can) o origin) e
 
 pub type_on_not_shared : TypeOnNotShared
-type_on_not_shared it origin can d e =
-    kind_at_destination it can origin d
+type_on_not_shared it origin can d e = kind_at_destination it can origin d
     ∙ ap (λ o. type_at (supply it can) o origin) (not_shared (destination_of it).propagation e)
 
 pub shared_on_shared : SharedOnShared
@@ -224,11 +201,9 @@ private_on_shared it origin can d e f =
       new_group it can origin d own.0,
       kind_on_shared it can origin d own.0 own.1 ∙ ap (type_on_shared (new_group it can origin d own.0)) f,
       there_new it.world (supply it can) it.mount_point it.moves it.mounts
-          (serve_images it can) can.each_once origin m own.0
-          own.1,
+          (serve_images it can) can.each_once origin m own.0 own.1,
       private_there it.world (supply it can) it.mount_point it.moves it.mounts
-          (serve_images it can) can.each_once origin m
-          own.0 own.1 f,
+          (serve_images it can) can.each_once origin m own.0 own.1 f,
     )
 
 pub slave_on_shared : SlaveOnShared
@@ -238,11 +213,9 @@ slave_on_shared it origin master can d e f =
       new_group it can origin d own.0,
       kind_on_shared it can origin d own.0 own.1 ∙ ap (type_on_shared (new_group it can origin d own.0)) f,
       there_new it.world (supply it can) it.mount_point it.moves it.mounts
-          (serve_images it can) can.each_once origin m own.0
-          own.1,
+          (serve_images it can) can.each_once origin m own.0 own.1,
       slave_there it.world (supply it can) it.mount_point it.moves it.mounts
-          (serve_images it can) can.each_once origin m
-          own.0 master own.1 f,
+          (serve_images it can) can.each_once origin m own.0 master own.1 f,
     )
 
 -- At receivers
@@ -251,11 +224,9 @@ slave_on_shared it origin master can d e f =
 pub copy_shared : (it : Attachment) (can : CanAttach it) (part origin : Mount ℕ) (group : ℕ) → IsPart it part
     → IsOfTree it origin → part.propagation ≡ Shared group
     → (copy_of it part origin).propagation ≡ Shared (image_group it can origin group)
-copy_shared it can part origin group c d e =
-    copy_kind it can part origin c d
+copy_shared it can part origin group c d e = copy_kind it can part origin c d
     ∙ shared_kind it.world (supply it can) it.mount_point it.moves it.mounts
-    (serve_images it can) can.each_once part origin
-    (part_among it can part c) group e
+    (serve_images it can) can.each_once part origin (part_among it can part c) group e
 
 pub copies_at_peers_are_peers : CopiesAtPeersArePeers
 copies_at_peers_are_peers it one other origin group can c c_other d e e_other = (
@@ -267,10 +238,8 @@ copies_at_peers_are_peers it one other origin group can c c_other d e e_other = 
 pub copies_at_slaves_are_slaves : CopiesAtSlavesAreSlaves
 copies_at_slaves_are_slaves it one other origin master group can c c_other d away e near e_other = (
   image_group it can origin group,
-  copy_kind it can one origin c d
-      ∙ slave_kind it.world (supply it can) it.mount_point it.moves it.mounts
-      (serve_images it can) can.each_once one origin
-      master group away e near,
+  copy_kind it can one origin c d ∙ slave_kind it.world (supply it can) it.mount_point it.moves it.mounts
+      (serve_images it can) can.each_once one origin master group away e near,
   copy_shared it can other origin group c_other d e_other,
 )
 
@@ -284,9 +253,7 @@ copies_at_lower_groups_follow it one other origin own master group can c c_other
     image_new it.world (supply it can) it.mount_point it.moves it.mounts (serve_images it can) can.each_once origin
         (tree_among it can origin d) own
         (any_from_among (is_member_of nat_eq own) (parts_of nat_eq it.world it.mount_point) one
-        (part_among it can one c)
-        (shared_member own one e))
-        lacks,
+        (part_among it can one c) (shared_member own one e)) lacks,
     lower_master it.world (supply it can) it.mount_point it.moves it.mounts
         (serve_images it can) can.each_once one origin
         (part_among it can one c) (tree_among it can origin d) own master group e lacks up near,

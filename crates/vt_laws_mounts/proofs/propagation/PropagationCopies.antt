@@ -1,12 +1,11 @@
 -- The copy of a mount at a part, as it is found after a tree was attached.
-use Rattle.std.proofs.Common.{arith}
+use Rattle.std.proofs.Common.{arith, ◌≡◌, refl, sym, ap, subst, ◌∙◌, true, false, nat_eq, ℕ, Bool, List, Some, [], eq-eqb, eqb-true, flat_map, map, ⊎_elim, ◌&&◌, ◌++◌, ◌∷◌}
 use Rattle.std.proofs.lemmas.Grind.{common_steps}
-use Rattle.std.proofs.Common.{◌≡◌, refl, sym, ap, subst, ◌∙◌, true, false, nat_eq, ℕ, Bool, List, Some, [], eq-eqb, eqb-true, flat_map, map, option_map, unwrap_or, ⊎_elim, ◌&&◌, ◌++◌, ◌∷◌}
 use Rattle.std.specs.Prelude.{if◌then◌else◌}
 use Rattle.std.specs.List.{list_any}
 use Rattle.vt_spec.proofs.Lists.{Among, among-append_left, among-append_right, among-flat_map, among-from_filter, among-map, none_from_among, pair-map}
-use Rattle.vt_spec.specs.Machine.Attach.{Copies, Graft, Twig, attached_by, copies_at, copy_at, copy_number, graft_of, parts_of, mount_point_on_copy, pushed_up, receivers_of, takes_part, twig_of}
-use Rattle.vt_spec.specs.Lists.{first_of_list, holds_of, is_among, rest_of}
+use Rattle.vt_spec.specs.Machine.Attach.{Copies, Graft, Twig, attached_by, copies_at, copy_at, graft_of, parts_of, pushed_up, receivers_of, takes_part, twig_of}
+use Rattle.vt_spec.specs.Lists.{holds_of, is_among, rest_of}
 use Rattle.vt_spec.specs.Machine.Mounts.{Location, Mount, group_of, mount_in, same_location}
 use Rattle.vt_spec.specs.Machine.World.{World, mount_at, mount_numbered}
 use Rattle.vt_laws_mounts.specs.Mounts.Attaching.{KeepsAllButMountPoint, OneNumberAMount, numbers_of}
@@ -59,9 +58,7 @@ module _ (world : World ℕ) (new : Copies ℕ) (place : Location ℕ) (moves : 
 
   -- a receiver that takes part is elsewhere
   pub not_there : (part : Mount ℕ) → Among part (rest_of parts) → nat_eq part.number place.mount ≡ false
-  not_there part m =
-      nat_eq_false_turned place.mount part.number
-      (taker_elsewhere world place part
+  not_there part m = nat_eq_false_turned place.mount part.number (taker_elsewhere world place part
       (among-from_filter (takes_part nat_eq world place) (receivers_of nat_eq world (mount_at nat_eq world place)) part
       m).1)
 
@@ -74,27 +71,13 @@ module _ (world : World ℕ) (new : Copies ℕ) (place : Location ℕ) (moves : 
   -- where the top of the tree stands
   pub first_location : (part first : Mount ℕ) (rest : List (Mount ℕ)) → mounts ≡ first ∷ rest
       → (made part first).mount_point ≡ Some (record { mount = part.number; node = place.node })
-  first_location part first rest e =
-      ap
-      (λ b. Some (
-      if b then record { mount = part.number; node = place.node }
-      else unwrap_or (option_map (mount_point_on_copy nat_eq new tree part.number) first.mount_point) place))
-      (ap (λ ms. holds_of (λ (t : Twig ℕ). nat_eq first.number t.origin.number) (first_of_list (map twig ms))) e
-      ∙ eq-eqb first.number first.number refl)
+  first_location part first rest e = cc (eq-eqb first.number first.number refl)
 
   pub other_place : (part first origin below : Mount ℕ) (rest : List (Mount ℕ)) (at : Location ℕ)
       → mounts ≡ first ∷ rest → nat_eq origin.number first.number ≡ false → origin.mount_point ≡ Some at
       → at.mount ≡ below.number
       → (made part origin).mount_point ≡ Some (record { mount = number part below; node = at.node })
-  other_place part first origin below rest at e differ stood on =
-      ap
-      (λ b. Some (
-      if b then record { mount = part.number; node = place.node }
-      else unwrap_or (option_map (mount_point_on_copy nat_eq new tree part.number) origin.mount_point) place))
-      (ap (λ ms. holds_of (λ (t : Twig ℕ). nat_eq origin.number t.origin.number) (first_of_list (map twig ms))) e
-      ∙ differ)
-      ∙ ap (λ p. Some (unwrap_or (option_map (mount_point_on_copy nat_eq new tree part.number) p) place)) stood
-      ∙ ap (λ n. Some (record { mount = copy_number nat_eq new tree part.number n; node = at.node })) on
+  other_place part first origin below rest at e differ stood on = grind (arith, common_steps)
 
   -- what stands at no receiver's place stays where it is
   pub not_pushed : (part origin : Mount ℕ)
@@ -109,13 +92,11 @@ module _ (world : World ℕ) (new : Copies ℕ) (place : Location ℕ) (moves : 
 
   pub first_not_pushed : (part first : Mount ℕ) (rest : List (Mount ℕ)) → mounts ≡ first ∷ rest
       → arrived part first ≡ made part first
-  first_not_pushed part first rest e =
-      not_pushed part first (by (nat_eq part.number place.mount) refl)
+  first_not_pushed part first rest e = not_pushed part first (by (nat_eq part.number place.mount) refl)
     where
       none : nat_eq part.number place.mount ≡ true
           → list_any (is_pushed_by world new tree parts (made part first)) (rest_of parts) ≡ false
-      none there =
-          none_from_among (is_pushed_by world new tree parts (made part first)) (rest_of parts) (λ receiver m.
+      none there = none_from_among (is_pushed_by world new tree parts (made part first)) (rest_of parts) (λ receiver m.
           ap (holds_of (same_location nat_eq (record { mount = receiver.number; node = place.node })))
           (first_location part first rest e)
           ∙ ap (λ n. nat_eq receiver.number n && nat_eq place.node place.node) (eqb-true part.number place.mount there)
@@ -132,15 +113,9 @@ module _ (world : World ℕ) (new : Copies ℕ) (place : Location ℕ) (moves : 
       one true b = refl
       one false b = refl
 
-      by : (b : Bool) → nat_eq part.number place.mount ≡ b
-          → (moves && nat_eq part.number place.mount
+      by : (b : Bool) → nat_eq part.number place.mount ≡ b → (moves && nat_eq part.number place.mount
           && list_any (is_pushed_by world new tree parts (made part first)) (rest_of parts)) ≡ false
-      by true there =
-          ap (λ b. moves && b && list_any (is_pushed_by world new tree parts (made part first)) (rest_of parts)) there
-          ∙ ap (λ b. moves && true && b) (none there) ∙ two moves
-      by false there =
-          ap (λ b. moves && b && list_any (is_pushed_by world new tree parts (made part first)) (rest_of parts)) there
-          ∙ one moves (list_any (is_pushed_by world new tree parts (made part first)) (rest_of parts))
+      by b there = grind (arith, common_steps, is_pushed_by, none, two, one)
 
 -- Where nothing moves
 module _ (world : World ℕ) (new : Copies ℕ) (place : Location ℕ) (mounts : List (Mount ℕ))
@@ -159,25 +134,19 @@ module _ (world : World ℕ) (new : Copies ℕ) (place : Location ℕ) (mounts :
 
   copied_there : (part origin : Mount ℕ) → Among part (parts world new place false mounts) → Among origin mounts
       → Among (made world new place false mounts part origin) later
-  copied_there part origin m n =
-      ⊎_elim
-      (λ same.
+  copied_there part origin m n = ⊎_elim (λ same.
       subst (λ x. Among (made world new place false mounts x origin) later) (sym same)
       (among-append_left (front ++ there) elsewhere
       (made world new place false mounts (mount_at nat_eq world place) origin)
       (among-append_right front there (made world new place false mounts (mount_at nat_eq world place) origin)
-      (copy_among world new place false mounts (mount_at nat_eq world place) origin n))))
-      (λ rest.
+      (copy_among world new place false mounts (mount_at nat_eq world place) origin n)))) (λ rest.
       among-append_right (front ++ there) elsewhere (made world new place false mounts part origin)
       (among-flat_map (copies world new place false mounts) (rest_of (parts world new place false mounts)) part
-      (made world new place false mounts part origin) rest
-      (copy_among world new place false mounts part origin n)))
-      m
+      (made world new place false mounts part origin) rest (copy_among world new place false mounts part origin n))) m
 
   found_copied : (part origin : Mount ℕ) → Among part (parts world new place false mounts) → Among origin mounts
       → mount_numbered nat_eq (attached_by nat_eq world new place false mounts)
-      (number world new place false mounts part origin)
-      ≡ arrived world new place false mounts part origin
+      (number world new place false mounts part origin) ≡ arrived world new place false mounts part origin
   found_copied part origin m n =
       found_itself later one_after (made world new place false mounts part origin) (copied_there part origin m n)
 
@@ -201,19 +170,15 @@ module _ (world : World ℕ) (new : Copies ℕ) (place : Location ℕ) (mounts :
   put_number it = keeps_number world new place mounts it.origin.number
 
   put_apart : OneNumberAMount (arriving world new place true mounts)
-  put_apart =
-      pair-map same_origin same_number put (tree world new place true mounts).twigs
-      (λ a b m n differ.
+  put_apart = pair-map same_origin same_number put (tree world new place true mounts).twigs (λ a b m n differ.
       ap (nat_eq (put a).number) (put_number b) ∙ ap (λ k. nat_eq k b.origin.number) (put_number a) ∙ differ)
       (pair-map same_number same_origin (twig world new place true mounts) mounts (λ a b m n differ. differ) own)
 
-  moved_found : (origin : Mount ℕ) → Among origin mounts
-      → mount_numbered nat_eq at_last origin.number
+  moved_found : (origin : Mount ℕ) → Among origin mounts → mount_numbered nat_eq at_last origin.number
       ≡ push world new place true mounts (moved destination origin)
   moved_found origin m =
       found_attached world new place true mounts origin.number (is_one_of world.mounts origin (moving origin m))
-      ∙ ap (push world new place true mounts)
-      (ap (mount_in nat_eq (moved_ones world new place true mounts))
+      ∙ ap (push world new place true mounts) (ap (mount_in nat_eq (moved_ones world new place true mounts))
       (sym (put_number (twig world new place true mounts origin)))
       ∙ found_folded world.mounts (arriving world new place true mounts) put_apart (moved destination origin)
       (copy_among world new place true mounts destination origin m)
@@ -223,32 +188,21 @@ module _ (world : World ℕ) (new : Copies ℕ) (place : Location ℕ) (mounts :
   found_moved : (part origin : Mount ℕ) → Among part (parts world new place true mounts) → Among origin mounts
       → mount_numbered nat_eq at_last (number world new place true mounts part origin)
       ≡ arrived world new place true mounts part origin
-  found_moved part origin m n =
-      ⊎_elim
-      (λ same.
-      subst
-      (λ x. mount_numbered nat_eq at_last (number world new place true mounts x origin)
-      ≡ arrived world new place true mounts x origin)
-      (sym same)
+  found_moved part origin m n = ⊎_elim (λ same.
+      subst (λ x. mount_numbered nat_eq at_last (number world new place true mounts x origin)
+      ≡ arrived world new place true mounts x origin) (sym same)
       (ap (λ b. mount_numbered nat_eq at_last (if b then origin.number else new.copy destination.number origin.number))
-      (destination_there world new place true mounts)
-      ∙ moved_found origin n
-      ∙ sym (ap
+      (destination_there world new place true mounts) ∙ moved_found origin n ∙ sym (ap
       (λ b. if b then push world new place true mounts (moved destination origin) else moved destination origin)
-      (destination_there world new place true mounts))))
-      (λ rest.
+      (destination_there world new place true mounts)))) (λ rest.
       let away = not_there world new place true mounts part rest in
       let same : (moved part origin).number ≡ number world new place true mounts part origin = refl in
-      ap (mount_numbered nat_eq at_last) (sym same)
-      ∙ found_itself at_last.mounts one_after (moved part origin)
-      (among-append_right
-      (map (push world new place true mounts) (moved_ones world new place true mounts) ++ [])
+      ap (mount_numbered nat_eq at_last) (sym same) ∙ found_itself at_last.mounts one_after (moved part origin)
+      (among-append_right (map (push world new place true mounts) (moved_ones world new place true mounts) ++ [])
       (flat_map (copies world new place true mounts) (rest_of (parts world new place true mounts))) (moved part origin)
       (among-flat_map (copies world new place true mounts) (rest_of (parts world new place true mounts)) part
-      (moved part origin) rest (copy_among world new place true mounts part origin n)))
-      ∙ sym (ap
-      (λ b. if b then push world new place true mounts (moved part origin) else moved part origin) away))
-      m
+      (moved part origin) rest (copy_among world new place true mounts part origin n))) ∙ sym (ap
+      (λ b. if b then push world new place true mounts (moved part origin) else moved part origin) away)) m
 
 -- Either way
 pub found_copy : (world : World ℕ) (new : Copies ℕ) (place : Location ℕ) (moves : Bool) (mounts : List (Mount ℕ))
@@ -257,8 +211,7 @@ pub found_copy : (world : World ℕ) (new : Copies ℕ) (place : Location ℕ) (
     → (moves ≡ true → (origin : Mount ℕ) → Among origin mounts → Among origin world.mounts)
     → (part origin : Mount ℕ) → Among part (parts_of nat_eq world place) → Among origin mounts
     → mount_numbered nat_eq (attached_by nat_eq world new place moves mounts)
-    (number world new place moves mounts part origin)
-    ≡ arrived world new place moves mounts part origin
+    (number world new place moves mounts part origin) ≡ arrived world new place moves mounts part origin
 found_copy world new place false mounts serve own one moving part origin m n =
     found_copied world new place mounts (copies_keep_numbers world new place false mounts serve own one) part origin m n
 found_copy world new place true mounts serve own one moving part origin m n =

@@ -1,7 +1,6 @@
 -- What the copies of a tree that is attached hear of.
-use Rattle.std.proofs.Common.{arith}
+use Rattle.std.proofs.Common.{arith, ◌≡◌, refl, sym, ap, subst, ◌∙◌, true, false, nat_eq, ℕ, Bool, List, None, Option, Some, [], is_some, option_map, true≢false, unwrap_or, ⊎_elim}
 use Rattle.std.proofs.lemmas.Grind.{common_steps}
-use Rattle.std.proofs.Common.{◌≡◌, refl, sym, ap, subst, ◌∙◌, true, false, nat_eq, ℕ, Bool, List, None, Option, Some, [], is_some, option_map, true≢false, unwrap_or, ⊎_elim}
 use Rattle.vt_spec.proofs.Lists.{Among, among_from_contains, among-from_filter, any_from_among, contains_from_among}
 use Rattle.vt_spec.specs.Machine.Attach.{Copies, attached_by, parts_of, receivers_of, takes_part, type_at}
 use Rattle.vt_spec.specs.Lists.{holds_of, is_among}
@@ -27,8 +26,7 @@ keeps_groups : (world : World ℕ) (new : Copies ℕ) (place : Location ℕ) (mo
     → ServeAsImages world (parts_of nat_eq world place) mounts new → OneNumberAMount mounts
     → OneNumberAMount world.mounts → GroupsLive world
     → ((origin : Mount ℕ) → Among origin mounts → (source : ℕ) → source_of origin.propagation ≡ Some source
-    → LivesIn world source)
-    → (moves ≡ true → (origin : Mount ℕ) → Among origin mounts → Among origin world.mounts)
+    → LivesIn world source) → (moves ≡ true → (origin : Mount ℕ) → Among origin mounts → Among origin world.mounts)
     → GroupsLive (attached_by nat_eq world new place moves mounts)
 keeps_groups world new place false mounts serve own one live sourced moving =
     groups_live_after world new place false mounts serve own live sourced (members_stay world new place mounts)
@@ -41,13 +39,10 @@ keeps_groups world new place true mounts serve own one live sourced moving =
 module _ (it : Attachment) (can : CanAttach it) where
   pub sourced : (origin : Mount ℕ) → Among origin it.mounts → (source : ℕ) → source_of origin.propagation ≡ Some source
       → LivesIn it.world source
-  sourced origin m source e =
-      ⊎_elim
-      (λ alone. absurd (true≢false (sym (ap is_some e) ∙ ap (λ k. is_some (source_of k)) alone)))
-      (λ old.
+  sourced origin m source e = ⊎_elim
+      (λ alone. absurd (true≢false (sym (ap is_some e) ∙ ap (λ k. is_some (source_of k)) alone))) (λ old.
       lives_in it.world can.groups old.0 (among_from_contains it.world.mounts old.0 old.1) source
-      (ap source_of (sym old.2) ∙ e))
-      (can.types origin (contains_from_among it.mounts origin m))
+      (ap source_of (sym old.2) ∙ e)) (can.types origin (contains_from_among it.mounts origin m))
 
   pub groups_after : GroupsLive (world_after it)
   groups_after =
@@ -62,14 +57,10 @@ module _ (it : Attachment) (can : CanAttach it) where
   -- where the destination is in no group, it is all that takes part
   pub only_part : group_of (destination_of it).propagation ≡ None → (part : Mount ℕ) → IsPart it part
       → part ≡ destination_of it
-  only_part e part c =
-      ⊎_elim (λ same. same)
-      (λ rest. absurd
+  only_part e part c = ⊎_elim (λ same. same) (λ rest. absurd
       (subst (λ o. Among part (unwrap_or (option_map (receivers nat_eq it.world) o) [])) e
       (among-from_filter (takes_part nat_eq it.world it.mount_point)
-      (receivers_of nat_eq it.world (destination_of it)) part
-      rest).0))
-      (part_among it can part c)
+      (receivers_of nat_eq it.world (destination_of it)) part rest).0)) (part_among it can part c)
 
   in_a_group : (part : Mount ℕ) (group : ℕ) → IsPart it part → part.propagation ≡ Shared group
       → (own : ℕ) × (group_of (destination_of it).propagation ≡ Some own)
@@ -94,20 +85,16 @@ copies_hear_as_their_origins it part origin group can c d lived = by (group_of (
   where
     by : (found : Option ℕ) → group_of (destination_of it).propagation ≡ found
         → receives nat_eq (world_after it) group (copy_of it part origin) ≡ receives nat_eq it.world group origin
-    by (Some own) f =
-        hears_old it.world (supply it can) it.mount_point it.moves it.mounts
+    by (Some own) f = hears_old it.world (supply it can) it.mount_point it.moves it.mounts
         (serve_images it can) can.each_once can.groups
         origin (tree_among it can origin d) (sourced it can origin (tree_among it can origin d)) own f
         (groups_after it can) part (part_among it can part c) (copy_of it part origin)
-        (copy_among it can part origin c d)
-        (copy_kind it can part origin c d) group lived
+        (copy_among it can part origin c d) (copy_kind it can part origin c d) group lived
     by None f = same_truth _ _ back forth
       where
         same_kind : (copy_of it part origin).propagation ≡ origin.propagation
-        same_kind =
-            ap (λ x. (copy_of it x origin).propagation) (only_part it can f part c)
-            ∙ kind_at_destination it can origin d
-            ∙ ap (λ o. type_at (supply it can) o origin) f
+        same_kind = ap (λ x. (copy_of it x origin).propagation) (only_part it can f part c)
+            ∙ kind_at_destination it can origin d ∙ ap (λ o. type_at (supply it can) o origin) f
 
         back : receives nat_eq (world_after it) group (copy_of it part origin) ≡ true
             → receives nat_eq it.world group origin ≡ true
@@ -118,16 +105,14 @@ copies_hear_as_their_origins it part origin group can c d lived = by (group_of (
             ap (holds_of (λ s. is_among nat_eq group (groups_up it.world s))) e
             ∙ up_among it.world can.groups t.0 group life
             (old_up it.world (supply it can) it.mount_point it.moves it.mounts
-            (serve_images it can) can.each_once t.0 group
-            life t.2)
+            (serve_images it can) can.each_once t.0 group life t.2)
 
         forth : receives nat_eq it.world group origin ≡ true
             → receives nat_eq (world_after it) group (copy_of it part origin) ≡ true
         forth r =
             let t = heard it.world origin group r in
             hears (world_after it) (groups_after it can) (copy_of it part origin)
-            (copy_among it can part origin c d) t.0
-            group (ap source_of same_kind ∙ t.1)
+            (copy_among it can part origin c d) t.0 group (ap source_of same_kind ∙ t.1)
             (old_up_after it.world (supply it can) it.mount_point it.moves it.mounts
             (serve_images it can) can.each_once t.0
             group (sourced it can origin (tree_among it can origin d) t.0 t.1) t.2)

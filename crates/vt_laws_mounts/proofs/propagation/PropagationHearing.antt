@@ -1,12 +1,13 @@
 -- Copies at a shared destination and its receivers hear one another as the parts do.
-use Rattle.std.proofs.Common.{◌≡◌, refl, sym, ap, subst, ◌∙◌, true, false, nat_eq, ℕ, Bool, List, None, Option, Some, [], inl, inr, is_some, length, option_map, true≢false, unwrap_or, ⊎_elim, ◌⊎◌}
+use Rattle.std.proofs.Common.{arith, ◌≡◌, refl, sym, ap, subst, ◌∙◌, true, false, nat_eq, ℕ, Bool, List, None, Option, Some, inl, inr, is_some, length, true≢false, unwrap_or, ⊎_elim, ◌⊎◌}
+use Rattle.std.proofs.lemmas.Grind.{common_steps}
 use Rattle.std.proofs.lemmas.Option.{same_Some}
 use Rattle.vt_spec.proofs.Lists.{Among, any_among, any_from_among, among-from_filter}
-use Rattle.vt_spec.specs.Machine.Attach.{Copies, attached_by, parts_of, receivers_of, takes_part, type_on_shared}
+use Rattle.vt_spec.specs.Machine.Attach.{Copies, attached_by, parts_of, type_on_shared}
 use Rattle.vt_spec.specs.Lists.{holds_of, is_among}
 use Rattle.vt_spec.specs.Machine.Mounts.{Location, Mount, Propagation, group_of, source_of}
 use Rattle.vt_spec.specs.Machine.Mounts.Propagation.{Private, Shared, Slave, Unbindable}
-use Rattle.vt_spec.specs.Machine.Receives.{groups_up, has_members, is_member_of, receivers, receives}
+use Rattle.vt_spec.specs.Machine.Receives.{groups_up, has_members, is_member_of, receives}
 use Rattle.vt_spec.specs.Machine.World.{World, mount_at}
 use Rattle.vt_laws_mounts.specs.Mounts.Attaching.{OneNumberAMount}
 use Rattle.vt_laws_mounts.specs.Mounts.Copies.{ServeAsImages}
@@ -41,20 +42,16 @@ module _ (world : World ℕ) (new : Copies ℕ) (place : Location ℕ) (moves : 
   pub old_up : (source other : ℕ) → LivesIn world source → Up masters source other → Up world.master source other
   old_up source other life (here it) = here it
   old_up source other life (above it next end e way) =
-      let f : world.master it ≡ Some next =
-      sym (old_master world new place moves mounts serve own it
+      let f : world.master it ≡ Some next = sym (old_master world new place moves mounts serve own it
       (live_members world.master (has_members nat_eq world.mounts) it life)) ∙ e in
-      above it next end f
-      (old_up next end
+      above it next end f (old_up next end
       (lives_up world.master (has_members nat_eq world.mounts) it next life (above it next next f (here next))) way)
 
   pub old_up_after : (source other : ℕ) → LivesIn world source → Up world.master source other → Up masters source other
   old_up_after source other life (here it) = here it
-  old_up_after source other life (above it next end e way) =
-      above it next end
+  old_up_after source other life (above it next end e way) = above it next end
       (old_master world new place moves mounts serve own it
-      (live_members world.master (has_members nat_eq world.mounts) it life) ∙ e)
-      (old_up_after next end
+      (live_members world.master (has_members nat_eq world.mounts) it life) ∙ e) (old_up_after next end
       (lives_up world.master (has_members nat_eq world.mounts) it next life (above it next next e (here next))) way)
 
 module _ (world : World ℕ) (new : Copies ℕ) (place : Location ℕ) (moves : Bool) (mounts : List (Mount ℕ))
@@ -81,28 +78,13 @@ module _ (world : World ℕ) (new : Copies ℕ) (place : Location ℕ) (moves : 
   there_shared = shared_kind_of there.propagation group shared
 
   pub part_there : (part : Mount ℕ) → Among part parts → Among part world.mounts
-  part_there part m =
-      ⊎_elim
-      (λ same.
-      subst (λ x. Among x world.mounts) (sym same)
-      (⊎_elim (λ l. l)
-      (λ none. absurd (true≢false (sym (ap is_some shared)
-      ∙ ap (λ (x : Mount ℕ). is_some (group_of x.propagation)) none)))
-      (found_or_none world.mounts place.mount)))
-      (λ rest. taker_there world place part rest)
-      m
+  part_there part m = ⊎_elim (λ same.
+      subst (λ x. Among x world.mounts) (sym same) (⊎_elim (λ l. l) (λ none. absurd (true≢false (sym (ap is_some shared)
+      ∙ ap (λ (x : Mount ℕ). is_some (group_of x.propagation)) none))) (found_or_none world.mounts place.mount)))
+      (λ rest. taker_there world place part rest) m
 
   pub hears_there : (part : Mount ℕ) → Among part parts → receives nat_eq world group part ≡ true
-  hears_there part m =
-      ⊎_elim
-      (λ same.
-      subst (λ x. receives nat_eq world group x ≡ true) (sym same)
-      (receives_from_source world group there (ap source_of there_shared)))
-      (λ rest.
-      (among-from_filter (receives nat_eq world group) world.mounts part
-      (subst (λ o. Among part (unwrap_or (option_map (receivers nat_eq world) o) [])) shared
-      (among-from_filter (takes_part nat_eq world place) (receivers_of nat_eq world there) part rest).0)).1)
-      m
+  hears_there part m = grind (arith, common_steps, receives_from_source, there_shared, among-from_filter)
 
   way_there : (part : Mount ℕ) → Among part parts → (source : ℕ) → source_of part.propagation ≡ Some source
       → Up world.master source group
@@ -136,8 +118,7 @@ module _ (world : World ℕ) (new : Copies ℕ) (place : Location ℕ) (moves : 
       → (near : ℕ) × Nearest world.master has next near × (up (image one) ≡ Some (image near))
   next_image one h lacks next e way =
       let t = member_part one h in
-      let life =
-      lives_up world.master (has_members nat_eq world.mounts) one next (group_lives one h)
+      let life = lives_up world.master (has_members nat_eq world.mounts) one next (group_lives one h)
       (above one next next e (here next)) in
       let found = finds_some has (groups_up world next) group (up_among world live next group life way) group_has in (
         found.0,
@@ -152,8 +133,7 @@ module _ (world : World ℕ) (new : Copies ℕ) (place : Location ℕ) (moves : 
   step one next other h e way h_other later = by (is_member_of nat_eq one there) refl
     where
       by : (b : Bool) → is_member_of nat_eq one there ≡ b → Up up (image one) (image other)
-      by true f =
-          absurd (no_loop world.master (has_members nat_eq world.mounts) one (group_lives one h) next e
+      by true f = absurd (no_loop world.master (has_members nat_eq world.mounts) one (group_lives one h) next e
           (up_further world.master next other one way
           (subst (Up world.master other) (sym (is_group one f)) (group_up other h_other))))
       by false f =
@@ -175,9 +155,7 @@ module _ (world : World ℕ) (new : Copies ℕ) (place : Location ℕ) (moves : 
   forward source (has_master it next m e later) near other (further one after end misses f rest) (here two) h_other =
       absurd (true≢false (sym h_other ∙ misses))
   forward source (has_master it next m e later) near other (further one after end misses f rest)
-      (above two above_it last g way)
-      h_other =
-      forward next later end last
+      (above two above_it last g way) h_other = forward next later end last
       (subst (λ x. Nearest world.master has x end) (same_Some after next (sym f ∙ e)) rest)
       (subst (λ x. Up world.master x last) (same_Some above_it next (sym g ∙ e)) way) h_other
 
@@ -190,8 +168,7 @@ module _ (world : World ℕ) (new : Copies ℕ) (place : Location ℕ) (moves : 
 
   image_by : (kind : Propagation ℕ) → origin.propagation ≡ kind
       → image group ≡ unwrap_or (group_of (type_on_shared fresh_group kind)) fresh_group
-  image_by kind e =
-      image_in world new place moves mounts serve own origin group shared
+  image_by kind e = image_in world new place moves mounts serve own origin group shared
       ∙ ap (λ k. unwrap_or (group_of (type_on_shared fresh_group k)) fresh_group) e
 
   no_further : up fresh_group ≡ None → (from to : ℕ) → Up up from to → from ≡ fresh_group → to ≡ fresh_group
@@ -209,28 +186,22 @@ module _ (world : World ℕ) (new : Copies ℕ) (place : Location ℕ) (moves : 
   at_group one way = by origin.propagation refl
     where
       by : (kind : Propagation ℕ) → origin.propagation ≡ kind → (one ≡ image group) ⊎ Beyond one
-      by (Shared old) e =
-          inr (
-            old,
-            ap source_of e,
-            old_up world new place moves mounts serve own old one (sourced old (ap source_of e))
-                (subst (λ x. Up up x one) (image_by (Shared old) e) way),
-          )
-      by (Slave master) e =
-          ⊎_elim (λ same. inl (same ∙ sym (image_by (Slave master) e)))
-          (λ further_up. inr (
-            master,
-            ap source_of e,
-            old_up world new place moves mounts serve own master one (sourced master (ap source_of e)) further_up,
-          ))
-          (one_further master (slave_there world new place moves mounts serve own origin of_tree group master shared e)
+      by (Shared old) e = inr (
+        old,
+        ap source_of e,
+        old_up world new place moves mounts serve own old one (sourced old (ap source_of e))
+            (subst (λ x. Up up x one) (image_by (Shared old) e) way),
+      )
+      by (Slave master) e = ⊎_elim (λ same. inl (same ∙ sym (image_by (Slave master) e))) (λ further_up. inr (
+        master,
+        ap source_of e,
+        old_up world new place moves mounts serve own master one (sourced master (ap source_of e)) further_up,
+      )) (one_further master (slave_there world new place moves mounts serve own origin of_tree group master shared e)
           (image group) one way (image_by (Slave master) e))
-      by Private e =
-          inl (no_further
+      by Private e = inl (no_further
           (master_there world new place moves mounts serve own origin of_tree group shared Private e refl)
           (image group) one way (image_by Private e) ∙ sym (image_by Private e))
-      by Unbindable e =
-          inl (no_further
+      by Unbindable e = inl (no_further
           (master_there world new place moves mounts serve own origin of_tree group shared Unbindable e refl)
           (image group) one way (image_by Unbindable e) ∙ sym (image_by Unbindable e))
 
@@ -242,9 +213,7 @@ module _ (world : World ℕ) (new : Copies ℕ) (place : Location ℕ) (moves : 
       by (Shared old) f =
           subst (λ x. Up up x one) (same_Some source old (sym e ∙ ap source_of f) ∙ sym (image_by (Shared old) f))
           (old_up_after world new place moves mounts serve own source one (sourced source e) way)
-      by (Slave master) f =
-          subst (λ x. Up up x one) (sym (image_by (Slave master) f))
-          (above fresh_group master one
+      by (Slave master) f = subst (λ x. Up up x one) (sym (image_by (Slave master) f)) (above fresh_group master one
           (slave_there world new place moves mounts serve own origin of_tree group master shared f)
           (subst (λ x. Up up x one) (same_Some source master (sym e ∙ ap source_of f))
           (old_up_after world new place moves mounts serve own source one (sourced source e) way)))
@@ -262,29 +231,23 @@ module _ (world : World ℕ) (new : Copies ℕ) (place : Location ℕ) (moves : 
     where
       lower : is_member_of nat_eq near there ≡ false → (from to : ℕ) → Up world.master from to → from ≡ near
           → to ≡ group → IsImageUp near one
-      lower f from to (here it) p q =
-          absurd (true≢false
+      lower f from to (here it) p q = absurd (true≢false
           (sym (shared_member group there there_shared) ∙ ap (λ x. is_member_of nat_eq x there) (sym q ∙ p) ∙ f))
       lower f from to (above it after end g rest) p q =
           let up_near : world.master near ≡ Some after = ap world.master (sym p) ∙ g in
           let t = next_image near h f after up_near (subst (Up world.master after) q rest) in
-          ⊎_elim
-          (λ r. inl (
+          ⊎_elim (λ r. inl (
             r.0,
             above near after r.0 up_near
                 (up_further world.master after t.0 r.0 (nearest_up world.master has after t.0 t.1) r.1),
             r.2,
             r.3,
-          ))
-          inr
-          (later t.0 (nearest_passes world.master has after t.0 t.1) (same_Some next (image t.0) (sym e ∙ t.2)))
+          )) inr (later t.0 (nearest_passes world.master has after t.0 t.1) (same_Some next (image t.0) (sym e ∙ t.2)))
 
       by : (b : Bool) → is_member_of nat_eq near there ≡ b → IsImageUp near one
       by true f =
           let same = is_group near f in
-          ⊎_elim
-          (λ k. inl (near, here near, h, k ∙ ap image (sym same)))
-          inr
+          ⊎_elim (λ k. inl (near, here near, h, k ∙ ap image (sym same))) inr
           (at_group one (subst (λ x. Up up x one) (ap image same) (above (image near) next one e way)))
       by false f = lower f near group (group_up near h) refl refl
 
@@ -303,12 +266,9 @@ module _ (world : World ℕ) (new : Copies ℕ) (place : Location ℕ) (moves : 
   copy_source part m = by part.propagation refl
     where
       slave_away : (master : ℕ) → part.propagation ≡ Slave master → nat_eq part.number place.mount ≡ false
-      slave_away master e =
-          ⊎_elim
-          (λ same. absurd (true≢false (sym (ap is_some shared)
+      slave_away master e = ⊎_elim (λ same. absurd (true≢false (sym (ap is_some shared)
           ∙ ap (λ (x : Mount ℕ). is_some (group_of x.propagation)) (sym same) ∙ ap (λ k. is_some (group_of k)) e)))
-          (λ rest. not_there world new place moves mounts part rest)
-          m
+          (λ rest. not_there world new place moves mounts part rest) m
 
       no_source : source_of part.propagation ≡ None → CopySource part
       no_source e =
@@ -324,8 +284,7 @@ module _ (world : World ℕ) (new : Copies ℕ) (place : Location ℕ) (moves : 
       )
       by (Slave master) e =
           let life = part_lives part m master (ap source_of e) in
-          let found =
-          finds_some has (groups_up world master) group
+          let found = finds_some has (groups_up world master) group
           (up_among world live master group life (way_there part m master (ap source_of e))) group_has in (
             master,
             found.0,
@@ -346,23 +305,17 @@ module _ (world : World ℕ) (new : Copies ℕ) (place : Location ℕ) (moves : 
           → ((image group ≡ fresh_group) × (has_members nat_eq world.mounts (image group) ≡ false))
           ⊎ ((has_members nat_eq world.mounts (image group) ≡ true) ×
           (source_of origin.propagation ≡ Some (image group)))
-      made e =
-          inl (
-            e,
-            ap (has_members nat_eq world.mounts) e
-                ∙ there_new world new place moves mounts serve own origin of_tree group shared,
-          )
+      made e = grind (arith, common_steps, there_new world new place moves mounts serve own origin of_tree group shared)
 
       by : (kind : Propagation ℕ) → origin.propagation ≡ kind
           → ((image group ≡ fresh_group) × (has_members nat_eq world.mounts (image group) ≡ false))
           ⊎ ((has_members nat_eq world.mounts (image group) ≡ true) ×
           (source_of origin.propagation ≡ Some (image group)))
-      by (Shared old) e =
-          inr (
-            ap (has_members nat_eq world.mounts) (image_by (Shared old) e)
-                ∙ live_members world.master (has_members nat_eq world.mounts) old (sourced old (ap source_of e)),
-            ap source_of e ∙ ap Some (sym (image_by (Shared old) e)),
-          )
+      by (Shared old) e = inr (
+        ap (has_members nat_eq world.mounts) (image_by (Shared old) e)
+            ∙ live_members world.master (has_members nat_eq world.mounts) old (sourced old (ap source_of e)),
+        ap source_of e ∙ ap Some (sym (image_by (Shared old) e)),
+      )
       by (Slave master) e = made (image_by (Slave master) e)
       by Private e = made (image_by Private e)
       by Unbindable e = made (image_by Unbindable e)
@@ -373,28 +326,23 @@ module _ (world : World ℕ) (new : Copies ℕ) (place : Location ℕ) (moves : 
   one_image one other h h_other lacks e = by (is_member_of nat_eq other there) refl
     where
       apart_by : image other ≡ new.image other origin.number → one ≡ other
-      apart_by f =
-          (serve.apart one origin.number other origin.number h (is_one_of mounts origin of_tree) h_other
+      apart_by f = (serve.apart one origin.number other origin.number h (is_one_of mounts origin of_tree) h_other
           (is_one_of mounts origin of_tree)
           (sym (image_elsewhere world new place moves mounts serve own one origin lacks) ∙ e ∙ f)).0
 
       by : (b : Bool) → is_member_of nat_eq other there ≡ b → one ≡ other
       by true f =
           let same = is_group other f in
-          ⊎_elim
-          (λ made. apart_by (ap image same ∙ made.0 ∙ ap (λ g. new.image g origin.number) (sym same)))
-          (λ old. absurd (true≢false
-          (sym old.0 ∙ ap (λ g. has_members nat_eq world.mounts (image g)) (sym same)
+          ⊎_elim (λ made. apart_by (ap image same ∙ made.0 ∙ ap (λ g. new.image g origin.number) (sym same)))
+          (λ old. absurd (true≢false (sym old.0 ∙ ap (λ g. has_members nat_eq world.mounts (image g)) (sym same)
           ∙ ap (has_members nat_eq world.mounts) (sym e)
-          ∙ image_new world new place moves mounts serve own origin of_tree one h lacks)))
-          group_image
+          ∙ image_new world new place moves mounts serve own origin of_tree one h lacks))) group_image
       by false f = apart_by (image_elsewhere world new place moves mounts serve own other origin f)
 
   -- what a mount of the tree hears of
   origin_hears : (source one : ℕ) → source_of origin.propagation ≡ Some source → Up world.master source one
       → receives nat_eq world one origin ≡ true
-  origin_hears source one e way =
-      ap (holds_of (λ s. is_among nat_eq one (groups_up world s))) e
+  origin_hears source one e way = ap (holds_of (λ s. is_among nat_eq one (groups_up world s))) e
       ∙ up_among world live source one (sourced source e) way
 
   module _ (groups_after : GroupsLive (attached_by nat_eq world new place moves mounts)) (part : Mount ℕ)
@@ -414,8 +362,7 @@ module _ (world : World ℕ) (new : Copies ℕ) (place : Location ℕ) (moves : 
             let s = copy_source part m in
             let t = heard later_world copy (image one) r in
             let start : t.0 ≡ image s.1 = same_Some t.0 (image s.1) (sym t.1 ∙ ap source_of is_kind ∙ s.4) in
-            by s.0 s.1 s.2 s.3
-            (backward t.0 (image one) t.2 s.1 (nearest_passes world.master has s.0 s.1 s.3) start)
+            by s.0 s.1 s.2 s.3 (backward t.0 (image one) t.2 s.1 (nearest_passes world.master has s.0 s.1 s.3) start)
             (is_member_of nat_eq one there) refl
           where
             by : (source near : ℕ) → source_of part.propagation ≡ Some source → Nearest world.master has source near
@@ -428,8 +375,7 @@ module _ (world : World ℕ) (new : Copies ℕ) (place : Location ℕ) (moves : 
                 hears world live part (part_there part m) source one e
                 (up_further world.master source near one (nearest_up world.master has source near n)
                 (subst (Up world.master near) (sym same) t.1))
-            by source near e n (inr t) false f =
-                absurd (true≢false
+            by source near e n (inr t) false f = absurd (true≢false
                 (sym (live_members world.master (has_members nat_eq world.mounts) (image one)
                 (lives_up world.master (has_members nat_eq world.mounts) t.0 (image one) (sourced t.0 t.1) t.2))
                 ∙ image_new world new place moves mounts serve own origin of_tree one h f))
@@ -451,12 +397,9 @@ module _ (world : World ℕ) (new : Copies ℕ) (place : Location ℕ) (moves : 
             → receives nat_eq world one origin ≡ true
         of_image other h e true f =
             let same : one ≡ image group = e ∙ ap image (is_group other f) in
-            ⊎_elim
-            (λ made. absurd (true≢false (sym lived ∙ ap (has_members nat_eq world.mounts) same ∙ made.1)))
-            (λ old. origin_hears one one (old.1 ∙ ap Some (sym same)) (here one))
-            group_image
-        of_image other h e false f =
-            absurd (true≢false (sym lived ∙ ap (has_members nat_eq world.mounts) e
+            ⊎_elim (λ made. absurd (true≢false (sym lived ∙ ap (has_members nat_eq world.mounts) same ∙ made.1)))
+            (λ old. origin_hears one one (old.1 ∙ ap Some (sym same)) (here one)) group_image
+        of_image other h e false f = absurd (true≢false (sym lived ∙ ap (has_members nat_eq world.mounts) e
             ∙ image_new world new place moves mounts serve own origin of_tree other h f))
 
         back : receives nat_eq later_world one copy ≡ true → receives nat_eq world one origin ≡ true
@@ -464,9 +407,7 @@ module _ (world : World ℕ) (new : Copies ℕ) (place : Location ℕ) (moves : 
             let s = copy_source part m in
             let t = heard later_world copy one r in
             let start : t.0 ≡ image s.1 = same_Some t.0 (image s.1) (sym t.1 ∙ ap source_of is_kind ∙ s.4) in
-            ⊎_elim
-            (λ i. of_image i.0 i.2 i.3 (is_member_of nat_eq i.0 there) refl)
-            (λ b. origin_hears b.0 one b.1 b.2)
+            ⊎_elim (λ i. of_image i.0 i.2 i.3 (is_member_of nat_eq i.0 there) refl) (λ b. origin_hears b.0 one b.1 b.2)
             (backward t.0 one t.2 s.1 (nearest_passes world.master has s.0 s.1 s.3) start)
 
         forth : receives nat_eq world one origin ≡ true → receives nat_eq later_world one copy ≡ true

@@ -1,5 +1,6 @@
 -- What the laws of propagation ask for holds of binds, new mounts and moves.
-use Rattle.std.proofs.Common.{◌≡◌, refl, sym, ap, subst, ◌∙◌, nat_eq, ℕ, inl, inr, true≢false, ⊎_elim, ◌∷◌, [], length}
+use Rattle.std.proofs.Common.{arith, ◌≡◌, refl, sym, ap, subst, ◌∙◌, nat_eq, ℕ, inl, inr, true≢false, ⊎_elim, ◌∷◌, length}
+use Rattle.std.proofs.lemmas.Grind.{common_steps}
 use Rattle.std.specs.Prelude.{Contains}
 use Rattle.vt_spec.proofs.Lists.{Among, among_from_contains, contains_from_among}
 use Rattle.vt_spec.specs.Machine.Attach.{bind_tree, moved_tree}
@@ -20,54 +21,29 @@ binds_can world fresh source place recursive serves mounts = record {
   groups = tested_live world mounts.groups;
   each_once = binds_take_each_once world source recursive mounts.one_number mounts.standing;
   moving = λ e. absurd (true≢false (sym e));
-  types = λ origin c.
-      ⊎_elim
-      (λ same.
+  types = λ origin c. ⊎_elim (λ same.
       let kind : origin.propagation ≡ (mount_at nat_eq world source).propagation =
       ap (λ (x : Mount ℕ). x.propagation) same in
-      ⊎_elim
-      (λ there. inr (
+      ⊎_elim (λ there. inr (
         mount_at nat_eq world source,
         contains_from_among world.mounts (mount_at nat_eq world source) there,
         kind,
-      ))
-      (λ none. inl (kind ∙ ap (λ (x : Mount ℕ). x.propagation) none))
-      (found_or_none world.mounts source.mount))
+      )) (λ none. inl (kind ∙ ap (λ (x : Mount ℕ). x.propagation) none)) (found_or_none world.mounts source.mount))
       (λ there. inr (origin, contains_from_among world.mounts origin there, refl))
       (bind_there_or_source world source recursive origin
       (among_from_contains (bind_tree nat_eq world source recursive) origin c));
 }
 
 pub new_mounts_can : NewMountsCan
-new_mounts_can world fresh place filesystem flags serves mounts = record {
-  serves = serves;
-  one_number = mounts.one_number;
-  groups = tested_live world mounts.groups;
-  each_once = refl;
-  moving = λ e. absurd (true≢false (sym e));
-  types = λ origin c.
-      ⊎_elim
-      (λ same. inl (ap (λ (x : Mount ℕ). x.propagation) same))
-      (λ none. absurd none)
-      (among_from_contains (new_mount filesystem.number filesystem.files.tree.root flags ∷ []) origin c);
-}
+new_mounts_can world fresh place filesystem flags serves mounts =
+    grind (arith, common_steps, tested_live world mounts.groups)
 
 pub moves_can : MovesCan
 moves_can world fresh source place serves mounts there =
     let tree = moved_tree nat_eq world source.mount in
-    let inside : (origin : Mount ℕ) → Contains tree origin → Contains world.mounts origin =
-    λ origin c.
-    contains_from_among world.mounts origin
-    (⊎_elim
-    (λ same. subst (λ x. Among x world.mounts) (sym same) (found_there world.mounts source.mount there))
-    (λ l. l)
+    let inside : (origin : Mount ℕ) → Contains tree origin → Contains world.mounts origin = λ origin c.
+    contains_from_among world.mounts origin (⊎_elim
+    (λ same. subst (λ x. Among x world.mounts) (sym same) (found_there world.mounts source.mount there)) (λ l. l)
     (tree_among (length world.mounts) world.mounts (mount_at nat_eq world source) origin
     (among_from_contains tree origin c))) in
-    record {
-      serves = serves;
-      one_number = mounts.one_number;
-      groups = tested_live world mounts.groups;
-      each_once = trees_have_each_once world source.mount mounts.one_number mounts.standing;
-      moving = λ e. inside;
-      types = λ origin c. inr (origin, inside origin c, refl);
-    }
+    grind (arith, common_steps, tested_live, trees_have_each_once)

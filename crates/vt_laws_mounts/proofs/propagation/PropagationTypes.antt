@@ -1,5 +1,6 @@
 -- The types of copies, by those of the parts that they are at.
-use Rattle.std.proofs.Common.{◌≡◌, refl, sym, ap, ◌∙◌, true, false, nat_eq, ℕ, Bool, None, Option, Some, List, find, inl, option_map, true≢false, unwrap_or, ⊎_elim}
+use Rattle.std.proofs.Common.{arith, ◌≡◌, refl, sym, ap, ◌∙◌, true, false, nat_eq, ℕ, Bool, None, Option, Some, List, find, inl, option_map, true≢false, unwrap_or, ⊎_elim}
+use Rattle.std.proofs.lemmas.Grind.{common_steps}
 use Rattle.std.specs.Prelude.{if◌then◌else◌}
 use Rattle.vt_spec.proofs.Lists.{Among}
 use Rattle.vt_spec.specs.Machine.Attach.{Copies, Twig, copy_type, image, parts_of, type_at, type_on_shared}
@@ -46,57 +47,37 @@ module _ (world : World ℕ) (new : Copies ℕ) (place : Location ℕ) (moves : 
   nearest_group group = find (has_members nat_eq all_parts) (groups_up world group)
 
   part_itself : (part : Mount ℕ) → Among part all_parts → nat_eq part.number place.mount ≡ true → part ≡ there
-  part_itself part m same =
-      ⊎_elim (λ e. e)
-      (λ rest. absurd (true≢false (sym same ∙ not_there world new place moves mounts part rest)))
-      m
+  part_itself part m same = ⊎_elim (λ e. e)
+      (λ rest. absurd (true≢false (sym same ∙ not_there world new place moves mounts part rest))) m
 
   pub kind_there : (origin : Mount ℕ) → kind there origin ≡ (of_tree origin).propagation
-  kind_there origin =
-      ap
-      (λ b. if b then (of_tree origin).propagation
+  kind_there origin = ap (λ b. if b then (of_tree origin).propagation
       else copy_type nat_eq world new all_parts there (of_tree origin) there.propagation)
       (at_destination world new place moves mounts serve own)
 
   kind_away : (part origin : Mount ℕ) → nat_eq part.number place.mount ≡ false
       → kind part origin ≡ copy_type nat_eq world new all_parts there (of_tree origin) part.propagation
-  kind_away part origin e =
-      ap
-      (λ b. if b then (of_tree origin).propagation
-      else copy_type nat_eq world new all_parts there (of_tree origin) part.propagation)
-      e
+  kind_away part origin e = ap (λ b. if b then (of_tree origin).propagation
+      else copy_type nat_eq world new all_parts there (of_tree origin) part.propagation) e
 
   -- at a shared destination
   pub type_in : (origin : Mount ℕ) (group : ℕ) → group_of there.propagation ≡ Some group
       → (of_tree origin).propagation ≡ type_on_shared (new.image group origin.number) origin.propagation
   type_in origin group e = ap (λ o. type_at new o origin) e
 
-  pub image_in : (origin : Mount ℕ) (group : ℕ) → group_of there.propagation ≡ Some group
-      → image_of origin group
+  pub image_in : (origin : Mount ℕ) (group : ℕ) → group_of there.propagation ≡ Some group → image_of origin group
       ≡ unwrap_or (group_of (type_on_shared (new.image group origin.number) origin.propagation))
       (new.image group origin.number)
-  image_in origin group e =
-      ap
+  image_in origin group e = ap
       (λ b. if b then unwrap_or (group_of (of_tree origin).propagation) (new.image group origin.number)
-      else new.image group origin.number)
-      (member_by_group world new place moves mounts serve own there group e)
+      else new.image group origin.number) (member_by_group world new place moves mounts serve own there group e)
       ∙ ap (λ k. unwrap_or (group_of k) (new.image group origin.number)) (type_in origin group e)
 
   -- the copy at a member of a group is a member of the image
   pub shared_kind : (part origin : Mount ℕ) → Among part all_parts → (group : ℕ) → part.propagation ≡ Shared group
       → kind part origin ≡ Shared (image_of origin group)
-  shared_kind part origin m group e = by (nat_eq part.number place.mount) refl
-    where
-      by : (b : Bool) → nat_eq part.number place.mount ≡ b → kind part origin ≡ Shared (image_of origin group)
-      by true f =
-          let same = part_itself part m f in
-          let shared : group_of there.propagation ≡ Some group =
-          ap (λ (x : Mount ℕ). group_of x.propagation) (sym same) ∙ ap group_of e in
-          ap (λ x. kind x origin) same ∙ kind_there origin ∙ type_in origin group shared
-          ∙ shared_there (new.image group origin.number) origin.propagation
-          ∙ ap Shared (sym (image_in origin group shared))
-      by false f =
-          kind_away part origin f ∙ ap (copy_type nat_eq world new all_parts there (of_tree origin)) e
+  shared_kind part origin m group e =
+      grind (arith, common_steps, part_itself, kind_there, type_in, shared_there, image_in, kind_away)
 
   -- the copy at a slave is a slave of the nearest image
   pub slave_kind : (part origin : Mount ℕ) (master group : ℕ) → nat_eq part.number place.mount ≡ false
@@ -108,10 +89,8 @@ module _ (world : World ℕ) (new : Copies ℕ) (place : Location ℕ) (moves : 
 
   -- the image of another group than the destination's is new
   pub image_new : (origin : Mount ℕ) → Among origin mounts → (group : ℕ) → has_members nat_eq all_parts group ≡ true
-      → is_member_of nat_eq group there ≡ false
-      → has_members nat_eq world.mounts (image_of origin group) ≡ false
-  image_new origin m group has lacks =
-      ap (has_members nat_eq world.mounts)
+      → is_member_of nat_eq group there ≡ false → has_members nat_eq world.mounts (image_of origin group) ≡ false
+  image_new origin m group has lacks = ap (has_members nat_eq world.mounts)
       (image_elsewhere world new place moves mounts serve own group origin lacks)
       ∙ unused_members world (new.image group origin.number)
       (serve.unused group origin.number has (is_one_of mounts origin m))
@@ -122,15 +101,13 @@ module _ (world : World ℕ) (new : Copies ℕ) (place : Location ℕ) (moves : 
       → (after world new place moves mounts serve own).master (image_of origin group) ≡ Some (image_of origin near)
   lower_master part origin m n group above near e lacks up found =
       master_elsewhere world new place moves mounts serve own part origin m n group (shared_member group part e) lacks
-      ∙ ap (nearest world new place moves mounts serve own origin) up
-      ∙ ap (option_map (image_of origin)) found
+      ∙ ap (nearest world new place moves mounts serve own origin) up ∙ ap (option_map (image_of origin)) found
 
   -- the groups that are made at a shared destination
   pub private_there : (origin : Mount ℕ) → Among origin mounts → (group : ℕ) → group_of there.propagation ≡ Some group
       → origin.propagation ≡ Private
       → (after world new place moves mounts serve own).master (new.image group origin.number) ≡ None
-  private_there origin m group e f =
-      master_there world new place moves mounts serve own origin m group e Private f refl
+  private_there origin m group e f = master_there world new place moves mounts serve own origin m group e Private f refl
 
   pub slave_there : (origin : Mount ℕ) → Among origin mounts → (group master : ℕ)
       → group_of there.propagation ≡ Some group → origin.propagation ≡ Slave master
@@ -140,7 +117,5 @@ module _ (world : World ℕ) (new : Copies ℕ) (place : Location ℕ) (moves : 
 
   pub there_new : (origin : Mount ℕ) → Among origin mounts → (group : ℕ) → group_of there.propagation ≡ Some group
       → has_members nat_eq world.mounts (new.image group origin.number) ≡ false
-  there_new origin m group e =
-      unused_members world (new.image group origin.number)
-      (serve.unused group origin.number
+  there_new origin m group e = unused_members world (new.image group origin.number) (serve.unused group origin.number
       (takes_part_in world new place moves mounts serve own there group (inl refl) e) (is_one_of mounts origin m))

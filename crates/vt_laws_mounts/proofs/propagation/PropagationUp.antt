@@ -1,14 +1,13 @@
 -- Groups up the masters: hearing by the way up, and the nearest that passes a test.
-use Rattle.std.proofs.Common.{arith}
+use Rattle.std.proofs.Common.{arith, ◌≡◌, refl, sym, ap, subst, ◌∙◌, true, false, zero, suc, nat_eq, ℕ, Bool, List, None, Option, Some, [], cond, find, is_some, true≢false, ⊎_elim, ◌∷◌, eqb-true}
 use Rattle.std.proofs.lemmas.Grind.{common_steps}
-use Rattle.std.proofs.Common.{◌≡◌, refl, sym, ap, subst, ◌∙◌, true, false, zero, suc, nat_eq, ℕ, Bool, List, None, Option, Some, [], cond, find, is_some, true≢false, ⊎_elim, ◌∷◌, eqb-true}
 use Rattle.std.proofs.lemmas.Bool.{or_cases}
 use Rattle.std.proofs.lemmas.Option.{same_Some}
 use Rattle.vt_spec.proofs.Lists.{Among, any_among, chain_ends, chain_goes_on}
-use Rattle.vt_spec.specs.Lists.{chain, holds_of, is_among}
+use Rattle.vt_spec.specs.Lists.{chain, is_among}
 use Rattle.vt_spec.specs.Machine.Mounts.{Mount, Propagation, source_of}
 use Rattle.vt_spec.specs.Machine.Mounts.Propagation.{Private, Shared, Slave, Unbindable}
-use Rattle.vt_spec.specs.Machine.Receives.{Receives, groups_up, has_members, is_member_of, receives}
+use Rattle.vt_spec.specs.Machine.Receives.{Receives, groups_up, receives}
 use Rattle.vt_spec.specs.Machine.Receives.Receives.{further_down, member, slave}
 use Rattle.vt_spec.specs.Machine.World.{World}
 use Rattle.vt_laws_mounts.specs.Mounts.Receivers.{GroupsLive}
@@ -35,8 +34,7 @@ module _ (master : ℕ → Option ℕ) where
       by : (from to : ℕ) → Up master from to → from ≡ step → to ≡ it
           → ((after : ℕ) → master step ≡ Some after → Up master after step → ⊥) → ⊥
       by from to (here same) p q loop = loop step (ap master (sym p ∙ q) ∙ f) (here step)
-      by from to (above same after end g up) p q loop =
-          loop after (ap master (sym p) ∙ g)
+      by from to (above same after end g up) p q loop = loop after (ap master (sym p) ∙ g)
           (up_further after it step (subst (Up master after) q up) (above it step step f (here step)))
 
   pub lives_up : (members : ℕ → Bool) (group other : ℕ) → Lives members master group → Up master group other
@@ -66,8 +64,7 @@ module _ (master : ℕ → Option ℕ) where
   found_nearest test zero group near e = by (test group) refl
     where
       by : (b : Bool) → test group ≡ b → Nearest test group near
-      by true f =
-          subst (Nearest test group)
+      by true f = subst (Nearest test group)
           (same_Some group near (sym (ap (λ b. cond b (Some group) None) f) ∙ e)) (itself group f)
       by false f = absurd (true≢false (sym (ap is_some (sym (ap (λ b. cond b (Some group) None) f) ∙ e))))
   found_nearest test (suc n) group near e = by (test group) refl (master group) refl (found_nearest test n)
@@ -75,23 +72,15 @@ module _ (master : ℕ → Option ℕ) where
       by : (b : Bool) → test group ≡ b → (up : Option ℕ) → master group ≡ up
           → ((next end : ℕ) → find test (chain n master next) ≡ Some end → Nearest test next end)
           → Nearest test group near
-      by true f None g later =
-          subst (Nearest test group)
-          (same_Some group near
+      by true f None g later = subst (Nearest test group) (same_Some group near
           (sym (ap (find test) (chain_ends master n group g) ∙ ap (λ b. cond b (Some group) None) f) ∙ e))
           (itself group f)
-      by false f None g later =
-          absurd (true≢false (sym (ap is_some
+      by false f None g later = absurd (true≢false (sym (ap is_some
           (sym (ap (find test) (chain_ends master n group g) ∙ ap (λ b. cond b (Some group) None) f) ∙ e))))
-      by true f (Some next) g later =
-          subst (Nearest test group)
-          (same_Some group near
+      by true f (Some next) g later = subst (Nearest test group) (same_Some group near
           (sym (ap (find test) (chain_goes_on master n group next g)
-          ∙ ap (λ b. cond b (Some group) (find test (chain n master next))) f) ∙ e))
-          (itself group f)
-      by false f (Some next) g later =
-          further group next near f g
-          (later next near
+          ∙ ap (λ b. cond b (Some group) (find test (chain n master next))) f) ∙ e)) (itself group f)
+      by false f (Some next) g later = further group next near f g (later next near
           (sym (ap (find test) (chain_goes_on master n group next g)
           ∙ ap (λ b. cond b (Some group) (find test (chain n master next))) f) ∙ e))
 
@@ -101,14 +90,10 @@ pub finds_some : (test : ℕ → Bool) (groups : List ℕ) (group : ℕ) → is_
 finds_some test [] group m has = absurd (true≢false (sym m))
 finds_some test (first ∷ rest) group m has = by (test first) refl (finds_some test rest)
   where
-    by : (b : Bool) → test first ≡ b
-        → ((other : ℕ) → is_among nat_eq other rest ≡ true → test other ≡ true
-        → (near : ℕ) × (find test rest ≡ Some near))
-        → (near : ℕ) × (find test (first ∷ rest) ≡ Some near)
+    by : (b : Bool) → test first ≡ b → ((other : ℕ) → is_among nat_eq other rest ≡ true → test other ≡ true
+        → (near : ℕ) × (find test rest ≡ Some near)) → (near : ℕ) × (find test (first ∷ rest) ≡ Some near)
     by true e later = (first, ap (λ b. cond b (Some first) (find test rest)) e)
-    by false e later =
-        ⊎_elim
-        (λ same. absurd (true≢false (sym has ∙ ap test (eqb-true group first same) ∙ e)))
+    by false e later = ⊎_elim (λ same. absurd (true≢false (sym has ∙ ap test (eqb-true group first same) ∙ e)))
         (λ l. let t = later group l has in (t.0, ap (λ b. cond b (Some first) (find test rest)) e ∙ t.1))
         (or_cases (nat_eq group first) (is_among nat_eq group rest) m)
 
@@ -143,9 +128,4 @@ heard world mount group h = grind (arith, common_steps, true≢false, way_up)
 -- where groups live, each group up from one is on its list
 pub up_among : (world : World ℕ) → GroupsLive world → (source group : ℕ) → LivesIn world source
     → Up world.master source group → is_among nat_eq group (groups_up world source) ≡ true
-up_among world live source group life way =
-    let has = live_members world.master (has_members nat_eq world.mounts) source life in
-    let one = any_among (is_member_of nat_eq source) world.mounts has in
-    let e : source_of one.0.propagation ≡ Some source = ap source_of (member_shared source one.0 one.2) in
-    sym (ap (holds_of (λ s. is_among nat_eq group (groups_up world s))) e)
-    ∙ hears world live one.0 one.1 source group e way
+up_among world live source group life way = grind (arith, common_steps, live_members, any_among, member_shared, hears)

@@ -46,8 +46,7 @@ looks_keep fresh world task call permit e granted = cc
 
 -- no change number is raised by a look
 unraised : (looks granted : Bool) (world : World ℕ) (name : TaskName) (changed : List ℕ) (outcome : Outcome ℕ)
-    → looks ≡ true
-    → outcome.world ≡ world
+    → looks ≡ true → outcome.world ≡ world
     → (finished_by nat_eq (looks || granted) world name changed outcome).world ≡ world
 unraised true granted world name changed outcome e same = same
 unraised false granted world name changed outcome e same = cc
@@ -91,8 +90,7 @@ line_keeps false false grammar world line fresh = spoken_keeps grammar world lin
 
 pub denied_line_changes_nothing : DeniedLineChangesNothing
 denied_line_changes_nothing grammar world line fresh outcome deny steps e =
-    error_is (λ d. outcome.world ≡ world) outcome.answer deny e
-    (subst (StepKeepsIfDenied world) steps
+    error_is (λ d. outcome.world ≡ world) outcome.answer deny e (subst (StepKeepsIfDenied world) steps
     (line_keeps (nat_lt longest_line (length line)) (is_silent line) grammar world line fresh))
 
 refused_keeps : (long silent : Bool) (grammar : Grammar) (world : World ℕ) (line : List ℕ)

@@ -1,14 +1,13 @@
 -- What a granted call leaves: what its permit leaves.
-use Rattle.std.proofs.Common.{Err, nat_eq, refl, ap, is_ok, sym, true≢false}
+use Rattle.std.proofs.Common.{arith, nat_eq, ap, true≢false}
+use Rattle.std.proofs.lemmas.Grind.{common_steps}
 use Rattle.std.specs.Prelude.{Ok, ℕ, ◌≡◌}
 use Rattle.vt_laws_rules.proofs.given.Inversion.{calls_are_granted}
 use Rattle.vt_laws_rules.specs.Granted.{IsGranted}
 use Rattle.vt_spec.specs.Language.Calls.{Call}
 use Rattle.vt_spec.specs.Lists.{Fresh}
 use Rattle.vt_spec.specs.Machine.Apply.{apply, overfills}
-use Rattle.vt_spec.specs.Machine.Judge.{Judgement, judge_in}
 use Rattle.vt_spec.specs.Machine.Looks.{looks_of}
-use Rattle.vt_spec.specs.Machine.Outcomes.{after}
 use Rattle.vt_spec.specs.Machine.Permits.{Permit}
 use Rattle.vt_spec.specs.Machine.Policy.{call_outcome}
 use Rattle.vt_spec.specs.Machine.World.{Task, World}
@@ -18,30 +17,12 @@ use Rattle.vt_spec.specs.Language.Answers.{Answer}
 pub call_holds : (P : World ℕ → Type 0) (fresh : Fresh ℕ) (world : World ℕ) (task : Task ℕ) (call : Call) → P world
     → ((permit : Permit ℕ)
     → IsGranted nat_eq (looks_of nat_eq world) (overfills nat_eq fresh world task) task call permit
-    → P (apply nat_eq fresh world task permit).world)
-    → P (call_outcome nat_eq fresh world task call).world
-call_holds P fresh world task call p h = by (judge_in nat_eq fresh world task call) refl
-  where
-    by : (judgement : Judgement ℕ) → judge_in nat_eq fresh world task call ≡ judgement
-        → P (after world judgement (apply nat_eq fresh world task)).world
-    by (Ok permit) e =
-        h permit
-        (calls_are_granted nat_eq (looks_of nat_eq world) (overfills nat_eq fresh world task) task call permit e)
-    by (Err deny) e = p
+    → P (apply nat_eq fresh world task permit).world) → P (call_outcome nat_eq fresh world task call).world
+call_holds P fresh world task call p h = grind (arith, common_steps, calls_are_granted)
 
 -- and what holds of that alone holds after a call that is granted
 pub answered_holds : (P : World ℕ → Type 0) (fresh : Fresh ℕ) (world : World ℕ) (task : Task ℕ) (call : Call)
-    (answer : Answer) → (call_outcome nat_eq fresh world task call).answer ≡ Ok answer
-    → ((permit : Permit ℕ)
+    (answer : Answer) → (call_outcome nat_eq fresh world task call).answer ≡ Ok answer → ((permit : Permit ℕ)
     → IsGranted nat_eq (looks_of nat_eq world) (overfills nat_eq fresh world task) task call permit
-    → P (apply nat_eq fresh world task permit).world)
-    → P (call_outcome nat_eq fresh world task call).world
-answered_holds P fresh world task call answer granted h = by (judge_in nat_eq fresh world task call) refl granted
-  where
-    by : (judgement : Judgement ℕ) → judge_in nat_eq fresh world task call ≡ judgement
-        → (after world judgement (apply nat_eq fresh world task)).answer ≡ Ok answer
-        → P (after world judgement (apply nat_eq fresh world task)).world
-    by (Ok permit) e granted =
-        h permit
-        (calls_are_granted nat_eq (looks_of nat_eq world) (overfills nat_eq fresh world task) task call permit e)
-    by (Err deny) e granted = absurd (true≢false (sym (ap is_ok granted)))
+    → P (apply nat_eq fresh world task permit).world) → P (call_outcome nat_eq fresh world task call).world
+answered_holds P fresh world task call answer granted h = grind (arith, common_steps, calls_are_granted, true≢false)

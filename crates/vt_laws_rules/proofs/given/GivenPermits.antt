@@ -37,8 +37,7 @@ is_for looks too_many task call permit (changes_mark path _ _ _ _ _) = (path, re
 is_for looks too_many task call permit (opens path _ _ _ _ _) = (path, NoCreation, refl)
 is_for looks too_many task call permit (opens_existing path _ mode _ _ _ _ _ _ _) = (path, OrCreate mode, refl)
 is_for looks too_many task call permit (creates path _ mode _ _ _ _ _ _) = (path, OrCreate mode, refl, refl)
-is_for looks too_many task call permit (creates_exclusively path _ mode _ _ _ _ _) =
-    (path, Exclusive mode, refl, refl)
+is_for looks too_many task call permit (creates_exclusively path _ mode _ _ _ _ _) = (path, Exclusive mode, refl, refl)
 is_for looks too_many task call permit (reads_part number _ _ _ _) = (number, refl)
 is_for looks too_many task call permit (writes_part number _ _ _ _ _) = (number, refl)
 is_for looks too_many task call permit (closes _ _ _) = refl

@@ -35,8 +35,7 @@ module _ {N : Type 0} (eq : N → N → Bool) (looks : Looks N) (overfills : Per
 
   write_granted : (path bytes : List ℕ) → Gives (Granted (Write path bytes)) (write_permit eq looks task path bytes)
   unfolding write_permit
-  write_granted path bytes =
-      behind_walk _ (file_walk eq looks task path) _ (λ place end.
+  write_granted path bytes = behind_walk _ (file_walk eq looks task path) _ (λ place end.
       behind_rules _ (file_word_rules place) _ (λ named.
       behind_option (Granted (Write path bytes)) place.object (written_permit eq looks task place bytes)
       (λ file there. behind_rules (Granted (Write path bytes)) (rewrite_rules looks task file bytes) _
@@ -48,8 +47,7 @@ module _ {N : Type 0} (eq : N → N → Bool) (looks : Looks N) (overfills : Per
 
   rename_granted : (old new : List ℕ) → Gives (Granted (Rename old new)) (rename_permit eq looks task old new)
   unfolding rename_permit
-  rename_granted old new =
-      behind_walk _ (old_leaf_walk eq looks task old) _ (λ from from_end.
+  rename_granted old new = behind_walk _ (old_leaf_walk eq looks task old) _ (λ from from_end.
       behind_rules _ (old_word_rules from) _ (λ from_named.
       behind_walk _ (rename_new_walk eq looks task new (is_directory_there eq looks from)) _ (λ to to_end.
       behind_rules _ (old_word_rules to) _ (λ to_named.
@@ -64,12 +62,10 @@ module _ {N : Type 0} (eq : N → N → Bool) (looks : Looks N) (overfills : Per
   open_granted : (path : List ℕ) (access : Access) (creation : Creation)
       → Gives (Granted (OpenFile path access creation)) (open_permit eq looks task path access creation)
   unfolding open_permit
-  open_granted path access NoCreation =
-      behind_rules _ (descriptor_rules task) _ (λ room.
+  open_granted path access NoCreation = behind_rules _ (descriptor_rules task) _ (λ room.
       behind_walk _ (object_walk eq looks task path) _ (λ here end.
       behind_rules _ (open_rules looks task here.location access) _ (opens path access here room end)))
-  open_granted path access (OrCreate mode) =
-      behind_rules _ (descriptor_rules task) _ (λ room.
+  open_granted path access (OrCreate mode) = behind_rules _ (descriptor_rules task) _ (λ room.
       behind_walk _ (file_walk eq looks task path) _ (λ place end.
       behind_rules _ (file_word_rules place) _ (λ named.
       behind_option (Granted (OpenFile path access (OrCreate mode))) place.object
@@ -79,8 +75,7 @@ module _ {N : Type 0} (eq : N → N → Bool) (looks : Looks N) (overfills : Per
       (λ missing. behind_rules (Granted (OpenFile path access (OrCreate mode)))
       (make_rules looks task place (unnumbered place (new_file task mode []))) _
       (creates path access mode place room end named missing)))))
-  open_granted path access (Exclusive mode) =
-      behind_rules _ (descriptor_rules task) _ (λ room.
+  open_granted path access (Exclusive mode) = behind_rules _ (descriptor_rules task) _ (λ room.
       behind_walk _ (new_walk eq looks task path) _ (λ place end.
       behind_rules _ (exclusive_word_rules place) _ (λ named.
       behind_rules _ (make_rules looks task place (unnumbered place (new_file task mode []))) _
@@ -90,11 +85,9 @@ module _ {N : Type 0} (eq : N → N → Bool) (looks : Looks N) (overfills : Per
       → Gives (Granted (MountOverlay path options flags))
       (mount_overlay_permit eq looks overfills task path options flags)
   unfolding mount_overlay_permit
-  overlay_granted path None flags =
-      behind_rules _ (admin_rules task) _ (λ admin.
+  overlay_granted path None flags = behind_rules _ (admin_rules task) _ (λ admin.
       behind_walk _ (destination_walk eq looks task path) _ (λ here end. tt))
-  overlay_granted path (Some words) flags =
-      behind_rules _ (admin_rules task) _ (λ admin.
+  overlay_granted path (Some words) flags = behind_rules _ (admin_rules task) _ (λ admin.
       behind_walk _ (destination_walk eq looks task path) _ (λ here end.
       behind_step _ (layers_walked eq looks task words) _ (λ layers walked.
       behind_rules _ (layer_rules eq looks layers (overlay_at looks task layers)) _ (λ layered.
@@ -108,135 +101,101 @@ module _ {N : Type 0} (eq : N → N → Bool) (looks : Looks N) (overfills : Per
       whiteout_permit hard_link_permit unlink_permit rmdir_permit chmod_permit chown_permit opaque_permit
       pread_permit pwrite_permit close_permit chdir_permit chroot_permit fork_permit unshare_permit setns_permit
       mount_plain_permit bind_permit move_permit umount_permit lazy_permit remount_permit type_permit pivot_permit
-  granted_by (Ls path) =
-      behind_walk _ (directory_walk eq looks task path) _ (λ here end.
+  granted_by (Ls path) = behind_walk _ (directory_walk eq looks task path) _ (λ here end.
       behind_rules _ (list_rules looks task here.location) _ (lists_directory path here end))
   granted_by (Stat path) = behind_walk _ (object_walk eq looks task path) _ (λ here end. shows_object path here end)
-  granted_by (Lstat path) =
-      behind_walk _ (symlink_walk eq looks task path) _ (λ here end. shows_symlink path here end)
-  granted_by (Readlink path) =
-      behind_walk _ (symlink_walk eq looks task path) _ (λ here end.
+  granted_by (Lstat path) = behind_walk _ (symlink_walk eq looks task path) _ (λ here end. shows_symlink path here end)
+  granted_by (Readlink path) = behind_walk _ (symlink_walk eq looks task path) _ (λ here end.
       behind_rules _ (readlink_rules looks here.location) _ (reads_symlink path here end))
-  granted_by (Read path) =
-      behind_walk _ (object_walk eq looks task path) _ (λ here end.
+  granted_by (Read path) = behind_walk _ (object_walk eq looks task path) _ (λ here end.
       behind_rules _ (read_rules looks task here.location) _ (reads_file path here end))
-  granted_by (Exec path) =
-      behind_walk _ (object_walk eq looks task path) _ (λ here end.
+  granted_by (Exec path) = behind_walk _ (object_walk eq looks task path) _ (λ here end.
       behind_rules _ (exec_rules looks task here.location) _ (may_execute path here end))
   granted_by (Write path bytes) = write_granted path bytes
-  granted_by (Mkdir path mode) =
-      behind_walk _ (new_walk eq looks task path) _ (λ place end.
+  granted_by (Mkdir path mode) = behind_walk _ (new_walk eq looks task path) _ (λ place end.
       behind_rules _
       (new_word_rules place ++ make_rules looks task place (unnumbered place (directory_made task place mode))) _
       (makes_directory path mode place end))
-  granted_by (SymlinkAt text path) =
-      behind_rules _ (symlink_text_rules text) _ (λ fits.
+  granted_by (SymlinkAt text path) = behind_rules _ (symlink_text_rules text) _ (λ fits.
       behind_walk _ (new_leaf_walk eq looks task path) _ (λ place end.
-      behind_rules _
-      (new_word_rules place ++ make_rules looks task place (unnumbered place (symlink_made task text))) _
+      behind_rules _ (new_word_rules place ++ make_rules looks task place (unnumbered place (symlink_made task text))) _
       (makes_symlink text path place fits end)))
-  granted_by (MakeWhiteout path) =
-      behind_walk _ (new_leaf_walk eq looks task path) _ (λ place end.
+  granted_by (MakeWhiteout path) = behind_walk _ (new_leaf_walk eq looks task path) _ (λ place end.
       behind_rules _ (whiteout_rules looks task place) _ (makes_whiteout path place end))
-  granted_by (LinkTo old new) =
-      behind_walk _ (symlink_walk eq looks task old) _ (λ from from_end.
+  granted_by (LinkTo old new) = behind_walk _ (symlink_walk eq looks task old) _ (λ from from_end.
       behind_walk _ (new_leaf_walk eq looks task new) _ (λ place end.
       behind_rules _ ((is_special place.last, E1) ∷ []) _ (λ named.
       behind_rules _ (hard_link_rules eq looks task from.location place (linking from.location place)) _
       (makes_hard_link old new from place from_end end named))))
-  granted_by (Unlink path) =
-      behind_walk _ (old_leaf_walk eq looks task path) _ (λ place end.
+  granted_by (Unlink path) = behind_walk _ (old_leaf_walk eq looks task path) _ (λ place end.
       behind_rules _ ((is_special place.last, E2) ∷ []) _ (λ named.
       behind_rules _ (unlink_rules looks task place (object_there place)) _ (unlinks path place end named)))
-  granted_by (Rmdir path) =
-      behind_walk _ (old_walk eq looks task path) _ (λ place end.
+  granted_by (Rmdir path) = behind_walk _ (old_walk eq looks task path) _ (λ place end.
       behind_rules _ (rmdir_word_rules place) _ (λ named.
-      behind_rules _ (rmdir_rules eq looks task place (object_there place)) _
-      (removes_directory path place end named)))
+      behind_rules _ (rmdir_rules eq looks task place (object_there place)) _ (removes_directory path place end named)))
   granted_by (Rename old new) = rename_granted old new
-  granted_by (Chmod path mode) =
-      behind_walk _ (object_walk eq looks task path) _ (λ here end.
-      behind_rules _
-      (attr_rules looks here.location (owns task.credentials (attr_at looks here.location))
+  granted_by (Chmod path mode) = behind_walk _ (object_walk eq looks task path) _ (λ here end.
+      behind_rules _ (attr_rules looks here.location (owns task.credentials (attr_at looks here.location))
       (attr_with_mode (attr_at looks here.location) mode)) _ (changes_mode path mode here end))
-  granted_by (Chown path uid gid) =
-      behind_walk _ (object_walk eq looks task path) _ (λ here end.
-      behind_rules _
-      (attr_rules looks here.location
-      (may_chown task.credentials (attr_at looks here.location)
+  granted_by (Chown path uid gid) = behind_walk _ (object_walk eq looks task path) _ (λ here end.
+      behind_rules _ (attr_rules looks here.location (may_chown task.credentials (attr_at looks here.location)
       (attr_with_owner (attr_at looks here.location) uid gid))
       (attr_with_owner (attr_at looks here.location) uid gid)) _ (changes_owner path uid gid here end))
-  granted_by (Opaque path mark) =
-      behind_rules _ (admin_rules task) _ (λ admin.
+  granted_by (Opaque path mark) = behind_rules _ (admin_rules task) _ (λ admin.
       behind_walk _ (directory_walk eq looks task path) _ (λ here end.
       behind_rules _ (opaque_rules looks here.location) _ (changes_mark path mark here admin end)))
   granted_by (OpenFile path access creation) = open_granted path access creation
-  granted_by (Pread number offset size) =
-      behind_step _ (descriptor_at task number (λ (d : Descriptor N). d.reads)) _
+  granted_by (Pread number offset size) = behind_step _ (descriptor_at task number (λ (d : Descriptor N). d.reads)) _
       (λ descriptor found. reads_part number offset size descriptor found)
   granted_by (Pwrite number offset bytes) =
       behind_step _ (descriptor_at task number (λ (d : Descriptor N). d.writes)) _ (λ descriptor found.
       behind_rules _ (pwrite_rules looks descriptor.location offset bytes) _
       (writes_part number offset bytes descriptor found))
-  granted_by (Close number) =
-      behind_step _ (descriptor_at task number (λ (d : Descriptor N). true)) _
+  granted_by (Close number) = behind_step _ (descriptor_at task number (λ (d : Descriptor N). true)) _
       (λ descriptor found. closes number descriptor found)
-  granted_by (Chdir path) =
-      behind_walk _ (directory_walk eq looks task path) _ (λ here end.
+  granted_by (Chdir path) = behind_walk _ (directory_walk eq looks task path) _ (λ here end.
       behind_rules _ (enter_rules looks task here.location) _ (changes_directory path here end))
-  granted_by (Chroot path) =
-      behind_rules _ ((lacks task cap_sys_chroot, K1) ∷ []) _ (λ capable.
+  granted_by (Chroot path) = behind_rules _ ((lacks task cap_sys_chroot, K1) ∷ []) _ (λ capable.
       behind_walk _ (directory_walk eq looks task path) _ (λ here end.
       behind_rules _ (enter_rules looks task here.location) _ (changes_root path here capable end)))
   granted_by (Umask mode) = changes_umask mode
   granted_by (Drop which) = drops_capabilities which
-  granted_by (Fork words) =
-      behind_rules _ (fork_rules task (child_credentials task.credentials words)) _ (forks words)
+  granted_by (Fork words) = behind_rules _ (fork_rules task (child_credentials task.credentials words)) _ (forks words)
   granted_by Exit = exits
   granted_by Unshare = behind_rules _ (admin_rules task) _ unshares
-  granted_by (Setns name) =
-      behind_step _ (ok_or (looks.namespace_called name) (denial S2)) _ (λ namespace found.
+  granted_by (Setns name) = behind_step _ (ok_or (looks.namespace_called name) (denial S2)) _ (λ namespace found.
       behind_rules _ ((lacks task cap_sys_admin || lacks task cap_sys_chroot, K1) ∷ []) _
       (enters_namespace name namespace found))
-  granted_by (MountPlain path flags) =
-      behind_rules _ (admin_rules task) _ (λ admin.
+  granted_by (MountPlain path flags) = behind_rules _ (admin_rules task) _ (λ admin.
       behind_walk _ (destination_walk eq looks task path) _ (λ here end.
       behind_rules _ (new_mount_rules eq looks task here.location (overfills (ToMountPlain here.location flags))) _
       (mounts_tmpfs path flags here admin end)))
   granted_by (MountOverlay path options flags) = overlay_granted path options flags
-  granted_by (Bind source path recursive) =
-      behind_rules _ (admin_rules task) _ (λ admin.
+  granted_by (Bind source path recursive) = behind_rules _ (admin_rules task) _ (λ admin.
       behind_walk _ (source_walk eq looks task source) _ (λ from from_end.
       behind_walk _ (destination_walk eq looks task path) _ (λ here end.
-      behind_rules _
-      (bind_rules eq looks task from.location here.location
+      behind_rules _ (bind_rules eq looks task from.location here.location
       (overfills (ToBind from.location here.location recursive))) _
       (binds source path recursive from here admin from_end end))))
-  granted_by (MoveMount source path) =
-      behind_rules _ (admin_rules task) _ (λ admin.
+  granted_by (MoveMount source path) = behind_rules _ (admin_rules task) _ (λ admin.
       behind_walk _ (source_walk eq looks task source) _ (λ from from_end.
       behind_walk _ (destination_walk eq looks task path) _ (λ here end.
       behind_rules _
       (move_rules eq looks task from.location here.location (overfills (ToMove from.location.mount here.location))) _
       (moves_mount source path from here admin from_end end))))
-  granted_by (Umount path) =
-      behind_rules _ (admin_rules task) _ (λ admin.
+  granted_by (Umount path) = behind_rules _ (admin_rules task) _ (λ admin.
       behind_walk _ (directory_walk eq looks task path) _ (λ here end.
       behind_rules _ (umount_rules eq looks task here.location) _ (unmounts path here admin end)))
-  granted_by (Lazy path) =
-      behind_rules _ (admin_rules task) _ (λ admin.
+  granted_by (Lazy path) = behind_rules _ (admin_rules task) _ (λ admin.
       behind_walk _ (directory_walk eq looks task path) _ (λ here end.
       behind_rules _ (lazy_rules eq looks task here.location) _ (unmounts_lazily path here admin end)))
-  granted_by (Remount path flags) =
-      behind_rules _ (admin_rules task) _ (λ admin.
+  granted_by (Remount path flags) = behind_rules _ (admin_rules task) _ (λ admin.
       behind_walk _ (directory_walk eq looks task path) _ (λ here end.
       behind_rules _ (remount_rules eq looks task here.location flags) _ (changes_flags path flags here admin end)))
-  granted_by (SetType path word recursive) =
-      behind_rules _ (admin_rules task) _ (λ admin.
+  granted_by (SetType path word recursive) = behind_rules _ (admin_rules task) _ (λ admin.
       behind_walk _ (directory_walk eq looks task path) _ (λ here end.
       behind_rules _ (type_rules eq looks task here.location) _ (changes_type path word recursive here admin end)))
-  granted_by (PivotRoot new put) =
-      behind_rules _ (admin_rules task) _ (λ admin.
+  granted_by (PivotRoot new put) = behind_rules _ (admin_rules task) _ (λ admin.
       behind_walk _ (source_walk eq looks task new) _ (λ root root_end.
       behind_walk _ (destination_walk eq looks task put) _ (λ here end.
       behind_rules _ (pivot_rules eq looks task root.location here.location) _
@@ -320,22 +279,17 @@ module _ {N : Type 0} (eq : N → N → Bool) (looks : Looks N) (overfills : Per
       ∙ by_rules (rename_rules eq looks task from to (object_there from)) _ _ passed refl))))
   grants_are_judged call permit (changes_mode path mode here end passed) =
       by_walk (object_walk eq looks task path) here _ _ end (
-      by_rules
-      (attr_rules looks here.location (owns task.credentials (attr_at looks here.location))
+      by_rules (attr_rules looks here.location (owns task.credentials (attr_at looks here.location))
       (attr_with_mode (attr_at looks here.location) mode)) _ _ passed refl)
   grants_are_judged call permit (changes_owner path uid gid here end passed) =
       by_walk (object_walk eq looks task path) here _ _ end (
-      by_rules
-      (attr_rules looks here.location
-      (may_chown task.credentials (attr_at looks here.location)
+      by_rules (attr_rules looks here.location (may_chown task.credentials (attr_at looks here.location)
       (attr_with_owner (attr_at looks here.location) uid gid))
       (attr_with_owner (attr_at looks here.location) uid gid)) _ _ passed refl)
-  grants_are_judged call permit (changes_mark path mark here admin end passed) =
-      by_rules (admin_rules task) _ _ admin (
+  grants_are_judged call permit (changes_mark path mark here admin end passed) = by_rules (admin_rules task) _ _ admin (
       by_walk (directory_walk eq looks task path) here _ _ end (
       by_rules (opaque_rules looks here.location) _ _ passed refl))
-  grants_are_judged call permit (opens path access here room end passed) =
-      by_rules (descriptor_rules task) _ _ room (
+  grants_are_judged call permit (opens path access here room end passed) = by_rules (descriptor_rules task) _ _ room (
       by_walk (object_walk eq looks task path) here _ _ end (
       by_rules (open_rules looks task here.location access) _ _ passed refl))
   grants_are_judged call permit (opens_existing path access mode place file room end named there passed) =
@@ -388,15 +342,13 @@ module _ {N : Type 0} (eq : N → N → Bool) (looks : Looks N) (overfills : Per
       by_walk (destination_walk eq looks task path) here _ _ end (
       by_step (layers_walked eq looks task words) layers _ _ walked (
       by_rules (layer_rules eq looks layers (overlay_at looks task layers)) _ _ layered (
-      by_rules
-      (new_mount_rules eq looks task here.location
+      by_rules (new_mount_rules eq looks task here.location
       (overfills (ToMountOverlay here.location (overlay_at looks task layers) flags))) _ _ passed refl))))
   grants_are_judged call permit (binds source path recursive from here admin from_end end passed) =
       by_rules (admin_rules task) _ _ admin (
       by_walk (source_walk eq looks task source) from _ _ from_end (
       by_walk (destination_walk eq looks task path) here _ _ end (
-      by_rules
-      (bind_rules eq looks task from.location here.location
+      by_rules (bind_rules eq looks task from.location here.location
       (overfills (ToBind from.location here.location recursive))) _ _ passed refl)))
   grants_are_judged call permit (moves_mount source path from here admin from_end end passed) =
       by_rules (admin_rules task) _ _ admin (
@@ -405,12 +357,10 @@ module _ {N : Type 0} (eq : N → N → Bool) (looks : Looks N) (overfills : Per
       by_rules
       (move_rules eq looks task from.location here.location (overfills (ToMove from.location.mount here.location))) _
       _ passed refl)))
-  grants_are_judged call permit (unmounts path here admin end passed) =
-      by_rules (admin_rules task) _ _ admin (
+  grants_are_judged call permit (unmounts path here admin end passed) = by_rules (admin_rules task) _ _ admin (
       by_walk (directory_walk eq looks task path) here _ _ end (
       by_rules (umount_rules eq looks task here.location) _ _ passed refl))
-  grants_are_judged call permit (unmounts_lazily path here admin end passed) =
-      by_rules (admin_rules task) _ _ admin (
+  grants_are_judged call permit (unmounts_lazily path here admin end passed) = by_rules (admin_rules task) _ _ admin (
       by_walk (directory_walk eq looks task path) here _ _ end (
       by_rules (lazy_rules eq looks task here.location) _ _ passed refl))
   grants_are_judged call permit (changes_flags path flags here admin end passed) =

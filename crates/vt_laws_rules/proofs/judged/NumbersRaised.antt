@@ -1,27 +1,20 @@
 -- The policy's last step raises change numbers alone.
-use Rattle.std.proofs.Common.{◌≡◌, refl, sym, subst, ◌⊎◌, inl, inr, ℕ, ◌+◌, nat_eq, Bool, true, false, cond, ◌||◌, not, List, [], ◌∷◌, ◌++◌, map, is_ok, ok_or}
-use Rattle.std.specs.List.{list_any}
-use Rattle.vt_laws_rules.specs.Judged.{AreRaised, LastStepRaisesNumbersAlone, change_numbers, left_by}
-use Rattle.vt_spec.specs.declared.errors.Rule.TheVariants.{S2}
-use Rattle.vt_spec.specs.Errors.{denial}
+use Rattle.std.proofs.Common.{arith, ◌≡◌, refl, ◌⊎◌, inl, ℕ, ◌+◌, nat_eq, Bool, true, false, cond, ◌||◌, List, [], ◌∷◌, ◌++◌, map}
+use Rattle.std.proofs.lemmas.Grind.{common_steps}
+use Rattle.vt_laws_rules.specs.Judged.{AreRaised, LastStepRaisesNumbersAlone, change_numbers}
 use Rattle.vt_spec.specs.Machine.Filesystems.{raised, raised_if_changed}
-use Rattle.vt_spec.specs.Machine.Judge.{judge_in}
-use Rattle.vt_spec.specs.Machine.Outcomes.{Outcome, after}
-use Rattle.vt_spec.specs.Machine.Policy.{call_outcome, filesystems_changed_by, finished, finished_by, numbers_raised, only_looks, raised_namespace, raised_task, same_mounts_in}
+use Rattle.vt_spec.specs.Machine.Outcomes.{Outcome}
+use Rattle.vt_spec.specs.Machine.Policy.{finished, finished_by, numbers_raised, raised_namespace, raised_task}
 use Rattle.vt_spec.specs.Machine.SameWorlds.{without_changes}
 use Rattle.vt_spec.specs.Machine.Settled.{settled}
 use Rattle.vt_spec.specs.Machine.World.{Filesystem, Namespace, Task, World}
-use Rattle.vt_spec.specs.Language.Calls.{TaskName, same_name}
+use Rattle.vt_spec.specs.Language.Calls.{TaskName}
 
 abbrev MayRise : ℕ → ℕ → Type 0
 MayRise old new = (new ≡ old) ⊎ (new ≡ old + 1)
 
 raised_is : (number : ℕ) → MayRise number (raised number)
-raised_is number = by (nat_eq number 18446744073709551615)
-  where
-    by : (last : Bool) → MayRise number (cond last number (number + 1))
-    by true = inl refl
-    by false = inr refl
+raised_is number = grind (arith, common_steps)
 
 none_rise : (numbers : List ℕ) → AreRaised numbers numbers
 none_rise [] = tt
@@ -57,85 +50,47 @@ bare_task task = record task { change = 0 }
 
 filesystem_same : (changed : List ℕ) (filesystem : Filesystem ℕ)
     → bare_filesystem (raised_if_changed nat_eq changed filesystem) ≡ bare_filesystem filesystem
-filesystem_same changed filesystem = by (list_any (λ number. nat_eq number filesystem.number) changed)
-  where
-    by : (b : Bool)
-        → bare_filesystem (cond b (record filesystem { change = raised filesystem.change }) filesystem)
-        ≡ bare_filesystem filesystem
-    by true = refl
-    by false = refl
+filesystem_same changed filesystem = grind (arith, common_steps)
 
 filesystem_rises : (changed : List ℕ) (filesystem : Filesystem ℕ)
     → MayRise filesystem.change (raised_if_changed nat_eq changed filesystem).change
-filesystem_rises changed filesystem = by (list_any (λ number. nat_eq number filesystem.number) changed)
-  where
-    by : (b : Bool)
-        → MayRise filesystem.change
-        (cond b (record filesystem { change = raised filesystem.change }) filesystem).change
-    by true = raised_is filesystem.change
-    by false = inl refl
+filesystem_rises changed filesystem = grind (arith, common_steps, raised_is)
 
 namespace_same : (before left : World ℕ) (namespace : Namespace ℕ)
     → bare_namespace (raised_namespace nat_eq before left namespace) ≡ bare_namespace namespace
-namespace_same before left namespace = by (same_mounts_in nat_eq before left namespace.number)
-  where
-    by : (b : Bool)
-        → bare_namespace (cond b namespace (record namespace { change = raised namespace.change }))
-        ≡ bare_namespace namespace
-    by true = refl
-    by false = refl
+namespace_same before left namespace = grind (arith, common_steps)
 
 namespace_rises : (before left : World ℕ) (namespace : Namespace ℕ)
     → MayRise namespace.change (raised_namespace nat_eq before left namespace).change
-namespace_rises before left namespace = by (same_mounts_in nat_eq before left namespace.number)
-  where
-    by : (b : Bool)
-        → MayRise namespace.change
-        (cond b namespace (record namespace { change = raised namespace.change })).change
-    by true = inl refl
-    by false = raised_is namespace.change
+namespace_rises before left namespace = grind (arith, common_steps, raised_is)
 
 task_same : (name : TaskName) (task : Task ℕ) → bare_task (raised_task name task) ≡ bare_task task
-task_same name task = by (same_name name task.name)
-  where
-    by : (b : Bool) → bare_task (cond b (record task { change = raised task.change }) task) ≡ bare_task task
-    by true = refl
-    by false = refl
+task_same name task = grind (arith, common_steps)
 
 task_rises : (name : TaskName) (task : Task ℕ) → MayRise task.change (raised_task name task).change
-task_rises name task = by (same_name name task.name)
-  where
-    by : (b : Bool) → MayRise task.change (cond b (record task { change = raised task.change }) task).change
-    by true = raised_is task.change
-    by false = inl refl
+task_rises name task = grind (arith, common_steps, raised_is)
 
 module _ (before : World ℕ) (name : TaskName) (changed : List ℕ) where
   world_same : (left : World ℕ)
       → without_changes (numbers_raised nat_eq before name changed left) ≡ without_changes left
   world_same left = λ i. record (without_changes left) {
-    filesystems =
-        all_same (λ filesystem. filesystem.change) bare_filesystem (raised_if_changed nat_eq changed)
+    filesystems = all_same (λ filesystem. filesystem.change) bare_filesystem (raised_if_changed nat_eq changed)
         (filesystem_same changed) (filesystem_rises changed) left.filesystems i;
-    namespaces =
-        all_same (λ namespace. namespace.change) bare_namespace (raised_namespace nat_eq before left)
+    namespaces = all_same (λ namespace. namespace.change) bare_namespace (raised_namespace nat_eq before left)
         (namespace_same before left) (namespace_rises before left) left.namespaces i;
-    tasks =
-        all_same (λ task. task.change) bare_task (raised_task name) (task_same name) (task_rises name)
-        left.tasks i;
+    tasks = all_same (λ task. task.change) bare_task (raised_task name) (task_same name) (task_rises name) left.tasks i;
   }
 
   world_rises : (left : World ℕ)
       → AreRaised (change_numbers left) (change_numbers (numbers_raised nat_eq before name changed left))
   world_rises left = (
     raised_is left.change,
-    rise_on _ _ _ _
-        (rise_on _ _ _ _
+    rise_on _ _ _ _ (rise_on _ _ _ _
         (all_rise (λ filesystem. filesystem.change) bare_filesystem (raised_if_changed nat_eq changed)
         (filesystem_same changed) (filesystem_rises changed) left.filesystems)
         (all_rise (λ namespace. namespace.change) bare_namespace (raised_namespace nat_eq before left)
         (namespace_same before left) (namespace_rises before left) left.namespaces))
-        (all_rise (λ task. task.change) bare_task (raised_task name) (task_same name) (task_rises name)
-        left.tasks),
+        (all_rise (λ task. task.change) bare_task (raised_task name) (task_same name) (task_rises name) left.tasks),
   )
 
   abbrev IsLastStep : Outcome ℕ → World ℕ → Outcome ℕ → Type 0
@@ -147,17 +102,7 @@ module _ (before : World ℕ) (name : TaskName) (changed : List ℕ) where
       → IsLastStep under (cond keeps under.world (settled nat_eq under.world))
       (finished_by nat_eq keeps before name changed under)
   finished_last true under = (refl, refl, none_rise (change_numbers under.world))
-  finished_last false under =
-      (refl, world_same (settled nat_eq under.world), world_rises (settled nat_eq under.world))
+  finished_last false under = (refl, world_same (settled nat_eq under.world), world_rises (settled nat_eq under.world))
 
 pub last_step_raises_numbers_alone : LastStepRaisesNumbersAlone
-last_step_raises_numbers_alone fresh world name task call there =
-    subst (λ found. IsLastStep world name [] under (left_by call under)
-    (after world (ok_or found (denial S2)) (λ one.
-    finished nat_eq world name call
-    (filesystems_changed_by nat_eq world (judge_in nat_eq fresh world one call))
-    (call_outcome nat_eq fresh world one call)))) (sym there)
-    (finished_last world name _ (only_looks call || not (is_ok under.answer)) under)
-  where
-    under : Outcome ℕ
-    under = call_outcome nat_eq fresh world task call
+last_step_raises_numbers_alone fresh world name task call there = grind (arith, common_steps, finished_last)

@@ -47,14 +47,11 @@ allotted_back allotment other rename again inverse keeps number = by (other.lot 
   where
     by : (lot : Lot) → other.lot number ≡ lot
         → allotted allotment other rename (allotted other allotment again number) ≡ number
-    by Kept e =
-        ap (allotted allotment other rename) (allotted_kept other allotment again number e)
+    by Kept e = ap (allotted allotment other rename) (allotted_kept other allotment again number e)
         ∙ allotted_kept allotment other rename (again number) (keeps number e) ∙ inverse number
-    by (New k) e =
-        ap (allotted allotment other rename) (allotted_new other allotment again number k e)
+    by (New k) e = ap (allotted allotment other rename) (allotted_new other allotment again number k e)
         ∙ allotted_new allotment other rename (allotment.new k) k (allotment.new_lot k) ∙ other.lot_new number k e
-    by (LeftOver k) e =
-        ap (allotted allotment other rename) (allotted_left other allotment again number k e)
+    by (LeftOver k) e = ap (allotted allotment other rename) (allotted_left other allotment again number k e)
         ∙ allotted_left allotment other rename (allotment.left_over k) k (allotment.left_over_lot k)
         ∙ other.lot_left_over number k e
 
@@ -76,22 +73,18 @@ composed_at : {M N P : Type 0} (e : N ≃ P) (f : M → N) (g : N → M) (world 
     → ((number : P) → e.0 (back number) ≡ number)
     → renamed (λ n. e.0 (f n)) (λ p. g (back p)) world ≡ renamed e.0 back (renamed f g world)
 unfolding id_equiv
-composed_at {M} {N} {P} e =
-    equiv_j
+composed_at {M} {N} {P} e = equiv_j
     (λ (A : Type 0) (e : A ≃ P). (f : M → A) (g : A → M) (world : World M) (back : P → A)
     → ((number : P) → e.0 (back number) ≡ number)
     → renamed (λ n. e.0 (f n)) (λ p. g (back p)) world ≡ renamed e.0 back (renamed f g world))
     (λ f g world back there_back.
     subst (λ (b : P → P). renamed f (λ p. g (b p)) world ≡ renamed (λ p. p) b (renamed f g world))
-    (λ i number. sym (there_back number) i)
-    (sym (renamed_itself (renamed f g world))))
-    e
+    (λ i number. sym (there_back number) i) (sym (renamed_itself (renamed f g world)))) e
 
 composed : (renaming : Renaming ℕ ℕ) (f g : ℕ → ℕ) (world : World ℕ)
     → renamed (λ n. renaming.there (f n)) (λ n. g (renaming.back n)) world
     ≡ renamed renaming.there renaming.back (renamed f g world)
-composed renaming f g world =
-    composed_at (iso_to_equiv
+composed renaming f g world = composed_at (iso_to_equiv
     (record { fun = renaming.there; inv = renaming.back; rinv = renaming.there_back; linv = renaming.back_there }))
     f g world renaming.back renaming.there_back
 
@@ -99,8 +92,7 @@ composed renaming f g world =
 pub agree : (named : ℕ → Bool) (world : World ℕ) (first second : Renaming ℕ ℕ) → KeepsTo named world
     → ((number : ℕ) → named number ≡ true → second.there number ≡ first.there number)
     → renamed second.there second.back world ≡ renamed first.there first.back world
-agree named world first second keeps same =
-    (λ i. renamed (λ n. sym (first.there_back (second.there n)) i)
+agree named world first second keeps same = (λ i. renamed (λ n. sym (first.there_back (second.there n)) i)
     (λ n. sym (ap second.back (first.there_back n)) i) world)
     ∙ composed first (λ n. first.back (second.there n)) (λ n. second.back (first.there n)) world
     ∙ ap (renamed first.there first.back)

@@ -1,4 +1,5 @@
 -- Endless rows of numbers: each number stands at one place of one row.
+use Rattle.std.proofs.lemmas.Grind.{common_steps}
 use Rattle.std.proofs.Common.{◌≡◌, refl, ap, ◌∙◌, ℕ, zero, suc, ◌+◌, ◌*◌, ◌/◌, ◌≤◌, arith}
 use Rattle.std.proofs.Math.Nat.{mul-suc, suc-mul}
 
@@ -37,16 +38,7 @@ cell (suc n) = next (cell n).0 (cell n).1
 
 number_in_row-next : (a b : ℕ) → number_in_row (next a b).0 (next a b).1 ≡ suc (number_in_row a b)
 unfolding next number_in_row numbers_before
-number_in_row-next a zero =
-    let long : 0 + suc a ≡ suc a = omega arith in
-    let short : a + 0 ≡ a = omega arith in
-    let first : numbers_before (0 + suc a) ≡ numbers_before a + suc a = ap numbers_before long in
-    let second : numbers_before (a + 0) ≡ numbers_before a = ap numbers_before short in
-    omega arith
-number_in_row-next a (suc b) =
-    let moved : suc a + b ≡ a + suc b = omega arith in
-    let same : numbers_before (suc a + b) ≡ numbers_before (a + suc b) = ap numbers_before moved in
-    omega arith
+number_in_row-next a b = grind (arith, common_steps)
 
 pub number_in_row-cell : (n : ℕ) → number_in_row (cell n).0 (cell n).1 ≡ n
 unfolding cell number_in_row numbers_before

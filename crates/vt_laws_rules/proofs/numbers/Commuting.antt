@@ -1,16 +1,15 @@
 -- Whatever is generic in the numbers' type commutes with renamings.
-use Rattle.std.proofs.Common.{◌≡◌, refl, sym, ap, subst, ◌∙◌, ℕ, nat_eq, eq-eqb, ne_eqb, Bool, List, [], ◌∷◌, ⊎_elim, Option, Some, None}
+use Rattle.std.proofs.Common.{arith, ◌≡◌, refl, sym, ap, subst, ◌∙◌, ℕ, nat_eq, eq-eqb, ne_eqb, Bool, List, [], ◌∷◌, ⊎_elim, Option, Some, None}
+use Rattle.std.proofs.lemmas.Grind.{common_steps}
 use Rattle.std.proofs.lemmas.Bool.Decides.{eqb_tells}
 use Rattle.std.specs.Prelude.{map, option_map}
 use std.Equiv.{◌≃◌, id_equiv, iso_to_equiv}
 use std.Univalence.{equiv_j}
-use Rattle.vt_spec.specs.Machine.Renaming.{renamed_content, renamed_entry, renamed_node}
+use Rattle.vt_spec.specs.Machine.Renaming.{renamed_content, renamed_node}
 use Rattle.vt_spec.specs.Tree.{Content, Node}
 use Rattle.vt_spec.specs.Inodes.{Inode, renamed_inode}
-use Rattle.vt_spec.specs.Tree.Content.{Directory, Regular, Symlink, Whiteout}
 use Rattle.vt_laws_rules.specs.Renaming.{Renaming, renamed_change}
 use Rattle.vt_spec.specs.Language.Changes.{Change}
-use Rattle.vt_spec.specs.Language.Changes.Change.{AddName, CopyUp, Make, Move, Remove, SetAttr, SetBytes, SetMark}
 
 pub map_itself : {A : Type 0} (f : A → A) → ((a : A) → f a ≡ a) → (list : List A) → map f list ≡ list
 map_itself f same [] = refl
@@ -23,11 +22,7 @@ option_itself f same (Some a) = λ i. Some (same a i)
 -- With each number for itself nothing is renamed.
 module _ {N : Type 0} where
   content_itself : (content : Content N) → renamed_content (λ n. n) (λ n. n) content ≡ content
-  content_itself (Directory parent entries opaque) =
-      λ i. Directory parent (map_itself (renamed_entry (λ n. n) (λ n. n)) (λ entry. refl) entries i) opaque
-  content_itself (Regular bytes) = refl
-  content_itself (Symlink text) = refl
-  content_itself Whiteout = refl
+  content_itself content = grind (arith, common_steps, map_itself)
 
   pub node_itself : (node : Node N) → renamed_node (λ n. n) (λ n. n) node ≡ node
   node_itself node = λ i. record { attr = node.attr; content = content_itself node.content i }
@@ -37,14 +32,7 @@ module _ {N : Type 0} where
   inode_itself (Some inode) = λ i. Some (record { node = node_itself inode.node i; uses = inode.uses })
 
   pub change_itself : (change : Change N) → renamed_change (λ n. n) (λ n. n) change ≡ change
-  change_itself (Make directory name number node) = λ i. Make directory name number (node_itself node i)
-  change_itself (AddName directory name object) = refl
-  change_itself (Remove directory name object) = refl
-  change_itself (Move from old to new object) = refl
-  change_itself (SetBytes file bytes) = refl
-  change_itself (SetAttr object attr) = refl
-  change_itself (SetMark directory opaque) = refl
-  change_itself (CopyUp object) = refl
+  change_itself change = grind (arith, common_steps, node_itself)
 
 -- What has numbers in it, and how they are renamed: with each number for itself, not at all
 pub record Named (T : Type 0 → Type 0) : Type 1 where
@@ -59,36 +47,27 @@ module _ (S T : Type 0 → Type 0) (given : Named S) (made : Named T)
       → ((number : N) → e.0 (back number) ≡ number) → (s : S M)
       → make N eq (given.rename M N e.0 back s) ≡ made.rename M N e.0 back (make M (λ a b. eq (e.0 a) (e.0 b)) s)
   unfolding id_equiv
-  commutes {M} {N} e eq =
-      equiv_j
+  commutes {M} {N} e eq = equiv_j
       (λ (A : Type 0) (e : A ≃ N). (back : N → A) → ((number : N) → e.0 (back number) ≡ number) → (s : S A)
       → make N eq (given.rename A N e.0 back s) ≡ made.rename A N e.0 back (make A (λ a b. eq (e.0 a) (e.0 b)) s))
       (λ back there_back s.
       subst (λ (b : N → N). make N eq (given.rename N N (λ n. n) b s) ≡ made.rename N N (λ n. n) b (make N eq s))
-      (λ i number. sym (there_back number) i)
-      (ap (make N eq) (given.itself N s) ∙ sym (made.itself N (make N eq s))))
-      e
+      (λ i number. sym (there_back number) i) (ap (make N eq) (given.itself N s) ∙ sym (made.itself N (make N eq s)))) e
 
 -- two numbers have two numbers
 pub stay_apart : {N M : Type 0} (renaming : Renaming N M) (a b : N) → renaming.there a ≡ renaming.there b → a ≡ b
 stay_apart renaming a b e = sym (renaming.back_there a) ∙ ap renaming.back e ∙ renaming.back_there b
 
 same_test : (renaming : Renaming ℕ ℕ) (a b : ℕ) → nat_eq (renaming.there a) (renaming.there b) ≡ nat_eq a b
-same_test renaming a b =
-    ⊎_elim
-    (λ t. eq-eqb (renaming.there a) (renaming.there b) (ap renaming.there t.1) ∙ sym t.0)
-    (λ t. ne_eqb (renaming.there a) (renaming.there b) (λ e. t.1 (stay_apart renaming a b e)) ∙ sym t.0)
-    (eqb_tells a b)
+same_test renaming a b = ⊎_elim (λ t. eq-eqb (renaming.there a) (renaming.there b) (ap renaming.there t.1) ∙ sym t.0)
+    (λ t. ne_eqb (renaming.there a) (renaming.there b) (λ e. t.1 (stay_apart renaming a b e)) ∙ sym t.0) (eqb_tells a b)
 
 -- So does what is made for the numbers that the definitions are run with.
 pub commutes_nat : (S T : Type 0 → Type 0) (given : Named S) (made : Named T)
-    (make : (A : Type 0) → (A → A → Bool) → S A → T A)
-    → (renaming : Renaming ℕ ℕ) (s : S ℕ)
+    (make : (A : Type 0) → (A → A → Bool) → S A → T A) → (renaming : Renaming ℕ ℕ) (s : S ℕ)
     → make ℕ nat_eq (given.rename ℕ ℕ renaming.there renaming.back s)
     ≡ made.rename ℕ ℕ renaming.there renaming.back (make ℕ nat_eq s)
-commutes_nat S T given made make renaming s =
-    commutes S T given made make
-    (iso_to_equiv
+commutes_nat S T given made make renaming s = commutes S T given made make (iso_to_equiv
     (record { fun = renaming.there; inv = renaming.back; rinv = renaming.there_back; linv = renaming.back_there }))
     nat_eq renaming.back renaming.there_back s
     ∙ ap (λ (eq : ℕ → ℕ → Bool). made.rename ℕ ℕ renaming.there renaming.back (make ℕ eq s))

@@ -1,5 +1,6 @@
 -- Two numbers exchanged.
-use Rattle.std.proofs.Common.{◌≡◌, ◌≢◌, sym, ap, ◌∙◌, true≢false, refl, ℕ, nat_eq, eq-eqb, ne_eqb, Bool, false, cond, ⊎_elim}
+use Rattle.std.proofs.Common.{arith, ◌≡◌, ◌≢◌, sym, ap, ◌∙◌, true≢false, refl, ℕ, nat_eq, eq-eqb, ne_eqb, Bool, false, cond, ⊎_elim}
+use Rattle.std.proofs.lemmas.Grind.{common_steps}
 use Rattle.std.proofs.lemmas.Bool.Decides.{eqb_tells}
 use Rattle.vt_laws_rules.specs.Renaming.{Leaves, Renaming}
 
@@ -10,27 +11,15 @@ pub swapped_first : (a b : ℕ) → swapped a b a ≡ b
 swapped_first a b = ap (λ t. cond t b (cond (nat_eq a b) a a)) (eq-eqb a a refl)
 
 swapped_second : (a b : ℕ) → swapped a b b ≡ a
-swapped_second a b =
-    ⊎_elim
-    (λ t. ap (λ x. cond x b (cond (nat_eq b b) a b)) t.0 ∙ t.1)
-    (λ t. ap (λ x. cond x b (cond (nat_eq b b) a b)) t.0 ∙ ap (λ x. cond x a b) (eq-eqb b b refl))
-    (eqb_tells b a)
+swapped_second a b = ⊎_elim (λ t. ap (λ x. cond x b (cond (nat_eq b b) a b)) t.0 ∙ t.1)
+    (λ t. ap (λ x. cond x b (cond (nat_eq b b) a b)) t.0 ∙ ap (λ x. cond x a b) (eq-eqb b b refl)) (eqb_tells b a)
 
 pub swapped_other : (a b k : ℕ) → k ≢ a → k ≢ b → swapped a b k ≡ k
 swapped_other a b k first second =
     ap (λ t. cond t b (cond (nat_eq k b) a k)) (ne_eqb k a first) ∙ ap (λ t. cond t a k) (ne_eqb k b second)
 
 pub swapped_twice : (a b k : ℕ) → swapped a b (swapped a b k) ≡ k
-swapped_twice a b k =
-    ⊎_elim
-    (λ t. ap (λ n. swapped a b (swapped a b n)) t.1 ∙ ap (swapped a b) (swapped_first a b) ∙ swapped_second a b
-    ∙ sym t.1)
-    (λ t. ⊎_elim
-    (λ s. ap (λ n. swapped a b (swapped a b n)) s.1 ∙ ap (swapped a b) (swapped_second a b) ∙ swapped_first a b
-    ∙ sym s.1)
-    (λ s. ap (swapped a b) (swapped_other a b k t.1 s.1) ∙ swapped_other a b k t.1 s.1)
-    (eqb_tells k b))
-    (eqb_tells k a)
+swapped_twice a b k = grind (arith, common_steps, swapped_first, swapped_second, swapped_other, eqb_tells)
 
 abbrev pub exchange : ℕ → ℕ → Renaming ℕ ℕ
 exchange a b =
@@ -38,7 +27,5 @@ exchange a b =
 
 -- an exchange of two numbers that are left out leaves the others where they are
 pub exchange_leaves : (named : ℕ → Bool) (a b : ℕ) → named a ≡ false → named b ≡ false → Leaves (exchange a b) named
-exchange_leaves named a b no_a no_b number is =
-    swapped_other a b number
-    (λ e. true≢false (sym is ∙ ap named e ∙ no_a))
+exchange_leaves named a b no_a no_b number is = swapped_other a b number (λ e. true≢false (sym is ∙ ap named e ∙ no_a))
     (λ e. true≢false (sym is ∙ ap named e ∙ no_b))

@@ -1,13 +1,13 @@
 -- Worlds, outcomes, lines and turns commute with renamings of their numbers.
+use Rattle.std.proofs.Common.{arith, ◌≡◌, refl, sym, ap, ◌∙◌, ℕ, nat_eq, List, Option}
+use Rattle.std.proofs.lemmas.Grind.{common_steps}
 use Rattle.vt_spec.specs.Machine.Policy.{policy}
-use Rattle.std.proofs.Common.{◌≡◌, refl, sym, ap, ◌∙◌, ℕ, nat_eq, List, Option}
 use Rattle.std.specs.Prelude.{map, option_map}
 use Rattle.vt_spec.specs.FileTree.{FileTree}
 use Rattle.vt_spec.specs.Lists.{Fresh}
 use Rattle.vt_spec.specs.Machine.Mounts.{Mount, Propagation}
-use Rattle.vt_spec.specs.Machine.Mounts.Propagation.{Private, Shared, Slave, Unbindable}
 use Rattle.vt_spec.specs.Machine.Outcomes.{Outcome}
-use Rattle.vt_spec.specs.Machine.Renaming.{renamed, renamed_descriptor, renamed_files, renamed_filesystem, renamed_layer, renamed_location, renamed_mount, renamed_namespace, renamed_node, renamed_overlay, renamed_propagation, renamed_real, renamed_task}
+use Rattle.vt_spec.specs.Machine.Renaming.{renamed, renamed_files, renamed_filesystem, renamed_layer, renamed_mount, renamed_overlay, renamed_propagation, renamed_real, renamed_task}
 use Rattle.vt_spec.specs.Machine.Run.{Step, line_step}
 use Rattle.vt_spec.specs.Machine.Run.Step.{Answered, Silent}
 use Rattle.vt_spec.specs.Machine.Turns.{Progress, Sched, Turned}
@@ -20,13 +20,7 @@ use Rattle.vt_laws_rules.specs.Numbers.{CallsDoNotSeeNumbers, LinesDoNotSeeNumbe
 -- With each number for itself nothing is renamed.
 module _ {N : Type 0} where
   files_itself : (files : FileTree N) → renamed_files (λ n. n) (λ n. n) files ≡ files
-  files_itself files = λ i. record {
-    tree = record {
-      root = files.tree.root;
-      node = λ number. option_itself (renamed_node (λ n. n) (λ n. n)) node_itself (files.tree.node number) i;
-    };
-    numbers = map_itself (λ n. n) (λ n. refl) files.numbers i;
-  }
+  files_itself files = grind (arith, common_steps, option_itself, node_itself, map_itself)
 
   pub real_itself : (real : Real N) → renamed_real (λ n. n) (λ n. n) real ≡ real
   real_itself (Upper object) = refl
@@ -39,61 +33,23 @@ module _ {N : Type 0} where
   layer_itself = option_itself (renamed_layer (λ n. n) (λ n. n)) (λ layer. refl)
 
   pub overlay_itself : (overlay : Overlay N) → renamed_overlay (λ n. n) (λ n. n) overlay ≡ overlay
-  overlay_itself overlay = λ i. record {
-    upper = layer_itself overlay.upper i;
-    work = layer_itself overlay.work i;
-    lowers = layers_itself overlay.lowers i;
-    mounter = overlay.mounter;
-    real = λ number. option_itself (renamed_real (λ n. n) (λ n. n)) real_itself (overlay.real number) i;
-  }
+  overlay_itself overlay = grind (arith, common_steps, layer_itself, layers_itself, option_itself, real_itself)
 
   filesystem_itself : (filesystem : Filesystem N) → renamed_filesystem (λ n. n) (λ n. n) filesystem ≡ filesystem
-  filesystem_itself filesystem = λ i. record {
-    number = filesystem.number;
-    files = files_itself filesystem.files i;
-    overlay = option_itself (renamed_overlay (λ n. n) (λ n. n)) overlay_itself filesystem.overlay i;
-    change = filesystem.change;
-  }
+  filesystem_itself filesystem = grind (arith, common_steps, files_itself, option_itself, overlay_itself)
 
   propagation_itself : (kind : Propagation N) → renamed_propagation (λ n. n) (λ n. n) kind ≡ kind
-  propagation_itself (Shared group) = refl
-  propagation_itself (Slave master) = refl
-  propagation_itself Private = refl
-  propagation_itself Unbindable = refl
+  propagation_itself kind = grind (arith, common_steps)
 
   mount_itself : (mount : Mount N) → renamed_mount (λ n. n) (λ n. n) mount ≡ mount
-  mount_itself mount = λ i. record {
-    number = mount.number;
-    namespace = option_itself (λ n. n) (λ n. refl) mount.namespace i;
-    mount_point = option_itself (renamed_location (λ n. n) (λ n. n)) (λ location. refl) mount.mount_point i;
-    filesystem = mount.filesystem;
-    root = mount.root;
-    flags = mount.flags;
-    propagation = propagation_itself mount.propagation i;
-  }
+  mount_itself mount = grind (arith, common_steps, option_itself, propagation_itself)
 
   task_itself : (task : Task N) → renamed_task (λ n. n) (λ n. n) task ≡ task
-  task_itself task = λ i. record {
-    name = task.name;
-    credentials = task.credentials;
-    umask = task.umask;
-    namespace = task.namespace;
-    root = task.root;
-    directory = task.directory;
-    descriptors = map_itself (renamed_descriptor (λ n. n) (λ n. n)) (λ descriptor. refl) task.descriptors i;
-    forks = task.forks;
-    change = task.change;
-  }
+  task_itself task = grind (arith, common_steps, map_itself)
 
   pub renamed_itself : (world : World N) → renamed (λ n. n) (λ n. n) world ≡ world
-  renamed_itself world = λ i. record {
-    mounts = map_itself (renamed_mount (λ n. n) (λ n. n)) mount_itself world.mounts i;
-    master = λ group. option_itself (λ n. n) (λ n. refl) (world.master group) i;
-    filesystems = map_itself (renamed_filesystem (λ n. n) (λ n. n)) filesystem_itself world.filesystems i;
-    namespaces = map_itself (renamed_namespace (λ n. n) (λ n. n)) (λ namespace. refl) world.namespaces i;
-    tasks = map_itself (renamed_task (λ n. n) (λ n. n)) task_itself world.tasks i;
-    change = world.change;
-  }
+  renamed_itself world =
+      grind (arith, common_steps, map_itself, mount_itself, option_itself, filesystem_itself, task_itself)
 
   pub outcome_itself : (outcome : Outcome N) → renamed_outcome (λ n. n) (λ n. n) outcome ≡ outcome
   outcome_itself outcome = λ i. record { answer = outcome.answer; world = renamed_itself outcome.world i }
@@ -106,18 +62,12 @@ module _ {N : Type 0} where
   supply_itself = option_itself (renamed_supply (λ n. n) (λ n. n)) (λ fresh. refl)
 
   progress_itself : (progress : Progress N) → renamed_progress (λ n. n) (λ n. n) progress ≡ progress
-  progress_itself progress =
-      λ i. record progress {
-        filesystems = map_itself (renamed_held (λ n. n) (λ n. n))
-            (λ held. refl) progress.filesystems i;
-      }
+  progress_itself progress = λ i. record progress {
+    filesystems = map_itself (renamed_held (λ n. n) (λ n. n)) (λ held. refl) progress.filesystems i;
+  }
 
   pub sched_itself : (sched : Sched N) → renamed_sched (λ n. n) (λ n. n) sched ≡ sched
-  sched_itself sched = λ i. record {
-    world = renamed_itself sched.world i;
-    queues = sched.queues;
-    under_way = map_itself (renamed_progress (λ n. n) (λ n. n)) progress_itself sched.under_way i;
-  }
+  sched_itself sched = grind (arith, common_steps, renamed_itself, map_itself, progress_itself)
 
   pub turned_itself : (turned : Turned N) → renamed_turned (λ n. n) (λ n. n) turned ≡ turned
   turned_itself turned = λ i. record { sched = sched_itself turned.sched i; reply = turned.reply }
@@ -125,29 +75,25 @@ module _ {N : Type 0} where
 abbrev pub named_world : Named World
 named_world = record {
   rename = λ A B there back world. renamed there back world;
-  itself = λ A world.
-      renamed_itself world;
+  itself = λ A world. renamed_itself world;
 }
 
 abbrev pub named_outcome : Named Outcome
 named_outcome = record {
   rename = λ A B there back outcome. renamed_outcome there back outcome;
-  itself = λ A outcome.
-      outcome_itself outcome;
+  itself = λ A outcome. outcome_itself outcome;
 }
 
 abbrev pub named_step : Named Step
 named_step = record {
   rename = λ A B there back step. renamed_step there back step;
-  itself = λ A step.
-      step_itself step;
+  itself = λ A step. step_itself step;
 }
 
 abbrev pub named_turned : Named Turned
 named_turned = record {
   rename = λ A B there back turned. renamed_turned there back turned;
-  itself = λ A turned.
-      turned_itself turned;
+  itself = λ A turned. turned_itself turned;
 }
 
 -- a supply of new numbers beside a world, or beside calls under way
@@ -181,13 +127,11 @@ named_turn = record {
 
 -- calls and lines
 pub calls_renamed : CallsDoNotSeeNumbers
-calls_renamed renaming fresh world name call =
-    commutes_nat Handed Outcome named_handed named_outcome
+calls_renamed renaming fresh world name call = commutes_nat Handed Outcome named_handed named_outcome
     (λ A eq handed. policy eq handed.0 handed.1 name call) renaming (fresh, world)
 
 pub lines_renamed : LinesDoNotSeeNumbers
-lines_renamed renaming grammar fresh world line =
-    commutes_nat HandedLine Step named_line named_step
+lines_renamed renaming grammar fresh world line = commutes_nat HandedLine Step named_line named_step
     (λ A eq handed. line_step eq grammar handed.1 line handed.0) renaming (fresh, world)
 
 -- worlds that are the same but for their numbers
@@ -196,8 +140,7 @@ same_worlds_answer_alike world other same fresh name call =
     let renaming : Renaming ℕ ℕ =
     record { there = same.there; back = same.back; there_back = same.there_back; back_there = same.back_there } in
     let alike : policy nat_eq (renamed_supply same.there same.back fresh) other name call
-    ≡ renamed_outcome same.there same.back
-    (policy nat_eq fresh world name call) =
+    ≡ renamed_outcome same.there same.back (policy nat_eq fresh world name call) =
     ap (λ w. policy nat_eq (renamed_supply same.there same.back fresh) w name call) (sym same.same)
     ∙ calls_renamed renaming fresh world name call in (
       ap (λ outcome. outcome.answer) alike,

@@ -4,6 +4,7 @@ use Rattle.std.proofs.Common.{◌≡◌, refl, sym, ap, ◌∙◌, ℕ, zero, su
 use Rattle.std.proofs.lemmas.Bool.{le-ltb, lt-ltb, ltb-false, ltb-true}
 use Rattle.vt_laws_rules.proofs.numbers.Cells.{cell, cell-number_in_row, number_in_row, number_in_row-cell, numbers_before-sum}
 use Rattle.vt_spec.specs.Machine.Run.{numbers_for}
+use Rattle.std.proofs.lemmas.Grind.{common_steps}
 
 -- the number at a place of a row
 first_row : Bool → ℕ → ℕ
@@ -59,8 +60,7 @@ row_above number a b e =
 
 col_above : (number a b : ℕ) → number ≡ 4 + number_in_row a b → col number ≡ place_in a b
 unfolding col col_by
-col_above number a b e =
-    ap (λ t. col_by t number) (le-ltb number 4 (omega arith))
+col_above number a b e = ap (λ t. col_by t number) (le-ltb number 4 (omega arith))
     ∙ ap (λ (c : ℕ × ℕ). place_in c.0 c.1) (cell_above number a b e)
 
 spread_later : (place : ℕ) → 4 ≤ place → spread 0 place ≡ 4 + number_in_row 0 (place - 4)
@@ -69,19 +69,11 @@ spread_later place high = ap (λ t. first_row t place) (le-ltb place 4 high)
 
 spread_above : (a b : ℕ) → spread a (place_in a b) ≡ 4 + number_in_row a b
 unfolding spread place_in
-spread_above zero b =
-    let again : (4 + b) - 4 ≡ b = omega arith in
-    spread_later (4 + b) (omega arith) ∙ ap (λ n. 4 + number_in_row 0 n) again
-spread_above (suc a) b = refl
+spread_above a b = grind (arith, common_steps, spread_later, number_in_row)
 
 pub row-spread : (n k : ℕ) → row (spread n k) ≡ n
 unfolding spread
-row-spread zero k = by (nat_lt k 4) refl
-  where
-    by : (low : Bool) → nat_lt k 4 ≡ low → row (spread 0 k) ≡ 0
-    by true low = let first : k < 4 = ltb-true k 4 low in ap row (spread_first k first) ∙ row_first k first
-    by false high = row_above (spread 0 k) 0 (k - 4) (spread_later k (ltb-false k 4 high))
-row-spread (suc n) k = row_above (spread (suc n) k) (suc n) k refl
+row-spread n k = grind (arith, common_steps, ltb-true, spread_first, row_first, row_above, spread_later, ltb-false)
 
 pub col-spread : (n k : ℕ) → col (spread n k) ≡ k
 unfolding spread place_in

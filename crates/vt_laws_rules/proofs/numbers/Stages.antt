@@ -173,14 +173,11 @@ module _ (m : ℕ) (keeps : ℕ → Bool) (early : (number : ℕ) → keeps numb
       by : (test : Bool) → keeps number ≡ test → (s : Side) → side m (row number) ≡ s
           → back_of (lot_of number) number ≡ number
       by true is s at = λ i. back_of (lot_by (is i) (side m (row number)) number) number
-      by false is Before at =
-          (λ i. back_of (lot_by (is i) (at i) number) number) ∙ left_place number 0
+      by false is Before at = (λ i. back_of (lot_by (is i) (at i) number) number) ∙ left_place number 0
           ∙ (λ i. later_by (is i) (at i) number 0)
-      by false is At at =
-          (λ i. back_of (lot_by (is i) (at i) number) number)
+      by false is At at = (λ i. back_of (lot_by (is i) (at i) number) number)
           ∙ ap (λ r. spread r (col number)) (sym (says m (row number) At at)) ∙ spread-row number
-      by false is (Beyond further) at =
-          (λ i. back_of (lot_by (is i) (at i) number) number)
+      by false is (Beyond further) at = (λ i. back_of (lot_by (is i) (at i) number) number)
           ∙ left_place further (shift further (col number)) ∙ left_shift further (col number)
           ∙ ap (λ r. spread r (col number)) (sym (says m (row number) (Beyond further) at)) ∙ spread-row number
 

@@ -32,8 +32,7 @@ pub lines_keep_to_numbers : LinesKeepToNumbers
 lines_keep_to_numbers named grammar fresh world line keeps supplied renaming leaves =
     sym (step_world-renamed renaming world (line_step nat_eq grammar world line (Some fresh)))
     ∙ ap (step_world (renamed renaming.there renaming.back world))
-    (sym (lines_renamed renaming grammar (Some fresh) world line))
-    ∙ (λ i. step_world (keeps renaming leaves i)
+    (sym (lines_renamed renaming grammar (Some fresh) world line)) ∙ (λ i. step_world (keeps renaming leaves i)
     (line_step nat_eq grammar (keeps renaming leaves i) line (Some (λ k. leaves (fresh k) (supplied k) i))))
 
 -- The opening world
@@ -64,8 +63,7 @@ opening_keeps_to_four named fresh mount namespace filesystem root renaming leave
 named_list : Named List
 named_list = record {
   rename = λ A B there back list. map there list;
-  itself = λ A list.
-      map_itself (λ n. n) (λ n. refl) list;
+  itself = λ A list. map_itself (λ n. n) (λ n. refl) list;
 }
 
 used_renamed : (renaming : Renaming ℕ ℕ) (world : World ℕ)
@@ -84,20 +82,15 @@ same_rest a b as_list bs e = cc
 member_itself : (f : ℕ → ℕ) (list : List ℕ) → map f list ≡ list → (number : ℕ) → is_among nat_eq number list ≡ true
     → f number ≡ number
 member_itself f [] same number among = absurd (true≢false (sym among))
-member_itself f (first ∷ rest) same number among =
-    ⊎_elim
+member_itself f (first ∷ rest) same number among = ⊎_elim
     (λ t. ap f t.1 ∙ same_first (f first) first (map f rest) rest same ∙ sym t.1)
     (λ t. member_itself f rest (same_rest (f first) first (map f rest) rest same) number
-    (sym (ap (λ b. b || is_among nat_eq number rest) t.0) ∙ among))
-    (eqb_tells number first)
+    (sym (ap (λ b. b || is_among nat_eq number rest) t.0) ∙ among)) (eqb_tells number first)
 
 -- Of two numbers that are left out one is another than the number given
 other_left : (named : ℕ → Bool) → LeavesOutTwo named → (number : ℕ)
     → (other : ℕ) × (other ≢ number) × (named other ≡ false)
-other_left named out number =
-    ⊎_elim
-    (λ t. (out.1, (λ e. out.2 (t.1 ∙ sym e)), out.4))
-    (λ t. (out.0, t.1, out.3))
+other_left named out number = ⊎_elim (λ t. (out.1, (λ e. out.2 (t.1 ∙ sym e)), out.4)) (λ t. (out.0, t.1, out.3))
     (eqb_tells out.0 number)
 
 pub used_numbers_are_named : UsedNumbersAreNamed

@@ -31,8 +31,7 @@ pub worlds_keep_to_hand : WorldsKeepToHand
 worlds_keep_to_hand grammar in_hand world allotment line serves =
     lines_keep_to_numbers (is_in_hand allotment) grammar allotment.new world line
     (more (is_kept allotment) (is_in_hand allotment) world
-    (λ number is. kept_in_hand (allotment.lot number) is) serves.keeps)
-    (λ k. ap is_in_hand_lot (allotment.new_lot k))
+    (λ number is. kept_in_hand (allotment.lot number) is) serves.keeps) (λ k. ap is_in_hand_lot (allotment.new_lot k))
 
 step_text-renamed : (renaming : Renaming ℕ ℕ) (number : ℕ) (step : Step ℕ)
     → step_text number (renamed_step renaming.there renaming.back step) ≡ step_text number step
@@ -42,36 +41,30 @@ step_text-renamed renaming number (Answered outcome) = refl
 -- a line in a renamed world writes the same text, and leads to the renamed world
 module _ (renaming : Renaming ℕ ℕ) (grammar : Grammar) (world other : World ℕ)
     (same : renamed renaming.there renaming.back world ≡ other) (line : List ℕ) where
-  pub refused_alike : (number : ℕ)
-      → step_text number (line_step nat_eq grammar world line None)
+  pub refused_alike : (number : ℕ) → step_text number (line_step nat_eq grammar world line None)
       ≡ step_text number (line_step nat_eq grammar other line None)
-  refused_alike number =
-      sym (step_text-renamed renaming number (line_step nat_eq grammar world line None))
+  refused_alike number = sym (step_text-renamed renaming number (line_step nat_eq grammar world line None))
       ∙ ap (step_text number) (sym (lines_renamed renaming grammar None world line))
       ∙ ap (λ w. step_text number (line_step nat_eq grammar w line None)) same
 
   pub refused_leads : renamed renaming.there renaming.back (step_world world (line_step nat_eq grammar world line None))
       ≡ step_world other (line_step nat_eq grammar other line None)
-  refused_leads =
-      sym (step_world-renamed renaming world (line_step nat_eq grammar world line None))
+  refused_leads = sym (step_world-renamed renaming world (line_step nat_eq grammar world line None))
       ∙ ap (step_world (renamed renaming.there renaming.back world))
       (sym (lines_renamed renaming grammar None world line))
       ∙ ap (λ w. step_world w (line_step nat_eq grammar w line None)) same
 
   module _ (fresh new : Fresh ℕ) (supplied : (k : ℕ) → renaming.there (fresh k) ≡ new k) where
     pub line_alike : (number : ℕ) → step_text number (line_step nat_eq grammar world line (Some fresh))
-        ≡ step_text number
-        (line_step nat_eq grammar other line (Some new))
-    line_alike number =
-        sym (step_text-renamed renaming number (line_step nat_eq grammar world line (Some fresh)))
+        ≡ step_text number (line_step nat_eq grammar other line (Some new))
+    line_alike number = sym (step_text-renamed renaming number (line_step nat_eq grammar world line (Some fresh)))
         ∙ ap (step_text number) (sym (lines_renamed renaming grammar (Some fresh) world line))
         ∙ (λ i. step_text number (line_step nat_eq grammar (same i) line (Some (λ k. supplied k i))))
 
     pub line_leads : renamed renaming.there renaming.back
         (step_world world (line_step nat_eq grammar world line (Some fresh)))
         ≡ step_world other (line_step nat_eq grammar other line (Some new))
-    line_leads =
-        sym (step_world-renamed renaming world (line_step nat_eq grammar world line (Some fresh)))
+    line_leads = sym (step_world-renamed renaming world (line_step nat_eq grammar world line (Some fresh)))
         ∙ ap (step_world (renamed renaming.there renaming.back world))
         (sym (lines_renamed renaming grammar (Some fresh) world line))
         ∙ (λ i. step_world (same i) (line_step nat_eq grammar (same i) line (Some (λ k. supplied k i))))
@@ -83,8 +76,7 @@ supplies_do_not_matter world other same first second name call keeps kept =
     let before : Renaming ℕ ℕ =
     record { there = same.there; back = same.back; there_back = same.there_back; back_there = same.back_there } in
     let joint : Renaming ℕ ℕ = joined first second before kept in
-    let agrees : renamed joint.there joint.back world ≡ other =
-    agree (is_kept first) world before joint keeps
+    let agrees : renamed joint.there joint.back world ≡ other = agree (is_kept first) world before joint keeps
     (λ number is. allotted_kept first second same.there number (kept_lot (first.lot number) is)) ∙ same.same in
     let again : SameWorld world other =
     record { there = joint.there; back = joint.back; there_back = joint.there_back; back_there = joint.back_there; same = agrees } in
@@ -100,8 +92,7 @@ module _ (grammar : Grammar) where
   rows_text : ℕ → World ℕ → ℕ → List (List ℕ) → List Bool → List ℕ
   rows_text m world number [] refused = []
   rows_text m world number (line ∷ lines) [] = []
-  rows_text m world number (line ∷ lines) (true ∷ refused) =
-      step_text number (line_step nat_eq grammar world line None)
+  rows_text m world number (line ∷ lines) (true ∷ refused) = step_text number (line_step nat_eq grammar world line None)
       ++ rows_text (suc m) (step_world world (line_step nat_eq grammar world line None)) (number + 1) lines refused
   rows_text m world number (line ∷ lines) (false ∷ refused) =
       step_text number (line_step nat_eq grammar world line (Some (spread (suc m))))
@@ -166,9 +157,7 @@ module _ (grammar : Grammar) where
         by (LeftOver k) e is = absurd (true≢false (sym is))
 
   texts_alike : (lines : List (List ℕ)) (refused : List Bool) (m number : ℕ) (renaming : Renaming ℕ ℕ)
-      (in_hand : ℕ → Bool)
-      (world other : World ℕ)
-      → renamed renaming.there renaming.back world ≡ other
+      (in_hand : ℕ → Bool) (world other : World ℕ) → renamed renaming.there renaming.back world ≡ other
       → ((number : ℕ) → in_hand number ≡ true → row (renaming.there number) ≤ m)
       → (text : List ℕ) → TellsWithRoom grammar in_hand world number lines refused text
       → text ≡ rows_text m other number lines refused
@@ -290,8 +279,7 @@ some_text_is_there grammar refused script long =
 
 -- a text that may be told has a chance for each line
 told_long : (grammar : Grammar) (lines : List (List ℕ)) (refused : List Bool) (in_hand : ℕ → Bool) (world : World ℕ)
-    (number : ℕ)
-    (text : List ℕ)
+    (number : ℕ) (text : List ℕ)
     → TellsWithRoom grammar in_hand world number lines refused text → length lines ≤ length refused
 told_long grammar [] refused in_hand world number text tells = omega arith
 told_long grammar (line ∷ lines) [] in_hand world number text tells = absurd tells
@@ -301,8 +289,7 @@ told_long grammar (line ∷ lines) (false ∷ refused) in_hand world number text
     let h = told_long grammar lines refused _ _ (number + 1) _ tells.4 in omega arith
 
 pub whole_machine_has_one_text : WholeMachineHasOneText
-whole_machine_has_one_text grammar refused script text tells =
-    the_text grammar refused script text tells
+whole_machine_has_one_text grammar refused script text tells = the_text grammar refused script text tells
     ∙ sym (text_of_rows grammar refused script
     (told_long grammar (lines_of script) refused first_four first_world 1 text tells))
 
@@ -344,9 +331,7 @@ room_serves in_hand world allotment serves = record {
     unused k false e = e
 
 told_with_room : (grammar : Grammar) (lines : List (List ℕ)) (refused : List Bool) (in_hand : ℕ → Bool)
-    (world : World ℕ)
-    (number : ℕ) (text : List ℕ)
-    → TellsWithRoom grammar in_hand world number lines refused text
+    (world : World ℕ) (number : ℕ) (text : List ℕ) → TellsWithRoom grammar in_hand world number lines refused text
     → Tells nat_eq grammar world number lines refused text
 told_with_room grammar [] refused in_hand world number text tells = tells
 told_with_room grammar (line ∷ lines) [] in_hand world number text tells = tells

@@ -70,8 +70,7 @@ module _ (rules : List Rule) where
       unless_own rows answer (and_true_right (is_among rule rules || true) (are_own rows) own) h
 
   pub and_then_own : {A B : Type 0} (first : Result A Deny) (next : A → Result B Deny) → RefusesOwn first
-      → ((a : A) → RefusesOwn (next a))
-      → RefusesOwn (and_then first next)
+      → ((a : A) → RefusesOwn (next a)) → RefusesOwn (and_then first next)
   and_then_own (Ok a) next own h = h a
   and_then_own (Err deny) next own h = own
 
@@ -110,8 +109,7 @@ module _ (rules : List Rule) where
 
     -- change numbers are raised where a call is granted alone
     pub finished_own : (eq : N → N → Bool) (world : World N) (name : TaskName) (changed : List N) (looks : Bool)
-        (answer : Result Answer Deny) (left : World N)
-        → DeniesOwn world (record { answer = answer; world = left })
+        (answer : Result Answer Deny) (left : World N) → DeniesOwn world (record { answer = answer; world = left })
         → DeniesOwn world (finished_by eq (looks || not (is_ok answer)) world name changed
         (record { answer = answer; world = left }))
     finished_own eq world name changed true answer left own = own
@@ -127,7 +125,6 @@ module _ {N : Type 0} where
   judged_keeps world ((false, rule) ∷ rows) outcome e = judged_keeps world rows outcome e
 
   pub after_keeps : {A : Type 0} (world : World N) (result : Result A Deny) (next : A → Outcome N)
-      → ((a : A) → (next a).world ≡ world)
-      → (after world result next).world ≡ world
+      → ((a : A) → (next a).world ≡ world) → (after world result next).world ≡ world
   after_keeps world (Ok a) next e = e a
   after_keeps world (Err deny) next e = refl

@@ -1,9 +1,10 @@
 -- Each call is refused by its own rules, with the error of the rule, and leaves the world then.
-use Rattle.std.proofs.Common.{◌≡◌, refl, ℕ, nat_eq, Bool, true, false, List, [], ◌∷◌, ◌++◌, ◌&&◌, ◌||◌, Option, Some, None, ok_or, Result, Ok, Err, IfErr, if◌then◌else◌, length, nat_lt, unwrap_or}
+use Rattle.std.proofs.Common.{arith, ◌≡◌, refl, ℕ, nat_eq, Bool, true, false, List, [], ◌∷◌, ◌++◌, ◌&&◌, ◌||◌, Option, Some, None, ok_or, Result, Ok, Err, IfErr, if◌then◌else◌, length, nat_lt, unwrap_or}
+use Rattle.std.proofs.lemmas.Grind.{common_steps}
 use Rattle.vt_laws_rules.proofs.rules.Outcomes.{DeniesOwn, IsOwn, RefusesOwn, after_own, among_more, are_own, error_is, finished_own, and_then_own, unless_own}
 use Rattle.vt_laws_rules.proofs.rules.WalkRules.{RefusesAsWalk, StopsAsWalk, destination_walks, directory_walks, file_walks, layer_walks, leaf_walks, new_leaf_walks, new_walks, object_walks, old_leaf_walks, old_walks, rename_new_walks, source_walks}
 use Rattle.vt_laws_rules.specs.Denials.{DenialChangesNothing}
-use Rattle.vt_laws_rules.specs.RuleOrder.{DenialHasErrorOfRule, DenialIsOwn, has_path, own_rules, rules_of, walk_rules}
+use Rattle.vt_laws_rules.specs.RuleOrder.{DenialHasErrorOfRule, DenialIsOwn, has_path, rules_of, walk_rules}
 use Rattle.vt_laws_rules.specs.RuleRanks.{is_among}
 use Rattle.vt_spec.specs.declared.errors.Deny.{Deny}
 use Rattle.vt_spec.specs.declared.errors.Rule.{Rule}
@@ -15,10 +16,9 @@ use Rattle.vt_spec.specs.Language.Calls.Call.{Bind, Chdir, Chmod, Chown, Chroot,
 use Rattle.vt_spec.specs.Language.Calls.Creation.{Exclusive, NoCreation, OrCreate}
 use Rattle.vt_spec.specs.Language.Changes.{Change}
 use Rattle.vt_spec.specs.Language.Changes.Change.{CopyUp, SetAttr, SetBytes}
-use Rattle.vt_spec.specs.Machine.Filesystems.{mounter_rules, overlay_rules}
+use Rattle.vt_spec.specs.Machine.Filesystems.{mounter_rules}
 use Rattle.vt_spec.specs.Lists.{Fresh, evens, odds}
 use Rattle.vt_spec.proofs.Tables.{exec_rules, list_rules, read_rules, readlink_rules, attr_at, attr_rules, opaque_rules, copy_rules, open_rules, pwrite_rules, hard_link_rules, make_rules, new_rules, rewrite_rules, whiteout_rules, overlay_at, overlay_mounted, bind_rules, layer_rules, layers_walked, lazy_rules, move_rules, new_mount_rules, pivot_rules, remount_rules, source_walk, destination_walk, type_rules, umount_rules, is_one_object, rename_new_walk, rename_rules, rmdir_rules, same_object_rules, unlink_rules, enter_rules}
-use Rattle.vt_spec.specs.Machine.Locked.{overlay_or}
 use Rattle.vt_spec.specs.Machine.Mounts.{Location}
 use Rattle.vt_spec.specs.Machine.Attributes.{attr_with_mode, attr_with_owner, may_chown}
 use Rattle.vt_spec.specs.Machine.Rules.Descriptors.{descriptor_at, descriptor_rules, exclusive_word_rules}
@@ -38,7 +38,7 @@ use Rattle.vt_spec.specs.Tree.{new_directory}
 use Rattle.vt_spec.specs.Tree.Content.{Symlink}
 use Rattle.vt_spec.specs.Machine.Walking.{Place, Stop, is_special, walk_end}
 use Rattle.vt_spec.proofs.Walk.{directory_walk, file_walk, is_directory_there, symlink_walk, new_leaf_walk, new_walk, object_walk, old_leaf_walk, old_walk}
-use Rattle.vt_spec.specs.Machine.World.{Overlay, Task, World, filesystem_at, task_called}
+use Rattle.vt_spec.specs.Machine.World.{Overlay, Task, World, task_called}
 use Rattle.vt_spec.specs.Machine.Apply.{apply, overfills}
 use Rattle.vt_spec.specs.Machine.Judge.{Judgement, bind_permit, chdir_permit, chmod_permit, chown_permit, chroot_permit, close_permit, exec_permit, fork_permit, hard_link_permit, judge_in, lazy_permit, list_permit, lstat_permit, mkdir_permit, mount_overlay_permit, mount_plain_permit, move_permit, opaque_permit, open_permit, opened_or_created_permit, overlay_permit_by, pivot_permit, pread_permit, pwrite_permit, read_permit, readlink_permit, remount_permit, rename_permit, renamed_permit, rmdir_permit, setns_permit, stat_permit, symlink_permit, type_permit, umount_permit, unlink_permit, unshare_permit, whiteout_permit, write_permit, written_permit}
 use Rattle.vt_spec.specs.Machine.Looks.{looks_of}
@@ -51,23 +51,11 @@ module _ (rules : List Rule) where
   mounter_own : is_among B1 rules ≡ true → is_among B2 rules ≡ true
       → {N : Type 0} (eq : N → N → Bool) (world : World N) (location : Location N) (change : Change N)
       → are_own rules (mounter_rules eq world location change) ≡ true
-  mounter_own b1 b2 {N = N} eq world location change = by_layers (filesystem_at eq world location).overlay
-    where
-      all : (among_b1 among_b2 first second third : Bool) → among_b1 ≡ true → among_b2 ≡ true
-          → ((among_b1 || first) && ((among_b1 || second) && ((among_b2 || third) && true))) ≡ true
-      all true true first second third e f = refl
-      all true false first second third e f = cc
-      all false among_b2 first second third e f = cc
-
-      by_layers : (overlay : Option (Overlay N))
-          → are_own rules (overlay_or [] (overlay_rules eq (filesystem_at eq world location) change) overlay) ≡ true
-      by_layers None = refl
-      by_layers (Some overlay) = all (is_among B1 rules) (is_among B2 rules) _ _ _ b1 b2
+  mounter_own b1 b2 eq world location change = grind (arith, common_steps, are_own)
 
   -- a walk of a call whose rules have those of walks
   walk_own : {N A : Type 0} → ((rule : Rule) → is_among rule walk_rules ≡ true → is_among rule rules ≡ true)
-      → (walk : Result A (Stop N)) (next : A → Judgement N) → StopsAsWalk walk
-      → ((a : A) → RefusesOwn rules (next a))
+      → (walk : Result A (Stop N)) (next : A → Judgement N) → StopsAsWalk walk → ((a : A) → RefusesOwn rules (next a))
       → RefusesOwn rules (and_then (walk_end walk) next)
   walk_own more (Ok a) next own h = h a
   walk_own more (Err stop) next own h = (own.0, more stop.deny.rule own.1)
@@ -86,12 +74,7 @@ module _ (rules : List Rule) where
 -- the rules of walks are among those of a call with a path
 walks_of : (call : Call) → has_path call ≡ true → (rule : Rule) → is_among rule walk_rules ≡ true
     → is_among rule (rules_of call) ≡ true
-walks_of call path rule among = given (has_path call) path
-  where
-    given : (path : Bool) → path ≡ true
-        → is_among rule ((S2 ∷ own_rules call) ++ (if path then walk_rules else [])) ≡ true
-    given true e = among_more (S2 ∷ own_rules call) rule walk_rules among
-    given false e = cc
+walks_of call path rule among = grind (arith, common_steps, among_more)
 
 found_own : {A : Type 0} (rules : List Rule) (rule : Rule) (object : Option A) → is_among rule rules ≡ true
     → RefusesOwn rules (ok_or object (denial rule))
@@ -105,8 +88,7 @@ module _ {N : Type 0} (eq : N → N → Bool) where
   write_own fresh world task path bytes place (Some file) =
       let own = rules_of (Write path bytes) in
       unless_own own (rewrite_rules eq world task file bytes) _
-      (mounter_own own refl refl eq world file (SetBytes file.node bytes))
-      tt
+      (mounter_own own refl refl eq world file (SetBytes file.node bytes)) tt
   write_own fresh world task path bytes place None =
       let own = rules_of (Write path bytes) in
       let change = making place (evens fresh 0) (new_file task file_mode bytes) in
@@ -125,8 +107,7 @@ module _ {N : Type 0} (eq : N → N → Bool) where
       (mounter_own own refl refl eq world from.parent (moving from to object)) tt
 
   overlay_own : (fresh : Fresh N) (world : World N) (task : Task N) (path : List ℕ) (options : Option OverlayWords)
-      (flags : MountFlags)
-      (place : Location N) (given : Option OverlayWords)
+      (flags : MountFlags) (place : Location N) (given : Option OverlayWords)
       → RefusesOwn (rules_of (MountOverlay path options flags))
       (overlay_permit_by eq (looks_of eq world) (overfills eq fresh world task) task place given flags)
   overlay_own fresh world task path options flags place None = (refl, refl)
@@ -141,9 +122,7 @@ module _ {N : Type 0} (eq : N → N → Bool) where
 
   -- open(2) of a file that is there, or made, where the name may be made
   opened_own : (fresh : Fresh N) (world : World N) (task : Task N) (path : List ℕ) (access : Access) (mode : ℕ)
-      (place : Place N)
-      (object : Option (Location N))
-      → RefusesOwn (rules_of (OpenFile path access (OrCreate mode)))
+      (place : Place N) (object : Option (Location N)) → RefusesOwn (rules_of (OpenFile path access (OrCreate mode)))
       (opened_or_created_permit eq (looks_of eq world) task place access mode object)
   opened_own fresh world task path access mode place (Some file) =
       let own = rules_of (OpenFile path access (OrCreate mode)) in
@@ -168,8 +147,7 @@ module _ {N : Type 0} (eq : N → N → Bool) where
       unless_own (rules_of call) (open_rules eq world task here.location access) _
       (copy_own (rules_of call) refl refl eq (is_copied_up eq world here.location access) world here.location) tt))
 
-  open_own : (fresh : Fresh N) (world : World N) (task : Task N) (path : List ℕ) (access : Access)
-      (creation : Creation)
+  open_own : (fresh : Fresh N) (world : World N) (task : Task N) (path : List ℕ) (access : Access) (creation : Creation)
       → RefusesOwn (rules_of (OpenFile path access creation))
       (open_permit eq (looks_of eq world) task path access creation)
   unfolding open_permit
@@ -193,8 +171,7 @@ module _ {N : Type 0} (eq : N → N → Bool) where
       unless_own (rules_of call) (descriptor_rules task) _ refl
       (walk_own (rules_of call) (walks_of call refl) (new_walk eq world task path) _
       (new_walks eq world task path) (λ place.
-      unless_own (rules_of call) (exclusive_word_rules place) _ refl
-      (unless_own (rules_of call)
+      unless_own (rules_of call) (exclusive_word_rules place) _ refl (unless_own (rules_of call)
       (make_rules eq world task place (making place (evens fresh 0) (new_file task mode []))) _
       (mounter_own (rules_of call) refl refl eq world place.parent
       (making place (evens fresh 0) (new_file task mode []))) tt)))
@@ -210,55 +187,45 @@ module _ {N : Type 0} (eq : N → N → Bool) where
   call_own fresh world task (Ls path) =
       let own = rules_of (Ls path) in
       walk_own own (walks_of (Ls path) refl) (directory_walk eq world task path) _
-      (directory_walks eq world task path) (λ here.
-      unless_own own (list_rules eq world task here.location) _ refl tt)
+      (directory_walks eq world task path) (λ here. unless_own own (list_rules eq world task here.location) _ refl tt)
   call_own fresh world task (Stat path) =
       let own = rules_of (Stat path) in
       walk_own own (walks_of (Stat path) refl) (object_walk eq world task path) _
-      (object_walks eq world task path) (λ here.
-      tt)
+      (object_walks eq world task path) (λ here. tt)
   call_own fresh world task (Lstat path) =
       let own = rules_of (Lstat path) in
       walk_own own (walks_of (Lstat path) refl) (symlink_walk eq world task path) _
-      (leaf_walks eq world task path) (λ here.
-      tt)
+      (leaf_walks eq world task path) (λ here. tt)
   call_own fresh world task (Readlink path) =
       let own = rules_of (Readlink path) in
       walk_own own (walks_of (Readlink path) refl) (symlink_walk eq world task path) _
-      (leaf_walks eq world task path) (λ here.
-      unless_own own (readlink_rules eq world here.location) _ refl tt)
+      (leaf_walks eq world task path) (λ here. unless_own own (readlink_rules eq world here.location) _ refl tt)
   call_own fresh world task (Read path) =
       let own = rules_of (Read path) in
       walk_own own (walks_of (Read path) refl) (object_walk eq world task path) _
-      (object_walks eq world task path) (λ here.
-      unless_own own (read_rules eq world task here.location) _ refl tt)
+      (object_walks eq world task path) (λ here. unless_own own (read_rules eq world task here.location) _ refl tt)
   call_own fresh world task (Write path bytes) =
       let own = rules_of (Write path bytes) in
       walk_own own (walks_of (Write path bytes) refl) (file_walk eq world task path) _
       (file_walks eq world task path) (λ place.
-      unless_own own (file_word_rules place) _ refl
-      (write_own fresh world task path bytes place place.object))
+      unless_own own (file_word_rules place) _ refl (write_own fresh world task path bytes place place.object))
   call_own fresh world task (Exec path) =
       let own = rules_of (Exec path) in
       walk_own own (walks_of (Exec path) refl) (object_walk eq world task path) _
-      (object_walks eq world task path) (λ here.
-      unless_own own (exec_rules eq world task here.location) _ refl tt)
+      (object_walks eq world task path) (λ here. unless_own own (exec_rules eq world task here.location) _ refl tt)
   call_own fresh world task (Mkdir path mode) =
       let own = rules_of (Mkdir path mode) in
       walk_own own (walks_of (Mkdir path mode) refl) (new_walk eq world task path) _
       (new_walks eq world task path) (λ place.
-      unless_own own
-      (new_rules eq fresh world task place
+      unless_own own (new_rules eq fresh world task place
       (record { attr = new_attr task (unwrap_or mode directory_mode); content = new_directory place.parent.node })) _
-      (mounter_own own refl refl eq world place.parent
-      (making place (evens fresh 0)
+      (mounter_own own refl refl eq world place.parent (making place (evens fresh 0)
       (record { attr = new_attr task (unwrap_or mode directory_mode); content = new_directory place.parent.node }))) tt)
   call_own fresh world task (SymlinkAt text path) =
       let own = rules_of (SymlinkAt text path) in
       unless_own own (symlink_text_rules text) _ refl
       (walk_own own (walks_of (SymlinkAt text path) refl) (new_leaf_walk eq world task path) _
-      (new_leaf_walks eq world task path)
-      (λ place.
+      (new_leaf_walks eq world task path) (λ place.
       unless_own own (new_rules eq fresh world task place
       (record { attr = exact_attr task symlink_mode; content = Symlink text })) _
       (mounter_own own refl refl eq world place.parent
@@ -266,9 +233,7 @@ module _ {N : Type 0} (eq : N → N → Bool) where
   call_own fresh world task (MakeWhiteout path) =
       let own = rules_of (MakeWhiteout path) in
       walk_own own (walks_of (MakeWhiteout path) refl) (new_leaf_walk eq world task path) _
-      (new_leaf_walks eq world task path)
-      (λ place.
-      unless_own own (whiteout_rules eq world task place) _ refl tt)
+      (new_leaf_walks eq world task path) (λ place. unless_own own (whiteout_rules eq world task place) _ refl tt)
   call_own fresh world task (LinkTo old new) =
       let own = rules_of (LinkTo old new) in
       walk_own own (walks_of (LinkTo old new) refl) (symlink_walk eq world task old) _
@@ -287,8 +252,7 @@ module _ {N : Type 0} (eq : N → N → Bool) where
       (mounter_own own refl refl eq world place.parent (removing place (object_there place))) tt))
   call_own fresh world task (Rmdir path) =
       let own = rules_of (Rmdir path) in
-      walk_own own (walks_of (Rmdir path) refl) (old_walk eq world task path) _ (old_walks eq world task path)
-      (λ place.
+      walk_own own (walks_of (Rmdir path) refl) (old_walk eq world task path) _ (old_walks eq world task path) (λ place.
       unless_own own (rmdir_word_rules place) _ refl
       (unless_own own (rmdir_rules eq world task place (object_there place)) _
       (mounter_own own refl refl eq world place.parent (removing place (object_there place))) tt))
@@ -296,40 +260,31 @@ module _ {N : Type 0} (eq : N → N → Bool) where
       let own = rules_of (Rename old new) in
       walk_own own (walks_of (Rename old new) refl) (old_leaf_walk eq world task old) _
       (old_leaf_walks eq world task old) (λ from.
-      unless_own own (old_word_rules from) _ refl
-      (walk_own own (walks_of (Rename old new) refl)
+      unless_own own (old_word_rules from) _ refl (walk_own own (walks_of (Rename old new) refl)
       (rename_new_walk eq world task new (is_directory_there eq world from)) _
       (rename_new_walks eq world task new (is_directory_there eq world from)) (λ to.
-      unless_own own (old_word_rules to) _ refl
-      (rename_own fresh world task old new from to (object_there from)
+      unless_own own (old_word_rules to) _ refl (rename_own fresh world task old new from to (object_there from)
       (is_one_object eq world (object_there from) to.object)))))
   call_own fresh world task (Chmod path mode) =
       let own = rules_of (Chmod path mode) in
       walk_own own (walks_of (Chmod path mode) refl) (object_walk eq world task path) _
       (object_walks eq world task path) (λ here.
-      unless_own own
-      (attr_rules eq world here.location (owns task.credentials (attr_at eq world here.location))
-      (attr_with_mode (attr_at eq world here.location) mode)) _
-      (mounter_own own refl refl eq world here.location
+      unless_own own (attr_rules eq world here.location (owns task.credentials (attr_at eq world here.location))
+      (attr_with_mode (attr_at eq world here.location) mode)) _ (mounter_own own refl refl eq world here.location
       (SetAttr here.location.node (attr_with_mode (attr_at eq world here.location) mode))) tt)
   call_own fresh world task (Chown path uid gid) =
       let own = rules_of (Chown path uid gid) in
       walk_own own (walks_of (Chown path uid gid) refl) (object_walk eq world task path) _
       (object_walks eq world task path) (λ here.
-      unless_own own
-      (attr_rules eq world here.location
-      (may_chown task.credentials (attr_at eq world here.location)
+      unless_own own (attr_rules eq world here.location (may_chown task.credentials (attr_at eq world here.location)
       (attr_with_owner (attr_at eq world here.location) uid gid))
-      (attr_with_owner (attr_at eq world here.location) uid gid)) _
-      (mounter_own own refl refl eq world here.location
+      (attr_with_owner (attr_at eq world here.location) uid gid)) _ (mounter_own own refl refl eq world here.location
       (SetAttr here.location.node (attr_with_owner (attr_at eq world here.location) uid gid))) tt)
   call_own fresh world task (Opaque path mark) =
       let own = rules_of (Opaque path mark) in
       unless_own own ((lacks task cap_sys_admin, K1) ∷ []) _ refl
       (walk_own own (walks_of (Opaque path mark) refl) (directory_walk eq world task path) _
-      (directory_walks eq world task path)
-      (λ here.
-      unless_own own (opaque_rules eq world here.location) _ refl tt))
+      (directory_walks eq world task path) (λ here. unless_own own (opaque_rules eq world here.location) _ refl tt))
   call_own fresh world task (OpenFile path access creation) = open_own fresh world task path access creation
   call_own fresh world task (Pread number offset size) =
       let own = rules_of (Pread number offset size) in
@@ -338,28 +293,23 @@ module _ {N : Type 0} (eq : N → N → Bool) where
   call_own fresh world task (Pwrite number offset bytes) =
       let own = rules_of (Pwrite number offset bytes) in
       and_then_own own (descriptor_at task number (λ descriptor. descriptor.writes)) _ (found_own own S4 _ refl)
-      (λ descriptor.
-      unless_own own (pwrite_rules eq world descriptor.location offset bytes) _ refl tt)
+      (λ descriptor. unless_own own (pwrite_rules eq world descriptor.location offset bytes) _ refl tt)
   call_own fresh world task (Close number) =
       let own = rules_of (Close number) in
-      and_then_own own (descriptor_at task number (λ descriptor. true)) _ (found_own own S4 _ refl)
-      (λ descriptor. tt)
+      and_then_own own (descriptor_at task number (λ descriptor. true)) _ (found_own own S4 _ refl) (λ descriptor. tt)
   call_own fresh world task (Chdir path) =
       let own = rules_of (Chdir path) in
       walk_own own (walks_of (Chdir path) refl) (directory_walk eq world task path) _
-      (directory_walks eq world task path) (λ here.
-      unless_own own (enter_rules eq world task here.location) _ refl tt)
+      (directory_walks eq world task path) (λ here. unless_own own (enter_rules eq world task here.location) _ refl tt)
   call_own fresh world task (Chroot path) =
       let own = rules_of (Chroot path) in
       unless_own own ((lacks task cap_sys_chroot, K1) ∷ []) _ refl
       (walk_own own (walks_of (Chroot path) refl) (directory_walk eq world task path) _
-      (directory_walks eq world task path) (λ here.
-      unless_own own (enter_rules eq world task here.location) _ refl tt))
+      (directory_walks eq world task path) (λ here. unless_own own (enter_rules eq world task here.location) _ refl tt))
   call_own fresh world task (Fork words) =
       let own = rules_of (Fork words) in
       unless_own own (fork_rules task (child_credentials task.credentials words)) _ refl tt
-  call_own fresh world task Unshare =
-      unless_own (rules_of Unshare) ((lacks task cap_sys_admin, K1) ∷ []) _ refl tt
+  call_own fresh world task Unshare = unless_own (rules_of Unshare) ((lacks task cap_sys_admin, K1) ∷ []) _ refl tt
   call_own fresh world task (Setns name) =
       let own = rules_of (Setns name) in
       and_then_own own (ok_or ((looks_of eq world).namespace_called name) (denial S2)) _
@@ -370,10 +320,8 @@ module _ {N : Type 0} (eq : N → N → Bool) where
       unless_own own (admin_rules task) _ refl
       (walk_own own (walks_of (MountPlain path flags) refl) (destination_walk eq world task path) _
       (destination_walks eq world task path) (λ here.
-      unless_own own
-      (new_mount_rules eq world task here.location
-      (mounted eq (odds fresh) world here.location (plain_filesystem eq fresh) flags)) _
-      refl tt))
+      unless_own own (new_mount_rules eq world task here.location
+      (mounted eq (odds fresh) world here.location (plain_filesystem eq fresh) flags)) _ refl tt))
   call_own fresh world task (MountOverlay path options flags) =
       let own = rules_of (MountOverlay path options flags) in
       unless_own own (admin_rules task) _ refl
@@ -387,21 +335,17 @@ module _ {N : Type 0} (eq : N → N → Bool) where
       (source_walks eq world task source) (λ from.
       walk_own own (walks_of (Bind source path recursive) refl) (destination_walk eq world task path) _
       (destination_walks eq world task path) (λ here.
-      unless_own own
-      (bind_rules eq world task from.location here.location
-      (bound_at eq fresh world from.location here.location recursive)) _ refl
-      tt)))
+      unless_own own (bind_rules eq world task from.location here.location
+      (bound_at eq fresh world from.location here.location recursive)) _ refl tt)))
   call_own fresh world task (MoveMount source path) =
       let own = rules_of (MoveMount source path) in
       unless_own own (admin_rules task) _ refl
       (walk_own own (walks_of (MoveMount source path) refl) (source_walk eq world task source) _
-      (source_walks eq world task source)
-      (λ from.
+      (source_walks eq world task source) (λ from.
       walk_own own (walks_of (MoveMount source path) refl) (destination_walk eq world task path) _
       (destination_walks eq world task path) (λ here.
       unless_own own (move_rules eq world task from.location here.location
-      (moved_to eq fresh world from.location.mount here.location)) _
-      refl tt)))
+      (moved_to eq fresh world from.location.mount here.location)) _ refl tt)))
   call_own fresh world task (Umount path) =
       let own = rules_of (Umount path) in
       unless_own own (admin_rules task) _ refl
@@ -412,29 +356,25 @@ module _ {N : Type 0} (eq : N → N → Bool) where
       let own = rules_of (Lazy path) in
       unless_own own (admin_rules task) _ refl
       (walk_own own (walks_of (Lazy path) refl) (directory_walk eq world task path) _
-      (directory_walks eq world task path) (λ here.
-      unless_own own (lazy_rules eq world task here.location) _ refl tt))
+      (directory_walks eq world task path) (λ here. unless_own own (lazy_rules eq world task here.location) _ refl tt))
   call_own fresh world task (Remount path flags) =
       let own = rules_of (Remount path flags) in
       unless_own own (admin_rules task) _ refl
       (walk_own own (walks_of (Remount path flags) refl) (directory_walk eq world task path) _
-      (directory_walks eq world task path)
-      (λ here.
+      (directory_walks eq world task path) (λ here.
       unless_own own (remount_rules eq world task here.location flags) _ refl tt))
   call_own fresh world task (SetType path word recursive) =
       let own = rules_of (SetType path word recursive) in
       unless_own own (admin_rules task) _ refl
       (walk_own own (walks_of (SetType path word recursive) refl) (directory_walk eq world task path) _
-      (directory_walks eq world task path) (λ here.
-      unless_own own (type_rules eq world task here.location) _ refl tt))
+      (directory_walks eq world task path) (λ here. unless_own own (type_rules eq world task here.location) _ refl tt))
   call_own fresh world task (PivotRoot new put) =
       let own = rules_of (PivotRoot new put) in
       unless_own own (admin_rules task) _ refl
       (walk_own own (walks_of (PivotRoot new put) refl) (source_walk eq world task new) _
       (source_walks eq world task new) (λ root.
       walk_own own (walks_of (PivotRoot new put) refl) (destination_walk eq world task put) _
-      (destination_walks eq world task put)
-      (λ here.
+      (destination_walks eq world task put) (λ here.
       unless_own own (pivot_rules eq world task root.location here.location) _ refl tt)))
   call_own fresh world task call = tt
 
@@ -447,8 +387,7 @@ module _ {N : Type 0} (eq : N → N → Bool) where
   -- the policy
   policy_own : (fresh : Fresh N) (world : World N) (name : TaskName) (call : Call)
       → DeniesOwn (rules_of call) world (policy eq fresh world name call)
-  policy_own fresh world name call =
-      after_own (rules_of call) world (ok_or (task_called world name) (denial S2)) _
+  policy_own fresh world name call = after_own (rules_of call) world (ok_or (task_called world name) (denial S2)) _
       (found_own (rules_of call) S2 (task_called world name) refl) (λ task.
       finished_own (rules_of call) eq world name _ (only_looks call) (call_outcome eq fresh world task call).answer
       (call_outcome eq fresh world task call).world
@@ -457,8 +396,7 @@ module _ {N : Type 0} (eq : N → N → Bool) where
 
 -- of a denial that leaves the world and is by its own rules, either holds
 parts_denied : {A : Type 0} (P : Type 0) (Q : Deny → Type 0) (answer : Result A Deny)
-    → IfErr answer (λ deny. P × Q deny)
-    → IfErr answer (λ deny. P) × IfErr answer Q
+    → IfErr answer (λ deny. P × Q deny) → IfErr answer (λ deny. P) × IfErr answer Q
 parts_denied P Q (Ok a) h = (tt, tt)
 parts_denied P Q (Err deny) h = h
 
@@ -467,8 +405,7 @@ pub policy_refuses_own : (fresh : Fresh ℕ) (world : World ℕ) (name : TaskNam
     × IfErr (policy nat_eq fresh world name call).answer (IsOwn (rules_of call))
 policy_refuses_own fresh world name call =
     parts_denied ((policy nat_eq fresh world name call).world ≡ world) (IsOwn (rules_of call))
-    (policy nat_eq fresh world name call).answer
-    (policy_own nat_eq fresh world name call)
+    (policy nat_eq fresh world name call).answer (policy_own nat_eq fresh world name call)
 
 -- what holds of a denial of the policy
 denied_own : (fresh : Fresh ℕ) (world : World ℕ) (name : TaskName) (call : Call) (deny : Deny)
@@ -476,8 +413,7 @@ denied_own : (fresh : Fresh ℕ) (world : World ℕ) (name : TaskName) (call : C
     → ((policy nat_eq fresh world name call).world ≡ world) × IsOwn (rules_of call) deny
 denied_own fresh world name call deny e =
     error_is (λ d. ((policy nat_eq fresh world name call).world ≡ world) × IsOwn (rules_of call) d)
-    (policy nat_eq fresh world name call).answer deny e
-    (policy_own nat_eq fresh world name call)
+    (policy nat_eq fresh world name call).answer deny e (policy_own nat_eq fresh world name call)
 
 pub denial_changes_nothing : DenialChangesNothing
 denial_changes_nothing fresh world name call deny e = (denied_own fresh world name call deny e).0

@@ -1,5 +1,6 @@
 -- Each table of rules is in the policy's order, and walks are refused by the rules of walks.
-use Rattle.std.proofs.Common.{◌≡◌, refl, ℕ, nat_eq, Bool, true, false, ◌&&◌, nat_le, List, [], ◌∷◌, ◌++◌, Option, Some, None, ok_or, Result, Ok, Err, IfOk, unwrap_or}
+use Rattle.std.proofs.Common.{arith, ◌≡◌, refl, ℕ, nat_eq, Bool, true, false, ◌&&◌, nat_le, List, [], ◌∷◌, ◌++◌, Option, Some, None, ok_or, Result, Ok, Err, IfOk, unwrap_or}
+use Rattle.std.proofs.lemmas.Grind.{common_steps}
 use Rattle.std.specs.Prelude.{is_err}
 use Rattle.vt_laws_rules.proofs.rules.Outcomes.{IsOwn, RefusesOwn, among_front, error_is, unless_own}
 use Rattle.vt_laws_rules.proofs.rules.WalkRules.{RefusesAsWalk, StopsAsWalk, destination_walks, directory_walks, file_walks, layer_walks, leaf_walks, new_leaf_walks, new_walks, object_walks, old_leaf_walks, old_walks, rename_new_walks, source_walks}
@@ -11,22 +12,21 @@ use Rattle.vt_spec.specs.declared.errors.Rule.{Rule}
 use Rattle.vt_spec.specs.declared.errors.Rule.TheVariants.{B1, C2, S4}
 use Rattle.vt_spec.specs.Errors.{and_then, denial, unless, Rules}
 use Rattle.vt_spec.specs.Language.Changes.{Change}
-use Rattle.vt_spec.specs.Language.Changes.Change.{CopyUp, SetAttr, SetBytes}
-use Rattle.vt_spec.specs.Machine.Filesystems.{mounter_rules, overlay_rules}
-use Rattle.vt_spec.specs.Machine.Locked.{overlay_or}
+use Rattle.vt_spec.specs.Language.Changes.Change.{CopyUp, SetAttr}
+use Rattle.vt_spec.specs.Machine.Filesystems.{mounter_rules}
 use Rattle.vt_spec.proofs.Tables.{copy_rules, is_one_object, rename_new_walk, attr_at, destination_walk, layers_walked, source_walk}
 use Rattle.vt_spec.specs.Machine.Rules.Descriptors.{descriptor_at}
 use Rattle.vt_spec.specs.Machine.Descriptors.{is_copied_up}
 use Rattle.vt_spec.specs.Machine.Rules.Removing.{moving, object_there, old_word_rules, removing, rmdir_word_rules}
-use Rattle.vt_spec.specs.Machine.World.{Overlay, Task, World, filesystem_at}
+use Rattle.vt_spec.specs.Machine.World.{Overlay, Task, World}
 use Rattle.vt_spec.specs.declared.errors.Deny.{Deny}
 use Rattle.vt_spec.specs.Language.Calls.{Access, Call, MountFlags, OverlayWords}
-use Rattle.vt_spec.specs.Language.Calls.Call.{Bind, Chdir, Chmod, Chown, Chroot, Close, Exec, Fork, Lazy, LinkTo, Ls, Lstat, MakeWhiteout, Mkdir, MountOverlay, MountPlain, MoveMount, Opaque, OpenFile, PivotRoot, Pread, Pwrite, Read, Readlink, Remount, Rename, Rmdir, SetType, Setns, Stat, SymlinkAt, Umount, Unlink, Unshare, Write}
+use Rattle.vt_spec.specs.Language.Calls.Call.{Bind, Chdir, Chmod, Chown, Chroot, Exec, Lazy, LinkTo, Ls, Lstat, MakeWhiteout, Mkdir, MountOverlay, MountPlain, MoveMount, Opaque, OpenFile, PivotRoot, Pwrite, Read, Readlink, Remount, Rename, Rmdir, SetType, Stat, SymlinkAt, Umount, Unlink, Write}
 use Rattle.vt_spec.specs.Language.Calls.Creation.{Exclusive, NoCreation, OrCreate}
 use Rattle.vt_spec.specs.Lists.{Fresh, evens}
 use Rattle.vt_spec.specs.Machine.Mounts.{Location}
 use Rattle.vt_spec.specs.Machine.Attributes.{attr_with_mode, attr_with_owner}
-use Rattle.vt_spec.specs.Machine.Rows.{directory_mode, exact_attr, file_mode, linking, making, new_attr, new_file, symlink_mode}
+use Rattle.vt_spec.specs.Machine.Rows.{directory_mode, exact_attr, linking, making, new_attr, new_file, symlink_mode}
 use Rattle.vt_spec.specs.Machine.Rules.Making.{symlink_text_rules}
 use Rattle.vt_spec.specs.Machine.Walking.{Place, Stop}
 use Rattle.vt_spec.proofs.Walk.{directory_walk, file_walk, is_directory_there, symlink_walk, new_leaf_walk, new_walk, object_walk, old_leaf_walk, old_walk}
@@ -56,17 +56,7 @@ ok_words ((false, rule) ∷ rows) last h = ok_words rows last h
 mounter_in_order : (least : ℕ) → nat_le least (rank B1) ≡ true
     → (world : World ℕ) (location : Location ℕ) (change : Change ℕ)
     → is_in_order_from least (mounter_rules nat_eq world location change) ≡ true
-mounter_in_order least e world location change = by_layers (filesystem_at nat_eq world location).overlay
-  where
-    both : (b : Bool) → b ≡ true → (b && true) ≡ true
-    both true f = refl
-    both false f = f
-
-    by_layers : (overlay : Option (Overlay ℕ))
-        → is_in_order_from least (overlay_or []
-        (overlay_rules nat_eq (filesystem_at nat_eq world location) change) overlay) ≡ true
-    by_layers None = refl
-    by_layers (Some overlay) = both (nat_le least (rank B1)) e
+mounter_in_order least e world location change = grind (arith, common_steps)
 
 copy_in_order : (copied : Bool) (world : World ℕ) (file : Location ℕ)
     → is_in_order_from (rank B1) (copy_rules nat_eq copied world file) ≡ true
@@ -76,18 +66,12 @@ copy_in_order false world file = refl
 write_in_order : (fresh : Fresh ℕ) (world : World ℕ) (task : Task ℕ) (place : Place ℕ) (bytes : List ℕ)
     (object : Option (Location ℕ))
     → IsInOrderAfterWalk (asked_of_write fresh (looks_of nat_eq world) task place bytes object)
-write_in_order fresh world task place bytes (Some file) =
-    mounter_in_order (rank B1) refl world file (SetBytes file.node bytes)
-write_in_order fresh world task place bytes None =
-    mounter_in_order (rank B1) refl world place.parent (making place (evens fresh 0) (new_file task file_mode bytes))
+write_in_order fresh world task place bytes object = grind (arith, common_steps, mounter_in_order)
 
 open_in_order : (fresh : Fresh ℕ) (world : World ℕ) (task : Task ℕ) (place : Place ℕ) (access : Access) (mode : ℕ)
     (object : Option (Location ℕ))
     → IsInOrderAfterWalk (asked_of_open fresh (looks_of nat_eq world) task place access mode object)
-open_in_order fresh world task place access mode (Some file) =
-    copy_in_order (is_copied_up nat_eq world file access) world file
-open_in_order fresh world task place access mode None =
-    mounter_in_order (rank B1) refl world place.parent (making place (evens fresh 0) (new_file task mode []))
+open_in_order fresh world task place access mode object = grind (arith, common_steps, copy_in_order, mounter_in_order)
 
 rename_in_order : (world : World ℕ) (task : Task ℕ) (from to : Place ℕ) (object : Location ℕ) (one : Bool)
     → IsInOrderAfterWalk (asked_of_rename (looks_of nat_eq world) task from to object one)
@@ -96,126 +80,78 @@ rename_in_order world task from to object false =
     mounter_in_order (rank B1) refl world from.parent (moving from to object)
 
 overlay_in_order : (fresh : Fresh ℕ) (world : World ℕ) (task : Task ℕ) (place : Location ℕ) (flags : MountFlags)
-    (options : Option OverlayWords)
-    → IsInOrderAtEnd (asked_of_overlay fresh world task place flags options)
+    (options : Option OverlayWords) → IsInOrderAtEnd (asked_of_overlay fresh world task place flags options)
 overlay_in_order fresh world task place flags None = refl
 overlay_in_order fresh world task place flags (Some words) =
     ok_then (layers_walked nat_eq world task words) _ (λ places. refl)
 
 pub last_in_order : LastTablesInOrder
-last_in_order fresh world task (Ls path) =
-    ok_walk (directory_walk nat_eq world task path) _ (λ here. refl)
-last_in_order fresh world task (Stat path) =
-    ok_walk (object_walk nat_eq world task path) _ (λ here. refl)
-last_in_order fresh world task (Lstat path) =
-    ok_walk (symlink_walk nat_eq world task path) _ (λ here. refl)
-last_in_order fresh world task (Readlink path) =
-    ok_walk (symlink_walk nat_eq world task path) _ (λ here. refl)
-last_in_order fresh world task (Read path) =
-    ok_walk (object_walk nat_eq world task path) _ (λ here. refl)
-last_in_order fresh world task (Exec path) =
-    ok_walk (object_walk nat_eq world task path) _ (λ here. refl)
-last_in_order fresh world task (Chdir path) =
-    ok_walk (directory_walk nat_eq world task path) _ (λ here. refl)
-last_in_order fresh world task (Chroot path) =
-    ok_walk (directory_walk nat_eq world task path) _ (λ here. refl)
-last_in_order fresh world task (Umount path) =
-    ok_walk (directory_walk nat_eq world task path) _ (λ here. refl)
-last_in_order fresh world task (Lazy path) =
-    ok_walk (directory_walk nat_eq world task path) _ (λ here. refl)
+last_in_order fresh world task (Ls path) = ok_walk (directory_walk nat_eq world task path) _ (λ here. refl)
+last_in_order fresh world task (Stat path) = ok_walk (object_walk nat_eq world task path) _ (λ here. refl)
+last_in_order fresh world task (Lstat path) = ok_walk (symlink_walk nat_eq world task path) _ (λ here. refl)
+last_in_order fresh world task (Readlink path) = ok_walk (symlink_walk nat_eq world task path) _ (λ here. refl)
+last_in_order fresh world task (Read path) = ok_walk (object_walk nat_eq world task path) _ (λ here. refl)
+last_in_order fresh world task (Exec path) = ok_walk (object_walk nat_eq world task path) _ (λ here. refl)
+last_in_order fresh world task (Chdir path) = ok_walk (directory_walk nat_eq world task path) _ (λ here. refl)
+last_in_order fresh world task (Chroot path) = ok_walk (directory_walk nat_eq world task path) _ (λ here. refl)
+last_in_order fresh world task (Umount path) = ok_walk (directory_walk nat_eq world task path) _ (λ here. refl)
+last_in_order fresh world task (Lazy path) = ok_walk (directory_walk nat_eq world task path) _ (λ here. refl)
 last_in_order fresh world task (Write path bytes) =
     ok_walk (file_walk nat_eq world task path) _ (λ place. write_in_order fresh world task place bytes place.object)
-last_in_order fresh world task (Mkdir path mode) =
-    ok_walk (new_walk nat_eq world task path) _
+last_in_order fresh world task (Mkdir path mode) = ok_walk (new_walk nat_eq world task path) _
     (λ place. mounter_in_order (rank B1) refl world place.parent (making place (evens fresh 0)
     (record { attr = new_attr task (unwrap_or mode directory_mode); content = new_directory place.parent.node })))
-last_in_order fresh world task (SymlinkAt text path) =
-    ok_words (symlink_text_rules text) _
+last_in_order fresh world task (SymlinkAt text path) = ok_words (symlink_text_rules text) _
     (ok_walk (new_leaf_walk nat_eq world task path) _
     (λ place. mounter_in_order (rank B1) refl world place.parent (making place (evens fresh 0)
     (record { attr = exact_attr task symlink_mode; content = Symlink text }))))
-last_in_order fresh world task (MakeWhiteout path) =
-    ok_walk (new_leaf_walk nat_eq world task path) _ (λ place. refl)
-last_in_order fresh world task (LinkTo old new) =
-    ok_walk (symlink_walk nat_eq world task old) _
+last_in_order fresh world task (MakeWhiteout path) = ok_walk (new_leaf_walk nat_eq world task path) _ (λ place. refl)
+last_in_order fresh world task (LinkTo old new) = ok_walk (symlink_walk nat_eq world task old) _
     (λ from. ok_walk (new_leaf_walk nat_eq world task new) _
     (λ place. mounter_in_order (rank B1) refl world place.parent (linking from.location place)))
-last_in_order fresh world task (Unlink path) =
-    ok_walk (old_leaf_walk nat_eq world task path) _
+last_in_order fresh world task (Unlink path) = ok_walk (old_leaf_walk nat_eq world task path) _
     (λ place. mounter_in_order (rank B1) refl world place.parent (removing place (object_there place)))
-last_in_order fresh world task (Rmdir path) =
-    ok_walk (old_walk nat_eq world task path) _
+last_in_order fresh world task (Rmdir path) = ok_walk (old_walk nat_eq world task path) _
     (λ place. ok_words (rmdir_word_rules place) _
     (mounter_in_order (rank B1) refl world place.parent (removing place (object_there place))))
-last_in_order fresh world task (Rename old new) =
-    ok_walk (old_leaf_walk nat_eq world task old) _
+last_in_order fresh world task (Rename old new) = ok_walk (old_leaf_walk nat_eq world task old) _
     (λ from. ok_words (old_word_rules from) _
     (ok_walk (rename_new_walk nat_eq world task new (is_directory_there nat_eq world from)) _
-    (λ to. ok_words (old_word_rules to) _
-    (rename_in_order world task from to (object_there from)
+    (λ to. ok_words (old_word_rules to) _ (rename_in_order world task from to (object_there from)
     (is_one_object nat_eq world (object_there from) to.object)))))
-last_in_order fresh world task (Chmod path mode) =
-    ok_walk (object_walk nat_eq world task path) _
+last_in_order fresh world task (Chmod path mode) = ok_walk (object_walk nat_eq world task path) _
     (λ here. mounter_in_order (rank C2) refl world here.location
     (SetAttr here.location.node (attr_with_mode (attr_at nat_eq world here.location) mode)))
-last_in_order fresh world task (Chown path uid gid) =
-    ok_walk (object_walk nat_eq world task path) _
+last_in_order fresh world task (Chown path uid gid) = ok_walk (object_walk nat_eq world task path) _
     (λ here. mounter_in_order (rank C2) refl world here.location
     (SetAttr here.location.node (attr_with_owner (attr_at nat_eq world here.location) uid gid)))
-last_in_order fresh world task (Opaque path mark) =
-    ok_walk (directory_walk nat_eq world task path) _ (λ here. refl)
-last_in_order fresh world task (OpenFile path access NoCreation) =
-    ok_walk (object_walk nat_eq world task path) _
+last_in_order fresh world task (Opaque path mark) = ok_walk (directory_walk nat_eq world task path) _ (λ here. refl)
+last_in_order fresh world task (OpenFile path access NoCreation) = ok_walk (object_walk nat_eq world task path) _
     (λ here. copy_in_order (is_copied_up nat_eq world here.location access) world here.location)
-last_in_order fresh world task (OpenFile path access (OrCreate mode)) =
-    ok_walk (file_walk nat_eq world task path) _
+last_in_order fresh world task (OpenFile path access (OrCreate mode)) = ok_walk (file_walk nat_eq world task path) _
     (λ place. open_in_order fresh world task place access mode place.object)
-last_in_order fresh world task (OpenFile path access (Exclusive mode)) =
-    ok_walk (new_walk nat_eq world task path) _
+last_in_order fresh world task (OpenFile path access (Exclusive mode)) = ok_walk (new_walk nat_eq world task path) _
     (λ place. ok_words (exclusive_last_words place) _
     (mounter_in_order (rank B1) refl world place.parent (making place (evens fresh 0) (new_file task mode []))))
 last_in_order fresh world task (Pwrite number offset bytes) =
     ok_then (descriptor_at task number (λ descriptor. descriptor.writes)) _ (λ descriptor. refl)
 last_in_order fresh world task (MountPlain path flags) =
     ok_walk (destination_walk nat_eq world task path) _ (λ here. refl)
-last_in_order fresh world task (MountOverlay path options flags) =
-    ok_walk (destination_walk nat_eq world task path) _
+last_in_order fresh world task (MountOverlay path options flags) = ok_walk (destination_walk nat_eq world task path) _
     (λ here. overlay_in_order fresh world task here.location flags options)
-last_in_order fresh world task (Bind source path recursive) =
-    ok_walk (source_walk nat_eq world task source) _
+last_in_order fresh world task (Bind source path recursive) = ok_walk (source_walk nat_eq world task source) _
     (λ from. ok_walk (destination_walk nat_eq world task path) _ (λ here. refl))
-last_in_order fresh world task (MoveMount source path) =
-    ok_walk (source_walk nat_eq world task source) _
+last_in_order fresh world task (MoveMount source path) = ok_walk (source_walk nat_eq world task source) _
     (λ from. ok_walk (destination_walk nat_eq world task path) _ (λ here. refl))
-last_in_order fresh world task (Remount path flags) =
-    ok_walk (directory_walk nat_eq world task path) _ (λ here. refl)
+last_in_order fresh world task (Remount path flags) = ok_walk (directory_walk nat_eq world task path) _ (λ here. refl)
 last_in_order fresh world task (SetType path word recursive) =
     ok_walk (directory_walk nat_eq world task path) _ (λ here. refl)
-last_in_order fresh world task (PivotRoot new put) =
-    ok_walk (source_walk nat_eq world task new) _
+last_in_order fresh world task (PivotRoot new put) = ok_walk (source_walk nat_eq world task new) _
     (λ root. ok_walk (destination_walk nat_eq world task put) _ (λ here. refl))
 last_in_order fresh world task call = refl
 
 pub first_in_order : FirstTablesInOrder
-first_in_order world task (Opaque path mark) = refl
-first_in_order world task (OpenFile path access how) = refl
-first_in_order world task (Pread number offset size) = refl
-first_in_order world task (Pwrite number offset bytes) = refl
-first_in_order world task (Close number) = refl
-first_in_order world task (Chroot path) = refl
-first_in_order world task (Fork words) = refl
-first_in_order world task (Unshare) = refl
-first_in_order world task (Setns name) = refl
-first_in_order world task (MountPlain path flags) = refl
-first_in_order world task (MountOverlay path options flags) = refl
-first_in_order world task (Bind source path recursive) = refl
-first_in_order world task (MoveMount source path) = refl
-first_in_order world task (Umount path) = refl
-first_in_order world task (Lazy path) = refl
-first_in_order world task (Remount path flags) = refl
-first_in_order world task (SetType path word recursive) = refl
-first_in_order world task (PivotRoot new put) = refl
-first_in_order world task call = refl
+first_in_order world task call = grind (arith, common_steps)
 
 -- a walk of a call is refused by the rules of walks
 walk_refuses : {A : Type 0} (words : List Rule) (walk : Result A (Stop ℕ)) (next : A → Result Rules Deny)
@@ -248,76 +184,58 @@ walks_refuse : (fresh : Fresh ℕ) (world : World ℕ) (task : Task ℕ) (call :
     → RefusesOwn (walk_rules ++ last_word_rules call) (asked_last fresh world task call)
 walks_refuse fresh world task (Ls path) none =
     walk_refuses (last_word_rules (Ls path)) (directory_walk nat_eq world task path) _
-    (directory_walks nat_eq world task path) (λ here.
-    tt)
+    (directory_walks nat_eq world task path) (λ here. tt)
 walks_refuse fresh world task (Stat path) none =
     walk_refuses (last_word_rules (Stat path)) (object_walk nat_eq world task path) _
-    (object_walks nat_eq world task path) (λ here.
-    tt)
+    (object_walks nat_eq world task path) (λ here. tt)
 walks_refuse fresh world task (Lstat path) none =
     walk_refuses (last_word_rules (Lstat path)) (symlink_walk nat_eq world task path) _
-    (leaf_walks nat_eq world task path) (λ here.
-    tt)
+    (leaf_walks nat_eq world task path) (λ here. tt)
 walks_refuse fresh world task (Readlink path) none =
     walk_refuses (last_word_rules (Readlink path)) (symlink_walk nat_eq world task path) _
-    (leaf_walks nat_eq world task path) (λ here.
-    tt)
+    (leaf_walks nat_eq world task path) (λ here. tt)
 walks_refuse fresh world task (Read path) none =
     walk_refuses (last_word_rules (Read path)) (object_walk nat_eq world task path) _
-    (object_walks nat_eq world task path) (λ here.
-    tt)
+    (object_walks nat_eq world task path) (λ here. tt)
 walks_refuse fresh world task (Exec path) none =
     walk_refuses (last_word_rules (Exec path)) (object_walk nat_eq world task path) _
-    (object_walks nat_eq world task path) (λ here.
-    tt)
+    (object_walks nat_eq world task path) (λ here. tt)
 walks_refuse fresh world task (Chdir path) none =
     walk_refuses (last_word_rules (Chdir path)) (directory_walk nat_eq world task path) _
-    (directory_walks nat_eq world task path) (λ here.
-    tt)
+    (directory_walks nat_eq world task path) (λ here. tt)
 walks_refuse fresh world task (Chroot path) none =
     walk_refuses (last_word_rules (Chroot path)) (directory_walk nat_eq world task path) _
-    (directory_walks nat_eq world task path) (λ here.
-    tt)
+    (directory_walks nat_eq world task path) (λ here. tt)
 walks_refuse fresh world task (Umount path) none =
     walk_refuses (last_word_rules (Umount path)) (directory_walk nat_eq world task path) _
-    (directory_walks nat_eq world task path) (λ here.
-    tt)
+    (directory_walks nat_eq world task path) (λ here. tt)
 walks_refuse fresh world task (Lazy path) none =
     walk_refuses (last_word_rules (Lazy path)) (directory_walk nat_eq world task path) _
-    (directory_walks nat_eq world task path) (λ here.
-    tt)
+    (directory_walks nat_eq world task path) (λ here. tt)
 walks_refuse fresh world task (Write path bytes) none =
     walk_refuses (last_word_rules (Write path bytes)) (file_walk nat_eq world task path) _
-    (file_walks nat_eq world task path) (λ place.
-    tt)
+    (file_walks nat_eq world task path) (λ place. tt)
 walks_refuse fresh world task (Mkdir path mode) none =
     walk_refuses (last_word_rules (Mkdir path mode)) (new_walk nat_eq world task path) _
-    (new_walks nat_eq world task path) (λ place.
-    tt)
+    (new_walks nat_eq world task path) (λ place. tt)
 walks_refuse fresh world task (SymlinkAt text path) none =
     unless_own (walk_rules ++ last_word_rules (SymlinkAt text path)) (symlink_text_rules text) _ refl
     (walk_refuses (last_word_rules (SymlinkAt text path)) (new_leaf_walk nat_eq world task path) _
-    (new_leaf_walks nat_eq world task path) (λ place.
-    tt))
+    (new_leaf_walks nat_eq world task path) (λ place. tt))
 walks_refuse fresh world task (MakeWhiteout path) none =
     walk_refuses (last_word_rules (MakeWhiteout path)) (new_leaf_walk nat_eq world task path) _
-    (new_leaf_walks nat_eq world task path)
-    (λ place.
-    tt)
+    (new_leaf_walks nat_eq world task path) (λ place. tt)
 walks_refuse fresh world task (LinkTo old new) none =
     walk_refuses (last_word_rules (LinkTo old new)) (symlink_walk nat_eq world task old) _
     (leaf_walks nat_eq world task old) (λ from.
     walk_refuses (last_word_rules (LinkTo old new)) (new_leaf_walk nat_eq world task new) _
-    (new_leaf_walks nat_eq world task new) (λ place.
-    tt))
+    (new_leaf_walks nat_eq world task new) (λ place. tt))
 walks_refuse fresh world task (Unlink path) none =
     walk_refuses (last_word_rules (Unlink path)) (old_leaf_walk nat_eq world task path) _
-    (old_leaf_walks nat_eq world task path) (λ place.
-    tt)
+    (old_leaf_walks nat_eq world task path) (λ place. tt)
 walks_refuse fresh world task (Rmdir path) none =
     walk_refuses (last_word_rules (Rmdir path)) (old_walk nat_eq world task path) _ (old_walks nat_eq world task path)
-    (λ place.
-    unless_own (walk_rules ++ last_word_rules (Rmdir path)) (rmdir_word_rules place) _ refl (tt))
+    (λ place. unless_own (walk_rules ++ last_word_rules (Rmdir path)) (rmdir_word_rules place) _ refl (tt))
 walks_refuse fresh world task (Rename old new) none =
     walk_refuses (last_word_rules (Rename old new)) (old_leaf_walk nat_eq world task old) _
     (old_leaf_walks nat_eq world task old) (λ from.
@@ -328,26 +246,19 @@ walks_refuse fresh world task (Rename old new) none =
     unless_own (walk_rules ++ last_word_rules (Rename old new)) (old_word_rules to) _ refl (tt))))
 walks_refuse fresh world task (Chmod path mode) none =
     walk_refuses (last_word_rules (Chmod path mode)) (object_walk nat_eq world task path) _
-    (object_walks nat_eq world task path) (λ here.
-    tt)
+    (object_walks nat_eq world task path) (λ here. tt)
 walks_refuse fresh world task (Chown path uid gid) none =
     walk_refuses (last_word_rules (Chown path uid gid)) (object_walk nat_eq world task path) _
-    (object_walks nat_eq world task path)
-    (λ here.
-    tt)
+    (object_walks nat_eq world task path) (λ here. tt)
 walks_refuse fresh world task (Opaque path mark) none =
     walk_refuses (last_word_rules (Opaque path mark)) (directory_walk nat_eq world task path) _
-    (directory_walks nat_eq world task path)
-    (λ here.
-    tt)
+    (directory_walks nat_eq world task path) (λ here. tt)
 walks_refuse fresh world task (OpenFile path access NoCreation) none =
     walk_refuses (last_word_rules (OpenFile path access NoCreation)) (object_walk nat_eq world task path) _
-    (object_walks nat_eq world task path) (λ here.
-    tt)
+    (object_walks nat_eq world task path) (λ here. tt)
 walks_refuse fresh world task (OpenFile path access (OrCreate mode)) none =
     walk_refuses (last_word_rules (OpenFile path access (OrCreate mode))) (file_walk nat_eq world task path) _
-    (file_walks nat_eq world task path) (λ place.
-    tt)
+    (file_walks nat_eq world task path) (λ place. tt)
 walks_refuse fresh world task (OpenFile path access (Exclusive mode)) none =
     walk_refuses (last_word_rules (OpenFile path access (Exclusive mode))) (new_walk nat_eq world task path) _
     (new_walks nat_eq world task path) (λ place.
@@ -357,41 +268,31 @@ walks_refuse fresh world task (Pwrite number offset bytes) none =
     descriptor_refuses (walk_rules ++ []) _ _ none (λ descriptor. tt)
 walks_refuse fresh world task (MountPlain path flags) none =
     walk_refuses (last_word_rules (MountPlain path flags)) (destination_walk nat_eq world task path) _
-    (destination_walks nat_eq world task path) (λ here.
-    tt)
+    (destination_walks nat_eq world task path) (λ here. tt)
 walks_refuse fresh world task (MountOverlay path options flags) none =
     walk_refuses (last_word_rules (MountOverlay path options flags)) (destination_walk nat_eq world task path) _
-    (destination_walks nat_eq world task path) (λ here.
-    overlay_refuses fresh world task here.location flags options)
+    (destination_walks nat_eq world task path) (λ here. overlay_refuses fresh world task here.location flags options)
 walks_refuse fresh world task (Bind source path recursive) none =
     walk_refuses (last_word_rules (Bind source path recursive)) (source_walk nat_eq world task source) _
     (source_walks nat_eq world task source) (λ from.
     walk_refuses (last_word_rules (Bind source path recursive)) (destination_walk nat_eq world task path) _
-    (destination_walks nat_eq world task path) (λ here.
-    tt))
+    (destination_walks nat_eq world task path) (λ here. tt))
 walks_refuse fresh world task (MoveMount source path) none =
     walk_refuses (last_word_rules (MoveMount source path)) (source_walk nat_eq world task source) _
-    (source_walks nat_eq world task source)
-    (λ from.
+    (source_walks nat_eq world task source) (λ from.
     walk_refuses (last_word_rules (MoveMount source path)) (destination_walk nat_eq world task path) _
-    (destination_walks nat_eq world task path) (λ here.
-    tt))
+    (destination_walks nat_eq world task path) (λ here. tt))
 walks_refuse fresh world task (Remount path flags) none =
     walk_refuses (last_word_rules (Remount path flags)) (directory_walk nat_eq world task path) _
-    (directory_walks nat_eq world task path)
-    (λ here.
-    tt)
+    (directory_walks nat_eq world task path) (λ here. tt)
 walks_refuse fresh world task (SetType path word recursive) none =
     walk_refuses (last_word_rules (SetType path word recursive)) (directory_walk nat_eq world task path) _
-    (directory_walks nat_eq world task path) (λ here.
-    tt)
+    (directory_walks nat_eq world task path) (λ here. tt)
 walks_refuse fresh world task (PivotRoot new put) none =
     walk_refuses (last_word_rules (PivotRoot new put)) (source_walk nat_eq world task new) _
     (source_walks nat_eq world task new) (λ root.
     walk_refuses (last_word_rules (PivotRoot new put)) (destination_walk nat_eq world task put) _
-    (destination_walks nat_eq world task put)
-    (λ here.
-    tt))
+    (destination_walks nat_eq world task put) (λ here. tt))
 walks_refuse fresh world task call none = tt
 
 pub walks_refuse_as_walks : WalksRefuseAsWalks

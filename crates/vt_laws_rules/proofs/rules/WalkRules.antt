@@ -1,5 +1,6 @@
 -- Walks are refused by the rules of walks alone.
-use Rattle.std.proofs.Common.{refl, ℕ, zero, suc, Bool, true, false, List, [], ◌∷◌, ◌+◌, ◌||◌, reverse, Option, Some, None, option_map, ok_or, Result, Ok}
+use Rattle.std.proofs.Common.{arith, refl, ℕ, zero, suc, Bool, false, List, [], ◌∷◌, ◌+◌, ◌||◌, reverse, Option, Some, None, ok_or, Result, Ok}
+use Rattle.std.proofs.lemmas.Grind.{common_steps}
 use Rattle.vt_laws_rules.specs.RuleOrder.{walk_rules}
 use Rattle.vt_laws_rules.proofs.rules.Outcomes.{RefusesOwn, StopsOwn, and_then_own, if_own, stopped_own, then_walk_own, unless_own, walk_end_own, walk_unless_own}
 use Rattle.vt_spec.specs.declared.errors.Deny.{Deny}
@@ -7,8 +8,7 @@ use Rattle.vt_spec.specs.declared.errors.Rule.TheVariants.{W6}
 use Rattle.vt_spec.specs.Errors.{and_then, denial, unless}
 use Rattle.vt_spec.specs.PathText.{ends_in_slash, path_rules, words}
 use Rattle.vt_spec.specs.Language.Calls.{OverlayWords}
-use Rattle.vt_spec.specs.Lists.{last_or}
-use Rattle.vt_spec.specs.Machine.Mounts.{Location, topmost}
+use Rattle.vt_spec.specs.Machine.Mounts.{Location}
 use Rattle.vt_spec.proofs.Tables.{destination_walk, each_walked, layers_walked, source_walk, walked_if_given, rename_new_walk}
 use Rattle.vt_spec.specs.Machine.Rules.Mounting.{work_walked}
 use Rattle.vt_spec.specs.Machine.Walking.{Follow, Here, LastWord, Place, Stop, stopped_by, final_word, if_symlink, last_word, symlink_of, path_text, walk_start}
@@ -37,18 +37,12 @@ module _ {N : Type 0} (eq : N → N → Bool) (world : World N) (task : Task N) 
       (unless_own walk_rules (_ ∷ []) (Ok _) refl tt)
 
   steps : (here : Location N) (word : LastWord) → RefusesAsWalk (stepped eq world task here word)
-  steps here NoWord = tt
-  steps here Dot = tt
-  steps here DotDot = up_steps (last_or here (hops eq world task here))
-  steps here (Named name) = found (option_map (topmost eq world.mounts) (entry_location eq world here name))
+  steps here word = grind (arith, common_steps, up_steps, hops, found, entry_location)
 
   word_walks : (here : Here N) (word : LastWord) → StopsAsWalk (word_walked eq world task here word)
-  word_walks here word =
-      stopped_own walk_rules _ _
-      (and_then_own walk_rules _ _
+  word_walks here word = stopped_own walk_rules _ _ (and_then_own walk_rules _ _
       (unless_own walk_rules (search_rules eq world task here.location) (stepped eq world task here.location word) refl
-      (steps here.location word))
-      (λ reached. tt))
+      (steps here.location word)) (λ reached. tt))
 
   -- the walk of a link's text is stopped by a rule of walks
   abbrev FollowsAsWalk : Follow N → Type 0
@@ -71,11 +65,9 @@ module _ {N : Type 0} (eq : N → N → Bool) (world : World N) (task : Task N) 
 
   link_walks : (depth : ℕ) → FollowsAsWalk (symlink_walked eq depth world task)
   link_walks zero directory link text = (refl, refl)
-  link_walks (suc depth) directory link text =
-      then_walk_own walk_rules _ _
+  link_walks (suc depth) directory link text = then_walk_own walk_rules _ _
       (walk_unless_own walk_rules link.steps (follow_rules eq world link text)
-      (symlink_start eq world task directory link text) refl)
-      (λ start.
+      (symlink_start eq world task directory link text) refl) (λ start.
       then_walk_own walk_rules (words_walked eq world task (symlink_walked eq depth world task) start
       (reverse (words text))) _
       (words_walk (symlink_walked eq depth world task) (link_walks depth) start (reverse (words text))) (λ reached.
@@ -85,18 +77,15 @@ module _ {N : Type 0} (eq : N → N → Bool) (world : World N) (task : Task N) 
   follows directory link text = link_walks (most_symlinks + 1) directory link text
 
   path_walks : (path : List ℕ) → StopsAsWalk (path_walked eq world task path)
-  path_walks path =
-      then_walk_own walk_rules (path_text path) _ (text_walks path) (λ text.
+  path_walks path = then_walk_own walk_rules (path_text path) _ (text_walks path) (λ text.
       words_walk (followed eq world task) follows (walk_start task text) (reverse (words text)))
 
   pub object_walks : (path : List ℕ) → StopsAsWalk (object_walk eq world task path)
-  object_walks path =
-      then_walk_own walk_rules (path_walked eq world task path) _ (path_walks path) (λ here.
+  object_walks path = then_walk_own walk_rules (path_walked eq world task path) _ (path_walks path) (λ here.
       walk_unless_own walk_rules here.steps (slash_rules eq world path here.location) here refl)
 
   pub directory_walks : (path : List ℕ) → StopsAsWalk (directory_walk eq world task path)
-  directory_walks path =
-      then_walk_own walk_rules (path_walked eq world task path) _ (path_walks path) (λ here.
+  directory_walks path = then_walk_own walk_rules (path_walked eq world task path) _ (path_walks path) (λ here.
       walk_unless_own walk_rules here.steps (_ ∷ []) here refl)
 
   prefix_walks : (here : Here N) (words : List (List ℕ))
@@ -111,11 +100,8 @@ module _ {N : Type 0} (eq : N → N → Bool) (world : World N) (task : Task N) 
   last_walks here (Named name) = word_walks here (Named name)
 
   link_walks_by : (slash : Bool) (path : List ℕ) → StopsAsWalk (symlink_walk_by eq slash world task path)
-  link_walks_by true path = object_walks path
-  link_walks_by false path =
-      then_walk_own walk_rules (path_text path) _ (text_walks path) (λ text.
-      then_walk_own walk_rules _ _ (prefix_walks (walk_start task text) (reverse (words text))) (λ here.
-      last_walks here (final_word (reverse (words text)))))
+  link_walks_by slash path =
+      grind (arith, common_steps, object_walks, then_walk_own, text_walks, prefix_walks, last_walks)
 
   pub leaf_walks : (path : List ℕ) → StopsAsWalk (symlink_walk eq world task path)
   leaf_walks path = link_walks_by (ends_in_slash path) path
@@ -127,17 +113,12 @@ module _ {N : Type 0} (eq : N → N → Bool) (world : World N) (task : Task N) 
   names here (Named name) = tt
 
   named_places : (here : Here N) (word : LastWord) {A : Type 0} (met : List (List N)) (place : Option (Location N) → A)
-      → StopsAsWalk
-      (stopped_by met
+      → StopsAsWalk (stopped_by met
       (and_then (unless (search_rules eq world task here.location) (object_named eq world task here.location word))
       (λ object. Ok (place object))))
-  named_places here word met place =
-      stopped_own walk_rules met _
-      (and_then_own walk_rules _ _
+  named_places here word met place = stopped_own walk_rules met _ (and_then_own walk_rules _ _
       (unless_own walk_rules (search_rules eq world task here.location)
-      (object_named eq world task here.location word) refl
-      (names here.location word))
-      (λ object. tt))
+      (object_named eq world task here.location word) refl (names here.location word)) (λ object. tt))
 
   places : (here : Here N) (word : LastWord) (slash : Bool) → StopsAsWalk (placed eq world task here word slash)
   places here NoWord slash = tt
@@ -146,34 +127,28 @@ module _ {N : Type 0} (eq : N → N → Bool) (world : World N) (task : Task N) 
   places here (Named name) slash = named_places here (Named name) _ _
 
   pub place_walks : (path : List ℕ) → StopsAsWalk (place_walk eq world task path)
-  place_walks path =
-      then_walk_own walk_rules (path_text path) _ (text_walks path) (λ text.
+  place_walks path = then_walk_own walk_rules (path_text path) _ (text_walks path) (λ text.
       then_walk_own walk_rules _ _ (prefix_walks (walk_start task text) (reverse (words text))) (λ here.
       places here (final_word (reverse (words text))) (ends_in_slash text)))
 
   pub new_walks : (path : List ℕ) → StopsAsWalk (new_walk eq world task path)
-  new_walks path =
-      then_walk_own walk_rules (place_walk eq world task path) _ (place_walks path) (λ place.
+  new_walks path = then_walk_own walk_rules (place_walk eq world task path) _ (place_walks path) (λ place.
       walk_unless_own walk_rules place.steps (_ ∷ []) place refl)
 
   pub new_leaf_walks : (path : List ℕ) → StopsAsWalk (new_leaf_walk eq world task path)
-  new_leaf_walks path =
-      then_walk_own walk_rules (new_walk eq world task path) _ (new_walks path) (λ place.
+  new_leaf_walks path = then_walk_own walk_rules (new_walk eq world task path) _ (new_walks path) (λ place.
       walk_unless_own walk_rules place.steps (_ ∷ []) place refl)
 
   pub old_walks : (path : List ℕ) → StopsAsWalk (old_walk eq world task path)
-  old_walks path =
-      then_walk_own walk_rules (place_walk eq world task path) _ (place_walks path) (λ place.
+  old_walks path = then_walk_own walk_rules (place_walk eq world task path) _ (place_walks path) (λ place.
       walk_unless_own walk_rules place.steps (_ ∷ []) place refl)
 
   pub old_leaf_walks : (path : List ℕ) → StopsAsWalk (old_leaf_walk eq world task path)
-  old_leaf_walks path =
-      then_walk_own walk_rules (old_walk eq world task path) _ (old_walks path) (λ place.
+  old_leaf_walks path = then_walk_own walk_rules (old_walk eq world task path) _ (old_walks path) (λ place.
       walk_unless_own walk_rules place.steps (_ ∷ []) place refl)
 
   pub rename_new_walks : (path : List ℕ) (directory : Bool) → StopsAsWalk (rename_new_walk eq world task path directory)
-  rename_new_walks path directory =
-      then_walk_own walk_rules (new_walk eq world task path) _ (new_walks path) (λ place.
+  rename_new_walks path directory = then_walk_own walk_rules (new_walk eq world task path) _ (new_walks path) (λ place.
       walk_unless_own walk_rules place.steps (_ ∷ []) place refl)
 
   file_or_link_walks : (place : Place N) (text : Option (List ℕ)) (follow : List ℕ → Result (Place N) (Stop N))
@@ -195,19 +170,16 @@ module _ {N : Type 0} (eq : N → N → Bool) (world : World N) (task : Task N) 
       (λ next. file_walks_by depth next inner (slash || ends_in_slash text)))))
 
   pub file_walks : (path : List ℕ) → StopsAsWalk (file_walk eq world task path)
-  file_walks path =
-      then_walk_own walk_rules (path_text path) _ (text_walks path) (λ text.
+  file_walks path = then_walk_own walk_rules (path_text path) _ (text_walks path) (λ text.
       then_walk_own walk_rules _ _ (file_walks_by (most_symlinks + 1) (walk_start task text) text false) (λ place.
       walk_unless_own walk_rules place.steps (_ ∷ []) place refl))
 
   pub source_walks : (path : List ℕ) → StopsAsWalk (source_walk eq world task path)
-  source_walks path =
-      then_walk_own walk_rules (directory_walk eq world task path) _ (directory_walks path) (λ here.
+  source_walks path = then_walk_own walk_rules (directory_walk eq world task path) _ (directory_walks path) (λ here.
       walk_unless_own walk_rules here.steps (_ ∷ []) here refl)
 
   pub destination_walks : (path : List ℕ) → StopsAsWalk (destination_walk eq world task path)
-  destination_walks path =
-      then_walk_own walk_rules (source_walk eq world task path) _ (source_walks path) (λ here.
+  destination_walks path = then_walk_own walk_rules (source_walk eq world task path) _ (source_walks path) (λ here.
       walk_unless_own walk_rules here.steps (_ ∷ []) _ refl)
 
   -- the walks of an overlay's layers
@@ -215,14 +187,12 @@ module _ {N : Type 0} (eq : N → N → Bool) (world : World N) (task : Task N) 
   each_walks [] = tt
   each_walks (path ∷ paths) =
       and_then_own walk_rules _ _ (walk_end_own walk_rules (source_walk eq world task path) (source_walks path))
-      (λ here.
-      and_then_own walk_rules (each_walked eq world task paths) _ (each_walks paths) (λ rest. tt))
+      (λ here. and_then_own walk_rules (each_walked eq world task paths) _ (each_walks paths) (λ rest. tt))
 
   given_walks : (path : Option (List ℕ)) → RefusesAsWalk (walked_if_given eq world task path)
   given_walks None = tt
   given_walks (Some path) = and_then_own walk_rules _ _
-      (walk_end_own walk_rules (source_walk eq world task path) (source_walks path))
-      (λ here. tt)
+      (walk_end_own walk_rules (source_walk eq world task path) (source_walks path)) (λ here. tt)
 
   pub layer_walks : (words : OverlayWords) → RefusesAsWalk (layers_walked eq world task words)
   layer_walks words =

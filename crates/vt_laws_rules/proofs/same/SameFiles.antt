@@ -22,29 +22,24 @@ module _ (one other : FileTree ℕ) (same : SameFiles one other) where
   directory_under_same top directory = ap (is_among nat_eq top) (ancestors_same directory)
 
   file_under_same : (top file : ℕ) → is_file_under nat_eq one top file ≡ is_file_under nat_eq other top file
-  file_under_same top file =
-      list_any-IsPermutation
+  file_under_same top file = list_any-IsPermutation
       (λ directory. has_entry_to nat_eq one.tree directory file && is_directory_under nat_eq one top directory)
-      one.numbers other.numbers same.numbers
-      ∙ (λ i. list_any
+      one.numbers other.numbers same.numbers ∙ (λ i. list_any
       (λ directory. has_entry_to nat_eq (same.tree i) directory file && directory_under_same top directory i)
       other.numbers)
 
   pub under_same : (top object : ℕ) → is_under nat_eq one top object ≡ is_under nat_eq other top object
-  under_same top object = λ i.
-      cond (is_directory_node ((same.tree i).node object)) (directory_under_same top object i)
+  under_same top object = λ i. cond (is_directory_node ((same.tree i).node object)) (directory_under_same top object i)
       (file_under_same top object i)
 
   pub path_same : (top directory : ℕ) → path_down nat_eq one top directory ≡ path_down nat_eq other top directory
-  path_same top directory = λ i.
-      when (directory_under_same top directory i)
+  path_same top directory = λ i. when (directory_under_same top directory i)
       (reverse (map (own_name nat_eq (record { tree = same.tree i; numbers = [] }))
       (before_first (nat_eq top) (ancestors_same directory i))))
 
 -- the directories that have a name of an object, among some
 abbrev pub named_among : Tree ℕ → ℕ → List ℕ → Option ℕ
-named_among tree object numbers =
-    option_map (λ name. name.0)
+named_among tree object numbers = option_map (λ name. name.0)
     (first_of_list (filter_map (name_in nat_eq (record { tree = tree; numbers = [] }) object) numbers))
 
 module _ (tree : Tree ℕ) (object : ℕ) where
@@ -62,15 +57,11 @@ module _ (tree : Tree ℕ) (object : ℕ) where
   named directory names [] = refl
   named directory names (entry ∷ entries) = by (nat_eq object entry.1) (named directory names entries)
     where
-      by : (b : Bool)
-          → first_name (option_map (λ entry. (directory, entry.0))
+      by : (b : Bool) → first_name (option_map (λ entry. (directory, entry.0))
           (find (λ entry. nat_eq object entry.1) entries)) names
           ≡ cond (is_among nat_eq object (map (λ entry. entry.1) entries)) (Some directory)
-          (option_map (λ name. name.0) (first_of_list names))
-          → first_name
-          (option_map (λ entry. (directory, entry.0))
-          (cond b (Some entry) (find (λ entry. nat_eq object entry.1) entries)))
-          names
+          (option_map (λ name. name.0) (first_of_list names)) → first_name (option_map (λ entry. (directory, entry.0))
+          (cond b (Some entry) (find (λ entry. nat_eq object entry.1) entries))) names
           ≡ cond (b || is_among nat_eq object (map (λ entry. entry.1) entries)) (Some directory)
           (option_map (λ name. name.0) (first_of_list names))
       by true later = refl
@@ -121,9 +112,7 @@ module _ (test : ℕ → Bool) where
 pub directory_same : (one other : FileTree ℕ) → SameFiles one other → (object : ℕ)
     → ((a b : ℕ) → has_entry_to nat_eq one.tree a object ≡ true → has_entry_to nat_eq one.tree b object ≡ true → a ≡ b)
     → directory_of_name nat_eq one object ≡ directory_of_name nat_eq other object
-directory_same one other same object alone =
-    ap option_to_list
-    (first_named one.tree object one.numbers
+directory_same one other same object alone = ap option_to_list (first_named one.tree object one.numbers
     ∙ one_found (λ directory.
     has_entry_to nat_eq one.tree directory object) one.numbers other.numbers same.numbers alone
     ∙ (λ i. find (λ directory. has_entry_to nat_eq (same.tree i) directory object) other.numbers)

@@ -23,18 +23,14 @@ locations_bare : (tasks : List (Task ℕ)) → flat_map locations_of (map bare_t
 locations_bare [] = refl
 locations_bare (task ∷ tasks) = ap (λ rest. locations_of task ++ rest) (locations_bare tasks)
 
-written_bare : (mount : ℕ) (tasks : List (Task ℕ))
-    → list_any (λ (task : Task ℕ). list_any
-    (λ descriptor. descriptor.writes && nat_eq mount descriptor.location.mount) task.descriptors)
-    (map bare_task tasks)
+written_bare : (mount : ℕ) (tasks : List (Task ℕ)) → list_any (λ (task : Task ℕ). list_any
+    (λ descriptor. descriptor.writes && nat_eq mount descriptor.location.mount) task.descriptors) (map bare_task tasks)
     ≡ list_any (λ (task : Task ℕ). list_any
-    (λ descriptor. descriptor.writes && nat_eq mount descriptor.location.mount) task.descriptors)
-    tasks
+    (λ descriptor. descriptor.writes && nat_eq mount descriptor.location.mount) task.descriptors) tasks
 written_bare mount [] = refl
 written_bare mount (task ∷ tasks) =
     ap (λ rest. list_any (λ descriptor. descriptor.writes && nat_eq mount descriptor.location.mount) task.descriptors
-    || rest)
-    (written_bare mount tasks)
+    || rest) (written_bare mount tasks)
 
 namespace_bare : (name : TaskName) (tasks : List (Task ℕ))
     → option_map (λ (task : Task ℕ). task.namespace) (find (λ task. same_name name task.name) (map bare_task tasks))
@@ -56,16 +52,14 @@ namespace_bare name (task ∷ tasks) = by (same_name name task.name) (namespace_
 bare_looks : (world : World ℕ) → looks_of nat_eq (bare world) ≡ looks_of nat_eq world
 bare_looks world = λ i. record (looks_of nat_eq world) {
   namespace_called = λ name. namespace_bare name world.tasks i;
-  is_busy = λ mount.
-      has_child nat_eq world mount
+  is_busy = λ mount. has_child nat_eq world mount
       || list_any (λ location. is_among nat_eq location.mount (going nat_eq world (mount_numbered nat_eq world mount)))
       (locations_bare world.tasks i);
   is_written_through = λ mount. written_bare mount world.tasks i;
 }
 
 pub same_worlds_look_alike : SameWorldsLookAlike
-same_worlds_look_alike one other same alone =
-    subst (λ looks. LookAlike looks (looks_of nat_eq other)) (bare_looks one)
+same_worlds_look_alike one other same alone = subst (λ looks. LookAlike looks (looks_of nat_eq other)) (bare_looks one)
     (subst (LookAlike (looks_of nat_eq (bare one))) (ap (looks_of nat_eq) rest ∙ bare_looks other)
     (others_look_alike (bare one) other.filesystems same.filesystems alone))
   where
@@ -87,14 +81,12 @@ same_worlds_are_judged_alike one other same alone overfills task call =
 plain_there : (number : ℕ) (list : List (Filesystem ℕ)) → All (λ filesystem. is_overlay filesystem ≡ false) list
     → is_overlay (unwrap_or (find (λ filesystem. nat_eq number filesystem.number) list) (no_filesystem number)) ≡ false
 plain_there number [] all = refl
-plain_there number (filesystem ∷ list) all =
-    by (nat_eq number filesystem.number)
+plain_there number (filesystem ∷ list) all = by (nat_eq number filesystem.number)
     (plain_there number list (All-tail (λ filesystem. is_overlay filesystem ≡ false) filesystem list all))
   where
     by : (b : Bool)
         → is_overlay (unwrap_or (find (λ filesystem. nat_eq number filesystem.number) list) (no_filesystem number))
-        ≡ false
-        → is_overlay
+        ≡ false → is_overlay
         (unwrap_or (cond b (Some filesystem) (find (λ filesystem. nat_eq number filesystem.number) list))
         (no_filesystem number)) ≡ false
     by true later = All-head (λ filesystem. is_overlay filesystem ≡ false) filesystem list all

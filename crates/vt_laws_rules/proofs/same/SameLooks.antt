@@ -31,14 +31,11 @@ found_same number [] [] same =
     record { number = refl; files = record { tree = refl; numbers = IsPermutation-refl [] }; overlay = refl }
 found_same number [] (other ∷ others) same = absurd same
 found_same number (one ∷ ones) [] same = absurd same
-found_same number (one ∷ ones) (other ∷ others) same =
-    subst (λ n. SameFilesystem (numbered number (one ∷ ones))
+found_same number (one ∷ ones) (other ∷ others) same = subst (λ n. SameFilesystem (numbered number (one ∷ ones))
     (unwrap_or (cond (nat_eq number n) (Some other) (find (λ filesystem. nat_eq number filesystem.number) others))
-    (no_filesystem number))) same.0.number
-    (by (nat_eq number one.number) (found_same number ones others same.1))
+    (no_filesystem number))) same.0.number (by (nat_eq number one.number) (found_same number ones others same.1))
   where
-    by : (b : Bool) → SameFilesystem (numbered number ones) (numbered number others)
-        → SameFilesystem
+    by : (b : Bool) → SameFilesystem (numbered number ones) (numbered number others) → SameFilesystem
         (unwrap_or (cond b (Some one) (find (λ filesystem. nat_eq number filesystem.number) ones))
         (no_filesystem number))
         (unwrap_or (cond b (Some other) (find (λ filesystem. nat_eq number filesystem.number) others))
@@ -52,12 +49,10 @@ layers_same : (some : Overlay ℕ → List (Layer ℕ)) (ones others : List (Fil
 layers_same some [] [] same = refl
 layers_same some [] (other ∷ others) same = absurd same
 layers_same some (one ∷ ones) [] same = absurd same
-layers_same some (one ∷ ones) (other ∷ others) same =
-    step one (filter is_overlay ones) (is_overlay one)
+layers_same some (one ∷ ones) (other ∷ others) same = step one (filter is_overlay ones) (is_overlay one)
     ∙ (λ i. cond (is_some (same.0.overlay i))
     (overlay_or [] some (same.0.overlay i) ++ layers_same some ones others same.1 i)
-    (layers_same some ones others same.1 i))
-    ∙ sym (step other (filter is_overlay others) (is_overlay other))
+    (layers_same some ones others same.1 i)) ∙ sym (step other (filter is_overlay others) (is_overlay other))
   where
     step : (first : Filesystem ℕ) (rest : List (Filesystem ℕ)) (b : Bool)
         → flat_map (of_overlay [] some) (cond b (first ∷ rest) rest)
@@ -74,8 +69,7 @@ any_same : (test again : Filesystem ℕ → Bool)
 any_same test again alike [] [] same = refl
 any_same test again alike [] (other ∷ others) same = absurd same
 any_same test again alike (one ∷ ones) [] same = absurd same
-any_same test again alike (one ∷ ones) (other ∷ others) same =
-    step test one (filter is_overlay ones) (is_overlay one)
+any_same test again alike (one ∷ ones) (other ∷ others) same = step test one (filter is_overlay ones) (is_overlay one)
     ∙ (λ i. cond (is_some (same.0.overlay i))
     (alike one other same.0 i || any_same test again alike ones others same.1 i)
     (any_same test again alike ones others same.1 i))
@@ -116,22 +110,16 @@ module _ (one other : Filesystem ℕ) (same : SameFilesystem one other) (overlay
   rules_by tree above asked =
       let parents : List ℕ =
       flat_map (λ directory. before_first (λ d. not (lies_only_in_lowers overlay d)) (above directory)
-      ++ option_to_list (find (λ d. not (lies_only_in_lowers overlay d)) (above directory))) asked
-      in
+      ++ option_to_list (find (λ d. not (lies_only_in_lowers overlay d)) (above directory))) asked in
       let copied : List ℕ =
-      filter (lies_only_in_lowers overlay) (object_copied change) ++ filter (lies_only_in_lowers overlay) parents
-      in (
+      filter (lies_only_in_lowers overlay) (object_copied change) ++ filter (lies_only_in_lowers overlay) parents in (
         list_any (λ number. is_kind_in File (tree.node number)
             && not (node_allows overlay.mounter read_right (tree.node number))) copied,
         B1,
-      )
-      ∷ (
-        list_any (λ number. not (node_allows overlay.mounter (write_right + execute_right)
-            (tree.node number))) parents,
+      ) ∷ (
+        list_any (λ number. not (node_allows overlay.mounter (write_right + execute_right) (tree.node number))) parents,
         B1,
-      )
-      ∷ (list_any (λ number. not (can_give_owner overlay.mounter (attr_in (tree.node number)))) copied, B2)
-      ∷ []
+      ) ∷ (list_any (λ number. not (can_give_owner overlay.mounter (attr_in (tree.node number)))) copied, B2) ∷ []
 
   rules_same : overlay_rules nat_eq one change overlay ≡ overlay_rules nat_eq other change overlay
   rules_same = λ i.
@@ -159,8 +147,7 @@ module _ (world : World ℕ) (others : List (Filesystem ℕ)) (same : SameFilesy
   counts_same : (filesystem object : ℕ) (layer : Layer ℕ) (merged again : Filesystem ℕ) → SameFilesystem merged again
       → counts_in_layer nat_eq world filesystem object layer merged
       ≡ counts_in_layer nat_eq other filesystem object layer again
-  counts_same filesystem object layer merged again alike = λ i.
-      overlay_or false (λ overlay.
+  counts_same filesystem object layer merged again alike = λ i. overlay_or false (λ overlay.
       holds_of (λ upper. lies_same upper.filesystem upper.directory layer i) overlay.upper
       && (holds_of (λ upper. nat_eq filesystem upper.filesystem) overlay.upper
       && list_any-IsPermutation (is_real_upper nat_eq overlay object) merged.files.numbers again.files.numbers
@@ -169,8 +156,7 @@ module _ (world : World ℕ) (others : List (Filesystem ℕ)) (same : SameFilesy
   lies_or_counts_same : (filesystem object : ℕ) (layer : Layer ℕ)
       → lies_or_counts_under nat_eq world filesystem object layer
       ≡ lies_or_counts_under nat_eq other filesystem object layer
-  lies_or_counts_same filesystem object layer = λ i.
-      lies_same filesystem object layer i
+  lies_or_counts_same filesystem object layer = λ i. lies_same filesystem object layer i
       || any_same (counts_in_layer nat_eq world filesystem object layer)
       (counts_in_layer nat_eq other filesystem object layer)
       (counts_same filesystem object layer) world.filesystems others same i
@@ -181,27 +167,23 @@ module _ (world : World ℕ) (others : List (Filesystem ℕ)) (same : SameFilesy
   live_upper_and_work_same : live_upper_and_work world ≡ live_upper_and_work other
   live_upper_and_work_same = layers_same upper_and_work world.filesystems others same
 
-  locked_same : (filesystem object : ℕ)
-      → is_locked nat_eq world filesystem object
+  locked_same : (filesystem object : ℕ) → is_locked nat_eq world filesystem object
       ≡ is_locked nat_eq other filesystem object
   locked_same filesystem object = λ i. list_any (λ layer. lies_or_counts_same filesystem object layer i) (live_same i)
 
   overlaps_same : (layers : List (Layer ℕ)) (layer : Layer ℕ)
       → overlaps_one_of nat_eq world layers layer ≡ overlaps_one_of nat_eq other layers layer
-  overlaps_same layers layer =
-      list_any-IsPermutation
+  overlaps_same layers layer = list_any-IsPermutation
       (λ object. lies_or_counts_under nat_eq world layer.filesystem object layer
       && list_any (lies_or_counts_under nat_eq world layer.filesystem object) layers)
       (filesystem_numbered nat_eq world layer.filesystem).files.numbers
       (filesystem_numbered nat_eq other layer.filesystem).files.numbers (found layer.filesystem).files.numbers
-      ∙ (λ i. list_any
-      (λ object. lies_or_counts_same layer.filesystem object layer i
+      ∙ (λ i. list_any (λ object. lies_or_counts_same layer.filesystem object layer i
       && list_any (λ one. lies_or_counts_same layer.filesystem object one i) layers)
       (filesystem_numbered nat_eq other layer.filesystem).files.numbers)
 
   in_use_same : (wanted : Overlay ℕ) → in_use nat_eq world wanted ≡ in_use nat_eq other wanted
-  in_use_same wanted = λ i.
-      list_any (λ layer. overlaps_same (live_same i) layer i) (upper_and_work wanted)
+  in_use_same wanted = λ i. list_any (λ layer. overlaps_same (live_same i) layer i) (upper_and_work wanted)
       || list_any (λ layer. overlaps_same (live_upper_and_work_same i) layer i) wanted.lowers
 
   opened_same : (layer : Layer ℕ) → open_layer nat_eq world layer ≡ open_layer nat_eq other layer
@@ -215,16 +197,14 @@ module _ (world : World ℕ) (others : List (Filesystem ℕ)) (same : SameFilesy
 
   has_lower_same : (directory : Location ℕ) (name : List ℕ)
       → has_lower_directory_at nat_eq world directory name ≡ has_lower_directory_at nat_eq other directory name
-  has_lower_same directory name = λ i.
-      overlay_or false (λ overlay. has_lower_directory
+  has_lower_same directory name = λ i. overlay_or false (λ overlay. has_lower_directory
       (map (λ layer. opened_same layer i) (option_to_list overlay.upper))
       (map (λ layer. opened_same layer i) overlay.lowers) (path_of_name_same directory name i))
       ((here directory).overlay i)
 
   mounter_same : LowerObjectsHaveOneName nat_eq world → (location : Location ℕ) (change : Change ℕ)
       → mounter_rules nat_eq world location change ≡ mounter_rules nat_eq other location change
-  mounter_same alone location change =
-      by (filesystem_at nat_eq world location).overlay refl
+  mounter_same alone location change = by (filesystem_at nat_eq world location).overlay refl
       ∙ ap (overlay_or [] (overlay_rules nat_eq (filesystem_at nat_eq other location) change)) (here location).overlay
     where
       by : (o : Option (Overlay ℕ)) → (filesystem_at nat_eq world location).overlay ≡ o

@@ -1,28 +1,26 @@
 -- Whether what is attached leaves a namespace with too many mounts, in worlds that are the same but for change numbers
 -- and the order of numbers beside trees.
-use Rattle.std.proofs.Common.{◌≡◌, refl, sym, ap, ◌∙◌, ℕ, nat_eq, nat_lt, Bool, true, false, cond, not, ◌&&◌, ◌||◌, List, [], ◌∷◌, ◌++◌, length, map, filter, flat_map, Option, Some, None, is_some}
-use Rattle.std.specs.List.{list_any, sum}
-use Rattle.std.proofs.lemmas.List.Sorted.{IsPermutation-refl}
+use Rattle.std.proofs.Common.{arith, ◌≡◌, refl, sym, ap, ◌∙◌, ℕ, nat_eq, nat_lt, Bool, true, false, not, ◌&&◌, ◌||◌, List, [], ◌∷◌, ◌++◌, length, map, filter, flat_map, Option, Some, None, is_some}
+use Rattle.std.proofs.lemmas.Grind.{common_steps}
+use Rattle.std.specs.List.{list_any}
 use Rattle.vt_laws_rules.proofs.same.SameFiles.{as_many, directory_under_same}
 use Rattle.vt_laws_rules.proofs.same.SameJudged.{same_worlds_are_judged_alike}
 use Rattle.vt_laws_rules.proofs.same.SameLooks.{found_same}
 use Rattle.vt_laws_rules.specs.Same.{SameWorldsJudgeAlike}
 use Rattle.vt_spec.specs.Machine.Apply.{overfills}
-use Rattle.vt_spec.specs.Machine.Attach.{Copies, Graft, Twig, added_mounts, attach, attached_at, bindable_children, bindable_tree, bound, bound_at, copies_at, copies_from, copy_at, copy_mount_point, copy_number, copy_type, graft_of, has_too_many, is_destination, parts_of, pushed_onto, receiver_stood_on, receivers_of, stands_under, takes_part, top_of_copies, with_moved_mounts}
+use Rattle.vt_spec.specs.Machine.Attach.{Copies, Graft, Twig, attach, attached_at, bindable_children, bindable_tree, bound, bound_at, copies_at, copies_from, copy_at, copy_type, graft_of, has_too_many, parts_of, pushed_onto, receivers_of, stands_under, takes_part, top_of_copies}
 use Rattle.vt_spec.specs.Language.Limits.{most_mounts}
 use Rattle.vt_spec.specs.Language.Calls.{Call, MountFlags}
-use Rattle.vt_spec.specs.Language.Calls.Call.{Bind, MountOverlay, MountPlain, MoveMount}
+use Rattle.vt_spec.specs.Language.Calls.Call.{Bind, MountOverlay, MountPlain}
 use Rattle.vt_spec.specs.Machine.Judge.{bind_permit, judge, mount_overlay_permit, mount_plain_permit, move_permit}
-use Rattle.vt_spec.specs.Lists.{Fresh, evens, holds_of, odds, rest_of}
+use Rattle.vt_spec.specs.Lists.{Fresh, evens, holds_of, odds}
 use Rattle.vt_spec.specs.Machine.Looks.{Looks, looks_of}
-use Rattle.vt_spec.specs.Machine.Merging.{merged_inodes, merged_objects}
 use Rattle.vt_spec.specs.Machine.Mounts.{Location, Mount, Propagation, mount_tree}
-use Rattle.vt_spec.specs.Machine.Mounts.Propagation.{Private, Shared, Slave, Unbindable}
-use Rattle.vt_spec.specs.Machine.NewMounts.{mounted, new_mount, overlay_filesystem, overlay_of_inodes, plain_filesystem, with_new_filesystem}
+use Rattle.vt_spec.specs.Machine.NewMounts.{mounted, new_mount, overlay_filesystem, plain_filesystem, with_new_filesystem}
 use Rattle.vt_spec.specs.Machine.Permits.{Permit}
 use Rattle.vt_spec.specs.Machine.Permits.Permit.{ToBind, ToMountOverlay, ToMountPlain, ToMove}
 use Rattle.vt_spec.specs.Machine.SameWorlds.{SameFilesystem, SameFilesystems}
-use Rattle.vt_spec.specs.Machine.World.{Filesystem, Layer, Namespace, Overlay, Task, World, filesystem_numbered, mount_at, mount_numbered, open_layer, shown_layers}
+use Rattle.vt_spec.specs.Machine.World.{Filesystem, Layer, Namespace, Overlay, Task, World, filesystem_numbered, mount_at, mount_numbered, open_layer}
 
 -- the permits that attach mounts: those for which M9 is judged, and which raise no filesystem's change number
 abbrev pub attaches : Permit ℕ → Bool
@@ -36,12 +34,7 @@ attaches permit = false
 only_attaches : (looks : Looks ℕ) (many : Permit ℕ → Bool) (task : Task ℕ) (call : Call)
     → judge nat_eq looks many task call ≡ judge nat_eq looks (λ permit. attaches permit && many permit) task call
 unfolding mount_plain_permit mount_overlay_permit bind_permit move_permit
-only_attaches looks many task (MountPlain path flags) = refl
-only_attaches looks many task (MountOverlay path None flags) = refl
-only_attaches looks many task (MountOverlay path (Some words) flags) = refl
-only_attaches looks many task (Bind source path recursive) = refl
-only_attaches looks many task (MoveMount source path) = refl
-only_attaches looks many task call = refl
+only_attaches looks many task call = grind (arith, common_steps, many)
 
 any_bare : (test : ℕ → Bool) (namespaces : List (Namespace ℕ))
     → list_any (λ (namespace : Namespace ℕ). test namespace.number)
@@ -52,11 +45,7 @@ any_bare test (namespace ∷ rest) = ap (λ b. test namespace.number || b) (any_
 
 -- a filesystem is the same as itself
 pub same_filesystem_itself : (filesystem : Filesystem ℕ) → SameFilesystem filesystem filesystem
-same_filesystem_itself filesystem = record {
-  number = refl;
-  files = record { tree = refl; numbers = IsPermutation-refl filesystem.files.numbers };
-  overlay = refl;
-}
+same_filesystem_itself filesystem = grind (arith, common_steps)
 
 more_same : (ones others : List (Filesystem ℕ)) (new : Filesystem ℕ) → SameFilesystems ones others
     → SameFilesystems (ones ++ (new ∷ [])) (others ++ (new ∷ []))
@@ -86,40 +75,26 @@ module _ (world : World ℕ) (others : List (Filesystem ℕ)) (namespaces : List
       → SameFilesystem (filesystem_numbered nat_eq world number) (filesystem_numbered nat_eq other number)
   found number = found_same number world.filesystems others same
 
-  takes_same : (place : Location ℕ) (mount : Mount ℕ)
-      → takes_part nat_eq world place mount
+  takes_same : (place : Location ℕ) (mount : Mount ℕ) → takes_part nat_eq world place mount
       ≡ takes_part nat_eq other place mount
-  takes_same place mount =
-      ap (λ b. not (nat_eq place.mount mount.number) && is_some mount.namespace
+  takes_same place mount = ap (λ b. not (nat_eq place.mount mount.number) && is_some mount.namespace
       && nat_eq (mount_at nat_eq world place).filesystem mount.filesystem && b)
       (directory_under_same _ _ (found mount.filesystem).files mount.root place.node)
 
   parts_same : (place : Location ℕ) → parts_of nat_eq world place ≡ parts_of nat_eq other place
-  parts_same place = λ i.
-      mount_at nat_eq world place
+  parts_same place = λ i. mount_at nat_eq world place
       ∷ filter (λ mount. takes_same place mount i) (receivers_of nat_eq world (mount_at nat_eq world place))
 
   type_same : (new : Copies ℕ) (parts : List (Mount ℕ)) (destination : Mount ℕ) (twig : Twig ℕ) (kind : Propagation ℕ)
       → copy_type nat_eq world new parts destination twig kind ≡ copy_type nat_eq other new parts destination twig kind
-  type_same new parts destination twig (Shared group) = refl
-  type_same new parts destination twig (Slave master) = refl
-  type_same new parts destination twig Private = refl
-  type_same new parts destination twig Unbindable = refl
+  type_same new parts destination twig kind = cc
 
   module _ (new : Copies ℕ) (graft : Graft ℕ) (parts : List (Mount ℕ)) where
     copy_same : (part : Mount ℕ) (twig : Twig ℕ)
         → copy_at nat_eq world new graft parts part twig ≡ copy_at nat_eq other new graft parts part twig
-    copy_same part twig = λ i. record twig.origin {
-      number = copy_number nat_eq new graft part.number twig.origin.number;
-      namespace = part.namespace;
-      mount_point = Some (copy_mount_point nat_eq new graft part.number twig.origin);
-      propagation =
-          cond (is_destination nat_eq graft part.number) twig.propagation
-          (type_same new parts (mount_at nat_eq world graft.destination) twig part.propagation i);
-    }
+    copy_same part twig = cc
 
-    copies_same : (part : Mount ℕ)
-        → copies_at nat_eq world new graft parts part
+    copies_same : (part : Mount ℕ) → copies_at nat_eq world new graft parts part
         ≡ copies_at nat_eq other new graft parts part
     copies_same part = λ i. map (λ twig. copy_same part twig i) graft.twigs
 
@@ -130,17 +105,11 @@ module _ (world : World ℕ) (others : List (Filesystem ℕ)) (namespaces : List
         record mount { mount_point = Some (top_of_copies nat_eq (copies_same part i) graft.destination) }
 
     mounts_same : (attached_at nat_eq world new graft parts).mounts ≡ (attached_at nat_eq other new graft parts).mounts
-    mounts_same = λ i.
-        map (λ mount. pushed_same mount (receiver_stood_on nat_eq graft parts mount) i)
-        (with_moved_mounts nat_eq graft.moves world.mounts (copies_same (mount_at nat_eq world graft.destination) i))
-        ++ added_mounts graft.moves (copies_same (mount_at nat_eq world graft.destination) i)
-        ++ flat_map (λ part. copies_same part i) (rest_of parts)
+    mounts_same = cc
 
     many_there : has_too_many nat_eq (attached_at nat_eq world new graft parts)
         ≡ has_too_many nat_eq (attached_at nat_eq other new graft parts)
-    many_there =
-        any (λ number. nat_lt most_mounts
-        (length (filter (λ mount. holds_of (nat_eq number) mount.namespace)
+    many_there = any (λ number. nat_lt most_mounts (length (filter (λ mount. holds_of (nat_eq number) mount.namespace)
         (attached_at nat_eq world new graft parts).mounts)))
         ∙ (λ i. list_any (λ (namespace : Namespace ℕ). nat_lt most_mounts
         (length (filter (λ mount. holds_of (nat_eq namespace.number) mount.namespace) (mounts_same i)))) namespaces)
@@ -148,16 +117,14 @@ module _ (world : World ℕ) (others : List (Filesystem ℕ)) (namespaces : List
   attach_same : (fresh : Fresh ℕ) (place : Location ℕ) (moves : Bool) (mounts : List (Mount ℕ))
       → has_too_many nat_eq (attach nat_eq world fresh place moves mounts)
       ≡ has_too_many nat_eq (attach nat_eq other fresh place moves mounts)
-  attach_same fresh place moves mounts =
-      many_there (copies_from nat_eq fresh (parts_of nat_eq world place) mounts)
+  attach_same fresh place moves mounts = many_there (copies_from nat_eq fresh (parts_of nat_eq world place) mounts)
       (graft_of nat_eq world (copies_from nat_eq fresh (parts_of nat_eq world place) mounts) place moves mounts)
       (parts_of nat_eq world place)
       ∙ (λ i. has_too_many nat_eq (attached_at nat_eq other (copies_from nat_eq fresh (parts_same place i) mounts)
       (graft_of nat_eq world (copies_from nat_eq fresh (parts_same place i) mounts) place moves mounts)
       (parts_same place i)))
 
-  under : (source : Location ℕ) (mount : Mount ℕ)
-      → stands_under nat_eq world source mount
+  under : (source : Location ℕ) (mount : Mount ℕ) → stands_under nat_eq world source mount
       ≡ stands_under nat_eq other source mount
   under source mount = λ i.
       holds_of (λ (place : Location ℕ). directory_under_same _ _ (found (mount_at nat_eq world source).filesystem).files
@@ -169,8 +136,7 @@ module _ (world : World ℕ) (others : List (Filesystem ℕ)) (namespaces : List
   bound_same fresh source place false = attach_same fresh place false (bound nat_eq world source ∷ [])
   bound_same fresh source place true =
       attach_same fresh place false (Rattle.vt_spec.specs.Machine.Attach.bind_tree nat_eq world source true)
-      ∙ (λ i. has_too_many nat_eq (attach nat_eq other fresh place false
-      (bound nat_eq world source
+      ∙ (λ i. has_too_many nat_eq (attach nat_eq other fresh place false (bound nat_eq world source
       ∷ flat_map (bindable_tree nat_eq (length world.mounts) world.mounts)
       (filter (λ mount. under source mount i) (bindable_children nat_eq world.mounts source.mount)))))
 
@@ -179,12 +145,7 @@ module _ (world : World ℕ) (others : List (Filesystem ℕ)) (namespaces : List
 
   overlay_same : (fresh : Fresh ℕ) (overlay : Overlay ℕ)
       → overlay_filesystem nat_eq fresh world overlay ≡ overlay_filesystem nat_eq fresh other overlay
-  overlay_same fresh overlay = λ i.
-      overlay_of_inodes nat_eq (evens fresh 0) (odds fresh 0) overlay
-      (merged_inodes nat_eq (odds fresh) (is_some overlay.upper)
-      (map (λ layer. opened_same layer i) (shown_layers overlay))
-      (merged_objects (map (λ layer. opened_same layer i) (shown_layers overlay))
-      (sum (counts_same world.filesystems others same i))))
+  overlay_same fresh overlay = grind (arith, common_steps, opened_same, counts_same)
 
 module _ (world : World ℕ) (others : List (Filesystem ℕ)) (namespaces : List (Namespace ℕ)) (tasks : List (Task ℕ))
     (change : ℕ) (same : SameFilesystems world.filesystems others)
@@ -212,8 +173,7 @@ module _ (world : World ℕ) (others : List (Filesystem ℕ)) (namespaces : List
       (overlay_same world others namespaces tasks change same any (evens fresh) overlay i) flags))
   many_same fresh task (ToBind source place recursive) =
       bound_same world others namespaces tasks change same any fresh source place recursive
-  many_same fresh task (ToMove mount place) =
-      attach_same world others namespaces tasks change same any fresh place true
+  many_same fresh task (ToMove mount place) = attach_same world others namespaces tasks change same any fresh place true
       (mount_tree nat_eq world.mounts (mount_numbered nat_eq world mount))
   many_same fresh task permit = refl
 
@@ -222,20 +182,16 @@ same_worlds_judge_alike one other same alone fresh task call =
     only_attaches (looks_of nat_eq one) (overfills nat_eq fresh one task) task call
     ∙ (λ i. judge nat_eq (looks_of nat_eq one) (λ permit. many permit i) task call)
     ∙ same_worlds_are_judged_alike one other same alone
-    (λ permit. attaches permit && overfills nat_eq fresh other task permit)
-    task call
+    (λ permit. attaches permit && overfills nat_eq fresh other task permit) task call
     ∙ sym (only_attaches (looks_of nat_eq other) (overfills nat_eq fresh other task) task call)
   where
-    any : (test : ℕ → Bool)
-        → list_any (λ (namespace : Namespace ℕ). test namespace.number) one.namespaces
+    any : (test : ℕ → Bool) → list_any (λ (namespace : Namespace ℕ). test namespace.number) one.namespaces
         ≡ list_any (λ (namespace : Namespace ℕ). test namespace.number) other.namespaces
-    any test =
-        sym (any_bare test one.namespaces)
+    any test = sym (any_bare test one.namespaces)
         ∙ ap (list_any (λ (namespace : Namespace ℕ). test namespace.number)) same.namespaces
         ∙ any_bare test other.namespaces
 
-    many : (permit : Permit ℕ)
-        → (attaches permit && overfills nat_eq fresh one task permit)
+    many : (permit : Permit ℕ) → (attaches permit && overfills nat_eq fresh one task permit)
         ≡ (attaches permit && overfills nat_eq fresh other task permit)
     many permit =
         many_same one other.filesystems other.namespaces other.tasks other.change same.filesystems any fresh task permit

@@ -27,16 +27,13 @@ use Rattle.vt_spec.specs.TreeInvariant.{IsReached, IsTree, entry_at, led}
 -- an overlay that is found is a filesystem of the world, so its tree is one
 tree_found : (number : ℕ) (list : List (Filesystem ℕ)) → All (λ filesystem. IsTree filesystem.files.tree) list
     → is_overlay (unwrap_or (find (λ filesystem. nat_eq number filesystem.number) list) (no_filesystem number)) ≡ true
-    → IsTree (unwrap_or (find (λ filesystem. nat_eq number filesystem.number) list)
-    (no_filesystem number)).files.tree
+    → IsTree (unwrap_or (find (λ filesystem. nat_eq number filesystem.number) list) (no_filesystem number)).files.tree
 tree_found number [] all is = absurd (true≢false (sym is))
-tree_found number (filesystem ∷ list) all is =
-    by (nat_eq number filesystem.number) is
+tree_found number (filesystem ∷ list) all is = by (nat_eq number filesystem.number) is
     (tree_found number list (All-tail (λ filesystem. IsTree filesystem.files.tree) filesystem list all))
   where
     first_or : Bool → Filesystem ℕ
-    first_or b =
-        unwrap_or (cond b (Some filesystem) (find (λ filesystem. nat_eq number filesystem.number) list))
+    first_or b = unwrap_or (cond b (Some filesystem) (find (λ filesystem. nat_eq number filesystem.number) list))
         (no_filesystem number)
 
     by : (b : Bool) → is_overlay (first_or b) ≡ true
@@ -55,11 +52,8 @@ not_out_of_reach tree conditions directory name object e out =
 
 -- where one name more leads, the names before it are told by all of them
 names_before : (one other : List (List ℕ)) (a b : List ℕ) → (one ++ a ∷ []) ≡ (other ++ b ∷ []) → one ≡ other
-names_before one other a b e =
-    sym (reverse-reverse one)
-    ∙ ap reverse (cons-rest a b (reverse one) (reverse other)
-    (sym (reverse-append one (a ∷ [])) ∙ ap reverse e ∙ reverse-append other (b ∷ [])))
-    ∙ reverse-reverse other
+names_before one other a b e = sym (reverse-reverse one) ∙ ap reverse (cons-rest a b (reverse one) (reverse other)
+    (sym (reverse-append one (a ∷ [])) ∙ ap reverse e ∙ reverse-append other (b ∷ []))) ∙ reverse-reverse other
 
 -- the path of a real object that lies below
 abbrev path_or : List (List ℕ) → Option (Real ℕ) → List (List ℕ)
@@ -76,8 +70,7 @@ path_shown world overlay path default =
     by (is_some overlay.upper) (shown (map (open_layer nat_eq world) (shown_layers overlay)) path)
   where
     real_by : Bool → Option (Shown ℕ) → Option (Real ℕ)
-    real_by writable o =
-        option_map (λ object. real_object writable object.seen.layer object)
+    real_by writable o = option_map (λ object. real_object writable object.seen.layer object)
         (option_map (λ seen. record { path = path; seen = seen }) o)
 
     at : (writable : Bool) (layer object : ℕ)
@@ -103,8 +96,7 @@ module _ (world : World ℕ) (filesystem : Filesystem ℕ) (overlay : Overlay �
     where
       by : (o : Option (Real ℕ)) → overlay.real object ≡ o → is_some o ≡ true
       by (Some real) e = refl
-      by None e =
-          absurd (nothing_is_no_object (tree.node object) there
+      by None e = absurd (nothing_is_no_object (tree.node object) there
           (subst (λ o. SameObject (tree.node object) (then_some o (real_node nat_eq world overlay))) e
           (merged.real_objects object)))
 
@@ -114,9 +106,7 @@ module _ (world : World ℕ) (filesystem : Filesystem ℕ) (overlay : Overlay �
       → path_or [] (overlay.real object) ≡ path
   path_of_names object path below there leads =
       let same = merged.names path object leads in
-      ap (path_or []) same
-      ∙ path_shown world overlay path []
-      (sym (ap is_some same) ∙ real_there object there)
+      ap (path_or []) same ∙ path_shown world overlay path [] (sym (ap is_some same) ∙ real_there object there)
       (sym (ap (λ o. is_some (upper_object o)) same) ∙ not-true (is_some (upper_object (overlay.real object))) below)
 
   one_directory : (object one other : ℕ) → lies_only_in_lowers overlay object ≡ true
@@ -132,11 +122,9 @@ module _ (world : World ℕ) (filesystem : Filesystem ℕ) (overlay : Overlay �
           → IsReached tree other → one ≡ other
       reached_alike name again e f there way path =
           let first = path_of_names object (way.0 ++ name ∷ []) below there
-          (led-append tree tree.root way.0 name one object way.1 e)
-          in
+          (led-append tree tree.root way.0 name one object way.1 e) in
           let second = path_of_names object (path.0 ++ again ∷ []) below there
-          (led-append tree tree.root path.0 again other object path.1 f)
-          in
+          (led-append tree tree.root path.0 again other object path.1 f) in
           let same = names_before way.0 path.0 name again (sym first ∙ second) in
           ap unwrap_or_zero (sym way.1 ∙ ap (led tree tree.root) same ∙ path.1)
         where
@@ -146,8 +134,7 @@ module _ (world : World ℕ) (filesystem : Filesystem ℕ) (overlay : Overlay �
       by : (name again : List ℕ) → entry_at tree one name ≡ Some object → entry_at tree other again ≡ Some object
           → is_some (tree.node object) ≡ true → (b : Bool) → nat_eq one other ≡ b → one ≡ other
       by name again e f there true same = eqb-true one other same
-      by name again e f there false differ =
-          absurd (not_out_of_reach tree conditions one name object e (λ way.
+      by name again e f there false differ = absurd (not_out_of_reach tree conditions one name object e (λ way.
           not_out_of_reach tree conditions other again object f (λ path.
           true≢false (sym (eq-eqb one other (reached_alike name again e f there way path)) ∙ differ))))
 

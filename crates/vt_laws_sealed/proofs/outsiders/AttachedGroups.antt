@@ -35,10 +35,8 @@ masters_from : (group : ℕ) (made : List (ℕ × Option ℕ)) (master : ℕ →
     → (folded (masters_with nat_eq) master made group ≡ master group)
     ⊎ ((entry : ℕ × Option ℕ) × Among entry made × (folded (masters_with nat_eq) master made group ≡ entry.1))
 masters_from group [] master = inl refl
-masters_from group (entry ∷ rest) master =
-    ⊎_elim (λ same. by (nat_eq group entry.0) refl same)
-    (λ set. inr (set.0, inr set.1, set.2))
-    (masters_from group rest (masters_with nat_eq master entry))
+masters_from group (entry ∷ rest) master = ⊎_elim (λ same. by (nat_eq group entry.0) refl same)
+    (λ set. inr (set.0, inr set.1, set.2)) (masters_from group rest (masters_with nat_eq master entry))
   where
     by : (b : Bool) → nat_eq group entry.0 ≡ b
         → folded (masters_with nat_eq) (masters_with nat_eq master entry) rest group
@@ -88,20 +86,16 @@ module _ (world : World ℕ) (names : List TaskName) (apart : IsApart world name
 
   -- numbers of new groups are new
   new_image : (group origin : ℕ) → (k : ℕ) × (new.image group origin ≡ fresh k)
-  new_image group origin =
-      supplied (2 * index_in_rows (length mounts) (index_of_group nat_eq parts group)
+  new_image group origin = supplied (2 * index_in_rows (length mounts) (index_of_group nat_eq parts group)
       (index_of nat_eq mounts origin) + 1)
 
   -- an origin hears groups of others alone
   origin_hears : (origin : Mount ℕ) → Among origin mounts → (kind : Propagation ℕ) → origin.propagation ≡ kind
       → (group : ℕ) → HearsGroup world names so_far world kind group → IsForeign group
-  origin_hears origin m kind e group how =
-      ⊎_elim
-      (λ other. other_hears_foreign world names so_far other.0 other.1 group
+  origin_hears origin m kind e group how = ⊎_elim (λ other. other_hears_foreign world names so_far other.0 other.1 group
       (subst (λ k. HearsGroup world names so_far world k group) (sym e ∙ other.2) how))
       (λ private. ⊎_elim (λ f. none_is_some group f) (λ f. none_is_some group f)
-      (subst (λ k. HearsGroup world names so_far world k group) (sym e ∙ private.0) how))
-      (origins origin m)
+      (subst (λ k. HearsGroup world names so_far world k group) (sym e ∙ private.0) how)) (origins origin m)
 
   -- A copy is of a mount that is attached, at a part.
   abbrev pub copied_to : Mount ℕ → Mount ℕ → Mount ℕ
@@ -138,17 +132,14 @@ module _ (world : World ℕ) (names : List TaskName) (apart : IsApart world name
       → nearest_image nat_eq base new parts destination (twig_of new (group_of destination.propagation) origin) above
       ≡ Some group → IsForeign group
   nearest_foreign origin m None group e = none_is_some group e
-  nearest_foreign origin m (Some above) group e =
-      by (find (has_members nat_eq parts) (groups_up world above)) e
+  nearest_foreign origin m (Some above) group e = by (find (has_members nat_eq parts) (groups_up world above)) e
     where
       by : (o : Option ℕ) → option_map (image nat_eq new destination
           (twig_of new (group_of destination.propagation) origin)) o ≡ Some group → IsForeign group
       by None f = none_is_some group f
-      by (Some found) f =
-          subst IsForeign
+      by (Some found) f = subst IsForeign
           (same_Some (image nat_eq new destination (twig_of new (group_of destination.propagation) origin) found) group
-          f)
-          (image_foreign found origin m)
+          f) (image_foreign found origin m)
 
   -- a master of an origin
   after_foreign : (origin : Mount ℕ) → Among origin mounts → (group : ℕ)
@@ -189,8 +180,7 @@ module _ (world : World ℕ) (names : List TaskName) (apart : IsApart world name
 
       by : (kind : Propagation ℕ) → origin.propagation ≡ kind → (o : Option ℕ)
           → twig_master (twig_of new o origin) ≡ Some entry → IsMade entry
-      by kind f o h =
-          at kind f o
+      by kind f o h = at kind f o
           (subst (λ x. cond (is_shared x) None (option_map (λ group. (group, master_after origin.propagation))
           (group_of (type_at new o (record origin { propagation = x })))) ≡ Some entry) f h)
 
@@ -203,17 +193,15 @@ module _ (world : World ℕ) (names : List TaskName) (apart : IsApart world name
   made_elsewhere origin m group entry e = by (is_member_of nat_eq group destination) refl e
     where
       above : Option ℕ
-      above =
-          nearest_image nat_eq base new parts destination (twig_of new (group_of destination.propagation) origin)
+      above = nearest_image nat_eq base new parts destination (twig_of new (group_of destination.propagation) origin)
           (world.master group)
 
-      by : (b : Bool) → is_member_of nat_eq group destination ≡ b
-          → when (not b) (
-            cond b (unwrap_or (group_of (type_at new (group_of destination.propagation) origin))
-                (new.image group origin.number)) (new.image group origin.number),
-            nearest_image nat_eq base new parts destination (twig_of new (group_of destination.propagation) origin)
-                (world.master group),
-          ) ≡ Some entry → IsMade entry
+      by : (b : Bool) → is_member_of nat_eq group destination ≡ b → when (not b) (
+        cond b (unwrap_or (group_of (type_at new (group_of destination.propagation) origin))
+            (new.image group origin.number)) (new.image group origin.number),
+        nearest_image nat_eq base new parts destination (twig_of new (group_of destination.propagation) origin)
+            (world.master group),
+      ) ≡ Some entry → IsMade entry
       by true f h = none_is_some entry h
       by false f h =
           let it = same_Some (
@@ -275,8 +263,7 @@ module _ (world : World ℕ) (names : List TaskName) (apart : IsApart world name
           by (Some x) f = ap Some (sym (eqb-true group x f))
 
   foreign_master : (group above : ℕ) → IsForeign group → left.master group ≡ Some above → IsForeign above
-  foreign_master group above foreign e =
-      ⊎_elim
+  foreign_master group above foreign e = ⊎_elim
       (λ same. foreign_above world names so_far group above foreign (sym same ∙ e))
       (λ set. (made_foreign set.0 set.1).1 above (sym set.2 ∙ e))
       (masters_from group (all_groups_made nat_eq base new tree parts) world.master)
@@ -289,41 +276,34 @@ module _ (world : World ℕ) (names : List TaskName) (apart : IsApart world name
       ⊎_elim (of_group group) (λ e. foreign_master g group (of_group g refl) e) how
   heard_foreign (Slave g) of_group of_slave group how =
       ⊎_elim (λ e. none_is_some group e) (λ e. subst IsForeign (same_Some g group e) (of_slave g refl)) how
-  heard_foreign Private of_group of_slave group how =
-      ⊎_elim (λ e. none_is_some group e) (λ e. none_is_some group e) how
+  heard_foreign Private of_group of_slave group how = ⊎_elim (λ e. none_is_some group e) (λ e. none_is_some group e) how
   heard_foreign Unbindable of_group of_slave group how =
       ⊎_elim (λ e. none_is_some group e) (λ e. none_is_some group e) how
 
   -- the type of a mount of others, as it was
   pub old_foreign : (other : Mount ℕ) → Among other (other_mounts nat_eq world names) → (group : ℕ)
       → HearsGroup world names so_far left other.propagation group → IsForeign group
-  old_foreign other m =
-      heard_foreign other.propagation
+  old_foreign other m = heard_foreign other.propagation
       (λ group e. other_hears_foreign world names so_far other m group (inl e))
       (λ group e. other_hears_foreign world names so_far other m group (inr (ap (master_of world) e)))
 
   -- the type of a copy
-  twig_foreign : (origin : Mount ℕ) → Among origin mounts → (group : ℕ)
-      → HearsGroup world names so_far left
+  twig_foreign : (origin : Mount ℕ) → Among origin mounts → (group : ℕ) → HearsGroup world names so_far left
       (type_at new (group_of destination.propagation) origin) group → IsForeign group
   twig_foreign origin m = by (group_of destination.propagation) origin.propagation refl
     where
       old : (group : ℕ) → HearsGroup world names so_far left origin.propagation group → IsForeign group
-      old =
-          heard_foreign origin.propagation
-          (λ group e. origin_hears origin m origin.propagation refl group (inl e))
+      old = heard_foreign origin.propagation (λ group e. origin_hears origin m origin.propagation refl group (inl e))
           (λ group e. origin_hears origin m origin.propagation refl group (inr (ap (master_of world) e)))
 
       shared : (number : ℕ) → (k : ℕ) × (number ≡ fresh k) → (group : ℕ)
           → HearsGroup world names so_far left (Shared number) group → IsForeign group
-      shared number new_one =
-          heard_foreign (Shared number)
+      shared number new_one = heard_foreign (Shared number)
           (λ group e. inr (new_one.0, sym (same_Some number group e) ∙ new_one.1))
           (λ group e. none_is_some number (sym (ap group_of e)))
 
       on : (g : ℕ) (kind : Propagation ℕ) → origin.propagation ≡ kind → (group : ℕ)
-          → HearsGroup world names so_far left (type_on_shared (new.image g origin.number) kind) group
-          → IsForeign group
+          → HearsGroup world names so_far left (type_on_shared (new.image g origin.number) kind) group → IsForeign group
       on g (Shared h) e group how =
           old group (subst (λ kind. HearsGroup world names so_far left kind group) (sym e) how)
       on g (Slave h) e group how = shared (new.image g origin.number) (new_image g origin.number) group how
@@ -333,24 +313,18 @@ module _ (world : World ℕ) (names : List TaskName) (apart : IsApart world name
       by : (o : Option ℕ) (kind : Propagation ℕ) → origin.propagation ≡ kind → (group : ℕ)
           → HearsGroup world names so_far left (type_at new o origin) group → IsForeign group
       by None kind e group how = old group how
-      by (Some g) kind e group how =
-          on g kind e group
-          (subst (λ x. HearsGroup world names so_far left
-          (type_on_shared (new.image g origin.number) x) group)
-          e how)
+      by (Some g) kind e group how = on g kind e group (subst (λ x. HearsGroup world names so_far left
+          (type_on_shared (new.image g origin.number) x) group) e how)
 
   pub copy_foreign : (mount : Mount ℕ) → IsCopyOf mount → (group : ℕ)
       → HearsGroup world names so_far left mount.propagation group → IsForeign group
-  copy_foreign mount copy group how =
-      by (is_destination nat_eq tree copy.0.number)
+  copy_foreign mount copy group how = by (is_destination nat_eq tree copy.0.number)
       (subst (λ (m : Mount ℕ). HearsGroup world names so_far left m.propagation group) copy.4 how)
     where
       elsewhere : (kind : Propagation ℕ) → HearsGroup world names so_far left
           (copy_type nat_eq base new parts destination (twig_of new (group_of destination.propagation) copy.2) kind)
-          group
-          → IsForeign group
-      elsewhere (Shared g) h =
-          heard_foreign (Shared (image nat_eq new destination
+          group → IsForeign group
+      elsewhere (Shared g) h = heard_foreign (Shared (image nat_eq new destination
           (twig_of new (group_of destination.propagation) copy.2) g))
           (λ x e. subst IsForeign (same_Some (image nat_eq new destination
           (twig_of new (group_of destination.propagation) copy.2) g) x e) (image_foreign g copy.2 copy.3))
@@ -364,8 +338,7 @@ module _ (world : World ℕ) (names : List TaskName) (apart : IsApart world name
               (twig_of new (group_of destination.propagation) copy.2) (Some g) ≡ o
               → HearsGroup world names so_far left (slave_of_heir o) group → IsForeign group
           heir None e k = ⊎_elim (λ f. none_is_some group f) (λ f. none_is_some group f) k
-          heir (Some x) e k =
-              ⊎_elim (λ f. none_is_some group f)
+          heir (Some x) e k = ⊎_elim (λ f. none_is_some group f)
               (λ f. subst IsForeign (same_Some x group f) (nearest_foreign copy.2 copy.3 (Some g) x e)) k
       elsewhere Private h = ⊎_elim (λ f. none_is_some group f) (λ f. none_is_some group f) h
       elsewhere Unbindable h = ⊎_elim (λ f. none_is_some group f) (λ f. none_is_some group f) h

@@ -56,15 +56,12 @@ found_first number (x ∷ xs) ys mount m e =
         → unwrap_or (cond b (Some x) (find (λ (y : Mount ℕ). nat_eq number y.number) (xs ++ ys))) (no_mount number)
         ≡ unwrap_or (cond b (Some x) (find (λ (y : Mount ℕ). nat_eq number y.number) xs)) (no_mount number)
     by true f next = refl
-    by false f next =
-        ⊎_elim
-        (λ here. absurd (true≢false (sym e ∙ ap (λ (y : Mount ℕ). nat_eq number y.number) here ∙ f)))
-        next m
+    by false f next = ⊎_elim
+        (λ here. absurd (true≢false (sym e ∙ ap (λ (y : Mount ℕ). nat_eq number y.number) here ∙ f))) next m
 
 module _ (world : World ℕ) (names : List TaskName) (apart : IsApart world names) (fresh : Fresh ℕ)
     (serves : Serves nat_eq world fresh) (filesystems : List (Filesystem ℕ))
-    (sees_base : SeesTheSame world (record world { filesystems = filesystems }) names)
-    (more : List (Filesystem ℕ))
+    (sees_base : SeesTheSame world (record world { filesystems = filesystems }) names) (more : List (Filesystem ℕ))
     (grown : overlays (record world { filesystems = filesystems }) ≡ overlays world ++ more)
     (none_there : (merged : Filesystem ℕ) → Among merged more → (number : ℕ)
     → no_outsider_on nat_eq world names number ≡ true → has_layer_on nat_eq number merged ≡ false)
@@ -112,8 +109,7 @@ module _ (world : World ℕ) (names : List TaskName) (apart : IsApart world name
 
   -- Each part is a mount of others.
   destination_there : Among destination world.mounts
-  destination_there =
-      ⊎_elim (λ m. m)
+  destination_there = ⊎_elim (λ m. m)
       (λ none. none_is_some namespace (sym (ap (λ (m : Mount ℕ). m.namespace) none) ∙ placed))
       (found_or_none world.mounts place.mount)
 
@@ -147,8 +143,7 @@ module _ (world : World ℕ) (names : List TaskName) (apart : IsApart world name
             where
               which : (b : Bool) → is_own_namespace nat_eq world names n ≡ b
                   → Among part (other_mounts nat_eq world names)
-              which true own =
-                  absurd (true≢false (sym hears
+              which true own = absurd (true≢false (sym hears
                   ∙ no_event_of_others_reaches_them world names part destination group
                   (record { mounts = apart.is.mounts; apart = apart.events })
                   (contains_from_among (own_mounts nat_eq world names) part
@@ -158,15 +153,13 @@ module _ (world : World ℕ) (names : List TaskName) (apart : IsApart world name
               which false other = is_other world names n other part there f
 
   part_other : (part : Mount ℕ) → Among part parts → Among part (other_mounts nat_eq world names)
-  part_other part m =
-      ⊎_elim (λ e. subst (λ x. Among x (other_mounts nat_eq world names)) (sym e) destination_other)
+  part_other part m = ⊎_elim (λ e. subst (λ x. Among x (other_mounts nat_eq world names)) (sym e) destination_other)
       (receiver_other part) m
 
   -- so it is in a namespace of others
   other_placed : (mount : Mount ℕ) → Among mount (other_mounts nat_eq world names)
       → (n : ℕ) × (mount.namespace ≡ Some n) × (is_own_namespace nat_eq world names n ≡ false)
-  other_placed mount m =
-      by mount.namespace refl
+  other_placed mount m = by mount.namespace refl
       (among-from_filter (λ (x : Mount ℕ). holds_of (λ n. not (is_own_namespace nat_eq world names n)) x.namespace)
       world.mounts mount m).1
     where
@@ -196,8 +189,7 @@ module _ (world : World ℕ) (names : List TaskName) (apart : IsApart world name
 
   -- What is added: copies with new numbers, in namespaces of others, so the part has nothing of them.
   abbrev all_copies : List (Mount ℕ)
-  all_copies =
-      added_mounts moves (copies_at nat_eq base new tree parts destination)
+  all_copies = added_mounts moves (copies_at nat_eq base new tree parts destination)
       ++ flat_map (copies_at nat_eq base new tree parts) (rest_of parts)
 
   abbrev IsAdded : Mount ℕ → Type 0
@@ -218,8 +210,7 @@ module _ (world : World ℕ) (names : List TaskName) (apart : IsApart world name
       )
 
   copies_are : (mount : Mount ℕ) → Among mount all_copies → IsAdded mount
-  copies_are mount m =
-      ⊎_elim (there moves refl)
+  copies_are mount m = ⊎_elim (there moves refl)
       (λ later. let from = among-from_flat_map (copies_at nat_eq base new tree parts) (rest_of parts) mount later in
       added_at from.0 (inr from.1) mount from.2
       (and_no moves (is_destination nat_eq tree from.0.number) (not_destination from.0 from.1)))
@@ -230,10 +221,8 @@ module _ (world : World ℕ) (names : List TaskName) (apart : IsApart world name
       and_no false b e = refl
 
       not_destination : (part : Mount ℕ) → Among part (rest_of parts) → is_destination nat_eq tree part.number ≡ false
-      not_destination part m =
-          false_from_ne_true (nat_eq part.number place.mount) (λ e.
-          true≢false
-          (sym (and_parts (not (nat_eq place.mount part.number)) (is_some part.namespace)
+      not_destination part m = false_from_ne_true (nat_eq part.number place.mount) (λ e.
+          true≢false (sym (and_parts (not (nat_eq place.mount part.number)) (is_some part.namespace)
           (and_parts (not (nat_eq place.mount part.number) && is_some part.namespace)
           (nat_eq destination.filesystem part.filesystem)
           (and_parts (not (nat_eq place.mount part.number) && is_some part.namespace
@@ -244,8 +233,7 @@ module _ (world : World ℕ) (names : List TaskName) (apart : IsApart world name
       there : (b : Bool) → moves ≡ b
           → Among mount (added_mounts b (copies_at nat_eq base new tree parts destination)) → IsAdded mount
       there true e m = absurd m
-      there false e m =
-          added_at destination (inl refl) mount m
+      there false e m = added_at destination (inl refl) mount m
           (ap (λ b. b && is_destination nat_eq tree destination.number) e)
 
   copy_placed : (mount : Mount ℕ) → IsCopy mount
@@ -314,8 +302,7 @@ module _ (world : World ℕ) (names : List TaskName) (apart : IsApart world name
             m)
             (ap (λ (x : Mount ℕ). x.mount_point) (found_itself world.mounts apart.is.mounts.one_number mount m) ∙ point)
             ∙ ap (λ (x : Mount ℕ). x.namespace)
-            (found_itself world.mounts apart.is.mounts.one_number part (other_there part among))
-            ∙ at.1,
+            (found_itself world.mounts apart.is.mounts.one_number part (other_there part among)) ∙ at.1,
         at.2,
       )
 
@@ -326,8 +313,7 @@ module _ (world : World ℕ) (names : List TaskName) (apart : IsApart world name
     where
       by : (o : Option (Mount ℕ)) → value (pushed_onto nat_eq base new tree parts mount o) ≡ value mount
       by None = refl
-      by (Some part) =
-          same mount (Some (top_of_copies nat_eq (copies_at nat_eq base new tree parts part) place))
+      by (Some part) = same mount (Some (top_of_copies nat_eq (copies_at nat_eq base new tree parts part) place))
 
   -- A mount that moves keeps its number, and has the namespace of its destination, which is its own.
   abbrev put : Mount ℕ → Mount ℕ → Mount ℕ
@@ -340,17 +326,14 @@ module _ (world : World ℕ) (names : List TaskName) (apart : IsApart world name
   abbrev change : Mount ℕ → Mount ℕ
   change mount = pushed (relocated moves mount)
 
-  put_is : (mount : Mount ℕ) (list : List (Mount ℕ))
-      → (folded put mount list ≡ mount)
+  put_is : (mount : Mount ℕ) (list : List (Mount ℕ)) → (folded put mount list ≡ mount)
       ⊎ ((one : Mount ℕ) × Among one list × (folded put mount list ≡ one) × (one.number ≡ mount.number))
   put_is mount [] = inl refl
   put_is mount (first ∷ rest) = by (nat_eq first.number mount.number) refl (put_is (put mount first) rest)
     where
-      by : (b : Bool) → nat_eq first.number mount.number ≡ b
-          → (folded put (put mount first) rest ≡ put mount first)
+      by : (b : Bool) → nat_eq first.number mount.number ≡ b → (folded put (put mount first) rest ≡ put mount first)
           ⊎ ((one : Mount ℕ) × Among one rest × (folded put (put mount first) rest ≡ one)
-          × (one.number ≡ (put mount first).number))
-          → (folded put (put mount first) rest ≡ mount)
+          × (one.number ≡ (put mount first).number)) → (folded put (put mount first) rest ≡ mount)
           ⊎ ((one : Mount ℕ) × Among one (first ∷ rest) × (folded put (put mount first) rest ≡ one)
           × (one.number ≡ mount.number))
       by true e so =
@@ -368,53 +351,43 @@ module _ (world : World ℕ) (names : List TaskName) (apart : IsApart world name
   Moves b mount = Among mount mounts × (moves ≡ true) × (relocated b mount ≡ copied destination mount)
 
   moved_number : moves ≡ true → (origin : Mount ℕ) → (copied destination origin).number ≡ origin.number
-  moved_number e origin =
-      ap (λ b. cond b origin.number (new.copy destination.number origin.number))
+  moved_number e origin = ap (λ b. cond b origin.number (new.copy destination.number origin.number))
       (ap (λ b. b && nat_eq destination.number place.mount) e
       ∙ eq-eqb destination.number place.mount (number-mount_in world.mounts place.mount))
 
   relocated_is : (mount : Mount ℕ) → Among mount world.mounts → (b : Bool) → moves ≡ b
       → (relocated b mount ≡ mount) ⊎ Moves b mount
   relocated_is mount there false e = inl refl
-  relocated_is mount there true e =
-      ⊎_elim inl (λ one. inr (by one.0 one.2 one.3 (at_part destination one.0 one.1)))
+  relocated_is mount there true e = ⊎_elim inl (λ one. inr (by one.0 one.2 one.3 (at_part destination one.0 one.1)))
       (put_is mount (copies_at nat_eq base new tree parts destination))
     where
       by : (one : Mount ℕ) → relocated true mount ≡ one → one.number ≡ mount.number
           → (origin : Mount ℕ) × Among origin mounts × (one ≡ copied destination origin) → Moves true mount
       by one now number of =
           let is = in_place e of.0 of.1 in
-          let kept_number : one.number ≡ of.0.number =
-          ap (λ (x : Mount ℕ). x.number) of.2 ∙ moved_number e of.0 in
-          let same : of.0 ≡ mount =
-          sym (found_itself world.mounts apart.is.mounts.one_number of.0 is.0)
+          let kept_number : one.number ≡ of.0.number = ap (λ (x : Mount ℕ). x.number) of.2 ∙ moved_number e of.0 in
+          let same : of.0 ≡ mount = sym (found_itself world.mounts apart.is.mounts.one_number of.0 is.0)
           ∙ ap (mount_numbered nat_eq world) (sym kept_number ∙ number)
           ∙ found_itself world.mounts apart.is.mounts.one_number mount there in
           (subst (λ (x : Mount ℕ). Among x mounts) same of.1, e, now ∙ of.2 ∙ ap (copied destination) same)
 
-  relocated_plain : (mount : Mount ℕ) → Among mount world.mounts
-      → (at : Option (Location ℕ)) × (kind : Propagation ℕ)
+  relocated_plain : (mount : Mount ℕ) → Among mount world.mounts → (at : Option (Location ℕ)) × (kind : Propagation ℕ)
       × (relocated moves mount ≡ record mount { mount_point = at; propagation = kind })
-  relocated_plain mount there =
-      ⊎_elim (λ stays. (mount.mount_point, mount.propagation, stays))
-      (λ goes.
+  relocated_plain mount there = ⊎_elim (λ stays. (mount.mount_point, mount.propagation, stays)) (λ goes.
       let is = in_place goes.1 mount goes.0 in (
         (copied destination mount).mount_point,
         (copied destination mount).propagation,
-        goes.2
-            ∙ ap (λ n. record mount {
-              number = n;
-              namespace = destination.namespace;
-              mount_point = (copied destination mount).mount_point;
-              propagation = (copied destination mount).propagation;
-            }) (moved_number goes.1 mount)
-            ∙ ap (λ o. record mount {
-              namespace = o;
-              mount_point = (copied destination mount).mount_point;
-              propagation = (copied destination mount).propagation;
-            }) (placed ∙ sym is.1),
-      ))
-      (relocated_is mount there moves refl)
+        goes.2 ∙ ap (λ n. record mount {
+          number = n;
+          namespace = destination.namespace;
+          mount_point = (copied destination mount).mount_point;
+          propagation = (copied destination mount).propagation;
+        }) (moved_number goes.1 mount) ∙ ap (λ o. record mount {
+          namespace = o;
+          mount_point = (copied destination mount).mount_point;
+          propagation = (copied destination mount).propagation;
+        }) (placed ∙ sym is.1),
+      )) (relocated_is mount there moves refl)
 
   change_value : {B : Type 0} (value : Mount ℕ → B)
       → ((mount : Mount ℕ) (at : Option (Location ℕ)) (kind : Propagation ℕ)
@@ -428,8 +401,7 @@ module _ (world : World ℕ) (names : List TaskName) (apart : IsApart world name
   change_shape : (mount : Mount ℕ) → Among mount world.mounts → IsReshaped mount (change mount)
   change_shape mount there =
       let plain = relocated_plain mount there in
-      reshaped_twice mount (relocated moves mount) (change mount)
-      (mount.namespace, plain.0, plain.1, plain.2, inl refl)
+      reshaped_twice mount (relocated moves mount) (change mount) (mount.namespace, plain.0, plain.1, plain.2, inl refl)
       (by (relocated moves mount) (receiver_stood_on nat_eq tree parts (relocated moves mount)))
     where
       by : (x : Mount ℕ) (o : Option (Mount ℕ)) → IsReshaped x (pushed_onto nat_eq base new tree parts x o)
@@ -444,12 +416,9 @@ module _ (world : World ℕ) (names : List TaskName) (apart : IsApart world name
 
   -- a mount that is not of others stays as it was
   stays : (mount : Mount ℕ) → Among mount world.mounts
-      → ((n : ℕ) → mount.namespace ≡ Some n → is_own_namespace nat_eq world names n ≡ false → ⊥)
-      → change mount ≡ mount
-  stays mount there none =
-      ap pushed (⊎_elim (λ same. same)
-      (λ goes. absurd (none namespace (in_place goes.1 mount goes.0).1 outside))
-      (relocated_is mount there moves refl))
+      → ((n : ℕ) → mount.namespace ≡ Some n → is_own_namespace nat_eq world names n ≡ false → ⊥) → change mount ≡ mount
+  stays mount there none = ap pushed (⊎_elim (λ same. same)
+      (λ goes. absurd (none namespace (in_place goes.1 mount goes.0).1 outside)) (relocated_is mount there moves refl))
       ∙ by (receiver_stood_on nat_eq tree parts mount) refl
     where
       by : (o : Option (Mount ℕ)) → receiver_stood_on nat_eq tree parts mount ≡ o
@@ -458,16 +427,14 @@ module _ (world : World ℕ) (names : List TaskName) (apart : IsApart world name
       by (Some part) e = let at = stood_in_other mount part there e in absurd (none at.0 at.1 at.2)
 
   change_kept : (mount : Mount ℕ) → Among mount world.mounts → kept (change mount) ≡ kept mount
-  change_kept mount there =
-      reshaped_kept world names so_far mount there (change mount) (change_shape mount there)
+  change_kept mount there = reshaped_kept world names so_far mount there (change mount) (change_shape mount there)
       (λ own. stays mount there (λ n e other. true≢false
       (sym (among-from_filter (is_own_mount nat_eq world names) world.mounts mount own).1
       ∙ ap (holds_of (is_own_namespace nat_eq world names)) e ∙ other)))
       (λ nowhere. stays mount there (λ n e other. none_is_some n (sym nowhere ∙ e)))
 
   left_mounts : left.mounts ≡ map change world.mounts ++ all_copies
-  left_mounts =
-      ap (λ ms. map pushed ms ++ added_mounts moves (copies_at nat_eq base new tree parts destination)
+  left_mounts = ap (λ ms. map pushed ms ++ added_mounts moves (copies_at nat_eq base new tree parts destination)
       ++ flat_map (copies_at nat_eq base new tree parts) (rest_of parts)) (by moves)
       ∙ ap (λ ms. ms ++ added_mounts moves (copies_at nat_eq base new tree parts destination)
       ++ flat_map (copies_at nat_eq base new tree parts) (rest_of parts))
@@ -478,8 +445,7 @@ module _ (world : World ℕ) (names : List TaskName) (apart : IsApart world name
       put_all : (list given : List (Mount ℕ))
           → folded (with_mount nat_eq) given list ≡ map (λ (x : Mount ℕ). folded put x list) given
       put_all [] given = sym (map_same (λ (x : Mount ℕ). x) given (λ x m. refl))
-      put_all (first ∷ rest) given =
-          put_all rest (with_mount nat_eq given first)
+      put_all (first ∷ rest) given = put_all rest (with_mount nat_eq given first)
           ∙ map_twice (λ (x : Mount ℕ). folded put x rest) (λ (x : Mount ℕ). put x first) given
 
       by : (b : Bool) → with_moved_mounts nat_eq b world.mounts (copies_at nat_eq base new tree parts destination)
@@ -488,13 +454,10 @@ module _ (world : World ℕ) (names : List TaskName) (apart : IsApart world name
       by false = sym (map_same (λ (x : Mount ℕ). x) world.mounts (λ x m. refl))
 
   mounts_kept : filter_map kept left.mounts ≡ filter_map kept world.mounts
-  mounts_kept =
-      ap (filter_map kept) left_mounts
-      ∙ filter_map-append kept (map change world.mounts) all_copies
+  mounts_kept = ap (filter_map kept) left_mounts ∙ filter_map-append kept (map change world.mounts) all_copies
       ∙ ap (λ l. filter_map kept (map change world.mounts) ++ l)
       (none_kept kept all_copies (λ mount m. copy_not_kept mount (copies_are mount m)))
-      ∙ append-nil (filter_map kept (map change world.mounts))
-      ∙ filter_map_map kept change world.mounts
+      ∙ append-nil (filter_map kept (map change world.mounts)) ∙ filter_map_map kept change world.mounts
       ∙ filter_map_same (λ mount. kept (change mount)) kept world.mounts change_kept
 
   -- A mount of others was one, or is a copy.
@@ -502,21 +465,16 @@ module _ (world : World ℕ) (names : List TaskName) (apart : IsApart world name
       → ((old : Mount ℕ) × Among old (other_mounts nat_eq world names) × (other ≡ change old)) ⊎ IsAdded other
   others_from other m =
       let out = among-from_filter (λ (x : Mount ℕ). holds_of
-      (λ n. not (is_own_namespace nat_eq world names n)) x.namespace)
-      left.mounts other m in
-      ⊎_elim
-      (λ old. let from = among-from_map change world.mounts other old in
+      (λ n. not (is_own_namespace nat_eq world names n)) x.namespace) left.mounts other m in
+      ⊎_elim (λ old. let from = among-from_map change world.mounts other old in
       inl (
         from.0,
         among-filter (λ (x : Mount ℕ). holds_of (λ n. not (is_own_namespace nat_eq world names n)) x.namespace)
-            world.mounts from.0 from.1
-            (ap (holds_of (λ n. not (is_own_namespace nat_eq world names n)))
+            world.mounts from.0 from.1 (ap (holds_of (λ n. not (is_own_namespace nat_eq world names n)))
             (sym (change_value (λ (x : Mount ℕ). x.namespace) (λ x at kind. refl) from.0 from.1)
-            ∙ ap (λ (x : Mount ℕ). x.namespace) (sym from.2))
-            ∙ out.1),
+            ∙ ap (λ (x : Mount ℕ). x.namespace) (sym from.2)) ∙ out.1),
         from.2,
-      ))
-      (λ new_one. inr (copies_are other new_one))
+      )) (λ new_one. inr (copies_are other new_one))
       (among-append (map change world.mounts) all_copies other (subst (Among other) left_mounts out.0))
 
   -- with the type that it had, or that of a copy
@@ -528,8 +486,7 @@ module _ (world : World ℕ) (names : List TaskName) (apart : IsApart world name
       (pushed_value (λ (x : Mount ℕ). x.propagation) (λ x at. refl) (relocated moves old)) how in
       ⊎_elim
       (λ same. old_foreign world names apart fresh serves filesystems supply supplied place mounts origins moves old m
-      group
-      (subst (λ (x : Mount ℕ). HearsGroup world names so_far left x.propagation group) same unpushed))
+      group (subst (λ (x : Mount ℕ). HearsGroup world names so_far left x.propagation group) same unpushed))
       (λ goes. copy_foreign world names apart fresh serves filesystems supply supplied place mounts origins moves
       (relocated moves old) (destination, inl refl, old, goes.0, goes.2) group unpushed)
       (relocated_is old (other_there old m) moves refl)
@@ -558,18 +515,14 @@ module _ (world : World ℕ) (names : List TaskName) (apart : IsApart world name
       by Unbindable e = refl
 
   events : shares_no_events nat_eq left names ≡ true
-  events =
-      events_stay_apart world names so_far left (own_mounts_same world left names sees) own_masters
-      (λ other m group how. ⊎_elim
-      (λ old. changed_foreign old.0 old.1 group
+  events = events_stay_apart world names so_far left (own_mounts_same world left names sees) own_masters
+      (λ other m group how. ⊎_elim (λ old. changed_foreign old.0 old.1 group
       (subst (λ (x : Mount ℕ). HearsGroup world names so_far left x.propagation group) old.2 how))
       (λ copy. copy_foreign world names apart fresh serves filesystems supply supplied place mounts origins moves other
-      copy.0 group how)
-      (others_from other m))
+      copy.0 group how) (others_from other m))
 
   -- What is found at a location is as it was, but for where it stands, and for its type.
-  found_left : {B : Type 0} (value : Mount ℕ → B)
-      → ((mount : Mount ℕ) (at : Option (Location ℕ)) (kind : Propagation ℕ)
+  found_left : {B : Type 0} (value : Mount ℕ → B) → ((mount : Mount ℕ) (at : Option (Location ℕ)) (kind : Propagation ℕ)
       → value (record mount { mount_point = at; propagation = kind }) ≡ value mount)
       → (location : Location ℕ) → Among location (all_locations world)
       → value (mount_at nat_eq left location) ≡ value (mount_at nat_eq world location)
@@ -579,8 +532,7 @@ module _ (world : World ℕ) (names : List TaskName) (apart : IsApart world name
       ∙ ap value (found_first location.mount (map change world.mounts) all_copies (change there.0)
       (among-map change world.mounts there.0 there.1)
       (ap (nat_eq location.mount) (change_value (λ (x : Mount ℕ). x.number) (λ x at kind. refl) there.0 there.1)
-      ∙ there.2))
-      ∙ found_changed value (change_value value same) location.mount world.mounts (λ x m. m)
+      ∙ there.2)) ∙ found_changed value (change_value value same) location.mount world.mounts (λ x m. m)
     where
       found_changed : {C : Type 0} (value : Mount ℕ → C)
           → ((mount : Mount ℕ) → Among mount world.mounts → value (change mount) ≡ value mount)
@@ -593,8 +545,7 @@ module _ (world : World ℕ) (names : List TaskName) (apart : IsApart world name
           (change_value (λ (x : Mount ℕ). x.number) (λ x at kind. refl) mount (all mount (inl refl)))
           ∙ by (nat_eq number mount.number) (found_changed value same number rest (λ x m. all x (inr m)))
         where
-          by : (b : Bool)
-              → value (mount_in nat_eq (map change rest) number) ≡ value (mount_in nat_eq rest number)
+          by : (b : Bool) → value (mount_in nat_eq (map change rest) number) ≡ value (mount_in nat_eq rest number)
               → value (unwrap_or (cond b (Some (change mount))
               (find (λ (x : Mount ℕ). nat_eq number x.number) (map change rest))) (no_mount number))
               ≡ value (unwrap_or (cond b (Some mount) (find (λ (x : Mount ℕ). nat_eq number x.number) rest))
@@ -604,8 +555,7 @@ module _ (world : World ℕ) (names : List TaskName) (apart : IsApart world name
 
   of_outsiders : (location : Location ℕ) → Among location (locations (outsiders world names))
       → Among location (all_locations world)
-  of_outsiders =
-      of_tasks (outsiders world names)
+  of_outsiders = of_tasks (outsiders world names)
       (λ task m. (among-from_filter (λ (t : Task ℕ). not (is_member_task names t)) world.tasks task m).0)
 
   fewer : (number : ℕ) → IsOfTheWorld world names number → no_outsider_on nat_eq world names number ≡ true
@@ -623,22 +573,18 @@ module _ (world : World ℕ) (names : List TaskName) (apart : IsApart world name
       (not (list_any (λ location. nat_eq number (mount_at nat_eq left location).filesystem)
       (locations (outsiders world names))))
       (ap not (none_from_among (λ (mount : Mount ℕ). nat_eq number mount.filesystem) (other_mounts nat_eq left names)
-      (λ other m. ⊎_elim
-      (λ old. ap (nat_eq number) (ap (λ (x : Mount ℕ). x.filesystem) old.2
+      (λ other m. ⊎_elim (λ old. ap (nat_eq number) (ap (λ (x : Mount ℕ). x.filesystem) old.2
       ∙ change_value (λ (x : Mount ℕ). x.filesystem) (λ x at kind. refl) old.0 (other_there old.0 old.1))
-      ∙ none_shows old.0 old.1)
-      (λ copy. ⊎_elim
+      ∙ none_shows old.0 old.1) (λ copy. ⊎_elim
       (λ old. ap (nat_eq number) (ap (λ (x : Mount ℕ). x.filesystem) copy.0.4 ∙ old.3) ∙ none_shows old.0 old.1)
       (λ new_one. false_from_ne_true (nat_eq number other.filesystem) (λ e.
       not_of_the_world world names apart fresh serves number new_one.1 of
       (eqb-true number other.filesystem e ∙ ap (λ (x : Mount ℕ). x.filesystem) copy.0.4 ∙ new_one.2)))
-      (origins copy.0.2 copy.0.3))
-      (others_from other m))))
+      (origins copy.0.2 copy.0.3)) (others_from other m))))
       (ap not (none_from_among (λ location. nat_eq number (mount_at nat_eq left location).filesystem)
       (locations (outsiders world names))
       (λ location m. ap (nat_eq number) (found_left (λ (x : Mount ℕ). x.filesystem) (λ x at kind. refl) location
-      (of_outsiders location m))
-      ∙ none_among (λ location. nat_eq number (mount_at nat_eq world location).filesystem)
+      (of_outsiders location m)) ∙ none_among (λ location. nat_eq number (mount_at nat_eq world location).filesystem)
       (locations (outsiders world names)) (not-true _ parts_alone.1) location m)))
 
   pub attaching_leaves_apart : LeavesApart world left names []

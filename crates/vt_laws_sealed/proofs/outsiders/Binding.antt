@@ -35,17 +35,14 @@ module _ (world : World ℕ) (names : List TaskName) (apart : IsApart world name
     (outside : is_own_namespace nat_eq world names namespace ≡ false) where
   bindable_in : (parent : Mount ℕ) → IsIn world namespace parent → (child : Mount ℕ)
       → Among child (bindable_children nat_eq world.mounts parent.number) → IsIn world namespace child
-  bindable_in parent is child m =
-      child_in world names apart namespace parent is child
+  bindable_in parent is child m = child_in world names apart namespace parent is child
       (among-from_filter (λ (x : Mount ℕ). not (is_unbindable x.propagation))
       (children nat_eq world.mounts parent.number) child m).0
 
   tree_in : (fuel : ℕ) (mount : Mount ℕ) → IsIn world namespace mount → (x : Mount ℕ)
       → Among x (bindable_tree nat_eq fuel world.mounts mount) → IsIn world namespace x
   tree_in zero mount is x m = ⊎_elim (λ e. subst (IsIn world namespace) (sym e) is) (λ none. absurd none) m
-  tree_in (suc fuel) mount is x m =
-      ⊎_elim (λ e. subst (IsIn world namespace) (sym e) is)
-      (λ later.
+  tree_in (suc fuel) mount is x m = ⊎_elim (λ e. subst (IsIn world namespace) (sym e) is) (λ later.
       let from = among-from_flat_map (bindable_tree nat_eq fuel world.mounts)
       (bindable_children nat_eq world.mounts mount.number) x later in
       tree_in fuel from.0 (bindable_in mount is from.0 from.1) x from.2) m
@@ -61,13 +58,12 @@ module _ (world : World ℕ) (names : List TaskName) (apart : IsApart world name
     )
 
     of_bound : (origin : Mount ℕ) → origin ≡ bound nat_eq world source → OriginOf world fresh names origin
-    of_bound origin e =
-        inl (
-          mount_at nat_eq world source,
-          is_other world names namespace outside (mount_at nat_eq world source) source_in.0 placed,
-          ap (λ (x : Mount ℕ). x.propagation) e,
-          ap (λ (x : Mount ℕ). x.filesystem) e,
-        )
+    of_bound origin e = inl (
+      mount_at nat_eq world source,
+      is_other world names namespace outside (mount_at nat_eq world source) source_in.0 placed,
+      ap (λ (x : Mount ℕ). x.propagation) e,
+      ap (λ (x : Mount ℕ). x.filesystem) e,
+    )
 
     of_tree : (origin : Mount ℕ) → IsIn world namespace origin → OriginOf world fresh names origin
     of_tree origin is = inl (origin, is_other world names namespace outside origin is.0 is.1, refl, refl)
@@ -75,9 +71,7 @@ module _ (world : World ℕ) (names : List TaskName) (apart : IsApart world name
     pub bind_origins : (recursive : Bool) (origin : Mount ℕ) → Among origin (bind_tree nat_eq world source recursive)
         → OriginOf world fresh names origin
     bind_origins false origin m = ⊎_elim (of_bound origin) (λ none. absurd none) m
-    bind_origins true origin m =
-        ⊎_elim (of_bound origin)
-        (λ later.
+    bind_origins true origin m = ⊎_elim (of_bound origin) (λ later.
         let from = among-from_flat_map (bindable_tree nat_eq (length world.mounts) world.mounts)
         (filter (stands_under nat_eq world source) (bindable_children nat_eq world.mounts source.mount)) origin later in
         let child = (among-from_filter (stands_under nat_eq world source)
@@ -113,8 +107,7 @@ bind_leaves world fresh names name call task outsider called source place recurs
 -- A new mount: mount(2) of a tmpfs
 pub plain_leaves : (world : World ℕ) (fresh : Fresh ℕ) (names : List TaskName) (name : TaskName) (call : Call)
     (task : Task ℕ) → IsOutsidersCall world fresh names name call → task_called world name ≡ Some task
-    → (place : Location ℕ) (flags : MountFlags)
-    → judge_in nat_eq fresh world task call ≡ Ok (ToMountPlain place flags)
+    → (place : Location ℕ) (flags : MountFlags) → judge_in nat_eq fresh world task call ≡ Ok (ToMountPlain place flags)
     → LeavesApart world (settled nat_eq (apply nat_eq fresh world task (ToMountPlain place flags)).world) names []
 plain_leaves world fresh names name call task outsider called place flags judged =
     let apart = apart_if_sealed world names outsider.is outsider.sealed_off in
@@ -131,9 +124,7 @@ plain_leaves world fresh names name call task outsider called place flags judged
     (attaching_leaves_apart world names apart fresh outsider.serves (world.filesystems ++ added ∷ [])
     (larger_sees world names apart fresh outsider.serves added 0 refl) []
     (larger_overlays world names apart fresh outsider.serves added 0 refl refl ∙ sym (append-nil (overlays world)))
-    (λ merged m number free. absurd m) (odds fresh)
-    (λ k. (2 * k + 1, refl)) place
-    task.namespace outside named.own (new_mount added.number added.files.tree.root flags ∷ [])
-    (λ origin m. ⊎_elim
+    (λ merged m number free. absurd m) (odds fresh) (λ k. (2 * k + 1, refl)) place
+    task.namespace outside named.own (new_mount added.number added.files.tree.root flags ∷ []) (λ origin m. ⊎_elim
     (λ e. inr (ap (λ (x : Mount ℕ). x.propagation) e, 0, ap (λ (x : Mount ℕ). x.filesystem) e))
     (λ none. absurd none) m) false (λ moving. absurd (true≢false (sym moving))))

@@ -21,8 +21,7 @@ use Rattle.vt_laws_sealed.proofs.outsiders.Staying.{LeavesApart, free_from}
 pub record KeepsOrDetaches (change : Mount ℕ → Mount ℕ) : Type 0 where
   pub number : (mount : Mount ℕ) → (change mount).number ≡ mount.number
   pub filesystem : (mount : Mount ℕ) → (change mount).filesystem ≡ mount.filesystem
-  pub namespace : (mount : Mount ℕ)
-      → ((change mount).namespace ≡ mount.namespace) ⊎ ((change mount).namespace ≡ None)
+  pub namespace : (mount : Mount ℕ) → ((change mount).namespace ≡ mount.namespace) ⊎ ((change mount).namespace ≡ None)
 
 -- other tasks and namespaces, with members and their namespaces as they were
 pub record OthersMove (world : World ℕ) (names : List TaskName) (tasks : List (Task ℕ))
@@ -36,8 +35,7 @@ pub record OthersMove (world : World ℕ) (names : List TaskName) (tasks : List 
       ≡ filter (λ (n : Namespace ℕ). is_own_namespace nat_eq world names n.number) world.namespaces
 
 module _ (world : World ℕ) (names : List TaskName) {New : ℕ → Type 0} (apart : StandsApart world names New)
-    (change : Mount ℕ → Mount ℕ)
-    (keeps : KeepsOrDetaches change)
+    (change : Mount ℕ → Mount ℕ) (keeps : KeepsOrDetaches change)
     (kept_same : (mount : Mount ℕ) → Among mount world.mounts
     → keep world names (members world names) (change mount) ≡ keep world names (members world names) mount)
     (master : ℕ → Option ℕ) (tasks : List (Task ℕ)) (namespaces : List (Namespace ℕ))
@@ -55,8 +53,7 @@ module _ (world : World ℕ) (names : List TaskName) {New : ℕ → Type 0} (apa
   theirs = own_by (members world names)
 
   abbrev others_by : List (Task ℕ) → List (Mount ℕ)
-  others_by some =
-      filter (λ (mount : Mount ℕ). holds_of (λ namespace. not (own_by some namespace)) mount.namespace)
+  others_by some = filter (λ (mount : Mount ℕ). holds_of (λ namespace. not (own_by some namespace)) mount.namespace)
       (map change world.mounts)
 
   -- a mount of others was one, and shows what it showed
@@ -74,10 +71,8 @@ module _ (world : World ℕ) (names : List TaskName) {New : ℕ → Type 0} (apa
     where
       was : (mount : Mount ℕ) → holds_of (λ n. not (theirs n)) (change mount).namespace ≡ true
           → holds_of (λ n. not (theirs n)) mount.namespace ≡ true
-      was mount h =
-          ⊎_elim (λ same. ap (holds_of (λ n. not (theirs n))) (sym same) ∙ h)
-          (λ none. absurd (true≢false (sym h ∙ ap (holds_of (λ n. not (theirs n))) none)))
-          (keeps.namespace mount)
+      was mount h = ⊎_elim (λ same. ap (holds_of (λ n. not (theirs n))) (sym same) ∙ h)
+          (λ none. absurd (true≢false (sym h ∙ ap (holds_of (λ n. not (theirs n))) none))) (keeps.namespace mount)
 
   -- what is found at a number
   found_in : {B : Type 0} (value : Mount ℕ → B) → ((mount : Mount ℕ) → value (change mount) ≡ value mount)
@@ -89,8 +84,7 @@ module _ (world : World ℕ) (names : List TaskName) {New : ℕ → Type 0} (apa
       (find (λ (m : Mount ℕ). nat_eq number m.number) (map change rest))) (no_mount number))) (keeps.number mount)
       ∙ by (nat_eq number mount.number) (found_in value same number rest)
     where
-      by : (b : Bool)
-          → value (mount_in nat_eq (map change rest) number) ≡ value (mount_in nat_eq rest number)
+      by : (b : Bool) → value (mount_in nat_eq (map change rest) number) ≡ value (mount_in nat_eq rest number)
           → value (unwrap_or (cond b (Some (change mount))
           (find (λ (m : Mount ℕ). nat_eq number m.number) (map change rest))) (no_mount number))
           ≡ value (unwrap_or (cond b (Some mount) (find (λ (m : Mount ℕ). nat_eq number m.number) rest))
@@ -109,13 +103,11 @@ module _ (world : World ℕ) (names : List TaskName) {New : ℕ → Type 0} (apa
   found_out : (number : ℕ) → (list : List (Mount ℕ)) → is_out (mount_in nat_eq list number) ≡ true
       → is_out (mount_in nat_eq (map change list) number) ≡ true
   found_out number [] h = h
-  found_out number (mount ∷ rest) h =
-      ap (λ n. is_out (unwrap_or (cond (nat_eq number n) (Some (change mount))
+  found_out number (mount ∷ rest) h = ap (λ n. is_out (unwrap_or (cond (nat_eq number n) (Some (change mount))
       (find (λ (m : Mount ℕ). nat_eq number m.number) (map change rest))) (no_mount number))) (keeps.number mount)
       ∙ by (nat_eq number mount.number) h (found_out number rest)
     where
-      by : (b : Bool)
-          → is_out (unwrap_or (cond b (Some mount) (find (λ (m : Mount ℕ). nat_eq number m.number) rest))
+      by : (b : Bool) → is_out (unwrap_or (cond b (Some mount) (find (λ (m : Mount ℕ). nat_eq number m.number) rest))
           (no_mount number)) ≡ true
           → (is_out (mount_in nat_eq rest number) ≡ true → is_out (mount_in nat_eq (map change rest) number) ≡ true)
           → is_out (unwrap_or (cond b (Some (change mount))
@@ -125,12 +117,10 @@ module _ (world : World ℕ) (names : List TaskName) {New : ℕ → Type 0} (apa
 
   shown_at : (location : Location ℕ)
       → (mount_at nat_eq left location).filesystem ≡ (mount_at nat_eq world location).filesystem
-  shown_at location =
-      found_in (λ (mount : Mount ℕ). mount.filesystem) keeps.filesystem location.mount world.mounts
+  shown_at location = found_in (λ (mount : Mount ℕ). mount.filesystem) keeps.filesystem location.mount world.mounts
 
   other_out : (mount : Mount ℕ) → Among mount (other_mounts nat_eq world names) → is_out mount ≡ true
-  other_out mount m =
-      by mount.namespace
+  other_out mount m = by mount.namespace
       (among-from_filter (λ (x : Mount ℕ). holds_of (λ n. not (theirs n)) x.namespace) world.mounts mount m).1
     where
       by : (o : Option ℕ) → holds_of (λ n. not (theirs n)) o ≡ true → not (holds_of theirs o) ≡ true
@@ -148,8 +138,7 @@ module _ (world : World ℕ) (names : List TaskName) {New : ℕ → Type 0} (apa
       (not (list_any (λ location. nat_eq number (mount_at nat_eq world location).filesystem)
       (locations (outsiders world names)))) alone in
       let none_shows = none_among (λ (mount : Mount ℕ). nat_eq number mount.filesystem)
-      (other_mounts nat_eq world names)
-      (not-true _ parts.0) in
+      (other_mounts nat_eq world names) (not-true _ parts.0) in
       and_from (not (list_any (λ (mount : Mount ℕ). nat_eq number mount.filesystem) (other_mounts nat_eq left names)))
       (not (list_any (λ location. nat_eq number (mount_at nat_eq left location).filesystem) (locations those_outside)))
       (ap not (none_from_among (λ (mount : Mount ℕ). nat_eq number mount.filesystem) (other_mounts nat_eq left names)
@@ -157,9 +146,7 @@ module _ (world : World ℕ) (names : List TaskName) {New : ℕ → Type 0} (apa
       ap (nat_eq number) (ap (λ (x : Mount ℕ). x.filesystem) from.2 ∙ keeps.filesystem from.0)
       ∙ none_shows from.0 from.1)))
       (ap not (none_from_among (λ location. nat_eq number (mount_at nat_eq left location).filesystem)
-      (locations those_outside)
-      (λ location m. ap (nat_eq number) (shown_at location)
-      ∙ ⊎_elim
+      (locations those_outside) (λ location m. ap (nat_eq number) (shown_at location) ∙ ⊎_elim
       (λ old. ap (λ n. nat_eq number (mount_numbered nat_eq world n).filesystem) old.2
       ∙ none_among (λ place. nat_eq number (mount_at nat_eq world place).filesystem)
       (locations (outsiders world names)) (not-true _ parts.1) old.0 old.1)
@@ -184,8 +171,7 @@ module _ (world : World ℕ) (names : List TaskName) {New : ℕ → Type 0} (apa
   changing_leaves_apart own_masters events = record {
     sees = sees own_masters;
     others = record {
-      tasks =
-          ap (λ some. list_all (λ (task : Task ℕ). not (own_by some task.namespace)) those_outside) moved.members
+      tasks = ap (λ some. list_all (λ (task : Task ℕ). not (own_by some task.namespace)) those_outside) moved.members
           ∙ list_all_from_among (λ (task : Task ℕ). not (theirs task.namespace)) those_outside
           (λ task m. ap not (moved.outside task m));
       events = events;
@@ -193,12 +179,10 @@ module _ (world : World ℕ) (names : List TaskName) {New : ℕ → Type 0} (apa
           ap (λ some. list_all (λ location. not (holds_of (own_by some) (mount_at nat_eq left location).namespace))
           (locations those_outside)) moved.members
           ∙ list_all_from_among (λ location. is_out (mount_at nat_eq left location)) (locations those_outside)
-          (λ location m. found_out location.mount world.mounts
-          (⊎_elim
+          (λ location m. found_out location.mount world.mounts (⊎_elim
           (λ old. ap (λ n. is_out (mount_numbered nat_eq world n)) old.2
           ∙ among_from_list_all (λ place. is_out (mount_at nat_eq world place)) (locations (outsiders world names))
-          apart.locations old.0 old.1)
-          (other_out (mount_at nat_eq world location)) (moved.located location m)));
+          apart.locations old.0 old.1) (other_out (mount_at nat_eq world location)) (moved.located location m)));
       free = free_from world left names refl (λ number of free. fewer number free);
     };
     unraised = λ number m. refl;
@@ -209,8 +193,7 @@ pub others_rest : (world : World ℕ) (names : List TaskName) {New : ℕ → Typ
     → OthersMove world names world.tasks world.namespaces
 others_rest world names apart = record {
   members = refl;
-  outside = λ task m.
-      not-true (is_own_namespace nat_eq world names task.namespace)
+  outside = λ task m. not-true (is_own_namespace nat_eq world names task.namespace)
       (among_from_list_all (λ (t : Task ℕ). not (is_own_namespace nat_eq world names t.namespace))
       (outsiders world names) apart.tasks task m);
   located = λ location m. inl (location, m, refl);

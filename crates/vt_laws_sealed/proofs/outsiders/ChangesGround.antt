@@ -47,8 +47,7 @@ MarksWhatIsThere world location (SetMark directory opaque) =
 MarksWhatIsThere world location change = ⊤
 
 -- The directory of a name
-module _ (world : World ℕ) (is : IsWorld nat_eq world) (task : Task ℕ)
-    (there : Among task world.tasks) where
+module _ (world : World ℕ) (is : IsWorld nat_eq world) (task : Task ℕ) (there : Among task world.tasks) where
   abbrev OnGround : Location ℕ → Type 0
   OnGround location = IsGround world is task there location.mount
 
@@ -61,8 +60,7 @@ module _ (world : World ℕ) (is : IsWorld nat_eq world) (task : Task ℕ)
 
   file_way_ground : (start directory : Location ℕ) (path_words : List (List ℕ)) (passed : List (Location ℕ))
       → WayToFile world task start path_words passed directory → OnGround start → OnGround directory
-  file_way_ground start directory path_words passed
-      (file_in from at path last object before way named plain) ground =
+  file_way_ground start directory path_words passed (file_in from at path last object before way named plain) ground =
       name_ground from at path before last way ground
   file_way_ground start directory path_words passed
       (through_symlink from at end path last object text before in_text way named linked rest) ground =
@@ -71,14 +69,12 @@ module _ (world : World ℕ) (is : IsWorld nat_eq world) (task : Task ℕ)
 
   pub named_ground : (path : List ℕ) (directory : Location ℕ) (last : LastWord)
       → IsSearchedToName world task path directory last → OnGround directory
-  named_ground path directory last searched =
-      name_ground _ directory (words path) searched.passed last searched.way
+  named_ground path directory last searched = name_ground _ directory (words path) searched.passed last searched.way
       (start_ground world is task there task.directory path (directory_ground world is task there))
 
   pub file_ground : (path : List ℕ) (directory : Location ℕ) → IsSearchedToFile world task path directory
       → OnGround directory
-  file_ground path directory searched =
-      file_way_ground _ directory (words path) searched.passed searched.way
+  file_ground path directory searched = file_way_ground _ directory (words path) searched.passed searched.way
       (start_ground world is task there task.directory path (directory_ground world is task there))
 
 module _ (world : World ℕ) (fresh : Fresh ℕ) (names : List TaskName) (name : TaskName) (call : Call)
@@ -94,18 +90,15 @@ module _ (world : World ℕ) (fresh : Fresh ℕ) (names : List TaskName) (name :
   abbrev AreTheirs : Option (Location ℕ × Change ℕ) → Type 0
   AreTheirs asked = (made : Location ℕ × Change ℕ) → asked ≡ Some made → IsTheirs made
 
-  at : (location : Location ℕ) → IsGround world outsider.is task there location.mount
-      → IsOutside world names location
+  at : (location : Location ℕ) → IsGround world outsider.is task there location.mount → IsOutside world names location
   at = ground_outside world fresh names name call task outsider called
 
   of : (location : Location ℕ) (change : Change ℕ) → IsTheirs (location, change) → AreTheirs (Some (location, change))
   of location change is made e = subst IsTheirs (same_Some (location, change) made e) is
 
-  object_at : (path : List ℕ) (here : Here ℕ)
-      → object_walk nat_eq (looks_of nat_eq world) task path
+  object_at : (path : List ℕ) (here : Here ℕ) → object_walk nat_eq (looks_of nat_eq world) task path
       ≡ Ok here → IsOutside world names here.location
-  object_at path here walk =
-      at here.location (searched_ground world outsider.is task there path here.location
+  object_at path here walk = at here.location (searched_ground world outsider.is task there path here.location
       (object_ways_are_searched world task path here walk))
 
   named_at : (path : List ℕ) (directory : Location ℕ) (last : LastWord)
@@ -113,11 +106,9 @@ module _ (world : World ℕ) (fresh : Fresh ℕ) (names : List TaskName) (name :
   named_at path directory last searched =
       at directory (named_ground world outsider.is task there path directory last searched)
 
-  file_at : (path : List ℕ) (place : Place ℕ)
-      → file_walk nat_eq (looks_of nat_eq world) task path ≡ Ok place
+  file_at : (path : List ℕ) (place : Place ℕ) → file_walk nat_eq (looks_of nat_eq world) task path ≡ Ok place
       → IsOutside world names place.parent
-  file_at path place walk =
-      at place.parent (file_ground world outsider.is task there path place.parent
+  file_at path place walk = at place.parent (file_ground world outsider.is task there path place.parent
       (file_ways_are_searched world task path place walk))
 
   found_at : (path : List ℕ) (place : Place ℕ) (file : Location ℕ)
@@ -144,26 +135,19 @@ module _ (world : World ℕ) (fresh : Fresh ℕ) (names : List TaskName) (name :
       of file _ (found_at path place file walk is_there, tt)
   granted_theirs asked permit (writes_new_file path bytes place walk named missing fits passed) =
       of place.parent _ (file_at path place walk, tt)
-  granted_theirs asked permit (makes_directory path mode place walk passed) =
-      of place.parent _
+  granted_theirs asked permit (makes_directory path mode place walk passed) = of place.parent _
       (named_at path place.parent place.last (new_name_ways_are_searched world task path place walk), tt)
-  granted_theirs asked permit (makes_symlink text path place fits walk passed) =
-      of place.parent _
+  granted_theirs asked permit (makes_symlink text path place fits walk passed) = of place.parent _
       (named_at path place.parent place.last (new_leaf_ways_are_searched world task path place walk), tt)
-  granted_theirs asked permit (makes_whiteout path place walk passed) =
-      of place.parent _
+  granted_theirs asked permit (makes_whiteout path place walk passed) = of place.parent _
       (named_at path place.parent place.last (new_leaf_ways_are_searched world task path place walk), tt)
-  granted_theirs asked permit (makes_hard_link old new from place from_walk walk named passed) =
-      of place.parent _
+  granted_theirs asked permit (makes_hard_link old new from place from_walk walk named passed) = of place.parent _
       (named_at new place.parent place.last (new_leaf_ways_are_searched world task new place walk), tt)
-  granted_theirs asked permit (unlinks path place walk named passed) =
-      of place.parent _
+  granted_theirs asked permit (unlinks path place walk named passed) = of place.parent _
       (named_at path place.parent place.last (old_leaf_ways_are_searched world task path place walk), tt)
-  granted_theirs asked permit (removes_directory path place walk word passed) =
-      of place.parent _
+  granted_theirs asked permit (removes_directory path place walk word passed) = of place.parent _
       (named_at path place.parent place.last (old_name_ways_are_searched world task path place walk), tt)
-  granted_theirs asked permit (renames old new from to both two passed) =
-      of from.parent _
+  granted_theirs asked permit (renames old new from to both two passed) = of from.parent _
       (named_at old from.parent from.last (old_leaf_ways_are_searched world task old from both.from_end), tt)
   granted_theirs asked permit (changes_mode path mode here walk passed) =
       of here.location _ (object_at path here walk, tt)
@@ -187,11 +171,9 @@ module _ (world : World ℕ) (fresh : Fresh ℕ) (names : List TaskName) (name :
       opened file (found_at path place file walk is_there) (is_copied_up nat_eq world file access)
   granted_theirs asked permit (creates path access mode place few walk named missing passed) =
       of place.parent _ (file_at path place walk, tt)
-  granted_theirs asked permit (creates_exclusively path access mode place few walk named passed) =
-      of place.parent _
+  granted_theirs asked permit (creates_exclusively path access mode place few walk named passed) = of place.parent _
       (named_at path place.parent place.last (new_name_ways_are_searched world task path place walk), tt)
-  granted_theirs asked permit (writes_part number offset bytes descriptor found passed) =
-      written descriptor.location
+  granted_theirs asked permit (writes_part number offset bytes descriptor found passed) = written descriptor.location
       (old_outside world fresh names name call task outsider called descriptor.location
       (inr (inr (among-map (λ (d : Descriptor ℕ). d.location) task.descriptors descriptor
       (found_among (λ (d : Descriptor ℕ). number == d.number) task.descriptors descriptor

@@ -23,8 +23,7 @@ pub record KeepsPlaces (change : Mount ℕ → Mount ℕ) : Type 0 where
   pub filesystem : (mount : Mount ℕ) → (change mount).filesystem ≡ mount.filesystem
 
 module _ (world : World ℕ) (names : List TaskName) (apart : IsApart world names) (change : Mount ℕ → Mount ℕ)
-    (keeps : KeepsPlaces change)
-    (kept_same : (mount : Mount ℕ) → Among mount world.mounts
+    (keeps : KeepsPlaces change) (kept_same : (mount : Mount ℕ) → Among mount world.mounts
     → keep world names (members world names) (change mount) ≡ keep world names (members world names) mount)
     (master : ℕ → Option ℕ) where
   abbrev pub left : World ℕ
@@ -43,8 +42,7 @@ module _ (world : World ℕ) (names : List TaskName) (apart : IsApart world name
   pub others_changed : other_mounts nat_eq left names ≡ map change (other_mounts nat_eq world names)
   others_changed =
       filter-map (λ (mount : Mount ℕ). holds_of (λ n. not (is_own_namespace nat_eq world names n)) mount.namespace)
-      change
-      world.mounts
+      change world.mounts
       (λ mount. ap (holds_of (λ n. not (is_own_namespace nat_eq world names n))) (keeps.namespace mount))
 
   -- what is found is changed alike
@@ -57,8 +55,7 @@ module _ (world : World ℕ) (names : List TaskName) (apart : IsApart world name
       (find (λ (m : Mount ℕ). nat_eq number m.number) (map change rest))) (no_mount number))) (keeps.number mount)
       ∙ by (nat_eq number mount.number) (found_in value same number rest)
     where
-      by : (b : Bool)
-          → value (mount_in nat_eq (map change rest) number) ≡ value (mount_in nat_eq rest number)
+      by : (b : Bool) → value (mount_in nat_eq (map change rest) number) ≡ value (mount_in nat_eq rest number)
           → value (unwrap_or (cond b (Some (change mount))
           (find (λ (m : Mount ℕ). nat_eq number m.number) (map change rest))) (no_mount number))
           ≡ value (unwrap_or (cond b (Some mount) (find (λ (m : Mount ℕ). nat_eq number m.number) rest))
@@ -68,8 +65,7 @@ module _ (world : World ℕ) (names : List TaskName) (apart : IsApart world name
 
   shown_at : (location : Location ℕ)
       → (mount_at nat_eq left location).filesystem ≡ (mount_at nat_eq world location).filesystem
-  shown_at location =
-      found_in (λ (mount : Mount ℕ). mount.filesystem) keeps.filesystem location.mount world.mounts
+  shown_at location = found_in (λ (mount : Mount ℕ). mount.filesystem) keeps.filesystem location.mount world.mounts
 
   placed_at : (location : Location ℕ)
       → (mount_at nat_eq left location).namespace ≡ (mount_at nat_eq world location).namespace
@@ -78,14 +74,12 @@ module _ (world : World ℕ) (names : List TaskName) (apart : IsApart world name
   any_same : (p q : Location ℕ → Bool) → ((x : Location ℕ) → p x ≡ q x) → (list : List (Location ℕ))
       → list_any p list ≡ list_any q list
   any_same p q same [] = refl
-  any_same p q same (x ∷ rest) =
-      ap (λ b. b || list_any p rest) (same x) ∙ ap (λ b. q x || b) (any_same p q same rest)
+  any_same p q same (x ∷ rest) = ap (λ b. b || list_any p rest) (same x) ∙ ap (λ b. q x || b) (any_same p q same rest)
 
   all_same : (p q : Location ℕ → Bool) → ((x : Location ℕ) → p x ≡ q x) → (list : List (Location ℕ))
       → list_all p list ≡ list_all q list
   all_same p q same [] = refl
-  all_same p q same (x ∷ rest) =
-      ap (λ b. b && list_all p rest) (same x) ∙ ap (λ b. q x && b) (all_same p q same rest)
+  all_same p q same (x ∷ rest) = ap (λ b. b && list_all p rest) (same x) ∙ ap (λ b. q x && b) (all_same p q same rest)
 
   no_outsider_same : (number : ℕ) → no_outsider_on nat_eq left names number ≡ no_outsider_on nat_eq world names number
   no_outsider_same number =
@@ -95,8 +89,7 @@ module _ (world : World ℕ) (names : List TaskName) (apart : IsApart world name
       ∙ any-map (λ (mount : Mount ℕ). nat_eq number mount.filesystem) change (other_mounts nat_eq world names)
       (λ mount. ap (nat_eq number) (keeps.filesystem mount)))
       ∙ ap (λ b. not (list_any (λ (mount : Mount ℕ). nat_eq number mount.filesystem) (other_mounts nat_eq world names))
-      && not b)
-      (any_same (λ location. nat_eq number (mount_at nat_eq left location).filesystem)
+      && not b) (any_same (λ location. nat_eq number (mount_at nat_eq left location).filesystem)
       (λ location. nat_eq number (mount_at nat_eq world location).filesystem)
       (λ location. ap (nat_eq number) (shown_at location)) (locations (outsiders world names)))
 
@@ -119,13 +112,11 @@ module _ (world : World ℕ) (names : List TaskName) (apart : IsApart world name
     others = record {
       tasks = apart.tasks;
       events = events;
-      locations =
-          all_same (λ location. not (holds_of (is_own_namespace nat_eq world names)
+      locations = all_same (λ location. not (holds_of (is_own_namespace nat_eq world names)
           (mount_at nat_eq left location).namespace))
           (λ location. not (holds_of (is_own_namespace nat_eq world names) (mount_at nat_eq world location).namespace))
           (λ location. ap (λ o. not (holds_of (is_own_namespace nat_eq world names) o)) (placed_at location))
-          (locations (outsiders world names))
-          ∙ apart.locations;
+          (locations (outsiders world names)) ∙ apart.locations;
       free = free_from world left names refl (λ number of free. no_outsider_same number ∙ free);
     };
     unraised = λ number m. refl;

@@ -64,22 +64,18 @@ module _ (world : World ℕ) (fresh : Fresh ℕ) (names : List TaskName) (name :
       ap (λ (o : Outcome ℕ). o.world) (call_is_judged_then_applied fresh world task call
       ∙ ap (λ j. after world j (apply nat_eq fresh world task)) judged) in
       let way = under world fresh task call permit outsider.is outsider.serves itself other outsider.few_groups judged
-      in
-      sweep_leaves_apart world (apply nat_eq fresh world task permit).world names
+      in sweep_leaves_apart world (apply nat_eq fresh world task permit).world names
       (apart_if_sealed world names outsider.is outsider.sealed_off) outsider.sealed_off
-      (subst (TreeInvariants nat_eq) left way.files)
-      (subst (OverlayInvariants nat_eq) left
+      (subst (TreeInvariants nat_eq) left way.files) (subst (OverlayInvariants nat_eq) left
       (overlays_kept world fresh task call permit outsider.is outsider.serves itself other outsider.few_groups judged))
       (subst (MountInvariants nat_eq) left way.mounts).one_number changed leaves
 
   -- A change, where others were moved before in a world of the same filesystems
   pub change_leaves : (location : Location ℕ) (change : Change ℕ)
       → change_asked fresh world permit ≡ Some (location, change) → (base : World ℕ)
-      → base.filesystems ≡ world.filesystems
-      → (apply nat_eq fresh world task permit).world
+      → base.filesystems ≡ world.filesystems → (apply nat_eq fresh world task permit).world
       ≡ record base { filesystems = (apply nat_eq fresh world task permit).world.filesystems }
-      → filesystems_changed nat_eq world permit ≡ changed_at nat_eq world location
-      → LeavesApart world base names []
+      → filesystems_changed nat_eq world permit ≡ changed_at nat_eq world location → LeavesApart world base names []
       → LeavesApart world (settled nat_eq (apply nat_eq fresh world task permit).world) names
       (filesystems_changed nat_eq world permit)
   change_leaves location change asks base same left raised leaves =
@@ -87,20 +83,17 @@ module _ (world : World ℕ) (fresh : Fresh ℕ) (names : List TaskName) (name :
       (filesystems_changed nat_eq world permit)
       (subst (LeavesApart world (apply nat_eq fresh world task permit).world names) (sym raised)
       (changed_files_leave world fresh names name call task outsider called permit judged location change asks base
-      (apply nat_eq fresh world task permit).world same
-      (left ∙ ap (λ list. record base { filesystems = list })
+      (apply nat_eq fresh world task permit).world same (left ∙ ap (λ list. record base { filesystems = list })
       (permits_make_their_change world fresh task permit location change asks)) leaves))
 
   -- where the world stays but for its filesystems
   pub change_alone : (location : Location ℕ) (change : Change ℕ)
-      → change_asked fresh world permit ≡ Some (location, change)
-      → (apply nat_eq fresh world task permit).world
+      → change_asked fresh world permit ≡ Some (location, change) → (apply nat_eq fresh world task permit).world
       ≡ record world { filesystems = (apply nat_eq fresh world task permit).world.filesystems }
       → filesystems_changed nat_eq world permit ≡ changed_at nat_eq world location
       → LeavesApart world (settled nat_eq (apply nat_eq fresh world task permit).world) names
       (filesystems_changed nat_eq world permit)
-  change_alone location change asks left raised =
-      change_leaves location change asks world refl left raised
+  change_alone location change asks left raised = change_leaves location change asks world refl left raised
       (leaves_apart_itself world fresh names name call outsider)
 
 -- A descriptor on a file of others
@@ -113,8 +106,7 @@ module _ (world : World ℕ) (fresh : Fresh ℕ) (names : List TaskName) (name :
 
   -- what is left beside filesystems
   opened_beside : (changed : World ℕ) → changed ≡ record world { filesystems = changed.filesystems }
-      → (file : Location ℕ) (access : Access)
-      → with_task changed (with_descriptor task file access)
+      → (file : Location ℕ) (access : Access) → with_task changed (with_descriptor task file access)
       ≡ record (with_open file access) { filesystems = changed.filesystems }
   opened_beside changed same file access = ap (λ w. with_task w (with_descriptor task file access)) same
 
@@ -125,16 +117,14 @@ module _ (world : World ℕ) (fresh : Fresh ℕ) (names : List TaskName) (name :
   open_leaves file access judged = by (is_copied_up nat_eq world file access) refl
     where
       leaves : LeavesApart world (with_open file access) names []
-      leaves =
-          descriptor_leaves world fresh names name call task outsider called file access
+      leaves = descriptor_leaves world fresh names name call task outsider called file access
           (open_outside world fresh names name call task outsider called file access judged)
 
       left : World ℕ
       left = (apply nat_eq fresh world task (ToOpen file access)).world
 
       beside : left ≡ record (with_open file access) { filesystems = left.filesystems }
-      beside =
-          opened_beside (with_copy nat_eq (is_copied_up nat_eq world file access) fresh world file)
+      beside = opened_beside (with_copy nat_eq (is_copied_up nat_eq world file access) fresh world file)
           (copied (is_copied_up nat_eq world file access)) file access
         where
           copied : (b : Bool) → with_copy nat_eq b fresh world file
@@ -144,12 +134,10 @@ module _ (world : World ℕ) (fresh : Fresh ℕ) (names : List TaskName) (name :
 
       by : (b : Bool) → is_copied_up nat_eq world file access ≡ b
           → LeavesApart world (settled nat_eq left) names (filesystems_changed nat_eq world (ToOpen file access))
-      by true e =
-          change_leaves world fresh names name call task outsider called (ToOpen file access) judged file
+      by true e = change_leaves world fresh names name call task outsider called (ToOpen file access) judged file
           (CopyUp file.node) (ap (λ b. when b (file, CopyUp file.node)) e) (with_open file access) refl beside
           (ap (λ b. changed_if nat_eq b world file) e) leaves
-      by false e =
-          subst (LeavesApart world (settled nat_eq left) names)
+      by false e = subst (LeavesApart world (settled nat_eq left) names)
           (sym (ap (λ b. changed_if nat_eq b world file) e))
           (sweeping_leaves_apart world left names (apart_if_sealed world names outsider.is outsider.sealed_off)
           outsider.sealed_off (ap (λ b. (with_copy nat_eq b fresh world file).filesystems) e)
@@ -157,8 +145,7 @@ module _ (world : World ℕ) (fresh : Fresh ℕ) (names : List TaskName) (name :
           (subst (λ w. LeavesApart world w names []) (sym not_copied) leaves))
         where
           not_copied : left ≡ with_open file access
-          not_copied =
-              ap (λ b. with_task (with_copy nat_eq b fresh world file) (with_descriptor task file access)) e
+          not_copied = ap (λ b. with_task (with_copy nat_eq b fresh world file) (with_descriptor task file access)) e
 
   pub new_leaves : (directory : Location ℕ) (new_name : List ℕ) (node : Node ℕ) (access : Access)
       → judge_in nat_eq fresh world task call ≡ Ok (ToOpenNew directory new_name node access)
@@ -175,8 +162,7 @@ module _ (world : World ℕ) (fresh : Fresh ℕ) (names : List TaskName) (name :
       (opened_beside (with_change nat_eq (odds fresh) world directory
       (Make directory.node new_name (evens fresh 0) node))
       (the_rest_stays (odds fresh) world directory (Make directory.node new_name (evens fresh 0) node)) file access)
-      refl
-      (descriptor_leaves world fresh names name call task outsider called file access theirs.0)
+      refl (descriptor_leaves world fresh names name call task outsider called file access theirs.0)
 
 -- A change of attributes and bytes, a new name, and a write
 pub attributes_leave : (world : World ℕ) (fresh : Fresh ℕ) (names : List TaskName) (name : TaskName) (call : Call)

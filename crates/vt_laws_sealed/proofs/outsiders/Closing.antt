@@ -32,8 +32,7 @@ close_leaves world fresh names name call task outsider called number =
         → Among location (map (λ (d : Descriptor ℕ). d.location) task.descriptors)
     left_open location m =
         let from = among-from_map (λ (d : Descriptor ℕ). d.location)
-        (without_descriptor task number).descriptors location
-        m in
+        (without_descriptor task number).descriptors location m in
         subst (λ l. Among l (map (λ (d : Descriptor ℕ). d.location) task.descriptors)) (sym from.2)
         (among-map (λ (d : Descriptor ℕ). d.location) task.descriptors from.0
         (among-from_filter (λ (d : Descriptor ℕ). not (number == d.number)) task.descriptors from.0 from.1).0)

@@ -36,17 +36,14 @@ module _ (used : List ℕ) (files : FileTree ℕ) (holds : HoldsTree used files)
 
   entry_kept : (directory : ℕ) (name : List ℕ) (number : ℕ) → entry_at files.tree directory name ≡ Some number
       → entry_at cut.tree directory name ≡ Some number
-  entry_kept directory name number e =
-      ap (λ b. entry_named name (entries_in (cond b (files.tree.node directory) None)))
-      (entry_used used files holds conditions directory name number e)
-      ∙ e
+  entry_kept directory name number e = ap (λ b. entry_named name (entries_in (cond b (files.tree.node directory) None)))
+      (entry_used used files holds conditions directory name number e) ∙ e
 
   -- names lead where they led, and to what is used
   led_was : (path : List (List ℕ)) (from object : ℕ) → led cut.tree from path ≡ Some object
       → led files.tree from path ≡ Some object
   led_was [] from object e = e
-  led_was (name ∷ path) from object e =
-      by (λ next. led_was path next object) (entry_at cut.tree from name) refl e
+  led_was (name ∷ path) from object e = by (λ next. led_was path next object) (entry_at cut.tree from name) refl e
     where
       by : ((next : ℕ) → led cut.tree next path ≡ Some object → led files.tree next path ≡ Some object) → (o : Option ℕ)
           → entry_at cut.tree from name ≡ o → option_and_then (λ next. led cut.tree next path) o ≡ Some object
@@ -58,12 +55,10 @@ module _ (used : List ℕ) (files : FileTree ℕ) (holds : HoldsTree used files)
   led_kept : (path : List (List ℕ)) (from object : ℕ) → led files.tree from path ≡ Some object
       → led cut.tree from path ≡ Some object
   led_kept [] from object e = e
-  led_kept (name ∷ path) from object e =
-      by (λ next. led_kept path next object) (entry_at files.tree from name) refl e
+  led_kept (name ∷ path) from object e = by (λ next. led_kept path next object) (entry_at files.tree from name) refl e
     where
       by : ((next : ℕ) → led files.tree next path ≡ Some object → led cut.tree next path ≡ Some object) → (o : Option ℕ)
-          → entry_at files.tree from name ≡ o
-          → option_and_then (λ next. led files.tree next path) o ≡ Some object
+          → entry_at files.tree from name ≡ o → option_and_then (λ next. led files.tree next path) o ≡ Some object
           → led cut.tree from (name ∷ path) ≡ Some object
       by below None f h = none_is_some object h
       by below (Some next) f h =
@@ -76,8 +71,7 @@ module _ (used : List ℕ) (files : FileTree ℕ) (holds : HoldsTree used files)
       by (λ next. led_used path next object) (entry_at files.tree from name) refl e
     where
       by : ((next : ℕ) → is_among nat_eq next used ≡ true → led files.tree next path ≡ Some object
-          → is_among nat_eq object used ≡ true)
-          → (o : Option ℕ) → entry_at files.tree from name ≡ o
+          → is_among nat_eq object used ≡ true) → (o : Option ℕ) → entry_at files.tree from name ≡ o
           → option_and_then (λ next. led files.tree next path) o ≡ Some object → is_among nat_eq object used ≡ true
       by below None f h = none_is_some object h
       by below (Some next) f h = below next (holds.named next (from, name, f)) h
@@ -92,8 +86,7 @@ module _ (used : List ℕ) (files : FileTree ℕ) (holds : HoldsTree used files)
     directory_kept = ap (λ b. is_directory_node (cond b (files.tree.node top) None)) is ∙ directory
 
     pub under_same : (object : ℕ) → is_under nat_eq cut top object ≡ is_under nat_eq files top object
-    under_same object =
-        same_truth (is_under nat_eq cut top object) (is_under nat_eq files top object)
+    under_same object = same_truth (is_under nat_eq cut top object) (is_under nat_eq files top object)
         (λ h. let way = under_led cut cut_is.tree top object h in
         led_under files conditions.tree top conditions.numbers directory object (way.0, led_was way.0 top object way.1))
         (λ h. let way = under_led files conditions.tree top object h in
@@ -103,14 +96,12 @@ module _ (used : List ℕ) (files : FileTree ℕ) (holds : HoldsTree used files)
 pub any_alike : (p q : Layer ℕ → Bool) (list : List (Layer ℕ)) → ((x : Layer ℕ) → Among x list → p x ≡ q x)
     → list_any p list ≡ list_any q list
 any_alike p q [] same = refl
-any_alike p q (x ∷ rest) same =
-    ap (λ b. b || list_any p rest) (same x (inl refl))
+any_alike p q (x ∷ rest) same = ap (λ b. b || list_any p rest) (same x (inl refl))
     ∙ ap (λ b. q x || b) (any_alike p q rest (λ y m. same y (inr m)))
 
 pub filter_same : (p q : ℕ → Bool) (xs : List ℕ) → ((x : ℕ) → p x ≡ q x) → filter p xs ≡ filter q xs
 filter_same p q [] same = refl
-filter_same p q (x ∷ xs) same =
-    ap (λ b. cond b (x ∷ filter p xs) (filter p xs)) (same x)
+filter_same p q (x ∷ xs) same = ap (λ b. cond b (x ∷ filter p xs) (filter p xs)) (same x)
     ∙ ap (λ l. cond (q x) (x ∷ l) l) (filter_same p q xs same)
 
 -- of two lists of which one has all of the other, the other is left
@@ -125,8 +116,7 @@ filter_within p used (x ∷ xs) within =
     skip true e f = absurd (true≢false (sym (within x (inl refl) e) ∙ f))
     skip false e f = refl
 
-    by : (b : Bool) → is_among nat_eq x used ≡ b
-        → filter p (filter (λ y. is_among nat_eq y used) xs) ≡ filter p xs
+    by : (b : Bool) → is_among nat_eq x used ≡ b → filter p (filter (λ y. is_among nat_eq y used) xs) ≡ filter p xs
         → filter p (cond b (x ∷ filter (λ y. is_among nat_eq y used) xs) (filter (λ y. is_among nat_eq y used) xs))
         ≡ cond (p x) (x ∷ filter p xs) (filter p xs)
     by true e later = ap (λ l. cond (p x) (x ∷ l) l) later
@@ -151,9 +141,7 @@ module _ (used : List ℕ) (files : FileTree ℕ) (holds : HoldsTree used files)
       under_used used files holds conditions at.0.directory top.0 top.1 object both.1
 
   lies_same : (object : ℕ) → lies_in (only_among nat_eq used files) object ≡ lies_in files object
-  lies_same object =
-      any_alike
-      (λ (layer : Layer ℕ). nat_eq number layer.filesystem
+  lies_same object = any_alike (λ (layer : Layer ℕ). nat_eq number layer.filesystem
       && is_under nat_eq (only_among nat_eq used files) layer.directory object)
       (λ (layer : Layer ℕ). nat_eq number layer.filesystem && is_under nat_eq files layer.directory object) lowers
       (λ layer m. by layer m (nat_eq number layer.filesystem) refl)
@@ -169,8 +157,7 @@ module _ (used : List ℕ) (files : FileTree ℕ) (holds : HoldsTree used files)
   chosen = filter (lies_in files) files.numbers
 
   pub numbers_same : filter (lies_in (only_among nat_eq used files)) (only_among nat_eq used files).numbers ≡ chosen
-  numbers_same =
-      filter_same (lies_in (only_among nat_eq used files)) (lies_in files)
+  numbers_same = filter_same (lies_in (only_among nat_eq used files)) (lies_in files)
       (filter (λ x. is_among nat_eq x used) files.numbers) lies_same
       ∙ filter_within (lies_in files) used files.numbers (λ x m. lies_used x)
 
@@ -182,18 +169,14 @@ module _ (used : List ℕ) (files : FileTree ℕ) (holds : HoldsTree used files)
       by : (b : Bool) → is_among nat_eq object chosen ≡ b
           → cond b (cond (is_among nat_eq object used) (files.tree.node object) None) None
           ≡ cond b (files.tree.node object) None
-      by true e =
-          ap (λ c. cond c (files.tree.node object) None)
-          (lies_used object (among-from_filter (lies_in files) files.numbers object
-          (among_numbers chosen object e)).1)
+      by true e = ap (λ c. cond c (files.tree.node object) None)
+          (lies_used object (among-from_filter (lies_in files) files.numbers object (among_numbers chosen object e)).1)
       by false e = refl
 
   pub lower_part_same : only_among nat_eq (filter (lies_in (only_among nat_eq used files))
       (only_among nat_eq used files).numbers) (only_among nat_eq used files) ≡ only_among nat_eq chosen files
-  lower_part_same =
-      ap (λ list. only_among nat_eq list (only_among nat_eq used files)) numbers_same
-      ∙ (λ i. record {
-        tree = record { root = files.tree.root; node = λ object. node_same object i };
-        numbers = filter_within (λ x. is_among nat_eq x chosen) used files.numbers
-            (λ x m h. lies_used x (among-from_filter (lies_in files) files.numbers x (among_numbers chosen x h)).1) i;
-      })
+  lower_part_same = ap (λ list. only_among nat_eq list (only_among nat_eq used files)) numbers_same ∙ (λ i. record {
+    tree = record { root = files.tree.root; node = λ object. node_same object i };
+    numbers = filter_within (λ x. is_among nat_eq x chosen) used files.numbers
+        (λ x m h. lies_used x (among-from_filter (lies_in files) files.numbers x (among_numbers chosen x h)).1) i;
+  })

@@ -32,8 +32,7 @@ use Rattle.vt_laws_sealed.proofs.outsiders.TakingAway.{filesystems_taken, taken_
 module _ (world : World ℕ) (names : List TaskName) {New : ℕ → Type 0} (apart : StandsApart world names New)
     (tasks : List (Task ℕ)) (same : filter (is_member_task names) tasks ≡ members world names)
     (outside : (t : Task ℕ) → Among t (filter (λ (x : Task ℕ). not (is_member_task names x)) tasks)
-    → is_own_namespace nat_eq world names t.namespace ≡ false)
-    (located : (location : Location ℕ)
+    → is_own_namespace nat_eq world names t.namespace ≡ false) (located : (location : Location ℕ)
     → Among location (locations (filter (λ (x : Task ℕ). not (is_member_task names x)) tasks))
     → IsOutside world names location) where
   abbrev pub before : World ℕ
@@ -65,8 +64,7 @@ module _ (world : World ℕ) (names : List TaskName) {New : ℕ → Type 0} (apa
   own_lives : (number : ℕ) → is_own number ≡ true → lives_on number ≡ true
   own_lives number own =
       let listed = listed_at number (apart.own_listed number own) in
-      any_from_among
-      (λ (namespace : Namespace ℕ). nat_eq number namespace.number && has_tasks nat_eq before namespace)
+      any_from_among (λ (namespace : Namespace ℕ). nat_eq number namespace.number && has_tasks nat_eq before namespace)
       world.namespaces listed.0 listed.1
       (and_from (nat_eq number listed.0.number) (has_tasks nat_eq before listed.0) listed.2
       (own_has_tasks listed.0.number (ap is_own (sym (eqb-true number listed.0.number listed.2)) ∙ own)))
@@ -87,8 +85,7 @@ module _ (world : World ℕ) (names : List TaskName) {New : ℕ → Type 0} (apa
       ∙ found_itself world.mounts apart.mounts.one_number from.0 at.0) ∙ at.1
 
   others_go : (number : ℕ) → is_going nat_eq gone number ≡ true
-      → (namespace : ℕ) × ((mount_numbered nat_eq world number).namespace ≡ Some namespace)
-      × (is_own namespace ≡ false)
+      → (namespace : ℕ) × ((mount_numbered nat_eq world number).namespace ≡ Some namespace) × (is_own namespace ≡ false)
   others_go number h = by (mount_numbered nat_eq world number).namespace refl (ended_if_going number h)
     where
       by : (o : Option ℕ) → (mount_numbered nat_eq world number).namespace ≡ o
@@ -99,8 +96,7 @@ module _ (world : World ℕ) (names : List TaskName) {New : ℕ → Type 0} (apa
       by (Some n) e ended = (
         n,
         e,
-        false_from_ne_true (is_own n) (λ own.
-            true≢false (sym ended ∙ ap not (own_lives n own))),
+        false_from_ne_true (is_own n) (λ own. true≢false (sym ended ∙ ap not (own_lives n own))),
       )
 
   abbrev namespaces_left : List (Namespace ℕ)
@@ -127,8 +123,7 @@ pub ending_leaves_apart : (world : World ℕ) (names : List TaskName) → IsApar
     → sealed nat_eq world names ≡ true → (tasks : List (Task ℕ))
     → filter (is_member_task names) tasks ≡ members world names
     → ((t : Task ℕ) → Among t (filter (λ (x : Task ℕ). not (is_member_task names x)) tasks)
-    → is_own_namespace nat_eq world names t.namespace ≡ false)
-    → ((location : Location ℕ)
+    → is_own_namespace nat_eq world names t.namespace ≡ false) → ((location : Location ℕ)
     → Among location (locations (filter (λ (x : Task ℕ). not (is_member_task names x)) tasks))
     → IsOutside world names location)
     → LeavesApart world (settled nat_eq (namespaces_ended nat_eq (record world { tasks = tasks }))) names []
@@ -150,12 +145,10 @@ module _ (world : World ℕ) (fresh : Fresh ℕ) (names : List TaskName) (name :
   others = filter (λ (t : Task ℕ). not (same_name task.name t.name)) world.tasks
 
   members_there : filter (is_member_task names) others ≡ members world names
-  members_there =
-      filter_less (is_member_task names) (λ (t : Task ℕ). not (same_name task.name t.name)) world.tasks
+  members_there = filter_less (is_member_task names) (λ (t : Task ℕ). not (same_name task.name t.name)) world.tasks
       (λ t m gone. ap (λ n. is_among same_name n names)
       (sym (same_task_name task.name t.name (not-false (same_name task.name t.name) gone))
-      ∙ sym (name_found world name task called))
-      ∙ outsider.outside)
+      ∙ sym (name_found world name task called)) ∙ outsider.outside)
 
   out_before : (t : Task ℕ) → Among t (filter (λ (x : Task ℕ). not (is_member_task names x)) others)
       → Among t (outsiders world names)
@@ -165,10 +158,8 @@ module _ (world : World ℕ) (fresh : Fresh ℕ) (names : List TaskName) (name :
       (among-from_filter (λ (x : Task ℕ). not (same_name task.name x.name)) world.tasks t out.0).0 out.1
 
   pub exit_leaves : LeavesApart world (settled nat_eq (apply nat_eq fresh world task ToExit).world) names []
-  exit_leaves =
-      ending_leaves_apart world names set_apart outsider.sealed_off others members_there
-      (λ t m. namespace_outside world names set_apart t (out_before t m))
-      (λ location m.
+  exit_leaves = ending_leaves_apart world names set_apart outsider.sealed_off others members_there
+      (λ t m. namespace_outside world names set_apart t (out_before t m)) (λ location m.
       let of = among-from_flat_map locations_of
       (filter (λ (x : Task ℕ). not (is_member_task names x)) others) location m in
       inl (

@@ -32,21 +32,17 @@ use Rattle.vt_laws_sealed.proofs.outsiders.Sweeping.{sweeping_leaves_apart}
 pub ground_of_others : (world : World ℕ) (names : List TaskName) (apart : IsApart world names) (task : Task ℕ)
     → Among task (outsiders world names) → (there : Among task world.tasks) → (location : Location ℕ)
     → IsGround world apart.is task there location.mount → IsOutside world names location
-ground_of_others world names apart task outside there location ground =
-    ⊎_elim
+ground_of_others world names apart task outside there location ground = ⊎_elim
     (λ own. inr (is_other world names task.namespace (namespace_outside world names apart task outside)
-    (mount_at nat_eq world location)
-    (⊎_elim (λ m. m)
+    (mount_at nat_eq world location) (⊎_elim (λ m. m)
     (λ missing. none_is_some task.namespace (sym (ap (λ m. m.namespace) missing) ∙ own))
-    (found_or_none world.mounts location.mount)) own))
-    (λ none. ⊎_elim
+    (found_or_none world.mounts location.mount)) own)) (λ none. ⊎_elim
     (λ e. inl (task.root, among-flat_map locations_of (outsiders world names) task task.root outside (inl refl), e))
     (λ e. inl (
       task.directory,
       among-flat_map locations_of (outsiders world names) task task.directory outside (inr (inl refl)),
       e,
-    )) none.1)
-    ground
+    )) none.1) ground
 
 module _ (world : World ℕ) (fresh : Fresh ℕ) (names : List TaskName) (name : TaskName) (call : Call)
     (task : Task ℕ) (outsider : IsOutsidersCall world fresh names name call)
@@ -69,8 +65,7 @@ module _ (world : World ℕ) (fresh : Fresh ℕ) (names : List TaskName) (name :
       → (directory : Location ℕ) → permit ≡ ToSetDirectory directory → OnGround directory
   directory_reached asked permit (changes_directory path here walk may) directory e =
       let same : here.location ≡ directory = cc in
-      subst OnGround same
-      (searched_ground world outsider.is task task_there path here.location
+      subst OnGround same (searched_ground world outsider.is task task_there path here.location
       (directory_ways_are_searched world task path here walk))
   directory_reached asked permit granted directory e = absurd cc
 
@@ -79,8 +74,7 @@ module _ (world : World ℕ) (fresh : Fresh ℕ) (names : List TaskName) (name :
       → (root : Location ℕ) → permit ≡ ToSetRoot root → OnGround root
   root_reached asked permit (changes_root path here able walk may) root e =
       let same : here.location ≡ root = cc in
-      subst OnGround same
-      (searched_ground world outsider.is task task_there path here.location
+      subst OnGround same (searched_ground world outsider.is task task_there path here.location
       (directory_ways_are_searched world task path here walk))
   root_reached asked permit granted root e = absurd cc
 
@@ -97,11 +91,8 @@ module _ (world : World ℕ) (fresh : Fresh ℕ) (names : List TaskName) (name :
       sweeping_leaves_apart world (apply nat_eq fresh world task (ToSetDirectory directory)).world names apart
       outsider.sealed_off refl outsider.is.mounts.one_number []
       (replacing_leaves_apart world fresh names name call task outsider called (record task { directory = directory })
-      refl refl
-      (λ location m. ⊎_elim (λ root. old_outside location (inl root))
-      (λ rest. ⊎_elim
-      (λ here. ground_outside location (subst OnGround (sym here)
-      (directory_reached call (ToSetDirectory directory)
+      refl refl (λ location m. ⊎_elim (λ root. old_outside location (inl root)) (λ rest. ⊎_elim
+      (λ here. ground_outside location (subst OnGround (sym here) (directory_reached call (ToSetDirectory directory)
       (calls_are_granted nat_eq (looks_of nat_eq world) (overfills nat_eq fresh world task) task call
       (ToSetDirectory directory) judged) directory refl)))
       (λ open_ones. old_outside location (inr (inr open_ones))) rest) m))
@@ -111,11 +102,8 @@ module _ (world : World ℕ) (fresh : Fresh ℕ) (names : List TaskName) (name :
   root_leaves root judged =
       sweeping_leaves_apart world (apply nat_eq fresh world task (ToSetRoot root)).world names apart
       outsider.sealed_off refl outsider.is.mounts.one_number []
-      (replacing_leaves_apart world fresh names name call task outsider called (record task { root = root })
-      refl refl
-      (λ location m. ⊎_elim
-      (λ here. ground_outside location (subst OnGround (sym here)
+      (replacing_leaves_apart world fresh names name call task outsider called (record task { root = root }) refl refl
+      (λ location m. ⊎_elim (λ here. ground_outside location (subst OnGround (sym here)
       (root_reached call (ToSetRoot root)
       (calls_are_granted nat_eq (looks_of nat_eq world) (overfills nat_eq fresh world task) task call
-      (ToSetRoot root) judged) root refl)))
-      (λ rest. old_outside location (inr rest)) m))
+      (ToSetRoot root) judged) root refl))) (λ rest. old_outside location (inr rest)) m))

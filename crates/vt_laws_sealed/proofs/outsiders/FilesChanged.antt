@@ -93,8 +93,7 @@ made_was_not_there world location (CopyUp object) asked made m = absurd m
 
 -- a plain change leaves what it spares, if that is not what it makes
 pub spared_stays : (files : FileTree ℕ) (change : Change ℕ) (inode : ℕ) → SparesInode files change inode
-    → (Among inode (numbers_made change) → ⊥)
-    → (changed nat_eq files change).tree.node inode ≡ files.tree.node inode
+    → (Among inode (numbers_made change) → ⊥) → (changed nat_eq files change).tree.node inode ≡ files.tree.node inode
 spared_stays files (Make directory name number node) inode spares old =
     kept_elsewhere (with_inode nat_eq files number node) directory (node_with_entry name number) inode
     (ne_eqb inode directory spares)
@@ -117,8 +116,7 @@ spared_stays files (Move from name to new object) inode spares old =
     replaced_stays : (o : Option ℕ) → o ≢ Some inode
         → (without_parent nat_eq files o).tree.node inode ≡ files.tree.node inode
     replaced_stays None differs = refl
-    replaced_stays (Some replaced) differs =
-        kept_elsewhere files replaced (node_with_parent replaced) inode
+    replaced_stays (Some replaced) differs = kept_elsewhere files replaced (node_with_parent replaced) inode
         (ne_eqb inode replaced (λ same. differs (ap Some (sym same))))
 spared_stays files (SetBytes file bytes) inode spares old =
     kept_elsewhere files file (node_with_bytes bytes) inode (ne_eqb inode file spares)
@@ -136,8 +134,7 @@ abbrev with_real_objects : Merge ℕ → Overlay ℕ → Overlay ℕ
 with_real_objects merge overlay = record overlay { real = merge.real }
 
 abbrev remerged : ℕ → Merge ℕ → Filesystem ℕ → Filesystem ℕ
-remerged number merge x =
-    cond (nat_eq number x.number)
+remerged number merge x = cond (nat_eq number x.number)
     (record x { files = merge.files; overlay = option_map (with_real_objects merge) x.overlay }) x
 
 -- with its number, its layers, and what is an overlay
@@ -208,8 +205,7 @@ map_alike f g (x ∷ xs) same =
 module _ (world : World ℕ) (names : List TaskName) (apart : IsApart world names) where
   found : (x : Filesystem ℕ) → Among x world.filesystems → (number : ℕ) → nat_eq number x.number ≡ true
       → filesystem_numbered nat_eq world number ≡ x
-  found x m number e =
-      ap (filesystem_numbered nat_eq world) (eqb-true number x.number e)
+  found x m number e = ap (filesystem_numbered nat_eq world) (eqb-true number x.number e)
       ∙ found_filesystem world.filesystems apart.is.files.one_filesystem x m
 
   -- a filesystem put in the place of another one is that one with other files
@@ -220,8 +216,7 @@ module _ (world : World ℕ) (names : List TaskName) (apart : IsApart world name
       map_alike (replaced_if_numbered nat_eq (with_files (filesystem_numbered nat_eq world number) files))
       (rewritten number files) world.filesystems (λ x m.
       ap (λ n. cond (nat_eq n x.number) (with_files (filesystem_numbered nat_eq world number) files) x)
-      (number_of_filesystem world number)
-      ∙ by x m (nat_eq number x.number) refl)
+      (number_of_filesystem world number) ∙ by x m (nat_eq number x.number) refl)
     where
       by : (x : Filesystem ℕ) → Among x world.filesystems → (b : Bool) → nat_eq number x.number ≡ b
           → cond b (with_files (filesystem_numbered nat_eq world number) files) x ≡ cond b
@@ -235,22 +230,18 @@ module _ (world : World ℕ) (names : List TaskName) (apart : IsApart world name
       (map (replaced_if_numbered nat_eq (record (filesystem_numbered nat_eq world number) {
         files = merge.files;
         overlay = Some (with_real_objects merge overlay);
-      })) world.filesystems)
-      ≡ map (λ x. rewritten upper merge.upper (remerged number merge x)) world.filesystems
+      })) world.filesystems) ≡ map (λ x. rewritten upper merge.upper (remerged number merge x)) world.filesystems
   replaced_is_remerged number upper overlay merge elsewhere is =
       map_twice (replaced_if_numbered nat_eq (with_files (filesystem_numbered nat_eq world upper) merge.upper))
-      (replaced_if_numbered nat_eq new) world.filesystems
-      ∙ map_alike
+      (replaced_if_numbered nat_eq new) world.filesystems ∙ map_alike
       (λ x. replaced_if_numbered nat_eq (with_files (filesystem_numbered nat_eq world upper) merge.upper)
       (replaced_if_numbered nat_eq new x)) (λ x. rewritten upper merge.upper (remerged number merge x))
       world.filesystems (λ x m.
       ap (replaced_if_numbered nat_eq (with_files (filesystem_numbered nat_eq world upper) merge.upper))
       (ap (λ n. cond (nat_eq n x.number) new x) (number_of_filesystem world number)
-      ∙ merged x m (nat_eq number x.number) refl)
-      ∙ ap (λ n. cond (nat_eq n (remerged number merge x).number)
+      ∙ merged x m (nat_eq number x.number) refl) ∙ ap (λ n. cond (nat_eq n (remerged number merge x).number)
       (with_files (filesystem_numbered nat_eq world upper) merge.upper) (remerged number merge x))
-      (number_of_filesystem world upper)
-      ∙ above x m (nat_eq upper (remerged number merge x).number) refl)
+      (number_of_filesystem world upper) ∙ above x m (nat_eq upper (remerged number merge x).number) refl)
     where
       new : Filesystem ℕ
       new = record (filesystem_numbered nat_eq world number) {
@@ -271,12 +262,10 @@ module _ (world : World ℕ) (names : List TaskName) (apart : IsApart world name
       merged x m false e = refl
 
       other_there : (x : Filesystem ℕ) → nat_eq upper x.number ≡ true → remerged number merge x ≡ x
-      other_there x e =
-          ap (λ b. cond b (record x {
-            files = merge.files;
-            overlay = option_map (with_real_objects merge) x.overlay;
-          }) x)
-          (false_from_ne_true (nat_eq number x.number) (λ f.
+      other_there x e = ap (λ b. cond b (record x {
+        files = merge.files;
+        overlay = option_map (with_real_objects merge) x.overlay;
+      }) x) (false_from_ne_true (nat_eq number x.number) (λ f.
           elsewhere (eqb-true upper x.number e ∙ sym (eqb-true number x.number f))))
 
       above : (x : Filesystem ℕ) → Among x world.filesystems → (b : Bool)
@@ -296,8 +285,7 @@ module _ (world : World ℕ) (names : List TaskName) (apart : IsApart world name
 
   unused_differs : (number : ℕ) → is_used number ≡ false → (x : Filesystem ℕ) → is_used x.number ≡ true
       → nat_eq number x.number ≡ false
-  unused_differs number unused x used =
-      false_from_ne_true (nat_eq number x.number) (λ e.
+  unused_differs number unused x used = false_from_ne_true (nat_eq number x.number) (λ e.
       true≢false (sym used ∙ ap is_used (sym (eqb-true number x.number e)) ∙ unused))
 
   -- what the part has of a tree that keeps what lies under their layers
@@ -310,12 +298,10 @@ module _ (world : World ℕ) (names : List TaskName) (apart : IsApart world name
   lowered_stays number files keeps x m = by (nat_eq number x.number) refl
     where
       lowered : Filesystem ℕ → Filesystem ℕ
-      lowered y =
-          lowered_by (used_filesystems nat_eq world names) (own_lowers nat_eq world names) y.files y
+      lowered y = lowered_by (used_filesystems nat_eq world names) (own_lowers nat_eq world names) y.files y
 
       by : (b : Bool) → nat_eq number x.number ≡ b → lowered (cond b (record x { files = files }) x) ≡ lowered x
-      by true e =
-          ap (λ (f : FileTree ℕ). record x { files = f; change = 0 })
+      by true e = ap (λ (f : FileTree ℕ). record x { files = f; change = 0 })
           (lower_part_stays x.files files x.number (own_lowers nat_eq world names)
           (subst (λ n. KeepsBelow x.files files n (own_lowers nat_eq world names)) (eqb-true number x.number e)
           (subst (λ (f : Filesystem ℕ). KeepsBelow f.files files number (own_lowers nat_eq world names))
@@ -323,8 +309,7 @@ module _ (world : World ℕ) (names : List TaskName) (apart : IsApart world name
       by false e = refl
 
   -- A change of a plain tree
-  pub plain_step : (number : ℕ) (files : FileTree ℕ) → is_used number ≡ false
-      → (has_lower number ≡ true
+  pub plain_step : (number : ℕ) (files : FileTree ℕ) → is_used number ≡ false → (has_lower number ≡ true
       → KeepsBelow (filesystem_numbered nat_eq world number).files files number (own_lowers nat_eq world names))
       → IsFilesStep world names (rewritten number files)
   plain_step number files unused keeps = record {
@@ -337,19 +322,16 @@ module _ (world : World ℕ) (names : List TaskName) (apart : IsApart world name
   }
     where
       lowered : Filesystem ℕ → Filesystem ℕ
-      lowered y =
-          lowered_by (used_filesystems nat_eq world names) (own_lowers nat_eq world names) y.files y
+      lowered y = lowered_by (used_filesystems nat_eq world names) (own_lowers nat_eq world names) y.files y
 
       by : (x : Filesystem ℕ) → Among x world.filesystems → has_lower x.number ≡ true → (b : Bool)
           → nat_eq number x.number ≡ b → lowered (rewritten number files x) ≡ lowered x
-      by x m lower true e =
-          lowered_stays number files (keeps (ap has_lower (eqb-true number x.number e) ∙ lower)) x m
+      by x m lower true e = lowered_stays number files (keeps (ap has_lower (eqb-true number x.number e) ∙ lower)) x m
       by x m lower false e = ap lowered (ap (λ b. cond b (record x { files = files }) x) e)
 
   -- and of an overlay, with its upper layer
   pub merged_step : (number upper : ℕ) (merge : Merge ℕ) → is_used number ≡ false → is_used upper ≡ false
-      → has_lower number ≡ false
-      → (has_lower upper ≡ true
+      → has_lower number ≡ false → (has_lower upper ≡ true
       → KeepsBelow (filesystem_numbered nat_eq world upper).files merge.upper upper (own_lowers nat_eq world names))
       → IsFilesStep world names (λ x. rewritten upper merge.upper (remerged number merge x))
   merged_step number upper merge unused unused_upper no_lower keeps = record {
@@ -360,20 +342,17 @@ module _ (world : World ℕ) (names : List TaskName) (apart : IsApart world name
         ∙ above.used x m used;
     lower = λ x m lower.
         ap (λ y. lowered (rewritten upper merge.upper y)) (stays x (false_from_ne_true (nat_eq number x.number) (λ e.
-        true≢false (sym lower ∙ ap has_lower (sym (eqb-true number x.number e)) ∙ no_lower))))
-        ∙ above.lower x m lower;
+        true≢false (sym lower ∙ ap has_lower (sym (eqb-true number x.number e)) ∙ no_lower)))) ∙ above.lower x m lower;
   }
     where
       above : IsFilesStep world names (rewritten upper merge.upper)
       above = plain_step upper merge.upper unused_upper keeps
 
       lowered : Filesystem ℕ → Filesystem ℕ
-      lowered y =
-          lowered_by (used_filesystems nat_eq world names) (own_lowers nat_eq world names) y.files y
+      lowered y = lowered_by (used_filesystems nat_eq world names) (own_lowers nat_eq world names) y.files y
 
       stays : (x : Filesystem ℕ) → nat_eq number x.number ≡ false → remerged number merge x ≡ x
-      stays x e =
-          ap (λ b. cond b (record x {
-            files = merge.files;
-            overlay = option_map (with_real_objects merge) x.overlay;
-          }) x) e
+      stays x e = ap (λ b. cond b (record x {
+        files = merge.files;
+        overlay = option_map (with_real_objects merge) x.overlay;
+      }) x) e

@@ -81,8 +81,7 @@ copies_are_of_overlays world fresh task call permit for made asks copy =
     opened : (file : Location ℕ) (b : Bool)
         → (b ≡ true → is_some (filesystem_at nat_eq world file).overlay ≡ true) → (one : Location ℕ × Change ℕ)
         → when b (file, CopyUp file.node) ≡ Some one → is_some (filesystem_at nat_eq world one.0).overlay ≡ true
-    opened file true over one e =
-        ap (λ (x : Location ℕ × Change ℕ). is_some (filesystem_at nat_eq world x.0).overlay)
+    opened file true over one e = ap (λ (x : Location ℕ × Change ℕ). is_some (filesystem_at nat_eq world x.0).overlay)
         (sym (same_Some (file, CopyUp file.node) one e)) ∙ over refl
     opened file false over one e = none_is_some one e
 
@@ -90,8 +89,7 @@ copies_are_of_overlays world fresh task call permit for made asks copy =
         → IsCopyIf (change_asked fresh world permit) → (one : Location ℕ × Change ℕ)
         → change_asked fresh world permit ≡ Some one → is_some (filesystem_at nat_eq world one.0).overlay ≡ true
     by (ToChange location (CopyUp object)) for copied one e = absurd for
-    by (ToOpen file access) for copied one e =
-        opened file (is_copied_up nat_eq world file access) (λ is.
+    by (ToOpen file access) for copied one e = opened file (is_copied_up nat_eq world file access) (λ is.
         layered file (filesystem_at nat_eq world file).overlay (and_parts (opens_for_writing access) _ is).1) one e
     by (ToWritePart file offset []) for copied one e = none_is_some one e
     by (ToWritePart file offset (byte ∷ bytes)) for copied one e = absurd copied
@@ -119,8 +117,7 @@ module _ (world : World ℕ) (fresh : Fresh ℕ) (names : List TaskName) (name :
   itself = ap (task_called world) (sym (name_found world name task called)) ∙ called
 
   theirs : IsTheirs world fresh names name call task outsider called (location, change)
-  theirs =
-      granted_theirs world fresh names name call task outsider called call permit
+  theirs = granted_theirs world fresh names name call task outsider called call permit
       (calls_are_granted nat_eq (looks_of nat_eq world) (overfills nat_eq fresh world task) task call permit judged)
       (location, change) asks
 
@@ -129,8 +126,7 @@ module _ (world : World ℕ) (fresh : Fresh ℕ) (names : List TaskName) (name :
       (permits_ask_well world fresh task call permit outsider.is outsider.serves itself judged)).0
 
   proper : IsProper (files_at nat_eq world location).tree change
-  proper =
-      (permits_ask_properly world fresh task call permit location change outsider.is outsider.serves itself judged
+  proper = (permits_ask_properly world fresh task call permit location change outsider.is outsider.serves itself judged
       asks).0
 
   spared : SparesLocked world location change
@@ -156,29 +152,23 @@ module _ (world : World ℕ) (fresh : Fresh ℕ) (names : List TaskName) (name :
   -- what is not alone theirs, and not wholly locked, they do not use
   not_used : (n : ℕ) → (used_alone nat_eq world names n ≡ true → ⊥) → (wholly_locked nat_eq world names n ≡ true → ⊥)
       → is_used n ≡ false
-  not_used n alone locked =
-      false_from_ne_true (is_used n) (λ used.
-      ⊎_elim alone locked
-      (or_cases (used_alone nat_eq world names n) (wholly_locked nat_eq world names n)
-      (used_are_free world names outsider.sealed_off n
-      (among_numbers (used_filesystems nat_eq world names) n used))))
+  not_used n alone locked = false_from_ne_true (is_used n) (λ used.
+      ⊎_elim alone locked (or_cases (used_alone nat_eq world names n) (wholly_locked nat_eq world names n)
+      (used_are_free world names outsider.sealed_off n (among_numbers (used_filesystems nat_eq world names) n used))))
 
   not_alone : used_alone nat_eq world names number ≡ true → ⊥
-  not_alone alone =
-      true≢false (sym (and_parts (no_outsider_on nat_eq world names number) _ alone).0 ∙ on_it)
+  not_alone alone = true≢false (sym (and_parts (no_outsider_on nat_eq world names number) _ alone).0 ∙ on_it)
 
   -- A filesystem in which something is
   tree_of : (n object : ℕ) → is_some ((filesystem_numbered nat_eq world n).files.tree.node object) ≡ true
       → IsFileTree (filesystem_numbered nat_eq world n).files
   tree_of n object is = record {
-    tree = ⊎_elim (λ tree. tree)
-        (λ missing. absurd (true≢false (sym is
+    tree = ⊎_elim (λ tree. tree) (λ missing. absurd (true≢false (sym is
         ∙ ap (λ (f : Filesystem ℕ). is_some (f.files.tree.node object)) missing.0)))
         (numbered_all (λ (f : Filesystem ℕ). IsTree f.files.tree) n world.filesystems outsider.is.files.trees);
     numbers = numbered_anyhow (λ (f : Filesystem ℕ). ListsNumbers nat_eq f.files) n world.filesystems
         outsider.is.files.numbers (λ k. refl);
-    own_parents = ⊎_elim (λ own. own)
-        (λ missing. absurd (true≢false (sym is
+    own_parents = ⊎_elim (λ own. own) (λ missing. absurd (true≢false (sym is
         ∙ ap (λ (f : Filesystem ℕ). is_some (f.files.tree.node object)) missing.0)))
         (numbered_all (λ (f : Filesystem ℕ). HasOwnParents f.files.tree) n world.filesystems
         outsider.is.files.own_parents);
@@ -186,8 +176,7 @@ module _ (world : World ℕ) (fresh : Fresh ℕ) (names : List TaskName) (name :
 
   -- Their lower layers are lower layers of live overlays, and locked.
   abbrev IsLowerOf : Layer ℕ → Type 0
-  IsLowerOf layer =
-      (n : ℕ) × (overlay : Overlay ℕ) × ((filesystem_numbered nat_eq world n).overlay ≡ Some overlay)
+  IsLowerOf layer = (n : ℕ) × (overlay : Overlay ℕ) × ((filesystem_numbered nat_eq world n).overlay ≡ Some overlay)
       × Among layer overlay.lowers
 
   their_lower : (layer : Layer ℕ) → Among layer (own_lowers nat_eq world names) → IsLowerOf layer
@@ -203,8 +192,7 @@ module _ (world : World ℕ) (fresh : Fresh ℕ) (names : List TaskName) (name :
       by n (Some overlay) e h = (n, overlay, e, h)
 
   lower_plain : (layer : Layer ℕ) → IsLowerOf layer → is_plain_layer nat_eq world layer ≡ true
-  lower_plain layer of =
-      layer_plain world outsider.is of.0 of.1 of.2 layer
+  lower_plain layer of = layer_plain world outsider.is of.0 of.1 of.2 layer
       (among-append_right (upper_and_work of.1) of.1.lowers layer of.3)
 
   lower_live : (layer : Layer ℕ) → IsLowerOf layer → Among layer (live_lowers nat_eq world)
@@ -213,8 +201,7 @@ module _ (world : World ℕ) (fresh : Fresh ℕ) (names : List TaskName) (name :
   lower_lies : (layer : Layer ℕ) (n object : ℕ) → nat_eq n layer.filesystem ≡ true
       → is_under nat_eq (filesystem_numbered nat_eq world n).files layer.directory object ≡ true
       → lies_or_counts_under nat_eq world n object layer ≡ true
-  lower_lies layer n object at under =
-      or_left (lies_in_layer nat_eq world n object layer)
+  lower_lies layer n object at under = or_left (lies_in_layer nat_eq world n object layer)
       (list_any (counts_in_layer nat_eq world n object layer) (overlays world))
       (and_from (nat_eq n layer.filesystem) _ at under)
 
@@ -224,8 +211,7 @@ module _ (world : World ℕ) (fresh : Fresh ℕ) (names : List TaskName) (name :
   lower_locked layer of n object at under =
       any_from_among (lies_or_counts_under nat_eq world n object) (live_layers world) layer
       (layer_among world layers_of of.0 of.1 of.2 layer
-      (among-append_right (upper_and_work of.1) of.1.lowers layer of.3))
-      (lower_lies layer n object at under)
+      (among-append_right (upper_and_work of.1) of.1.lowers layer of.3)) (lower_lies layer n object at under)
 
   lower_top : (layer : Layer ℕ) → IsLowerOf layer → (n : ℕ) → nat_eq n layer.filesystem ≡ true
       → is_directory_node ((filesystem_numbered nat_eq world n).files.tree.node layer.directory) ≡ true
@@ -242,8 +228,7 @@ module _ (world : World ℕ) (fresh : Fresh ℕ) (names : List TaskName) (name :
       → (layer : Layer ℕ) × Among layer (live_lowers nat_eq world) × (n ≡ layer.filesystem) × (root ≡ layer.directory)
   lower_root n root merged m e = by merged.overlay refl e
     where
-      by : (o : Option (Overlay ℕ)) → merged.overlay ≡ o
-          → overlay_or false (λ overlay. list_any
+      by : (o : Option (Overlay ℕ)) → merged.overlay ≡ o → overlay_or false (λ overlay. list_any
           (λ (layer : Layer ℕ). nat_eq n layer.filesystem && nat_eq root layer.directory) overlay.lowers) o ≡ true
           → (layer : Layer ℕ) × Among layer (live_lowers nat_eq world) × (n ≡ layer.filesystem)
           × (root ≡ layer.directory)
@@ -274,14 +259,11 @@ module _ (world : World ℕ) (fresh : Fresh ℕ) (names : List TaskName) (name :
   -- Of a plain filesystem
   module _ (plain : there.overlay ≡ None) where
     plain_unused : is_used number ≡ false
-    plain_unused =
-        not_used number not_alone (λ locked.
+    plain_unused = not_used number not_alone (λ locked.
         let whole = tree_of number (written_to change) node_there in
-        none_is_some_overlay
-        (copies_are_of_overlays world fresh task call permit
+        none_is_some_overlay (copies_are_of_overlays world fresh task call permit
         (permits_are_for_their_calls fresh world task call permit judged) (location, change) asks
-        (written_not_spared there.files change
-        (spared.spares (written_to change)
+        (written_not_spared there.files change (spared.spares (written_to change)
         (all_locked world names number whole.tree whole.numbers locked (written_to change) node_there)))))
       where
         none_is_some_overlay : is_some there.overlay ≡ true → ⊥
@@ -302,8 +284,7 @@ module _ (world : World ℕ) (fresh : Fresh ℕ) (names : List TaskName) (name :
           numbers = numbers-changed there.files change;
           none = made_was_not_there world location change asked;
           tops = λ layer m at. lower_top layer (their_lower layer m) number at;
-          stays = λ layer m at object under is.
-              spared_stays there.files change object
+          stays = λ layer m at object under is. spared_stays there.files change object
               (spared.spares object (lower_locked layer (their_lower layer m) number object at under))
               (λ made. true≢false (sym is ∙ ap is_some (made_was_not_there world location change asked object made)));
         }
@@ -315,26 +296,21 @@ module _ (world : World ℕ) (fresh : Fresh ℕ) (names : List TaskName) (name :
         subst (LeavesApart world left names) (sym (ap (numbers_of_change nat_eq world there) plain))
         (stepping_leaves_apart world base left names set_apart _
         (plain_step world names set_apart number (changed nat_eq there.files change) plain_unused
-        (λ lower. keeps_below))
-        same
-        (left_is ∙ ap (λ list. record base { filesystems = list })
+        (λ lower. keeps_below)) same (left_is ∙ ap (λ list. record base { filesystems = list })
         (ap (λ o. (filesystem_changed nat_eq supply world there o change).filesystems) plain
-        ∙ replaced_is_rewritten world names set_apart number (changed nat_eq there.files change)))
-        (there.number ∷ [])
+        ∙ replaced_is_rewritten world names set_apart number (changed nat_eq there.files change))) (there.number ∷ [])
         (λ n m. unraised n m) leaves)
       where
         unraised : (n : ℕ) → Among n (used_filesystems nat_eq world names)
             → list_any (λ k. nat_eq k n) (there.number ∷ []) ≡ false
-        unraised n m =
-            ap (λ b. b || false) (false_from_ne_true (nat_eq there.number n) (λ e.
+        unraised n m = ap (λ b. b || false) (false_from_ne_true (nat_eq there.number n) (λ e.
             true≢false (sym (is_among_numbers (used_filesystems nat_eq world names) n m)
             ∙ ap is_used (sym (sym (number_of_filesystem world number) ∙ eqb-true there.number n e)) ∙ plain_unused)))
 
   -- Of an overlay with an upper layer
   module _ (overlay : Overlay ℕ) (is : there.overlay ≡ Some overlay) where
     merged_there : Among there world.filesystems
-    merged_there =
-        found_among (λ (f : Filesystem ℕ). nat_eq number f.number) world.filesystems there
+    merged_there = found_among (λ (f : Filesystem ℕ). nat_eq number f.number) world.filesystems there
         (overlay_found world number overlay is)
 
     merged_overlay : Among there (overlays world)
@@ -358,26 +334,22 @@ module _ (world : World ℕ) (fresh : Fresh ℕ) (names : List TaskName) (name :
             → overlay_or true (λ v. list_all (is_plain_layer nat_eq world) (layers_of v)) o ≡ true
             → is_plain_layer nat_eq world layer ≡ true
         by None n e = absurd n
-        by (Some v) n e =
-            among_from_list_all (is_plain_layer nat_eq world) (layers_of v) e layer
+        by (Some v) n e = among_from_list_all (is_plain_layer nat_eq world) (layers_of v) e layer
             (among-append_right (upper_and_work v) v.lowers layer n)
 
     merged_unused : is_used number ≡ false
-    merged_unused =
-        not_used number not_alone (λ locked.
+    merged_unused = not_used number not_alone (λ locked.
         let root = locked_root number locked in no_lower_in root.0 (live_plain root.0 root.1) root.2)
 
     merged_no_lower : list_any (λ (layer : Layer ℕ). nat_eq number layer.filesystem) (own_lowers nat_eq world names)
         ≡ false
-    merged_no_lower =
-        false_from_ne_true _ (λ h.
+    merged_no_lower = false_from_ne_true _ (λ h.
         let at = any_among (λ (layer : Layer ℕ). nat_eq number layer.filesystem) (own_lowers nat_eq world names) h in
         no_lower_in at.0 (lower_plain at.0 (their_lower at.0 at.1)) (eqb-true number at.0.filesystem at.2))
 
     module _ (upper : Layer ℕ) (has : overlay.upper ≡ Some upper) where
       well : IsAskedWell (stack_of nat_eq world overlay upper) (merge_of nat_eq world there overlay upper) change
-      well =
-          permits_ask_overlays_well world fresh task call permit location change overlay upper outsider.is
+      well = permits_ask_overlays_well world fresh task call permit location change overlay upper outsider.is
           outsider.serves itself judged asks is has
 
       abbrev distinct : (j k : ℕ) → supply j ≡ supply k → j ≡ k
@@ -401,14 +373,11 @@ module _ (world : World ℕ) (fresh : Fresh ℕ) (names : List TaskName) (name :
 
       upper_directory : is_some ((filesystem_numbered nat_eq world upper.filesystem).files.tree.node upper.directory)
           ≡ true
-      upper_directory =
-          directory_used (filesystem_numbered nat_eq world upper.filesystem).files.tree
-          upper.directory
+      upper_directory = directory_used (filesystem_numbered nat_eq world upper.filesystem).files.tree upper.directory
           (and_parts (not (is_overlay (filesystem_numbered nat_eq world upper.filesystem))) _ upper_plain).1
 
       has_layer : has_layer_on nat_eq upper.filesystem there ≡ true
-      has_layer =
-          ap (overlay_or false (λ v. list_any (λ (layer : Layer ℕ). nat_eq upper.filesystem layer.filesystem)
+      has_layer = ap (overlay_or false (λ v. list_any (λ (layer : Layer ℕ). nat_eq upper.filesystem layer.filesystem)
           (layers_of v))) is
           ∙ any_from_among (λ (layer : Layer ℕ). nat_eq upper.filesystem layer.filesystem) (layers_of overlay) upper
           (among-append_left (upper_and_work overlay) overlay.lowers upper
@@ -424,8 +393,7 @@ module _ (world : World ℕ) (fresh : Fresh ℕ) (names : List TaskName) (name :
           (among_from_list_all (λ merged. not (has_layer_on nat_eq upper.filesystem merged)
           || no_outsider_on nat_eq world names merged.number) (overlays world)
           (and_parts (no_outsider_on nat_eq world names upper.filesystem) _ alone).1 there merged_overlay) in
-          ⊎_elim (λ none. true≢false (sym has_layer ∙ not-true _ none))
-          (λ nobody. true≢false (sym nobody
+          ⊎_elim (λ none. true≢false (sym has_layer ∙ not-true _ none)) (λ nobody. true≢false (sym nobody
           ∙ ap (no_outsider_on nat_eq world names) (number_of_filesystem world number) ∙ on_it)) free
 
       -- the upper layer lies in no lower one
@@ -458,8 +426,7 @@ module _ (world : World ℕ) (fresh : Fresh ℕ) (names : List TaskName) (name :
       upper_keeps_below =
           let whole = tree_of upper.filesystem upper.directory upper_directory in
           let goes = ApartLater.goes supply world location change overlay upper outsider.is is has distinct none_new
-          well
-          in
+          well in
           let grows = merge_grows supply (stack_of nat_eq world overlay upper)
           (merge_of nat_eq world there overlay upper) change in
           record {
@@ -486,13 +453,11 @@ module _ (world : World ℕ) (fresh : Fresh ℕ) (names : List TaskName) (name :
       pub merged_leaves : (base left : World ℕ) → base.filesystems ≡ world.filesystems
           → left ≡ record base { filesystems = (with_change nat_eq supply world location change).filesystems }
           → LeavesApart world base names [] → LeavesApart world left names (changed_at nat_eq world location)
-      merged_leaves base left same left_is leaves =
-          subst (LeavesApart world left names)
+      merged_leaves base left same left_is leaves = subst (LeavesApart world left names)
           (sym (ap (numbers_of_change nat_eq world there) is ∙ ap (numbers_over nat_eq world there) has))
           (stepping_leaves_apart world base left names set_apart _
           (merged_step world names set_apart number upper.filesystem merge merged_unused upper_unused merged_no_lower
-          (λ lower. upper_keeps_below)) same
-          (left_is ∙ ap (λ list. record base { filesystems = list })
+          (λ lower. upper_keeps_below)) same (left_is ∙ ap (λ list. record base { filesystems = list })
           (ap (λ o. (filesystem_changed nat_eq supply world there o change).filesystems) is
           ∙ ap (λ o. (overlay_changed nat_eq supply world there overlay o change).filesystems) has
           ∙ replaced_is_remerged world names set_apart number upper.filesystem overlay merge elsewhere is))
@@ -500,19 +465,15 @@ module _ (world : World ℕ) (fresh : Fresh ℕ) (names : List TaskName) (name :
         where
           differs : (k n : ℕ) → is_used k ≡ false → Among n (used_filesystems nat_eq world names)
               → nat_eq (filesystem_numbered nat_eq world k).number n ≡ false
-          differs k n unused m =
-              false_from_ne_true (nat_eq (filesystem_numbered nat_eq world k).number n) (λ e.
+          differs k n unused m = false_from_ne_true (nat_eq (filesystem_numbered nat_eq world k).number n) (λ e.
               true≢false (sym (is_among_numbers (used_filesystems nat_eq world names) n m)
               ∙ ap is_used (sym (sym (number_of_filesystem world k)
               ∙ eqb-true (filesystem_numbered nat_eq world k).number n e)) ∙ unused))
 
-          unraised : (n : ℕ) → Among n (used_filesystems nat_eq world names)
-              → list_any (λ k. nat_eq k n)
+          unraised : (n : ℕ) → Among n (used_filesystems nat_eq world names) → list_any (λ k. nat_eq k n)
               (there.number ∷ (filesystem_numbered nat_eq world upper.filesystem).number ∷ []) ≡ false
-          unraised n m =
-              ap (λ b. b || (nat_eq (filesystem_numbered nat_eq world upper.filesystem).number n || false))
-              (differs number n merged_unused m)
-              ∙ ap (λ b. b || false) (differs upper.filesystem n upper_unused m)
+          unraised n m = ap (λ b. b || (nat_eq (filesystem_numbered nat_eq world upper.filesystem).number n || false))
+              (differs number n merged_unused m) ∙ ap (λ b. b || false) (differs upper.filesystem n upper_unused m)
 
   -- What others change they do not use.
   pub changed_is_unused : is_used number ≡ false
@@ -534,14 +495,11 @@ module _ (world : World ℕ) (fresh : Fresh ℕ) (names : List TaskName) (name :
     where
       over : (overlay : Overlay ℕ) → there.overlay ≡ Some overlay → (upper : Option (Layer ℕ)) → overlay.upper ≡ upper
           → LeavesApart world left names (changed_at nat_eq world location)
-      over overlay is None has =
-          subst (LeavesApart world left names)
+      over overlay is None has = subst (LeavesApart world left names)
           (sym (ap (numbers_of_change nat_eq world there) is ∙ ap (numbers_over nat_eq world there) has))
-          (subst (λ w. LeavesApart world w names [])
-          (sym (left_is ∙ ap (λ list. record base { filesystems = list })
+          (subst (λ w. LeavesApart world w names []) (sym (left_is ∙ ap (λ list. record base { filesystems = list })
           (ap (λ o. (filesystem_changed nat_eq supply world there o change).filesystems) is
-          ∙ ap (λ o. (overlay_changed nat_eq supply world there overlay o change).filesystems) has ∙ sym same)))
-          leaves)
+          ∙ ap (λ o. (overlay_changed nat_eq supply world there overlay o change).filesystems) has ∙ sym same))) leaves)
       over overlay is (Some upper) has = merged_leaves overlay is upper has base left same left_is leaves
 
       by : (o : Option (Overlay ℕ)) → there.overlay ≡ o

@@ -28,8 +28,7 @@ pub record IsFilesStep (world : World ℕ) (names : List TaskName) (step : Files
 pub stepping_leaves_apart : (world base left : World ℕ) (names : List TaskName) → IsApart world names
     → (step : Filesystem ℕ → Filesystem ℕ) → IsFilesStep world names step
     → base.filesystems ≡ world.filesystems → left ≡ record base { filesystems = map step world.filesystems }
-    → (changed : List ℕ)
-    → ((number : ℕ) → Among number (used_filesystems nat_eq world names)
+    → (changed : List ℕ) → ((number : ℕ) → Among number (used_filesystems nat_eq world names)
     → list_any (λ n. nat_eq n number) changed ≡ false)
     → LeavesApart world base names [] → LeavesApart world left names changed
 stepping_leaves_apart world base left names apart step is same left_is changed unraised leaves =
@@ -43,8 +42,7 @@ stepping_leaves_apart world base left names apart step is same left_is changed u
         tasks = leaves.others.tasks;
         events = leaves.others.events;
         locations = leaves.others.locations;
-        free = λ number of alone.
-            stepping_keeps_footholds base names step is.number is.overlay is.layers number
+        free = λ number of alone. stepping_keeps_footholds base names step is.number is.overlay is.layers number
             ∙ leaves.others.free number of alone;
       };
       unraised = unraised;

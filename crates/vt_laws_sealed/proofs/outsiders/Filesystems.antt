@@ -53,16 +53,13 @@ module _ (world : World ℕ) (names : List TaskName) (apart : IsApart world name
   -- a mount shows a filesystem that is there, and so does the mount of a location
   directly_there : (number : ℕ) → Among number (used_directly nat_eq world names)
       → is_among nat_eq number numbers ≡ true
-  directly_there number m =
-      ⊎_elim
-      (λ shown.
+  directly_there number m = ⊎_elim (λ shown.
       let mount = among-from_map (λ (x : Mount ℕ). x.filesystem) (own_mounts nat_eq world names) number shown in
       let rooted = and_parts (is_directory_node
       ((filesystem_numbered nat_eq world mount.0.filesystem).files.tree.node mount.0.root)) _
       (among_from_list_all (has_its_root nat_eq world) world.mounts apart.is.roots mount.0
       (among-from_filter (is_own_mount nat_eq world names) world.mounts mount.0 mount.1).0) in
-      ap (λ n. is_among nat_eq n numbers) mount.2
-      ∙ there_by_node mount.0.filesystem mount.0.root
+      ap (λ n. is_among nat_eq n numbers) mount.2 ∙ there_by_node mount.0.filesystem mount.0.root
       (directory_used (filesystem_numbered nat_eq world mount.0.filesystem).files.tree mount.0.root rooted.0))
       (λ located.
       let location = among-from_map (λ (l : Location ℕ). (mount_at nat_eq world l).filesystem)
@@ -85,8 +82,7 @@ module _ (world : World ℕ) (names : List TaskName) (apart : IsApart world name
     where
       by : (o : Option (Overlay ℕ)) → merged.overlay ≡ o → is_among nat_eq layer.filesystem numbers ≡ true
       by None e = absurd (subst (Among layer) (ap (overlay_or [] layers_of) e) m)
-      by (Some overlay) e =
-          there_by_node layer.filesystem layer.directory
+      by (Some overlay) e = there_by_node layer.filesystem layer.directory
           (directory_used (filesystem_numbered nat_eq world layer.filesystem).files.tree layer.directory
           (and_parts (not (is_overlay (filesystem_numbered nat_eq world layer.filesystem)))
           (is_directory_node ((filesystem_numbered nat_eq world layer.filesystem).files.tree.node layer.directory))
@@ -114,8 +110,7 @@ module _ (world : World ℕ) (names : List TaskName) (apart : IsApart world name
       by None e m = absurd m
       by (Some merged) e m =
           layer_there merged (found_among (λ (f : Filesystem ℕ). nat_eq number f.number) world.filesystems merged e)
-          layer
-          (up merged.overlay m)
+          layer (up merged.overlay m)
 
   lower_there : (layer : Layer ℕ) → Among layer (own_lowers nat_eq world names)
       → is_among nat_eq layer.filesystem numbers ≡ true
@@ -125,23 +120,18 @@ module _ (world : World ℕ) (names : List TaskName) (apart : IsApart world name
       (used_directly nat_eq world names) layer m in
       found_layer_there from.0 (λ (overlay : Overlay ℕ). overlay.lowers)
       (λ overlay l n. among-append_right (option_to_list overlay.upper ++ option_to_list overlay.work) overlay.lowers l
-      n)
-      layer from.2
+      n) layer from.2
 
   -- each filesystem that they use
   pub used_there : (number : ℕ) → Among number (used_filesystems nat_eq world names)
       → is_among nat_eq number numbers ≡ true
-  used_there number m =
-      ⊎_elim (directly_there number)
-      (λ layered.
+  used_there number m = ⊎_elim (directly_there number) (λ layered.
       let from = among-from_flat_map (λ n. change_layers (filesystem_numbered nat_eq world n))
       (used_directly nat_eq world names) number layered in
       changed (filesystem_numbered nat_eq world from.0) number from.2
       (λ layer n. found_layer_there from.0 (λ overlay. option_to_list overlay.upper ++ option_to_list overlay.work)
       (λ overlay l h. among-append_left (option_to_list overlay.upper ++ option_to_list overlay.work) overlay.lowers l
-      h)
-      layer n))
-      (among-append (used_directly nat_eq world names) _ number
+      h) layer n)) (among-append (used_directly nat_eq world names) _ number
       (among-from_each_once (used_directly nat_eq world names
       ++ flat_map (λ n. change_layers (filesystem_numbered nat_eq world n)) (used_directly nat_eq world names)) number
       m))
@@ -149,8 +139,7 @@ module _ (world : World ℕ) (names : List TaskName) (apart : IsApart world name
       changed : (merged : Filesystem ℕ) (number : ℕ) → Among number (change_layers merged)
           → ((layer : Layer ℕ) → Among layer (of_overlay []
           (λ overlay. option_to_list overlay.upper ++ option_to_list overlay.work) merged)
-          → is_among nat_eq layer.filesystem numbers ≡ true)
-          → is_among nat_eq number numbers ≡ true
+          → is_among nat_eq layer.filesystem numbers ≡ true) → is_among nat_eq number numbers ≡ true
       changed merged number h there = by merged.overlay h there
         where
           by : (o : Option (Overlay ℕ))
@@ -158,8 +147,7 @@ module _ (world : World ℕ) (names : List TaskName) (apart : IsApart world name
               (option_to_list overlay.upper ++ option_to_list overlay.work)) o)
               → ((layer : Layer ℕ) → Among layer (overlay_or []
               (λ overlay. option_to_list overlay.upper ++ option_to_list overlay.work) o)
-              → is_among nat_eq layer.filesystem numbers ≡ true)
-              → is_among nat_eq number numbers ≡ true
+              → is_among nat_eq layer.filesystem numbers ≡ true) → is_among nat_eq number numbers ≡ true
           by None n all = absurd n
           by (Some overlay) n all =
               let layer = among-from_map (λ (layer : Layer ℕ). layer.filesystem)
@@ -175,8 +163,7 @@ module _ (world : World ℕ) (names : List TaskName) (apart : IsApart world name
     there_not_new number k there e =
         let at = among-from_map (λ (f : Filesystem ℕ). f.number) world.filesystems number
         (among_numbers numbers number there) in
-        true≢false
-        (sym (is_among_left number (flat_map used_by_mount world.mounts
+        true≢false (sym (is_among_left number (flat_map used_by_mount world.mounts
         ++ flat_map used_by_filesystem world.filesystems)
         (map (λ (namespace : Namespace ℕ). namespace.number) world.namespaces)
         (is_among_right number (flat_map used_by_mount world.mounts) (flat_map used_by_filesystem world.filesystems)
@@ -216,36 +203,31 @@ module _ (world : World ℕ) (names : List TaskName) (apart : IsApart world name
                   (no_filesystem number)
                   ≡ unwrap_or (find (λ (x : Filesystem ℕ). nat_eq number x.number) rest) (no_filesystem number))
                   → unwrap_or (cond b (Some f)
-                  (find (λ (x : Filesystem ℕ). nat_eq number x.number) (rest ++ added ∷ [])))
-                  (no_filesystem number)
+                  (find (λ (x : Filesystem ℕ). nat_eq number x.number) (rest ++ added ∷ []))) (no_filesystem number)
                   ≡ unwrap_or (cond b (Some f) (find (λ (x : Filesystem ℕ). nat_eq number x.number) rest))
                   (no_filesystem number)
               by true h later = refl
               by false h later = later h
 
       added_unused : is_among nat_eq added.number used ≡ false
-      added_unused =
-          false_from_ne_true (is_among nat_eq added.number used) (λ h.
+      added_unused = false_from_ne_true (is_among nat_eq added.number used) (λ h.
           there_not_new added.number k (used_there added.number (among_numbers used added.number h)) numbered)
 
       added_no_layer : list_any (λ (layer : Layer ℕ). nat_eq added.number layer.filesystem) lowers ≡ false
-      added_no_layer =
-          none_from_among (λ (layer : Layer ℕ). nat_eq added.number layer.filesystem) lowers
+      added_no_layer = none_from_among (λ (layer : Layer ℕ). nat_eq added.number layer.filesystem) lowers
           (λ layer m. false_from_ne_true (nat_eq added.number layer.filesystem) (λ e.
           there_not_new layer.filesystem k (lower_there layer m)
           (sym (eqb-true added.number layer.filesystem e) ∙ numbered)))
 
       none_shown : shown_of larger used lowers added ≡ None
-      none_shown =
-          ap (λ b. cond b (Some added) (when (list_any
+      none_shown = ap (λ b. cond b (Some added) (when (list_any
           (λ (layer : Layer ℕ). nat_eq added.number layer.filesystem) lowers)
           (lower_part (filesystem_numbered nat_eq larger added.number) added))) added_unused
           ∙ ap (λ b. when b (lower_part (filesystem_numbered nat_eq larger added.number) added)) added_no_layer
         where
           lower_part : Filesystem ℕ → Filesystem ℕ → Filesystem ℕ
           lower_part there x = record x {
-            files = only_among nat_eq
-                (filter (λ object. list_any (λ (layer : Layer ℕ). nat_eq x.number layer.filesystem
+            files = only_among nat_eq (filter (λ object. list_any (λ (layer : Layer ℕ). nat_eq x.number layer.filesystem
                 && is_under nat_eq there.files layer.directory object) lowers) x.files.numbers) x.files;
             change = 0;
           }
@@ -257,8 +239,7 @@ module _ (world : World ℕ) (names : List TaskName) (apart : IsApart world name
         masters = λ group e. refl;
         direct = λ number m. found_still number
             (directly_there number (among_from_contains (used_directly nat_eq world names) number m));
-        filesystems =
-            filter_map-append (shown_of larger used lowers) world.filesystems (added ∷ [])
+        filesystems = filter_map-append (shown_of larger used lowers) world.filesystems (added ∷ [])
             ∙ ap (λ o. filter_map (shown_of larger used lowers) world.filesystems ++ cons_option o []) none_shown
             ∙ append-nil (filter_map (shown_of larger used lowers) world.filesystems)
             ∙ filter_map_same (shown_of larger used lowers) (shown_of world used lowers) world.filesystems
@@ -274,12 +255,10 @@ module _ (world : World ℕ) (names : List TaskName) (apart : IsApart world name
       }
 
       pub larger_overlays : is_overlay added ≡ false → overlays larger ≡ overlays world
-      larger_overlays plain =
-          filter-append is_overlay world.filesystems (added ∷ [])
+      larger_overlays plain = filter-append is_overlay world.filesystems (added ∷ [])
           ∙ ap (λ b. filter is_overlay world.filesystems ++ cond b (added ∷ []) []) plain
           ∙ append-nil (filter is_overlay world.filesystems)
 
       pub larger_with_overlay : is_overlay added ≡ true → overlays larger ≡ overlays world ++ added ∷ []
-      larger_with_overlay merged =
-          filter-append is_overlay world.filesystems (added ∷ [])
+      larger_with_overlay merged = filter-append is_overlay world.filesystems (added ∷ [])
           ∙ ap (λ b. filter is_overlay world.filesystems ++ cond b (added ∷ []) []) merged

@@ -5,7 +5,7 @@ use Rattle.std.specs.Prelude.{unwrap_or}
 use Rattle.std.specs.List.{list_all, list_any}
 use Rattle.vt_spec.specs.Language.Calls.{TaskName}
 use Rattle.vt_spec.specs.Lists.{any_pair, is_among, when}
-use Rattle.vt_spec.specs.Machine.Sealed.{own_lowers, used_directly, used_filesystems}
+use Rattle.vt_spec.specs.Machine.Sealed.{own_lowers, used_directly, used_filesystems, no_outsider_on, used_alone}
 use Rattle.vt_spec.specs.Machine.Settled.{has_layer_on}
 use Rattle.vt_spec.specs.Machine.World.{Filesystem, Layer, World, filesystem_numbered, is_overlay, no_filesystem}
 use Rattle.vt_spec.proofs.Lists.{Among, pair-map, among-map, among_from_contains}
@@ -16,7 +16,6 @@ use Rattle.vt_laws_sealed.proofs.part.part.PartOfPart.{used_directly_used}
 use Rattle.vt_laws_sealed.proofs.outsiders.SeenLater.{lowered_by}
 use Rattle.vt_laws_mounts.proofs.letting_go.Lists.{filter-map}
 use Rattle.vt_spec.specs.Machine.Locked.{overlays}
-use Rattle.vt_spec.specs.Machine.Sealed.{no_outsider_on, used_alone}
 use Rattle.vt_laws_sealed.proofs.outsiders.Raising.{all-map_same}
 
 module _ (world before : World ℕ) (names : List TaskName) (sees : SeesTheSame world before names)
@@ -42,18 +41,15 @@ module _ (world before : World ℕ) (names : List TaskName) (sees : SeesTheSame 
       → find (λ (f : Filesystem ℕ). nat_eq number f.number) (map step list)
       ≡ find (λ (f : Filesystem ℕ). nat_eq number f.number) list
   found_stepped number is [] all = refl
-  found_stepped number is (f ∷ rest) all =
-      ap (λ n. cond (nat_eq number n) (Some (step f))
+  found_stepped number is (f ∷ rest) all = ap (λ n. cond (nat_eq number n) (Some (step f))
       (find (λ (x : Filesystem ℕ). nat_eq number x.number) (map step rest))) (step_number f)
       ∙ by (nat_eq number f.number) refl (found_stepped number is rest (λ x m. all x (inr m)))
     where
-      by : (b : Bool) → nat_eq number f.number ≡ b
-          → find (λ (x : Filesystem ℕ). nat_eq number x.number) (map step rest)
+      by : (b : Bool) → nat_eq number f.number ≡ b → find (λ (x : Filesystem ℕ). nat_eq number x.number) (map step rest)
           ≡ find (λ (x : Filesystem ℕ). nat_eq number x.number) rest
           → cond b (Some (step f)) (find (λ (x : Filesystem ℕ). nat_eq number x.number) (map step rest))
           ≡ cond b (Some f) (find (λ (x : Filesystem ℕ). nat_eq number x.number) rest)
-      by true e later =
-          ap Some (used_is f (all f (inl refl))
+      by true e later = ap Some (used_is f (all f (inl refl))
           (ap (λ n. is_among nat_eq n used) (sym (eqb-true number f.number e)) ∙ is))
       by false e later = later
 
@@ -61,17 +57,12 @@ module _ (world before : World ℕ) (names : List TaskName) (sees : SeesTheSame 
   found_before : (x : Filesystem ℕ) → Among x before.filesystems → filesystem_numbered nat_eq before x.number ≡ x
   found_before = found_filesystem before.filesystems one_filesystem
 
-  found_after : (x : Filesystem ℕ) → Among x before.filesystems
-      → filesystem_numbered nat_eq stepped x.number ≡ step x
-  found_after x m =
-      ap (filesystem_numbered nat_eq stepped) (sym (step_number x))
-      ∙ found_filesystem stepped.filesystems
+  found_after : (x : Filesystem ℕ) → Among x before.filesystems → filesystem_numbered nat_eq stepped x.number ≡ step x
+  found_after x m = ap (filesystem_numbered nat_eq stepped) (sym (step_number x)) ∙ found_filesystem stepped.filesystems
       (pair-map (λ (a b : Filesystem ℕ). nat_eq a.number b.number)
-      (λ (a b : Filesystem ℕ). nat_eq a.number b.number) step
-      before.filesystems
+      (λ (a b : Filesystem ℕ). nat_eq a.number b.number) step before.filesystems
       (λ a b n k e. ap (λ j. nat_eq j (step b).number) (step_number a) ∙ ap (nat_eq a.number) (step_number b) ∙ e)
-      one_filesystem)
-      (step x) (among-map step before.filesystems x m)
+      one_filesystem) (step x) (among-map step before.filesystems x m)
 
   each_shown : (x : Filesystem ℕ) → Among x before.filesystems
       → shown_of stepped used lowers (step x) ≡ shown_of before used lowers x
@@ -84,22 +75,19 @@ module _ (world before : World ℕ) (names : List TaskName) (sees : SeesTheSame 
 
       by : (b : Bool) → is_among nat_eq x.number used ≡ b
           → shown_of stepped used lowers (step x) ≡ shown_of before used lowers x
-      by true e =
-          ap (λ y. shown_of stepped used lowers y) (used_is x m e)
+      by true e = ap (λ y. shown_of stepped used lowers y) (used_is x m e)
           ∙ ap (λ b. cond b (Some x) (when (list_any (λ (layer : Layer ℕ). nat_eq x.number layer.filesystem) lowers)
           (lowered_by used lowers (filesystem_numbered nat_eq stepped x.number).files x))) e
           ∙ sym (ap (λ b. cond b (Some x) (when
           (list_any (λ (layer : Layer ℕ). nat_eq x.number layer.filesystem) lowers)
           (lowered_by used lowers (filesystem_numbered nat_eq before x.number).files x))) e)
-      by false e =
-          ap (λ (f : Filesystem ℕ). cond (is_among nat_eq (step x).number used) (Some (step x))
+      by false e = ap (λ (f : Filesystem ℕ). cond (is_among nat_eq (step x).number used) (Some (step x))
           (when (list_any (λ (layer : Layer ℕ). nat_eq (step x).number layer.filesystem) lowers)
           (lowered_by used lowers f.files (step x))))
           (ap (filesystem_numbered nat_eq stepped) (step_number x) ∙ found_after x m)
           ∙ ap (λ n. cond (is_among nat_eq n used) (Some (step x))
           (when (list_any (λ (layer : Layer ℕ). nat_eq n layer.filesystem) lowers)
-          (lowered_by used lowers (step x).files (step x)))) (step_number x)
-          ∙ ap (λ b. cond b (Some (step x)) (when
+          (lowered_by used lowers (step x).files (step x)))) (step_number x) ∙ ap (λ b. cond b (Some (step x)) (when
           (list_any (λ (layer : Layer ℕ). nat_eq x.number layer.filesystem) lowers)
           (lowered_by used lowers (step x).files (step x)))) e
           ∙ lower_by (list_any (λ (layer : Layer ℕ). nat_eq x.number layer.filesystem) lowers) refl
@@ -114,25 +102,21 @@ module _ (world before : World ℕ) (names : List TaskName) (sees : SeesTheSame 
     tasks = sees.tasks;
     mounts = sees.mounts;
     masters = sees.masters;
-    direct = λ number m.
-        ap (λ o. unwrap_or o (no_filesystem number))
+    direct = λ number m. ap (λ o. unwrap_or o (no_filesystem number))
         (found_stepped number (used_directly_used world names number
         (among_from_contains (used_directly nat_eq world names) number m)) before.filesystems (λ x n. n))
         ∙ sees.direct number m;
     filesystems = filter_map_map (shown_of stepped used lowers) step before.filesystems
         ∙ filter_map_same (λ x. shown_of stepped used lowers (step x)) (shown_of before used lowers) before.filesystems
-        each_shown
-        ∙ sees.filesystems;
+        each_shown ∙ sees.filesystems;
     namespaces = sees.namespaces;
   }
 
 -- Where overlays stay over their layers, others have the footholds that they had.
 pub stepping_keeps_footholds : (before : World ℕ) (names : List TaskName) (step : Filesystem ℕ → Filesystem ℕ)
-    → ((x : Filesystem ℕ) → (step x).number ≡ x.number)
-    → ((x : Filesystem ℕ) → is_overlay (step x) ≡ is_overlay x)
+    → ((x : Filesystem ℕ) → (step x).number ≡ x.number) → ((x : Filesystem ℕ) → is_overlay (step x) ≡ is_overlay x)
     → ((number : ℕ) (x : Filesystem ℕ) → has_layer_on nat_eq number (step x) ≡ has_layer_on nat_eq number x)
-    → (number : ℕ)
-    → used_alone nat_eq (record before { filesystems = map step before.filesystems }) names number
+    → (number : ℕ) → used_alone nat_eq (record before { filesystems = map step before.filesystems }) names number
     ≡ used_alone nat_eq before names number
 stepping_keeps_footholds before names step step_number step_overlay step_layers number =
     ap (λ list. no_outsider_on nat_eq before names number && list_all free_in list)

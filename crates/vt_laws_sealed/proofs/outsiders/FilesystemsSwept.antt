@@ -53,10 +53,8 @@ module _ (world before : World ℕ) (names : List TaskName) (sees : SeesTheSame 
     mounts = sees.mounts;
     masters = λ group h.
         let member = any_among (is_member_of nat_eq group) (own_mounts nat_eq world names) h in
-        ap (λ b. cond b (before.master group) None)
-        (any_from_among (is_member_of nat_eq group) before.mounts member.0
-        (own_later world before names sees member.0 member.1) member.2)
-        ∙ sees.masters group h;
+        ap (λ b. cond b (before.master group) None) (any_from_among (is_member_of nat_eq group) before.mounts member.0
+        (own_later world before names sees member.0 member.1) member.2) ∙ sees.masters group h;
     direct = sees.direct;
     filesystems = sees.filesystems;
     namespaces = sees.namespaces;
@@ -69,47 +67,38 @@ module _ (world before : World ℕ) (names : List TaskName) (apart : IsApart wor
   direct = used_directly nat_eq world names
 
   abbrev alive : ℕ → Bool
-  alive number =
-      is_mounted nat_eq before number
+  alive number = is_mounted nat_eq before number
       || list_any (λ merged. has_layer_on nat_eq number merged && is_mounted nat_eq before merged.number)
       before.filesystems
 
   mounted_if_shown : (number : ℕ) (mount : Mount ℕ) → Among mount before.mounts → mount.filesystem ≡ number
       → is_mounted nat_eq before number ≡ true
-  mounted_if_shown number mount m e =
-      any_from_among (λ (x : Mount ℕ). nat_eq number x.filesystem) before.mounts mount m
+  mounted_if_shown number mount m e = any_from_among (λ (x : Mount ℕ). nat_eq number x.filesystem) before.mounts mount m
       (eq-eqb number mount.filesystem (sym e))
 
   -- what they use directly is mounted
   direct_mounted : (number : ℕ) → Among number direct → is_mounted nat_eq before number ≡ true
-  direct_mounted number m =
-      ⊎_elim
-      (λ shown. let mount = among-from_map (λ (x : Mount ℕ). x.filesystem)
+  direct_mounted number m = ⊎_elim (λ shown. let mount = among-from_map (λ (x : Mount ℕ). x.filesystem)
       (own_mounts nat_eq world names) number shown in
-      mounted_if_shown number mount.0 (own_later world before names sees mount.0 mount.1) (sym mount.2))
-      (λ located.
+      mounted_if_shown number mount.0 (own_later world before names sees mount.0 mount.1) (sym mount.2)) (λ located.
       let at = among-from_map (λ (l : Location ℕ). (mount_at nat_eq world l).filesystem)
       (locations (members world names)) number located in
       let task = among-from_flat_map locations_of (members world names) at.0 at.1 in
-      let there = located_there world names apart at.0
-      (among-flat_map locations_of world.tasks task.0 at.0
+      let there = located_there world names apart at.0 (among-flat_map locations_of world.tasks task.0 at.0
       (among-from_filter (is_member_task names) world.tasks task.0 task.1).0 task.2) in
       let shown = shown_at world names there.0
       (any_from_among (λ (l : Location ℕ). nat_eq l.mount there.0.number) (locations (members world names)) at.0 at.1
       there.2) in
       let later = there_later world before names sees there.0 shown.0 there.1 shown.1 in
-      mounted_if_shown number later.0 later.1
-      (later.3 ∙ ap (λ (x : Mount ℕ). x.filesystem)
+      mounted_if_shown number later.0 later.1 (later.3 ∙ ap (λ (x : Mount ℕ). x.filesystem)
       (sym (found_itself world.mounts apart.is.mounts.one_number there.0 there.1))
       ∙ ap (λ n. (mount_numbered nat_eq world n).filesystem) (sym (eqb-true at.0.mount there.0.number there.2))
-      ∙ sym at.2))
-      (among-append (map (λ (x : Mount ℕ). x.filesystem) (own_mounts nat_eq world names)) _ number m)
+      ∙ sym at.2)) (among-append (map (λ (x : Mount ℕ). x.filesystem) (own_mounts nat_eq world names)) _ number m)
 
   -- a layer of an overlay that they use directly is alive
   layer_alive : (number : ℕ) (merged : Filesystem ℕ) → Among merged world.filesystems → Among merged.number direct
       → has_layer_on nat_eq number merged ≡ true → alive number ≡ true
-  layer_alive number merged m used has =
-      or_right (is_mounted nat_eq before number) _
+  layer_alive number merged m used has = or_right (is_mounted nat_eq before number) _
       (any_from_among (λ other. has_layer_on nat_eq number other && is_mounted nat_eq before other.number)
       before.filesystems merged
       (used_later world before names sees merged m (used_directly_used world names merged.number used))
@@ -134,8 +123,7 @@ module _ (world before : World ℕ) (names : List TaskName) (apart : IsApart wor
       layer_alive number of.0 of.1 of.4 (layered number of.0 at.0 of.3 at.2)
 
   used_alive : (number : ℕ) → Among number (used_filesystems nat_eq world names) → alive number ≡ true
-  used_alive number m =
-      ⊎_elim (λ d. or_left (is_mounted nat_eq before number) _ (direct_mounted number d))
+  used_alive number m = ⊎_elim (λ d. or_left (is_mounted nat_eq before number) _ (direct_mounted number d))
       (λ changed. let of = changed_of world names number changed in
       layer_alive number of.0 of.1 of.2 (layered number of.0 of.3 of.4 (eq-eqb number of.3.filesystem of.5)))
       (among-append direct _ number
@@ -161,12 +149,9 @@ module _ (world before : World ℕ) (names : List TaskName) (apart : IsApart wor
               → find (λ (x : Filesystem ℕ). nat_eq number x.number)
               (cond a (f ∷ filter (filesystem_lives nat_eq before) rest) (filter (filesystem_lives nat_eq before) rest))
               ≡ cond b (Some f) (find (λ (x : Filesystem ℕ). nat_eq number x.number) rest)
-          by true g b h later =
-              ap (λ c. cond c (Some f) (find (λ (x : Filesystem ℕ). nat_eq number x.number)
-              (filter (filesystem_lives nat_eq before) rest))) h
-              ∙ ap (cond b (Some f)) later
-          by false g true h later =
-              absurd (true≢false (sym is ∙ ap alive (eqb-true number f.number h) ∙ g))
+          by true g b h later = ap (λ c. cond c (Some f) (find (λ (x : Filesystem ℕ). nat_eq number x.number)
+              (filter (filesystem_lives nat_eq before) rest))) h ∙ ap (cond b (Some f)) later
+          by false g true h later = absurd (true≢false (sym is ∙ ap alive (eqb-true number f.number h) ∙ g))
           by false g false h later = later
 
   abbrev lowers_there : List (Layer ℕ)
@@ -191,17 +176,14 @@ module _ (world before : World ℕ) (names : List TaskName) (apart : IsApart wor
     tasks = sees.tasks;
     mounts = sees.mounts;
     masters = sees.masters;
-    direct = λ number m.
-        found_alive number (or_left (is_mounted nat_eq before number) _
-        (direct_mounted number (among_from_contains direct number m)))
-        ∙ sees.direct number m;
+    direct = λ number m. found_alive number (or_left (is_mounted nat_eq before number) _
+        (direct_mounted number (among_from_contains direct number m))) ∙ sees.direct number m;
     filesystems =
         filter_map_filtered (shown_of before used_there lowers_there) (shown_of alive_world used_there lowers_there)
         (filesystem_lives nat_eq before) before.filesystems
         (λ x m lives. ap (λ (f : Filesystem ℕ). cond (is_among nat_eq x.number used_there) (Some x)
         (when (list_any (λ (layer : Layer ℕ). nat_eq x.number layer.filesystem) lowers_there)
         (lowered_by used_there lowers_there f.files x))) (found_alive x.number lives))
-        (λ x m dead. dead_not_shown x dead)
-        ∙ sees.filesystems;
+        (λ x m dead. dead_not_shown x dead) ∙ sees.filesystems;
     namespaces = sees.namespaces;
   }

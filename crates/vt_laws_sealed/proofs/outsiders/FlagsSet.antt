@@ -77,23 +77,19 @@ module _ (world : World ℕ) (fresh : Fresh ℕ) (names : List TaskName) (name :
     old = mount_numbered nat_eq world number
 
     placed : old.namespace ≡ Some task.namespace
-    placed =
-        (all_permits_fit world fresh task call (ToSetFlags number flags) outsider.is outsider.serves
+    placed = (all_permits_fit world fresh task call (ToSetFlags number flags) outsider.is outsider.serves
         (ap (task_called world) (sym (name_found world name task called)) ∙ called)
         (ap mounts_overlay for_remount.1) judged).names
 
     -- a mount of that number is the one
     is_old : (mount : Mount ℕ) → Among mount world.mounts → nat_eq number mount.number ≡ true → old ≡ mount
-    is_old mount m e =
-        ap (mount_numbered nat_eq world) (eqb-true number mount.number e)
+    is_old mount m e = ap (mount_numbered nat_eq world) (eqb-true number mount.number e)
         ∙ found_itself world.mounts outsider.is.mounts.one_number mount m
 
     same_set : (mount : Mount ℕ) → Among mount world.mounts
         → replaced_if_same nat_eq (record old { flags = flags }) mount ≡ set world number flags mount
-    same_set mount m =
-        ap (λ n. cond (nat_eq n mount.number) (record old { flags = flags }) mount)
-        (number-mount_in world.mounts number)
-        ∙ by (nat_eq number mount.number) refl
+    same_set mount m = ap (λ n. cond (nat_eq n mount.number) (record old { flags = flags }) mount)
+        (number-mount_in world.mounts number) ∙ by (nat_eq number mount.number) refl
       where
         by : (b : Bool) → nat_eq number mount.number ≡ b
             → cond b (record old { flags = flags }) mount ≡ cond b (record mount { flags = flags }) mount
@@ -152,12 +148,10 @@ module _ (world : World ℕ) (fresh : Fresh ℕ) (names : List TaskName) (name :
 
     pub flags_leave : LeavesApart world
         (settled nat_eq (apply nat_eq fresh world task (ToSetFlags number flags)).world) names []
-    flags_leave =
-        subst (λ w. LeavesApart world w names [])
+    flags_leave = subst (λ w. LeavesApart world w names [])
         (sym (nothing_is_swept world fresh names name call task (ToSetFlags number flags) outsider called judged
         (ap takes_uses for_remount.1) (ap sets_type for_remount.1) refl
         ∙ ap (with_mounts world) (map_alike (replaced_if_same nat_eq (record old { flags = flags }))
         (set world number flags) world.mounts same_set)))
         (changing_leaves_apart world names apart_before (set world number flags) (set_keeps world number flags)
-        kept_same
-        world.master (λ group e. refl) (events_same ∙ apart_before.events))
+        kept_same world.master (λ group e. refl) (events_same ∙ apart_before.events))

@@ -16,8 +16,7 @@ use Rattle.vt_laws_sealed.proofs.outsiders.EveryPermit.{outsiders_leave_a_sealed
 
 -- a task of this name is found where one is
 found_called : (member : TaskName) (tasks : List (Task ℕ)) (task : Task ℕ) → Among task tasks
-    → same_name member task.name ≡ true
-    → is_some (find (λ (t : Task ℕ). same_name member t.name) tasks) ≡ true
+    → same_name member task.name ≡ true → is_some (find (λ (t : Task ℕ). same_name member t.name) tasks) ≡ true
 found_called member [] task m e = absurd m
 found_called member (first ∷ rest) task m e =
     by (same_name member first.name) refl (λ later. found_called member rest task later e)
@@ -26,10 +25,8 @@ found_called member (first ∷ rest) task m e =
         → (Among task rest → is_some (find (λ (t : Task ℕ). same_name member t.name) rest) ≡ true)
         → is_some (cond b (Some first) (find (λ (t : Task ℕ). same_name member t.name) rest)) ≡ true
     by true f next = refl
-    by false f next =
-        ⊎_elim
-        (λ here. absurd (true≢false (sym e ∙ ap (λ (t : Task ℕ). same_name member t.name) here ∙ f)))
-        next m
+    by false f next = ⊎_elim
+        (λ here. absurd (true≢false (sym e ∙ ap (λ (t : Task ℕ). same_name member t.name) here ∙ f))) next m
 
 -- names of the set stay names of tasks where the set stays
 still_called : (world later : World ℕ) (names : List TaskName) → members later names ≡ members world names
@@ -41,13 +38,11 @@ still_called world later names same there =
     let test : Task ℕ → Bool = λ (t : Task ℕ). same_name member t.name in
     let passes = found_passes test world.tasks found.0 found.1 in
     let its_name = name_found world member found.0 found.1 in
-    let is_one : is_among same_name found.0.name names ≡ true =
-    any_from_among (same_name found.0.name) names member m
+    let is_one : is_among same_name found.0.name names ≡ true = any_from_among (same_name found.0.name) names member m
     (ap (same_name found.0.name) its_name ∙ ap (λ n. same_name n found.0.name) (sym its_name) ∙ passes) in
     let member_there = among-filter (is_member_task names) world.tasks found.0
     (found_among test world.tasks found.0 found.1) is_one in
-    found_called member later.tasks found.0
-    (among-from_filter (is_member_task names) later.tasks found.0
+    found_called member later.tasks found.0 (among-from_filter (is_member_task names) later.tasks found.0
     (subst (Among found.0) (sym same) member_there)).0 passes)
 
 in_turn : (calls : List OneCall) (world : World ℕ) (names : List TaskName) → IsWorld nat_eq world

@@ -64,8 +64,7 @@ pub record IsLowerTree (lowers : List (Layer ℕ)) (x : Filesystem ℕ) : Type 0
 -- Inodes: of the filesystems that are chosen those go that nothing uses.
 module _ (world before : World ℕ) (names : List TaskName) (apart : IsApart world names)
     (sealed_off : sealed nat_eq world names ≡ true) (sees : SeesTheSame world before names) (one : OneNumberEach before)
-    (chosen : Filesystem ℕ → Bool)
-    (trees : (x : Filesystem ℕ) → Among x before.filesystems
+    (chosen : Filesystem ℕ → Bool) (trees : (x : Filesystem ℕ) → Among x before.filesystems
     → list_any (λ (layer : Layer ℕ). nat_eq x.number layer.filesystem) (own_lowers nat_eq world names) ≡ true
     → IsLowerTree (own_lowers nat_eq world names) x)
     (one_filesystem : any_pair (λ (a b : Filesystem ℕ). nat_eq a.number b.number) before.filesystems ≡ false) where
@@ -86,8 +85,7 @@ module _ (world before : World ℕ) (names : List TaskName) (apart : IsApart wor
 
   -- what they use stays whole
   used_is : (x : Filesystem ℕ) → Among x before.filesystems → is_among nat_eq x.number used ≡ true → sweep x ≡ x
-  used_is x m is =
-      used_whole world before names apart sealed_off sees one x (used_before x m is) is (chosen x)
+  used_is x m is = used_whole world before names apart sealed_off sees one x (used_before x m is) is (chosen x)
     where
       used_before : (x : Filesystem ℕ) → Among x before.filesystems → is_among nat_eq x.number used ≡ true
           → Among x world.filesystems
@@ -103,8 +101,7 @@ module _ (world before : World ℕ) (names : List TaskName) (apart : IsApart wor
       ++ layers_in nat_eq before x.number)
       (flat_map (objects_of_overlay nat_eq x.number) before.filesystems) layer.directory
       (in_third (named_in x.files) (located_in nat_eq before x.number)
-      (layers_in nat_eq before x.number) layer.directory
-      (among-map (λ (l : Layer ℕ). l.directory)
+      (layers_in nat_eq before x.number) layer.directory (among-map (λ (l : Layer ℕ). l.directory)
       (filter (λ (l : Layer ℕ). nat_eq x.number l.filesystem)
       (flat_map (of_overlay [] layers_of) before.filesystems)) layer
       (among-filter (λ (l : Layer ℕ). nat_eq x.number l.filesystem)
@@ -126,18 +123,14 @@ module _ (world before : World ℕ) (names : List TaskName) (apart : IsApart wor
           → (b : Bool) → lowered_by used lowers (only_used_by nat_eq b (used_in nat_eq before x) x).files
           (only_used_by nat_eq b (used_in nat_eq before x) x) ≡ lowered_by used lowers x.files x
       by_all plain conditions tops true = refl
-      by_all plain conditions tops false =
-          ap (λ (files : FileTree ℕ). record x {
-            files = files;
-            overlay = option_map (real_among nat_eq (used_in nat_eq before x)) x.overlay;
-            change = 0;
-          })
-          (lower_part_same (used_in nat_eq before x) x.files (named_is_used before x conditions) conditions
-          x.number lowers tops)
-          ∙ ap (λ o. record (lowered_by used lowers x.files x) {
+      by_all plain conditions tops false = ap (λ (files : FileTree ℕ). record x {
+        files = files;
+        overlay = option_map (real_among nat_eq (used_in nat_eq before x)) x.overlay;
+        change = 0;
+      }) (lower_part_same (used_in nat_eq before x) x.files (named_is_used before x conditions) conditions
+          x.number lowers tops) ∙ ap (λ o. record (lowered_by used lowers x.files x) {
             overlay = option_map (real_among nat_eq (used_in nat_eq before x)) o;
-          }) plain
-          ∙ ap (λ o. record (lowered_by used lowers x.files x) { overlay = o }) (sym plain)
+          }) plain ∙ ap (λ o. record (lowered_by used lowers x.files x) { overlay = o }) (sym plain)
 
       by_choice : x.overlay ≡ None → IsFileTree x.files
           → ((layer : Layer ℕ) → Among layer lowers → nat_eq x.number layer.filesystem ≡ true
@@ -145,11 +138,9 @@ module _ (world before : World ℕ) (names : List TaskName) (apart : IsApart wor
           × IsDirectory x.files.tree layer.directory)
           → (b : Bool) → lowered_by used lowers (only_used nat_eq before b x).files (only_used nat_eq before b x)
           ≡ lowered_by used lowers x.files x
-      by_choice plain conditions tops true =
-          by_all plain conditions tops
+      by_choice plain conditions tops true = by_all plain conditions tops
           (list_all (λ number. is_among nat_eq number (used_in nat_eq before x)) x.files.numbers)
       by_choice plain conditions tops false = refl
 
   pub inodes_swept : SeesTheSame world swept names
-  inodes_swept =
-      filesystems_stepped world before names sees one_filesystem sweep sweep_number used_is lower_same
+  inodes_swept = filesystems_stepped world before names sees one_filesystem sweep sweep_number used_is lower_same

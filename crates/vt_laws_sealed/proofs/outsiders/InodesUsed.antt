@@ -72,8 +72,7 @@ module _ (world later : World ℕ) (names : List TaskName) (apart : IsApart worl
     abbrev parts_alone : (no_outsider_on nat_eq world names x.number ≡ true)
         × (list_all (λ merged. not (has_layer_on nat_eq x.number merged)
         || no_outsider_on nat_eq world names merged.number) (overlays world) ≡ true)
-    parts_alone =
-        and_parts (no_outsider_on nat_eq world names x.number)
+    parts_alone = and_parts (no_outsider_on nat_eq world names x.number)
         (list_all (λ merged. not (has_layer_on nat_eq x.number merged)
         || no_outsider_on nat_eq world names merged.number) (overlays world)) alone
 
@@ -88,10 +87,8 @@ module _ (world later : World ℕ) (names : List TaskName) (apart : IsApart worl
         (not-true _ both.0, not-true _ both.1)
 
     no_other_mount : (mount : Mount ℕ) → Among mount (other_mounts nat_eq world names) → mount.filesystem ≡ x.number → ⊥
-    no_other_mount mount m e =
-        true≢false (sym (any_from_among (λ (y : Mount ℕ). nat_eq x.number y.filesystem)
-        (other_mounts nat_eq world names)
-        mount m (eq-eqb x.number mount.filesystem (sym e))) ∙ nobody.0)
+    no_other_mount mount m e = true≢false (sym (any_from_among (λ (y : Mount ℕ). nat_eq x.number y.filesystem)
+        (other_mounts nat_eq world names) mount m (eq-eqb x.number mount.filesystem (sym e))) ∙ nobody.0)
 
     no_other_location : (location : Location ℕ) → Among location (locations (outsiders world names))
         → (mount_at nat_eq world location).filesystem ≡ x.number → ⊥
@@ -109,17 +106,14 @@ module _ (world later : World ℕ) (names : List TaskName) (apart : IsApart worl
       where
         by : (task : Task ℕ) → Among task world.tasks → Among location (locations_of task)
             → (b : Bool) → is_member_task names task ≡ b → Among location (locations (members world names))
-        by task t at true member =
-            among-flat_map locations_of (members world names) task location
+        by task t at true member = among-flat_map locations_of (members world names) task location
             (among-filter (is_member_task names) world.tasks task t member) at
-        by task t at false member =
-            absurd (no_other_location location
+        by task t at false member = absurd (no_other_location location
             (among-flat_map locations_of (outsiders world names) task location
             (among-filter (λ (y : Task ℕ). not (is_member_task names y)) world.tasks task t (ap not member)) at) e)
 
     abbrev places_later : List (Location ℕ)
-    places_later =
-        all_locations later ++ map root_of later.mounts
+    places_later = all_locations later ++ map root_of later.mounts
         ++ filter_map (λ (mount : Mount ℕ). mount.mount_point) later.mounts
 
     abbrev points_later : List (Location ℕ)
@@ -127,9 +121,7 @@ module _ (world later : World ℕ) (names : List TaskName) (apart : IsApart worl
 
     located_used : (location : Location ℕ) → Among location places_later
         → (mount_at nat_eq later location).filesystem ≡ x.number → IsUsed location.node
-    located_used location m e =
-        located_is_used location.node
-        (among-map (λ (l : Location ℕ). l.node)
+    located_used location m e = located_is_used location.node (among-map (λ (l : Location ℕ). l.node)
         (filter (λ l. nat_eq x.number (mount_at nat_eq later l).filesystem) places_later) location
         (among-filter (λ l. nat_eq x.number (mount_at nat_eq later l).filesystem) places_later location m
         (eq-eqb x.number (mount_at nat_eq later location).filesystem (sym e))))
@@ -141,8 +133,7 @@ module _ (world later : World ℕ) (names : List TaskName) (apart : IsApart worl
         let theirs_later : Among location (locations (members later names)) =
         subst (λ tasks. Among location (locations tasks)) (sym sees.tasks) theirs in
         let of = among-from_flat_map locations_of (members later names) location theirs_later in
-        located_used location
-        (in_first (all_locations later) (map root_of later.mounts) points_later location
+        located_used location (in_first (all_locations later) (map root_of later.mounts) points_later location
         (among-flat_map locations_of later.tasks of.0 location
         (among-from_filter (is_member_task names) later.tasks of.0 of.1).0 of.2))
         (sym (located later names location theirs_later)
@@ -165,8 +156,7 @@ module _ (world later : World ℕ) (names : List TaskName) (apart : IsApart worl
             (sym (eqb-true mount.number located_there.0.mount located_there.2))
             ∙ ap (λ (y : Mount ℕ). y.filesystem) (found_itself world.mounts apart.is.mounts.one_number mount m) ∙ e in
             shown_at world names mount (any_from_among (λ (l : Location ℕ). nat_eq l.mount mount.number)
-            (locations (members world names))
-            located_there.0 (of_member located_there.0 located_there.1 shows)
+            (locations (members world names)) located_there.0 (of_member located_there.0 located_there.1 shows)
             (eq-eqb located_there.0.mount mount.number
             (sym (eqb-true mount.number located_there.0.mount located_there.2))))
         by (Some n) placed = which (is_own_namespace nat_eq world names n) refl
@@ -179,8 +169,7 @@ module _ (world later : World ℕ) (names : List TaskName) (apart : IsApart worl
                   (or_left (is_own world names (members world names) mount) _
                   (ap (holds_of (is_own_namespace nat_eq world names)) placed ∙ own)),
             )
-            which false other =
-                absurd (no_other_mount mount
+            which false other = absurd (no_other_mount mount
                 (among-filter (λ (y : Mount ℕ). holds_of (λ k. not (is_own_namespace nat_eq world names k)) y.namespace)
                 world.mounts mount m
                 (ap (holds_of (λ k. not (is_own_namespace nat_eq world names k))) placed ∙ ap not other)) e)
@@ -189,8 +178,7 @@ module _ (world later : World ℕ) (names : List TaskName) (apart : IsApart worl
     by_root mount m e =
         let shown = shown_mount mount m e in
         let at = there_later world later names sees mount shown.0 m shown.1 in
-        subst IsUsed at.4
-        (located_used (root_of at.0)
+        subst IsUsed at.4 (located_used (root_of at.0)
         (in_second (all_locations later) (map root_of later.mounts) points_later (root_of at.0)
         (among-map root_of later.mounts at.0 at.1))
         (ap (λ (y : Mount ℕ). y.filesystem) (found_itself later.mounts one at.0 at.1) ∙ at.3 ∙ e))
@@ -204,12 +192,10 @@ module _ (world later : World ℕ) (names : List TaskName) (apart : IsApart worl
             sym (ap (λ (y : Mount ℕ). y.namespace) (found_itself world.mounts apart.is.mounts.one_number mount m))
             ∙ namespace_below world mount.number point
             (among_from_all (λ (y : Mount ℕ). Stands nat_eq world y.number) world.mounts apart.is.mounts.standing mount
-            m)
-            (ap (λ (y : Mount ℕ). y.mount_point) (found_itself world.mounts apart.is.mounts.one_number mount m) ∙ e)
+            m) (ap (λ (y : Mount ℕ). y.mount_point) (found_itself world.mounts apart.is.mounts.one_number mount m) ∙ e)
 
         by : (o : Option ℕ) → mount.namespace ≡ o → IsUsed point.node
-        by None none =
-            absurd (true≢false
+        by None none = absurd (true≢false
             (sym (and_parts (not (is_some mount.mount_point)) (is_private mount.propagation)
             (sym (ap (λ o. is_some o || (not (is_some mount.mount_point) && is_private mount.propagation)) none)
             ∙ among_from_list_all is_nowhere_or_attached world.mounts apart.is.mounts.nowhere mount m)).0
@@ -220,8 +206,7 @@ module _ (world later : World ℕ) (names : List TaskName) (apart : IsApart worl
             parent_placed = sym same_namespace ∙ placed
 
             parent_there : Among (mount_at nat_eq world point) world.mounts
-            parent_there =
-                ⊎_elim (λ k. k)
+            parent_there = ⊎_elim (λ k. k)
                 (λ none. none_is_some n (sym (ap (λ (y : Mount ℕ). y.namespace) none) ∙ parent_placed))
                 (found_or_none world.mounts point.mount)
 
@@ -234,14 +219,12 @@ module _ (world later : World ℕ) (names : List TaskName) (apart : IsApart worl
                 let child = own_later world later names sees mount (is_theirs mount m placed) in
                 let above = own_later world later names sees (mount_at nat_eq world point)
                 (is_theirs (mount_at nat_eq world point) parent_there parent_placed) in
-                located_used point
-                (in_third (all_locations later) (map root_of later.mounts) points_later point
+                located_used point (in_third (all_locations later) (map root_of later.mounts) points_later point
                 (among-filter_map (λ (y : Mount ℕ). y.mount_point) later.mounts mount point child e))
                 (ap (λ k. (mount_numbered nat_eq later k).filesystem) (sym (number-mount_in world.mounts point.mount))
                 ∙ ap (λ (y : Mount ℕ). y.filesystem) (found_itself later.mounts one (mount_at nat_eq world point) above)
                 ∙ shows)
-            which false other =
-                absurd (no_other_mount (mount_at nat_eq world point)
+            which false other = absurd (no_other_mount (mount_at nat_eq world point)
                 (among-filter (λ (y : Mount ℕ). holds_of (λ k. not (is_own_namespace nat_eq world names k)) y.namespace)
                 world.mounts (mount_at nat_eq world point) parent_there
                 (ap (holds_of (λ k. not (is_own_namespace nat_eq world names k))) parent_placed ∙ ap not other)) shows)
@@ -257,19 +240,14 @@ module _ (world later : World ℕ) (names : List TaskName) (apart : IsApart worl
         ++ filter_map (λ (mount : Mount ℕ). mount.mount_point) world.mounts) at.0 at.1 in
         let shows : (mount_at nat_eq world at.0).filesystem ≡ x.number =
         sym (eqb-true x.number (mount_at nat_eq world at.0).filesystem on.1) in
-        subst IsUsed (sym at.2)
-        (⊎_elim
-        (λ used_or_root. ⊎_elim (λ task. by_task at.0 task shows)
+        subst IsUsed (sym at.2) (⊎_elim (λ used_or_root. ⊎_elim (λ task. by_task at.0 task shows)
         (λ root. let mount = among-from_map root_of world.mounts at.0 root in
-        subst IsUsed (ap (λ (l : Location ℕ). l.node) (sym mount.2))
-        (by_root mount.0 mount.1
-        (ap (λ (y : Mount ℕ). y.filesystem)
-        (sym (found_itself world.mounts apart.is.mounts.one_number mount.0 mount.1))
+        subst IsUsed (ap (λ (l : Location ℕ). l.node) (sym mount.2)) (by_root mount.0 mount.1
+        (ap (λ (y : Mount ℕ). y.filesystem) (sym (found_itself world.mounts apart.is.mounts.one_number mount.0 mount.1))
         ∙ ap (λ (l : Location ℕ). (mount_at nat_eq world l).filesystem) (sym mount.2) ∙ shows)))
         (among-append (all_locations world) (map root_of world.mounts) at.0 used_or_root))
         (λ point. let mount = among-from_filter_map (λ (y : Mount ℕ). y.mount_point) world.mounts at.0 point in
-        by_point mount.0 mount.1 at.0 mount.2 shows)
-        (among-append (all_locations world ++ map root_of world.mounts)
+        by_point mount.0 mount.1 at.0 mount.2 shows) (among-append (all_locations world ++ map root_of world.mounts)
         (filter_map (λ (mount : Mount ℕ). mount.mount_point) world.mounts) at.0 on.0))
 
     -- an overlay with a layer in it is theirs
@@ -287,8 +265,7 @@ module _ (world later : World ℕ) (names : List TaskName) (apart : IsApart worl
         (overlay_without_others world names apart.is merged among nobody_there)) free
       where
         is_one : (o : Option (Overlay ℕ)) → merged.overlay ≡ o → is_some merged.overlay ≡ true
-        is_one None e =
-            absurd (true≢false (sym has ∙ ap (overlay_or false (λ overlay. list_any
+        is_one None e = absurd (true≢false (sym has ∙ ap (overlay_or false (λ overlay. list_any
             (λ layer. nat_eq x.number layer.filesystem) (layers_of overlay))) e))
         is_one (Some overlay) e = ap is_some e
 
@@ -301,8 +278,7 @@ module _ (world later : World ℕ) (names : List TaskName) (apart : IsApart worl
         (flat_map (of_overlay [] layers_of) world.filesystems) at.0 at.1 in
         let of = among-from_flat_map (of_overlay [] layers_of) world.filesystems at.0 on.0 in
         let merged = merged_later of.0 of.1 (has of.0 at.0 of.2 on.1) in
-        layer_is_used object
-        (subst (λ k. Among k (layers_in nat_eq later x.number)) (sym at.2)
+        layer_is_used object (subst (λ k. Among k (layers_in nat_eq later x.number)) (sym at.2)
         (among-map (λ (layer : Layer ℕ). layer.directory)
         (filter (λ (layer : Layer ℕ). nat_eq x.number layer.filesystem)
         (flat_map (of_overlay [] layers_of) later.filesystems)) at.0
@@ -345,14 +321,12 @@ module _ (world later : World ℕ) (names : List TaskName) (apart : IsApart worl
               where
                 on : (b : Bool) → nat_eq x.number layer.filesystem ≡ b → Among object (objects overlay b)
                     → list_any (λ (l : Layer ℕ). nat_eq x.number l.filesystem) (layers_of overlay) ≡ true
-                on true f h =
-                    any_from_among (λ (l : Layer ℕ). nat_eq x.number l.filesystem) (layers_of overlay) layer
+                on true f h = any_from_among (λ (l : Layer ℕ). nat_eq x.number l.filesystem) (layers_of overlay) layer
                     (in_first (option_to_list overlay.upper) (option_to_list overlay.work) overlay.lowers layer
                     (subst (λ o. Among layer (option_to_list o)) (sym e) (inl refl))) f
                 on false f h = absurd h
 
-            by : (o : Option (Overlay ℕ))
-                → Among object (overlay_or [] (λ overlay. objects overlay
+            by : (o : Option (Overlay ℕ)) → Among object (overlay_or [] (λ overlay. objects overlay
                 (holds_of (λ layer. nat_eq x.number layer.filesystem) overlay.upper)) o)
                 → overlay_or false (λ overlay. list_any (λ (l : Layer ℕ). nat_eq x.number l.filesystem)
                 (layers_of overlay)) o ≡ true
@@ -361,19 +335,13 @@ module _ (world later : World ℕ) (names : List TaskName) (apart : IsApart worl
 
     -- what is used in the world is used then
     pub alone_used : (object : ℕ) → Among object (used_in nat_eq world x) → IsUsed object
-    alone_used object m =
-        ⊎_elim inl
-        (λ more. ⊎_elim
-        (λ three. ⊎_elim
+    alone_used object m = ⊎_elim inl (λ more. ⊎_elim (λ three. ⊎_elim
         (λ two. ⊎_elim (name_is_used object) (by_location object)
-        (among-append (named_in x.files) (located_in nat_eq world x.number) object two))
-        (by_layer object)
+        (among-append (named_in x.files) (located_in nat_eq world x.number) object two)) (by_layer object)
         (among-append (named_in x.files ++ located_in nat_eq world x.number) (layers_in nat_eq world x.number) object
-        three))
-        (by_object object)
+        three)) (by_object object)
         (among-append (named_in x.files ++ located_in nat_eq world x.number ++ layers_in nat_eq world x.number)
-        (flat_map (objects_of_overlay nat_eq x.number) world.filesystems) object more))
-        m
+        (flat_map (objects_of_overlay nat_eq x.number) world.filesystems) object more)) m
 
   module _ (there : Among x world.filesystems)
       (used : is_among nat_eq x.number (used_filesystems nat_eq world names) ≡ true) where
@@ -384,39 +352,31 @@ module _ (world later : World ℕ) (names : List TaskName) (apart : IsApart worl
     named_used : (object : ℕ) → Among object x.files.numbers → wholly_locked nat_eq world names x.number ≡ true
         → IsUsed object
     named_used object m locked =
-        let all : all_named nat_eq x.files ≡ true =
-        ap (λ (f : Filesystem ℕ). all_named nat_eq f.files) (sym found_x)
+        let all : all_named nat_eq x.files ≡ true = ap (λ (f : Filesystem ℕ). all_named nat_eq f.files) (sym found_x)
         ∙ (and_parts (list_any (λ merged. is_lower_root nat_eq x.number
         (filesystem_numbered nat_eq world x.number).files.tree.root merged
         && used_alone nat_eq world names merged.number) (overlays world))
         (all_named nat_eq (filesystem_numbered nat_eq world x.number).files) locked).1 in
-        ⊎_elim
-        (λ root. inl (eqb-true object x.files.tree.root root))
+        ⊎_elim (λ root. inl (eqb-true object x.files.tree.root root))
         (λ named. name_is_used object (among_numbers (named_in x.files) object named))
         (or_cases (nat_eq object x.files.tree.root) (is_among nat_eq object (named_in x.files))
         (among_from_list_all (λ n. nat_eq n x.files.tree.root || is_among nat_eq n
-        (named_in x.files)) x.files.numbers all
-        object m))
+        (named_in x.files)) x.files.numbers all object m))
 
     pub inodes_used : (object : ℕ) → Among object x.files.numbers
         → is_among nat_eq object (used_in nat_eq later x) ≡ true
-    inodes_used object m =
-        is_among_numbers (used_in nat_eq later x) object
-        (⊎_elim
-        (λ alone. alone_used alone object
+    inodes_used object m = is_among_numbers (used_in nat_eq later x) object (⊎_elim (λ alone. alone_used alone object
         (among_numbers (used_in nat_eq world x) object
         (among_from_list_all (λ n. is_among nat_eq n (used_in nat_eq world x)) x.files.numbers
         (among_from_all (λ (f : Filesystem ℕ). list_all
         (λ n. is_among nat_eq n (used_in nat_eq world f)) f.files.numbers
-        ≡ true) world.filesystems (all_in_use world apart.is).inodes x there) object m)))
-        (named_used object m)
+        ≡ true) world.filesystems (all_in_use world apart.is).inodes x there) object m))) (named_used object m)
         (or_cases (used_alone nat_eq world names x.number) (wholly_locked nat_eq world names x.number)
         (used_are_free world names sealed_off x.number
         (among_numbers (used_filesystems nat_eq world names) x.number used))))
 
     -- so the sweep leaves it whole
     pub used_whole : (chosen : Bool) → only_used nat_eq later chosen x ≡ x
-    used_whole true =
-        ap (λ b. only_used_by nat_eq b (used_in nat_eq later x) x)
+    used_whole true = ap (λ b. only_used_by nat_eq b (used_in nat_eq later x) x)
         (list_all_from_among (λ n. is_among nat_eq n (used_in nat_eq later x)) x.files.numbers inodes_used)
     used_whole false = refl

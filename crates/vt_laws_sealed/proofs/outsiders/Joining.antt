@@ -59,31 +59,26 @@ module _ (world : World ℕ) (fresh : Fresh ℕ) (names : List TaskName) (name :
   host_of asked permit granted e p = absurd cc
 
   host : Host
-  host =
-      host_of call (ToEnterNamespace namespace)
+  host = host_of call (ToEnterNamespace namespace)
       (calls_are_granted nat_eq (looks_of nat_eq world) (overfills nat_eq fresh world task) task call
       (ToEnterNamespace namespace) judged) refl refl
 
   host_there : Among host.0 world.tasks
-  host_there =
-      (among-from_filter (λ (t : Task ℕ). not (is_member_task names t)) world.tasks host.0 host.1).0
+  host_there = (among-from_filter (λ (t : Task ℕ). not (is_member_task names t)) world.tasks host.0 host.1).0
 
   namespace_of_others : is_own_namespace nat_eq world names namespace ≡ false
-  namespace_of_others =
-      ap (is_own_namespace nat_eq world names) (sym host.2)
+  namespace_of_others = ap (is_own_namespace nat_eq world names) (sym host.2)
       ∙ namespace_outside world names (apart world fresh names name call task outsider called) host.0 host.1
 
   -- its root
-  root_outside : (o : Option (Mount ℕ)) → root_mount nat_eq world namespace ≡ o
-      → IsOutside world names
+  root_outside : (o : Option (Mount ℕ)) → root_mount nat_eq world namespace ≡ o → IsOutside world names
       (unwrap_or (option_map (λ mount. topmost nat_eq world.mounts (root_of mount)) o) task.root)
   root_outside None e = old_outside world fresh names name call task outsider called task.root (inl refl)
   root_outside (Some mount) e =
       let there = among-from_filter (λ (m : Mount ℕ). holds_of (nat_eq namespace) m.namespace) world.mounts mount
       (found_among (λ (m : Mount ℕ). not (is_some m.mount_point)) (mounts_of nat_eq world namespace) mount e) in
       ground_of_others world names (apart world fresh names name call task outsider called) host.0 host.1 host_there
-      (topmost nat_eq world.mounts (root_of mount))
-      (topmost_ground world outsider.is host.0 host_there (root_of mount)
+      (topmost nat_eq world.mounts (root_of mount)) (topmost_ground world outsider.is host.0 host_there (root_of mount)
       (inl (ap (λ (m : Mount ℕ). m.namespace) (found_itself world.mounts outsider.is.mounts.one_number mount there.0)
       ∙ placed mount.namespace there.1 ∙ ap Some (sym host.2))))
     where
@@ -118,26 +113,20 @@ module _ (world : World ℕ) (fresh : Fresh ℕ) (names : List TaskName) (name :
   at_root = root_outside (root_mount nat_eq world namespace) refl
 
   joined_outside : (location : Location ℕ) → Among location (locations_of joined) → IsOutside world names location
-  joined_outside location m =
-      ⊎_elim (λ root. subst (IsOutside world names) (sym root) at_root)
+  joined_outside location m = ⊎_elim (λ root. subst (IsOutside world names) (sym root) at_root)
       (λ rest. ⊎_elim (λ directory. subst (IsOutside world names) (sym directory) at_root)
       (λ open_ones. old_outside world fresh names name call task outsider called location (inr (inr open_ones))) rest) m
 
   pub join_leaves : LeavesApart world (settled nat_eq
-      (apply nat_eq fresh world task (ToEnterNamespace namespace)).world)
-      names
-      []
+      (apply nat_eq fresh world task (ToEnterNamespace namespace)).world) names []
   join_leaves =
       ending_leaves_apart world names (apart world fresh names name call task outsider called) outsider.sealed_off
-      tasks_left
-      (replaced_members world fresh names name call task outsider called joined refl)
-      (λ t m. ⊎_elim
+      tasks_left (replaced_members world fresh names name call task outsider called joined refl) (λ t m. ⊎_elim
       (λ new. ap (λ (x : Task ℕ). is_own_namespace nat_eq world names x.namespace) new ∙ namespace_of_others)
       (namespace_outside world names (apart world fresh names name call task outsider called) t) (joined_or_other t m))
       (λ location m.
       let of = among-from_flat_map locations_of (filter (λ (x : Task ℕ). not (is_member_task names x)) tasks_left)
       location m in
-      ⊎_elim
-      (λ new. joined_outside location (subst (λ (x : Task ℕ). Among location (locations_of x)) new of.2))
+      ⊎_elim (λ new. joined_outside location (subst (λ (x : Task ℕ). Among location (locations_of x)) new of.2))
       (λ old. inl (location, among-flat_map locations_of (outsiders world names) of.0 location old of.2, refl))
       (joined_or_other of.0 of.1))

@@ -45,8 +45,7 @@ module _ (world : World ℕ) (names : List TaskName) (apart : IsApart world name
       → (mount_numbered nat_eq world mount.number).namespace ≡ Some namespace
   event_placed mount m =
       let is_in = tree_in world names apart namespace (length world.mounts) (mount_numbered nat_eq world one) (
-        ⊎_elim (λ k. k)
-            (λ none. none_is_some namespace (sym (ap (λ (x : Mount ℕ). x.namespace) none) ∙ placed))
+        ⊎_elim (λ k. k) (λ none. none_is_some namespace (sym (ap (λ (x : Mount ℕ). x.namespace) none) ∙ placed))
             (found_or_none world.mounts one),
         placed,
       ) mount (from_tree world one mount m) in
@@ -54,8 +53,7 @@ module _ (world : World ℕ) (names : List TaskName) (apart : IsApart world name
 
   -- a mount that is in a namespace still was in it
   abbrev WasIn : World ℕ → Type 0
-  WasIn now =
-      (k n : ℕ) → (mount_numbered nat_eq now k).namespace ≡ Some n
+  WasIn now = (k n : ℕ) → (mount_numbered nat_eq now k).namespace ≡ Some n
       → (mount_numbered nat_eq world k).namespace ≡ Some n
 
   -- after some events
@@ -73,29 +71,25 @@ module _ (world : World ℕ) (names : List TaskName) (apart : IsApart world name
     gone = going nat_eq now (mount_numbered nat_eq now number)
 
     outside_now : is_own_namespace nat_eq now names namespace ≡ false
-    outside_now =
-        ap (list_any (λ (t : Task ℕ). nat_eq namespace t.namespace)) gone_so_far.leaves.sees.tasks ∙ outside
+    outside_now = ap (list_any (λ (t : Task ℕ). nat_eq namespace t.namespace)) gone_so_far.leaves.sees.tasks ∙ outside
 
     abbrev rest_now : OthersMove now names now.tasks now.namespaces
     rest_now = others_rest now names gone_so_far.standing
 
     abbrev others_now : (k : ℕ) → is_going nat_eq gone k ≡ true
-        → (n : ℕ) × ((mount_numbered nat_eq now k).namespace ≡ Some n)
-        × (is_own_namespace nat_eq now names n ≡ false)
+        → (n : ℕ) × ((mount_numbered nat_eq now k).namespace ≡ Some n) × (is_own_namespace nat_eq now names n ≡ false)
     others_now = others_go now names gone_so_far.standing namespace outside_now number at
 
     abbrev later : World ℕ
     later = unmounted nat_eq now number
 
     step_leaves : LeavesApart now later names []
-    step_leaves =
-        subst (λ w. LeavesApart now w names []) (namespaces_taken_away now gone)
+    step_leaves = subst (λ w. LeavesApart now w names []) (namespaces_taken_away now gone)
         (taken_leaves_apart now names gone_so_far.standing now.tasks now.namespaces rest_now gone others_now)
 
     from : (mount : Mount ℕ) → Among mount later.mounts → (n : ℕ) → mount.namespace ≡ Some n
         → (old : Mount ℕ) × Among old now.mounts × (old.number ≡ mount.number) × (old.namespace ≡ Some n)
-    from mount m n e =
-        taken_from now names gone_so_far.standing now.tasks now.namespaces rest_now gone others_now mount
+    from mount m n e = taken_from now names gone_so_far.standing now.tasks now.namespaces rest_now gone others_now mount
         (subst (λ (w : World ℕ). Among mount w.mounts) (sym (namespaces_taken_away now gone)) m) n e
 
     goes_on : HasGone later
@@ -106,17 +100,12 @@ module _ (world : World ℕ) (names : List TaskName) (apart : IsApart world name
       same = sym (ap (λ (w : World ℕ). w.filesystems) (namespaces_taken_away now gone))
           ∙ filesystems_taken now names gone_so_far.standing now.tasks now.namespaces rest_now gone others_now
           ∙ gone_so_far.same;
-      was_in = λ k n e.
-          ⊎_elim
-          (λ there.
+      was_in = λ k n e. ⊎_elim (λ there.
           let old = from (mount_numbered nat_eq later k) there n e in
-          gone_so_far.was_in k n
-          (ap (λ j. (mount_numbered nat_eq now j).namespace)
-          (sym (number-mount_in later.mounts k) ∙ sym old.2)
-          ∙ ap (λ (x : Mount ℕ). x.namespace)
+          gone_so_far.was_in k n (ap (λ j. (mount_numbered nat_eq now j).namespace)
+          (sym (number-mount_in later.mounts k) ∙ sym old.2) ∙ ap (λ (x : Mount ℕ). x.namespace)
           (found_itself now.mounts gone_so_far.standing.mounts.one_number old.0 old.1) ∙ old.3))
-          (λ none. none_is_some n (sym (ap (λ (x : Mount ℕ). x.namespace) none) ∙ e))
-          (found_or_none later.mounts k);
+          (λ none. none_is_some n (sym (ap (λ (x : Mount ℕ). x.namespace) none) ∙ e)) (found_or_none later.mounts k);
     }
 
   -- all of them
@@ -127,27 +116,22 @@ module _ (world : World ℕ) (names : List TaskName) (apart : IsApart world name
   all_go (mount ∷ events) now way gone_so_far of =
       all_go events (unmounted_if_there nat_eq now mount) (next world apart.is.mounts one now mount events way)
       (by (mount_numbered nat_eq now mount.number).namespace refl
-      (next world apart.is.mounts one now mount events way).kept)
-      (λ x m. of x (inr m))
+      (next world apart.is.mounts one now mount events way).kept) (λ x m. of x (inr m))
     where
       event : Bool → World ℕ
       event b = cond b (unmounted nat_eq now mount.number) now
 
-      by : (o : Option ℕ) → (mount_numbered nat_eq now mount.number).namespace ≡ o
-          → MountInvariants nat_eq
+      by : (o : Option ℕ) → (mount_numbered nat_eq now mount.number).namespace ≡ o → MountInvariants nat_eq
           (event (is_some (mount_numbered nat_eq now mount.number).namespace))
           → HasGone (event (is_some (mount_numbered nat_eq now mount.number).namespace))
       by None e kept = subst (λ o. HasGone (event (is_some o))) (sym e) gone_so_far
       by (Some n) e kept =
           let same : n ≡ namespace =
           same_Some n namespace (sym (gone_so_far.was_in mount.number n e) ∙ event_placed mount (of mount (inl refl)))
-          in
-          subst (λ o. HasGone (event (is_some o))) (sym e)
-          (goes_on now gone_so_far mount.number (e ∙ ap Some same)
+          in subst (λ o. HasGone (event (is_some o))) (sym e) (goes_on now gone_so_far mount.number (e ∙ ap Some same)
           (subst (λ o. MountInvariants nat_eq (event (is_some o))) e kept))
 
-  pub lazily_leaves : LeavesApart world world names []
-      → LeavesApart world (lazily_unmounted nat_eq world one) names []
+  pub lazily_leaves : LeavesApart world world names [] → LeavesApart world (lazily_unmounted nat_eq world one) names []
       × ((lazily_unmounted nat_eq world one).filesystems ≡ world.filesystems)
   lazily_leaves itself =
       let all = all_go (taken_in_turn world one) world (begun world apart.is.mounts one) (record {

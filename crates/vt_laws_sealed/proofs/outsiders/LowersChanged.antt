@@ -50,8 +50,7 @@ module _ (old new : FileTree ℕ) (number : ℕ) (lowers : List (Layer ℕ)) (ke
 
     led_under_it : (path : List (List ℕ)) (object : ℕ) → led old.tree top path ≡ Some object
         → is_under nat_eq old top object ≡ true
-    led_under_it path object e =
-        led_under old keeps.was.tree top keeps.was.numbers top_directory object (path, e)
+    led_under_it path object e = led_under old keeps.was.tree top keeps.was.numbers top_directory object (path, e)
 
     led_there : (path : List (List ℕ)) (object : ℕ) → led old.tree top path ≡ Some object
         → is_some (old.tree.node object) ≡ true
@@ -63,20 +62,17 @@ module _ (old new : FileTree ℕ) (number : ℕ) (lowers : List (Layer ℕ)) (ke
         let way = under_led old keeps.was.tree top object h in led_there way.0 object way.1
 
     leads : (path : List (List ℕ)) → led new.tree top path ≡ led old.tree top path
-    leads path =
-        led_where old.tree new.tree path top (λ way inode e word.
+    leads path = led_where old.tree new.tree path top (λ way inode e word.
         ap (λ (node : Option (Node ℕ)). entry_named word (entries_in node))
         (keeps.stays layer m at inode (led_under_it way inode e) (led_there way inode e)))
 
     still_directory : IsDirectory new.tree top
-    still_directory =
-        ap is_directory_node
+    still_directory = ap is_directory_node
         (keeps.stays layer m at top (led_under_it [] top refl) (directory_used old.tree top top_directory))
         ∙ top_directory
 
     pub under_same : (object : ℕ) → is_under nat_eq new top object ≡ is_under nat_eq old top object
-    under_same object =
-        same_truth (is_under nat_eq new top object) (is_under nat_eq old top object)
+    under_same object = same_truth (is_under nat_eq new top object) (is_under nat_eq old top object)
         (λ h. let way = under_led new keeps.is.tree top object h in
         led_under_it way.0 object (sym (leads way.0) ∙ way.1))
         (λ h. let way = under_led old keeps.was.tree top object h in
@@ -88,8 +84,7 @@ module _ (old new : FileTree ℕ) (number : ℕ) (lowers : List (Layer ℕ)) (ke
       lowers
 
   lies_same : (object : ℕ) → lies_in new object ≡ lies_in old object
-  lies_same object =
-      any_alike
+  lies_same object = any_alike
       (λ (layer : Layer ℕ). nat_eq number layer.filesystem && is_under nat_eq new layer.directory object)
       (λ (layer : Layer ℕ). nat_eq number layer.filesystem && is_under nat_eq old layer.directory object) lowers
       (λ layer m. by layer m (nat_eq number layer.filesystem) refl)
@@ -109,8 +104,7 @@ module _ (old new : FileTree ℕ) (number : ℕ) (lowers : List (Layer ℕ)) (ke
       (there, keeps.stays at.0 at.1 both.0 object both.1 there)
 
   new_lies_nowhere : (object : ℕ) → Among object keeps.more → lies_in old object ≡ false
-  new_lies_nowhere object m =
-      false_from_ne_true (lies_in old object) (λ h.
+  new_lies_nowhere object m = false_from_ne_true (lies_in old object) (λ h.
       true≢false (sym (lying object h).0 ∙ ap is_some (keeps.none object m)))
 
   abbrev chosen : List ℕ
@@ -120,8 +114,7 @@ module _ (old new : FileTree ℕ) (number : ℕ) (lowers : List (Layer ℕ)) (ke
   chosen_lies object h = (among-from_filter (lies_in old) old.numbers object (among_numbers chosen object h)).1
 
   numbers_same : filter (lies_in new) new.numbers ≡ chosen
-  numbers_same =
-      ap (filter (lies_in new)) keeps.numbers
+  numbers_same = ap (filter (lies_in new)) keeps.numbers
       ∙ filter_same (lies_in new) (lies_in old) (keeps.more ++ old.numbers) lies_same
       ∙ filter_without (lies_in old) keeps.more old.numbers new_lies_nowhere
 
@@ -135,17 +128,14 @@ module _ (old new : FileTree ℕ) (number : ℕ) (lowers : List (Layer ℕ)) (ke
       by false e = refl
 
   pub lower_part_stays : only_among nat_eq (filter (lies_in new) new.numbers) new ≡ only_among nat_eq chosen old
-  lower_part_stays =
-      ap (λ list. only_among nat_eq list new) numbers_same
-      ∙ (λ i. record {
-        tree = record { root = keeps.root i; node = λ object. node_same object i };
-        numbers = chosen_same i;
-      })
+  lower_part_stays = ap (λ list. only_among nat_eq list new) numbers_same ∙ (λ i. record {
+    tree = record { root = keeps.root i; node = λ object. node_same object i };
+    numbers = chosen_same i;
+  })
     where
       chosen_same : filter (λ object. is_among nat_eq object chosen) new.numbers
           ≡ filter (λ object. is_among nat_eq object chosen) old.numbers
-      chosen_same =
-          ap (filter (λ object. is_among nat_eq object chosen)) keeps.numbers
+      chosen_same = ap (filter (λ object. is_among nat_eq object chosen)) keeps.numbers
           ∙ filter_without (λ object. is_among nat_eq object chosen) keeps.more old.numbers (λ object m.
           false_from_ne_true (is_among nat_eq object chosen) (λ h.
           true≢false (sym (chosen_lies object h) ∙ new_lies_nowhere object m)))

@@ -24,8 +24,7 @@ same_bool_itself true = refl
 same_bool_itself false = refl
 
 same_flags_itself : (flags : MountFlags) → same_flags flags flags ≡ true
-same_flags_itself flags =
-    and_from (same_bool flags.read_only flags.read_only && same_bool flags.noexec flags.noexec)
+same_flags_itself flags = and_from (same_bool flags.read_only flags.read_only && same_bool flags.noexec flags.noexec)
     (same_bool flags.nosymfollow flags.nosymfollow)
     (and_from (same_bool flags.read_only flags.read_only) (same_bool flags.noexec flags.noexec)
     (same_bool_itself flags.read_only) (same_bool_itself flags.noexec)) (same_bool_itself flags.nosymfollow)
@@ -52,8 +51,7 @@ same_mount_itself before later mount same =
     (same_option nat_eq (master_above before mount) (master_above later mount))
     (and_from (nat_eq mount.number mount.number
     && same_option (same_location nat_eq) mount.mount_point mount.mount_point && same_flags mount.flags mount.flags)
-    (same_propagation nat_eq mount.propagation mount.propagation)
-    (and_from (nat_eq mount.number mount.number
+    (same_propagation nat_eq mount.propagation mount.propagation) (and_from (nat_eq mount.number mount.number
     && same_option (same_location nat_eq) mount.mount_point mount.mount_point) (same_flags mount.flags mount.flags)
     (and_from (nat_eq mount.number mount.number)
     (same_option (same_location nat_eq) mount.mount_point mount.mount_point)
@@ -64,8 +62,7 @@ same_mount_itself before later mount same =
 same_list_itself : {A : Type 0} (same : A → A → Bool) (list : List A) → ((a : A) → Among a list → same a a ≡ true)
     → same_list same list list ≡ true
 same_list_itself same [] each = refl
-same_list_itself same (a ∷ list) each =
-    and_from (same a a) (same_list same list list) (each a (inl refl))
+same_list_itself same (a ∷ list) each = and_from (same a a) (same_list same list list) (each a (inl refl))
     (same_list_itself same list (λ b m. each b (inr m)))
 
 module _ (before later : World ℕ) (names : List TaskName) (sees : SeesTheSame before later names)
@@ -96,14 +93,12 @@ module _ (before later : World ℕ) (names : List TaskName) (sees : SeesTheSame 
       ≡ mounts_of nat_eq world namespace
   of_own world namespace own =
       filter_less (λ (mount : Mount ℕ). holds_of (nat_eq namespace) mount.namespace) (is_own_mount nat_eq world names)
-      world.mounts
-      (λ mount m none. by mount.namespace none)
+      world.mounts (λ mount m none. by mount.namespace none)
     where
       by : (o : Option ℕ) → holds_of (is_own_namespace nat_eq world names) o ≡ false
           → holds_of (nat_eq namespace) o ≡ false
       by None none = refl
-      by (Some other) none =
-          false_from_ne_true (nat_eq namespace other) (λ h.
+      by (Some other) none = false_from_ne_true (nat_eq namespace other) (λ h.
           true≢false (sym own ∙ ap (is_own_namespace nat_eq world names) (eqb-true namespace other h) ∙ none))
 
   -- so a namespace of theirs has the mounts that it had
@@ -115,8 +110,7 @@ module _ (before later : World ℕ) (names : List TaskName) (sees : SeesTheSame 
       let same : mounts_of nat_eq later namespace ≡ mounts_of nat_eq before namespace =
       sym (of_own later namespace in_later)
       ∙ ap (filter (λ (mount : Mount ℕ). holds_of (nat_eq namespace) mount.namespace))
-      (own_mounts_same before later names sees)
-      ∙ of_own before namespace own in
+      (own_mounts_same before later names sees) ∙ of_own before namespace own in
       ap (same_list (same_mount nat_eq before later) (mounts_of nat_eq before namespace)) same
       ∙ same_list_itself (same_mount nat_eq before later) (mounts_of nat_eq before namespace)
       (λ mount m. same_mount_itself before later mount

@@ -33,8 +33,7 @@ moved_in : (world : World ℕ) (names : List TaskName) → IsApart world names �
     → Among origin (moved_tree nat_eq world number) → IsIn world namespace origin
 moved_in world names apart namespace number placed origin m =
     tree_in world names apart namespace (length world.mounts) (mount_numbered nat_eq world number) (
-      ⊎_elim (λ there. there)
-          (λ none. none_is_some namespace (sym (ap (λ (x : Mount ℕ). x.namespace) none) ∙ placed))
+      ⊎_elim (λ there. there) (λ none. none_is_some namespace (sym (ap (λ (x : Mount ℕ). x.namespace) none) ∙ placed))
           (found_or_none world.mounts number),
       placed,
     ) origin m
@@ -55,9 +54,7 @@ move_leaves world fresh names name call task outsider called number place judged
     (attaching_leaves_apart world names set_apart fresh outsider.serves world.filesystems
     (leaves_apart_itself world fresh names name call outsider).sees [] (sym (append-nil (overlays world)))
     (λ merged m n free. absurd m) fresh (λ k. (k, refl)) place task.namespace outside named.destination.own
-    (moved_tree nat_eq world number)
-    (λ origin m.
+    (moved_tree nat_eq world number) (λ origin m.
     let is = moved_in world names set_apart task.namespace number named.own origin m in
-    inl (origin, is_other world names task.namespace outside origin is.0 is.1, refl, refl))
-    true
+    inl (origin, is_other world names task.namespace outside origin is.0 is.1, refl, refl)) true
     (λ moving origin m. moved_in world names set_apart task.namespace number named.own origin m))

@@ -36,8 +36,7 @@ grows_on : (fresh : Fresh ℕ) (old middle new : FileTree ℕ) → Grows fresh o
 grows_on fresh old middle new one two = record {
   root = two.root ∙ one.root;
   more = two.more ++ one.more;
-  numbers = two.numbers ∙ ap (λ list. two.more ++ list) one.numbers
-      ∙ sym (append_assoc two.more one.more old.numbers);
+  numbers = two.numbers ∙ ap (λ list. two.more ++ list) one.numbers ∙ sym (append_assoc two.more one.more old.numbers);
   are_new = λ object m. ⊎_elim (two.are_new object) (one.are_new object) (among-append two.more one.more object m);
 }
 
@@ -74,8 +73,7 @@ numbers-changed files (SetAttr object attr) = refl
 numbers-changed files (SetMark directory opaque) = refl
 numbers-changed files (CopyUp object) = refl
 
-pub root-changed : (files : FileTree ℕ) (change : Change ℕ)
-    → (changed nat_eq files change).tree.root ≡ files.tree.root
+pub root-changed : (files : FileTree ℕ) (change : Change ℕ) → (changed nat_eq files change).tree.root ≡ files.tree.root
 root-changed files (Make directory name number node) = refl
 root-changed files (AddName directory name object) = refl
 root-changed files (Remove directory name object) = refl
@@ -193,10 +191,8 @@ merge_grows fresh stack merge (Move from old to new object) =
     (grows_on fresh first.upper copied.upper _
     (up_grows fresh (evens (odds fresh)) (λ k. (2 * (2 * k) + 1, refl)) first to)
     (grows_on fresh copied.upper _ _ (emptying_grows fresh copied.upper (upper_directory_named copied to new))
-    (grows_on fresh _ _ _
-    (move_grows fresh (without_contents nat_eq copied.upper (upper_directory_named copied to new))
-    (upper_of copied from) old (upper_of copied to) new (upper_of copied object))
-    (grows_on fresh _ _ _
+    (grows_on fresh _ _ _ (move_grows fresh (without_contents nat_eq copied.upper (upper_directory_named copied to new))
+    (upper_of copied from) old (upper_of copied to) new (upper_of copied object)) (grows_on fresh _ _ _
     (left_grows fresh (odds (odds fresh)) (λ k. (2 * (2 * k + 1) + 1, refl))
     (is_some (shown_in_lowers_at nat_eq stack copied from old)) stack
     (with_moved nat_eq (without_contents nat_eq copied.upper (upper_directory_named copied to new))

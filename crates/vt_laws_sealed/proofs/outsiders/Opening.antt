@@ -41,11 +41,9 @@ inserted_at : (new : Descriptor ℕ) (descriptors : List (Descriptor ℕ)) (loca
     → Among location (map (λ (d : Descriptor ℕ). d.location) (inserted new descriptors))
     → (location ≡ new.location) ⊎ Among location (map (λ (d : Descriptor ℕ). d.location) descriptors)
 inserted_at new [] location m = m
-inserted_at new (first ∷ rest) location m =
-    by (nat_lt new.number first.number) m (inserted_at new rest location)
+inserted_at new (first ∷ rest) location m = by (nat_lt new.number first.number) m (inserted_at new rest location)
   where
-    by : (b : Bool)
-        → Among location (map (λ (d : Descriptor ℕ). d.location)
+    by : (b : Bool) → Among location (map (λ (d : Descriptor ℕ). d.location)
         (cond b (new ∷ first ∷ rest) (first ∷ inserted new rest)))
         → (Among location (map (λ (d : Descriptor ℕ). d.location) (inserted new rest))
         → (location ≡ new.location) ⊎ Among location (map (λ (d : Descriptor ℕ). d.location) rest))
@@ -65,8 +63,7 @@ module _ (world : World ℕ) (is : IsWorld nat_eq world) (task : Task ℕ) (ther
   IsFileGround place = (file : Location ℕ) → place.object ≡ Some file → OnGround file
 
   front_ground : (start here : Location ℕ) (front : List (List ℕ)) → OnGround start
-      → IsFront world task start front here
-      → OnGround here
+      → IsFront world task start front here → OnGround here
   front_ground start here [] ground e = subst OnGround (sym e) ground
   front_ground start here (word ∷ front) ground before =
       way_ground world is task there start here (reverse front) before.passed before.way ground
@@ -92,14 +89,12 @@ module _ (world : World ℕ) (is : IsWorld nat_eq world) (task : Task ℕ) (ther
       on_mount : (entry : Option ℕ)
           → option_map (λ object. record { mount = here.mount; node = object }) entry ≡ Some file → OnGround file
       on_mount None g = none_is_some file g
-      on_mount (Some object) g =
-          subst OnGround (same_Some (record { mount = here.mount; node = object }) file g) ground
+      on_mount (Some object) g = subst OnGround (same_Some (record { mount = here.mount; node = object }) file g) ground
 
   entered_ground : (o : Option (Location ℕ)) → ((found : Location ℕ) → o ≡ Some found → OnGround found)
       → (file : Location ℕ) → option_map (topmost nat_eq world.mounts) o ≡ Some file → OnGround file
   entered_ground None ground file e = none_is_some file e
-  entered_ground (Some found) ground file e =
-      subst OnGround (same_Some (topmost nat_eq world.mounts found) file e)
+  entered_ground (Some found) ground file e = subst OnGround (same_Some (topmost nat_eq world.mounts found) file e)
       (topmost_ground world is task there found (ground found refl))
 
   abbrev next_text : ℕ → List ℕ → Bool → Here ℕ → Place ℕ → List ℕ → Result (Place ℕ) (Stop ℕ)
@@ -127,8 +122,7 @@ module _ (world : World ℕ) (is : IsWorld nat_eq world) (task : Task ℕ) (ther
           → (here : Here ℕ) → OnGround here.location → (place : Place ℕ)
           → IsNamedAt world task here.location (final_word (reverse (words text))) place → (o : Option (List ℕ))
           → Ends IsFileGround (file_or_symlink nat_eq world place o (next_text depth text slash here place))
-      by_symlink rest here stood place named None =
-          λ file e. entered_ground place.object
+      by_symlink rest here stood place named None = λ file e. entered_ground place.object
           (object_ground here.location (final_word (reverse (words text))) place.object stood named.object) file e
       by_symlink rest here stood place named (Some inner) =
           ends_then (λ next. next.location ≡ start_of task here.location inner) IsFileGround
@@ -164,8 +158,7 @@ module _ (world : World ℕ) (fresh : Fresh ℕ) (names : List TaskName) (name :
       → (file : Location ℕ) (access : Access) → permit ≡ ToOpen file access → OnGroundHere file
   file_reached asked permit (opens path wanted here few walk may) file access e =
       let same : here.location ≡ file = cc in
-      subst OnGroundHere same
-      (searched_ground world outsider.is task there path here.location
+      subst OnGroundHere same (searched_ground world outsider.is task there path here.location
       (object_ways_are_searched world task path here walk))
   file_reached asked permit (opens_existing path wanted mode place found few walk named is_there may) file access e =
       let same : found ≡ file = cc in
@@ -179,20 +172,16 @@ module _ (world : World ℕ) (fresh : Fresh ℕ) (names : List TaskName) (name :
       → LeavesApart world (with_task world (with_descriptor task file access)) names []
   descriptor_leaves file access outside =
       replacing_leaves_apart world fresh names name call task outsider called (with_descriptor task file access)
-      refl refl
-      (λ location m. ⊎_elim
-      (λ root. old_outside world fresh names name call task outsider called location (inl root))
-      (λ rest. ⊎_elim
+      refl refl (λ location m. ⊎_elim
+      (λ root. old_outside world fresh names name call task outsider called location (inl root)) (λ rest. ⊎_elim
       (λ directory. old_outside world fresh names name call task outsider called location (inr (inl directory)))
-      (λ open_ones. ⊎_elim
-      (λ new. subst (IsOutside world names) (sym new) outside)
+      (λ open_ones. ⊎_elim (λ new. subst (IsOutside world names) (sym new) outside)
       (λ old. old_outside world fresh names name call task outsider called location (inr (inr old)))
       (inserted_at _ task.descriptors location open_ones)) rest) m)
 
   pub open_outside : (file : Location ℕ) (access : Access)
       → judge_in nat_eq fresh world task call ≡ Ok (ToOpen file access) → IsOutside world names file
-  open_outside file access judged =
-      ground_outside world fresh names name call task outsider called file
+  open_outside file access judged = ground_outside world fresh names name call task outsider called file
       (file_reached call (ToOpen file access)
       (calls_are_granted nat_eq (looks_of nat_eq world) (overfills nat_eq fresh world task) task call
       (ToOpen file access) judged) file access refl)

@@ -33,10 +33,8 @@ module _ (world : World ℕ) (names : List TaskName) (namespace : ℕ)
   not_own = ap (holds_of (is_own_namespace nat_eq world names)) placed ∙ outside
 
   pub is_other : Among mount (other_mounts nat_eq world names)
-  is_other =
-      among-filter (λ (m : Mount ℕ). holds_of (λ n. not (is_own_namespace nat_eq world names n)) m.namespace)
-      world.mounts
-      mount there
+  is_other = among-filter (λ (m : Mount ℕ). holds_of (λ n. not (is_own_namespace nat_eq world names n)) m.namespace)
+      world.mounts mount there
       (ap (holds_of (λ n. not (is_own_namespace nat_eq world names n))) placed ∙ ap not outside)
 
 -- and no root or working directory of theirs is on it.
@@ -44,8 +42,7 @@ module _ (world : World ℕ) (names : List TaskName) (apart : IsApart world name
     (outside : is_own_namespace nat_eq world names namespace ≡ false) (mount : Mount ℕ)
     (there : Among mount world.mounts) (placed : mount.namespace ≡ Some namespace) where
   pub not_stood_on : is_at nat_eq (roots_and_directories (members world names)) mount ≡ false
-  not_stood_on =
-      false_from_ne_true (is_at nat_eq (roots_and_directories (members world names)) mount) (λ h.
+  not_stood_on = false_from_ne_true (is_at nat_eq (roots_and_directories (members world names)) mount) (λ h.
       let at = any_among (λ (l : Location ℕ). nat_eq l.mount mount.number)
       (roots_and_directories (members world names)) h in
       let of = among-from_flat_map (λ (t : Task ℕ). t.root ∷ t.directory ∷ []) (members world names) at.0 at.1 in
@@ -54,11 +51,9 @@ module _ (world : World ℕ) (names : List TaskName) (apart : IsApart world name
       (among_from_list_all (stands_on_directories nat_eq world) world.tasks apart.is.tasks.directories of.0
       (among-from_filter (is_member_task names) world.tasks of.0 of.1).0) in
       ⊎_elim (λ root. seen of.0 of.1 at.0 at.2 (subst (λ l. is_directory_seen_in nat_eq world of.0.namespace l ≡ true)
-      (sym root) both.0))
-      (λ rest. ⊎_elim (λ directory. seen of.0 of.1 at.0 at.2
+      (sym root) both.0)) (λ rest. ⊎_elim (λ directory. seen of.0 of.1 at.0 at.2
       (subst (λ l. is_directory_seen_in nat_eq world of.0.namespace l ≡ true) (sym directory) both.1))
-      (λ none. absurd none) rest)
-      of.2)
+      (λ none. absurd none) rest) of.2)
     where
       seen : (member : Task ℕ) → Among member (members world names) → (location : Location ℕ)
           → nat_eq location.mount mount.number ≡ true
@@ -72,8 +67,7 @@ module _ (world : World ℕ) (names : List TaskName) (apart : IsApart world name
           ∙ ap (λ o. list_all (nat_eq member.namespace) (option_to_list o)) placed)
           ∙ (and_parts (is_directory_at nat_eq world location)
           (list_all (nat_eq member.namespace) (option_to_list (mount_at nat_eq world location).namespace)) directory).1
-          in
-          true≢false
+          in true≢false
           (sym (any_from_among (λ (t : Task ℕ). nat_eq namespace t.namespace) (members world names) member m
           (eq-eqb namespace member.namespace
           (sym (eqb-true member.namespace namespace (and_parts (nat_eq member.namespace namespace) true same).0))))
@@ -98,15 +92,12 @@ child_in world names apart namespace parent is child m =
         → holds_of (λ (point : Location ℕ). nat_eq parent.number point.mount) o ≡ true → Among child world.mounts
         → child.namespace ≡ Some namespace
     by None e h there = absurd (true≢false (sym h))
-    by (Some point) e h there =
-        sym (ap (λ (x : Mount ℕ). x.namespace) (itself child there))
+    by (Some point) e h there = sym (ap (λ (x : Mount ℕ). x.namespace) (itself child there))
         ∙ namespace_below world child.number point
         (among_from_all (λ (x : Mount ℕ). Stands nat_eq world x.number) world.mounts apart.is.mounts.standing child
-        there)
-        (ap (λ (x : Mount ℕ). x.mount_point) (itself child there) ∙ e)
+        there) (ap (λ (x : Mount ℕ). x.mount_point) (itself child there) ∙ e)
         ∙ ap (λ n. (mount_numbered nat_eq world n).namespace) (sym (eqb-true parent.number point.mount h))
-        ∙ ap (λ (x : Mount ℕ). x.namespace) (itself parent is.0)
-        ∙ is.1
+        ∙ ap (λ (x : Mount ℕ). x.namespace) (itself parent is.0) ∙ is.1
 
 -- so is what stands on it
 pub tree_in : (world : World ℕ) (names : List TaskName) (apart : IsApart world names) (namespace depth : ℕ)
@@ -114,14 +105,12 @@ pub tree_in : (world : World ℕ) (names : List TaskName) (apart : IsApart world
     → IsIn world namespace x
 tree_in world names apart namespace zero mount is x m =
     ⊎_elim (λ e. subst (IsIn world namespace) (sym e) is) (λ none. absurd none) m
-tree_in world names apart namespace (suc depth) mount is x m =
-    ⊎_elim (λ e. subst (IsIn world namespace) (sym e) is)
+tree_in world names apart namespace (suc depth) mount is x m = ⊎_elim (λ e. subst (IsIn world namespace) (sym e) is)
     (λ later.
     let from = among-from_flat_map (tree_from nat_eq depth world.mounts) (children nat_eq world.mounts mount.number) x
     later in
     tree_in world names apart namespace depth from.0
-    (child_in world names apart namespace mount is from.0 from.1) x from.2)
-    m
+    (child_in world names apart namespace mount is from.0 from.1) x from.2) m
 
 -- the mount of a location that a task uses is there
 pub located_there : (world : World ℕ) (names : List TaskName) (apart : IsApart world names) (location : Location ℕ)
@@ -139,8 +128,7 @@ located_there world names apart location m =
 -- the namespace of one of the others is not theirs
 pub namespace_outside : (world : World ℕ) (names : List TaskName) → IsApart world names → (task : Task ℕ)
     → Among task (outsiders world names) → is_own_namespace nat_eq world names task.namespace ≡ false
-namespace_outside world names apart task outside =
-    not-true (is_own_namespace nat_eq world names task.namespace)
+namespace_outside world names apart task outside = not-true (is_own_namespace nat_eq world names task.namespace)
     (among_from_list_all (λ (t : Task ℕ). not (is_own_namespace nat_eq world names t.namespace)) (outsiders world names)
     apart.tasks task outside)
 
@@ -156,14 +144,12 @@ module _ (world : World ℕ) (fresh : Fresh ℕ) (serves : Serves nat_eq world f
       (among-flat_map used_by_mount world.mounts mount number there uses)))
 
   pub number_not_new : (mount : Mount ℕ) (k : ℕ) → Among mount world.mounts → mount.number ≡ fresh k → ⊥
-  number_not_new mount k there e =
-      true≢false (sym (mount_in_use mount mount.number there (inl refl))
+  number_not_new mount k there e = true≢false (sym (mount_in_use mount mount.number there (inl refl))
       ∙ ap (λ n. is_among nat_eq n (numbers_in_use world)) e ∙ serves.unused k)
 
   pub member_not_new : (mount : Mount ℕ) (group k : ℕ) → Among mount world.mounts
       → group_of mount.propagation ≡ Some group → group ≡ fresh k → ⊥
-  member_not_new mount group k there e f =
-      true≢false (sym (mount_in_use mount group there
+  member_not_new mount group k there e f = true≢false (sym (mount_in_use mount group there
       (inr (subst (λ o. Among group (option_to_list o)) (sym (source mount.propagation e)) (inl refl))))
       ∙ ap (λ n. is_among nat_eq n (numbers_in_use world)) f ∙ serves.unused k)
     where
@@ -175,20 +161,16 @@ module _ (world : World ℕ) (fresh : Fresh ℕ) (serves : Serves nat_eq world f
 
 -- what is in no namespace has no mount point
 pub nowhere_unplaced : (world : World ℕ) → MountInvariants nat_eq world → (mount : Mount ℕ)
-    → Among mount world.mounts → mount.namespace ≡ None → (point : Location ℕ)
-    → mount.mount_point ≡ Some point → ⊥
-nowhere_unplaced world is mount m none point e =
-    true≢false
+    → Among mount world.mounts → mount.namespace ≡ None → (point : Location ℕ) → mount.mount_point ≡ Some point → ⊥
+nowhere_unplaced world is mount m none point e = true≢false
     (sym (and_parts (not (is_some mount.mount_point)) (is_private mount.propagation)
     (sym (ap (λ o. is_some o || (not (is_some mount.mount_point) && is_private mount.propagation)) none)
-    ∙ among_from_list_all is_nowhere_or_attached world.mounts is.nowhere mount m)).0
-    ∙ ap (λ o. not (is_some o)) e)
+    ∙ among_from_list_all is_nowhere_or_attached world.mounts is.nowhere mount m)).0 ∙ ap (λ o. not (is_some o)) e)
 
 -- So it is in a world before a call of others.
 pub standing_apart_of : (world : World ℕ) (names : List TaskName) → IsApart world names → (New : ℕ → Type 0)
     → ((mount : Mount ℕ) (group : ℕ) → Among mount world.mounts
-    → group_of mount.propagation ≡ Some group → New group → ⊥)
-    → StandsApart world names New
+    → group_of mount.propagation ≡ Some group → New group → ⊥) → StandsApart world names New
 standing_apart_of world names apart New no_group = record {
   mounts = apart.is.mounts;
   tasks = apart.tasks;
@@ -211,8 +193,7 @@ standing_apart_of world names apart New no_group = record {
 
 pub standing_apart : (world : World ℕ) (names : List TaskName) → IsApart world names
     → StandsApart world names NothingNew
-standing_apart world names apart =
-    standing_apart_of world names apart NothingNew (λ mount group m is_in new. new)
+standing_apart world names apart = standing_apart_of world names apart NothingNew (λ mount group m is_in new. new)
 
 pub standing_apart_with : (world : World ℕ) (names : List TaskName) → IsApart world names → (fresh : Fresh ℕ)
     → Serves nat_eq world fresh → StandsApart world names (IsNewBy fresh)
@@ -226,8 +207,7 @@ module _ (world : World ℕ) (names : List TaskName) {New : ℕ → Type 0} (apa
   HearsGroup in_world kind group = (group_of kind ≡ Some group) ⊎ (master_of in_world kind ≡ Some group)
 
   abbrev pub Foreign : ℕ → Type 0
-  Foreign group =
-      OtherLives world names apart.mounts apart.events group ⊎ New group
+  Foreign group = OtherLives world names apart.mounts apart.events group ⊎ New group
 
   -- a group that a mount hears lives
   hears_living : (mount : Mount ℕ) → Among mount world.mounts → (group : ℕ) → HearsGroup world mount.propagation group
@@ -241,8 +221,7 @@ module _ (world : World ℕ) (names : List TaskName) {New : ℕ → Type 0} (apa
 
       by : (kind : Propagation ℕ) → mount.propagation ≡ kind → HearsGroup world kind group
           → Living world names apart.mounts apart.events group
-      by (Shared g) k h =
-          ⊎_elim (λ e. of_source group (ap source_of k ∙ e))
+      by (Shared g) k h = ⊎_elim (λ e. of_source group (ap source_of k ∙ e))
           (λ e. above_lives world names apart.mounts apart.events group g e (of_source g (ap source_of k))) h
       by (Slave g) k h = ⊎_elim (λ e. none_is_some group e) (λ e. of_source group (ap source_of k ∙ e)) h
       by Private k h = ⊎_elim (λ e. none_is_some group e) (λ e. none_is_some group e) h
@@ -250,14 +229,11 @@ module _ (world : World ℕ) (names : List TaskName) {New : ℕ → Type 0} (apa
 
   pub other_hears_foreign : (other : Mount ℕ) → Among other (other_mounts nat_eq world names) → (group : ℕ)
       → HearsGroup world other.propagation group → Foreign group
-  other_hears_foreign other m group how =
-      inl (
-        (other, m, how),
-        hears_living other
-            (among-from_filter (λ (mount : Mount ℕ). holds_of
-            (λ n. not (is_own_namespace nat_eq world names n)) mount.namespace)
-            world.mounts other m).0 group how,
-      )
+  other_hears_foreign other m group how = inl (
+    (other, m, how),
+    hears_living other (among-from_filter (λ (mount : Mount ℕ). holds_of
+        (λ n. not (is_own_namespace nat_eq world names n)) mount.namespace) world.mounts other m).0 group how,
+  )
 
   -- the master of a group of others is one
   pub foreign_above : (group above : ℕ) → Foreign group → world.master group ≡ Some above → Foreign above
@@ -274,34 +250,28 @@ module _ (world : World ℕ) (names : List TaskName) {New : ℕ → Type 0} (apa
       let found = any_among (is_member_of nat_eq group) world.mounts
       (members_of world names apart.mounts apart.events group lives) in
       let is_in = member_group group found.0 found.2 in
-      ⊎_elim
-      (λ other. ⊎_elim
+      ⊎_elim (λ other. ⊎_elim
       (λ theirs. none_other world names apart.mounts apart.events group found.0 other.0 theirs found.2)
       (λ outside. none_hears world names apart.mounts apart.events group found.0 (own, m, how) outside found.2)
       (sides world names apart.mounts apart.events found.0 group found.1 is_in))
-      (λ new. apart.new_group found.0 group found.1 is_in new)
-      foreign
+      (λ new. apart.new_group found.0 group found.1 is_in new) foreign
 
   -- a group that a mount of theirs hears has a member of theirs
   pub member_of_heard : (own : Mount ℕ) → Among own (own_mounts nat_eq world names) → (group : ℕ)
       → HearsGroup world own.propagation group
       → (member : Mount ℕ) × Among member (own_mounts nat_eq world names) × (is_member_of nat_eq group member ≡ true)
-  member_of_heard own m group how =
-      own_member world names apart.mounts apart.events group (own, m, how)
+  member_of_heard own m group how = own_member world names apart.mounts apart.events group (own, m, how)
       (hears_living own (among-from_filter (is_own_mount nat_eq world names) world.mounts own m).0 group how)
 
   -- so mounts share no events where others hear groups of others alone
-  pub events_stay_apart : (left : World ℕ)
-      → own_mounts nat_eq left names ≡ own_mounts nat_eq world names
+  pub events_stay_apart : (left : World ℕ) → own_mounts nat_eq left names ≡ own_mounts nat_eq world names
       → ((own : Mount ℕ) → Among own (own_mounts nat_eq world names)
       → master_of left own.propagation ≡ master_of world own.propagation)
       → ((other : Mount ℕ) → Among other (other_mounts nat_eq left names) → (group : ℕ)
-      → HearsGroup left other.propagation group → Foreign group)
-      → shares_no_events nat_eq left names ≡ true
+      → HearsGroup left other.propagation group → Foreign group) → shares_no_events nat_eq left names ≡ true
   events_stay_apart left same masters others =
       ap (list_all (λ own. list_all (λ other. not (share_events nat_eq left own other))
-      (other_mounts nat_eq left names))) same
-      ∙ list_all_from_among
+      (other_mounts nat_eq left names))) same ∙ list_all_from_among
       (λ own. list_all (λ other. not (share_events nat_eq left own other)) (other_mounts nat_eq left names))
       (own_mounts nat_eq world names)
       (λ own m. list_all_from_among (λ other. not (share_events nat_eq left own other)) (other_mounts nat_eq left names)
@@ -317,9 +287,7 @@ module _ (world : World ℕ) (names : List TaskName) {New : ℕ → Type 0} (apa
 
       own_receives : (own : Mount ℕ) → Among own (own_mounts nat_eq world names) → (other : Mount ℕ)
           → Among other (other_mounts nat_eq left names) → receives_events_of nat_eq left own other ≡ true → ⊥
-      own_receives own m other n h =
-          ⊎_elim
-          (λ e. let found = in_group (group_of own.propagation) other e in
+      own_receives own m other n h = ⊎_elim (λ e. let found = in_group (group_of own.propagation) other e in
           not_heard own m found.0 (others other n found.0 (inl found.2)) (inl found.1))
           (λ e. let found = in_group (master_of left own.propagation) other e in
           not_heard own m found.0 (others other n found.0 (inl found.2)) (inr (sym (masters own m) ∙ found.1)))
@@ -328,9 +296,7 @@ module _ (world : World ℕ) (names : List TaskName) {New : ℕ → Type 0} (apa
 
       other_receives : (own : Mount ℕ) → Among own (own_mounts nat_eq world names) → (other : Mount ℕ)
           → Among other (other_mounts nat_eq left names) → receives_events_of nat_eq left other own ≡ true → ⊥
-      other_receives own m other n h =
-          ⊎_elim
-          (λ e. let found = in_group (group_of other.propagation) own e in
+      other_receives own m other n h = ⊎_elim (λ e. let found = in_group (group_of other.propagation) own e in
           not_heard own m found.0 (others other n found.0 (inl found.1)) (inl found.2))
           (λ e. let found = in_group (master_of left other.propagation) own e in
           not_heard own m found.0 (others other n found.0 (inr found.1)) (inl found.2))

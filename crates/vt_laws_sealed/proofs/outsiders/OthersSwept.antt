@@ -28,8 +28,7 @@ module _ (world before : World ℕ) (names : List TaskName) (others : OthersStay
   own_by namespace = is_own_namespace nat_eq before names namespace
 
   owns_stay : own_mounts nat_eq last names ≡ own_mounts nat_eq before names
-  owns_stay =
-      filter_less (is_own_mount nat_eq before names) (mount_lives nat_eq before) before.mounts
+  owns_stay = filter_less (is_own_mount nat_eq before names) (mount_lives nat_eq before) before.mounts
       (λ mount m dead. by mount.namespace (is_located nat_eq before mount.number) dead)
     where
       by : (o : Option ℕ) (located : Bool) → (is_some o || located) ≡ false → holds_of own_by o ≡ false
@@ -51,8 +50,7 @@ module _ (world before : World ℕ) (names : List TaskName) (others : OthersStay
   found_living location m = ap (λ o. unwrap_or o (no_mount location.mount)) (search before.mounts)
     where
       located : (mount : Mount ℕ) → nat_eq location.mount mount.number ≡ true → mount_lives nat_eq before mount ≡ true
-      located mount e =
-          or_right (is_some mount.namespace) _
+      located mount e = or_right (is_some mount.namespace) _
           (any_from_among (λ (l : Location ℕ). nat_eq mount.number l.mount) (all_locations before) location m
           (eq-eqb mount.number location.mount (sym (eqb-true location.mount mount.number e))))
 
@@ -68,10 +66,8 @@ module _ (world before : World ℕ) (names : List TaskName) (others : OthersStay
               → find (λ (y : Mount ℕ). nat_eq location.mount y.number)
               (cond a (x ∷ filter (mount_lives nat_eq before) rest) (filter (mount_lives nat_eq before) rest))
               ≡ cond b (Some x) (find (λ (y : Mount ℕ). nat_eq location.mount y.number) rest)
-          by true g b h later =
-              ap (λ c. cond c (Some x) (find (λ (y : Mount ℕ). nat_eq location.mount y.number)
-              (filter (mount_lives nat_eq before) rest))) h
-              ∙ ap (cond b (Some x)) later
+          by true g b h later = ap (λ c. cond c (Some x) (find (λ (y : Mount ℕ). nat_eq location.mount y.number)
+              (filter (mount_lives nat_eq before) rest))) h ∙ ap (cond b (Some x)) later
           by false g true h later = absurd (true≢false (sym (located x h) ∙ g))
           by false g false h later = later
 
@@ -85,9 +81,7 @@ module _ (world before : World ℕ) (names : List TaskName) (others : OthersStay
   -- fewer masters, fewer events
   fewer_events : (a b : Mount ℕ) → receives_events_of nat_eq last a b ≡ true
       → receives_events_of nat_eq before a b ≡ true
-  fewer_events a b h =
-      ⊎_elim
-      (or_left (holds_of (λ group. is_member_of nat_eq group b) (group_of a.propagation))
+  fewer_events a b h = ⊎_elim (or_left (holds_of (λ group. is_member_of nat_eq group b) (group_of a.propagation))
       (holds_of (λ group. is_member_of nat_eq group b) (master_of before a.propagation)))
       (λ e. or_right (holds_of (λ group. is_member_of nat_eq group b) (group_of a.propagation))
       (holds_of (λ group. is_member_of nat_eq group b) (master_of before a.propagation)) (by a.propagation e))
@@ -108,8 +102,7 @@ module _ (world before : World ℕ) (names : List TaskName) (others : OthersStay
       by Unbindable e = e
 
   events_stay : shares_no_events nat_eq last names ≡ true
-  events_stay =
-      ap (λ owns. list_all (λ own. list_all (λ other. not (share_events nat_eq last own other))
+  events_stay = ap (λ owns. list_all (λ own. list_all (λ other. not (share_events nat_eq last own other))
       (other_mounts nat_eq last names)) owns) owns_stay
       ∙ ap (λ list. list_all (λ own. list_all (λ other. not (share_events nat_eq last own other)) list)
       (own_mounts nat_eq before names)) others_stay
@@ -118,8 +111,7 @@ module _ (world before : World ℕ) (names : List TaskName) (others : OthersStay
       (λ own m. list_all_from_among (λ other. not (share_events nat_eq last own other))
       (other_mounts nat_eq before names)
       (λ other n. ap not (false_from_ne_true (share_events nat_eq last own other) (λ h.
-      true≢false
-      (sym (⊎_elim
+      true≢false (sym (⊎_elim
       (λ e. or_left (receives_events_of nat_eq before own other) (receives_events_of nat_eq before other own)
       (fewer_events own other e))
       (λ e. or_right (receives_events_of nat_eq before own other) (receives_events_of nat_eq before other own)
@@ -128,24 +120,20 @@ module _ (world before : World ℕ) (names : List TaskName) (others : OthersStay
       ∙ not-true (share_events nat_eq before own other)
       (among_from_list_all (λ x. not (share_events nat_eq before own x)) (other_mounts nat_eq before names)
       (among_from_list_all (λ x. list_all (λ y. not (share_events nat_eq before x y))
-      (other_mounts nat_eq before names))
-      (own_mounts nat_eq before names) others.events own m) other n))))))
+      (other_mounts nat_eq before names)) (own_mounts nat_eq before names) others.events own m) other n))))))
 
   any_alike : (p q : Location ℕ → Bool) (list : List (Location ℕ)) → ((x : Location ℕ) → Among x list → p x ≡ q x)
       → list_any p list ≡ list_any q list
   any_alike p q [] same = refl
-  any_alike p q (x ∷ rest) same =
-      ap (λ b. b || list_any p rest) (same x (inl refl))
+  any_alike p q (x ∷ rest) same = ap (λ b. b || list_any p rest) (same x (inl refl))
       ∙ ap (λ b. q x || b) (any_alike p q rest (λ y m. same y (inr m)))
 
   no_outsider_same : (number : ℕ) → no_outsider_on nat_eq last names number ≡ no_outsider_on nat_eq before names number
-  no_outsider_same number =
-      ap (λ list. not (list_any (λ (mount : Mount ℕ). nat_eq number mount.filesystem) list)
+  no_outsider_same number = ap (λ list. not (list_any (λ (mount : Mount ℕ). nat_eq number mount.filesystem) list)
       && not (list_any (λ location. nat_eq number (mount_at nat_eq last location).filesystem)
       (locations (outsiders before names)))) others_stay
       ∙ ap (λ b. not (list_any (λ (mount : Mount ℕ). nat_eq number mount.filesystem) (other_mounts nat_eq before names))
-      && not b)
-      (any_alike (λ location. nat_eq number (mount_at nat_eq last location).filesystem)
+      && not b) (any_alike (λ location. nat_eq number (mount_at nat_eq last location).filesystem)
       (λ location. nat_eq number (mount_at nat_eq before location).filesystem) (locations (outsiders before names))
       (λ location m. ap (λ (x : Mount ℕ). nat_eq number x.filesystem)
       (found_living location (of_outsiders location m))))
@@ -159,8 +147,7 @@ module _ (world before : World ℕ) (names : List TaskName) (others : OthersStay
       let second = among-from_map (λ f. only_used nat_eq first (not (is_overlay f)) f) first.filesystems merged out.0 in
       let one = among-from_map (λ f. only_used nat_eq living (is_overlay f) f) living.filesystems second.0 second.1 in
       let alive = among-from_filter (filesystem_lives nat_eq (without_dead_mounts nat_eq before)) before.filesystems
-      one.0
-      one.1 in
+      one.0 one.1 in
       let way : Path (Filesystem ℕ) merged (twice one.0) =
       second.2 ∙ ap (λ f. only_used nat_eq first (not (is_overlay f)) f) one.2 in (
         one.0,
@@ -177,8 +164,7 @@ module _ (world before : World ℕ) (names : List TaskName) (others : OthersStay
       first = without_dead_in nat_eq is_overlay living
 
       twice : Filesystem ℕ → Filesystem ℕ
-      twice f =
-          only_used nat_eq first (not (is_overlay (only_used nat_eq living (is_overlay f) f)))
+      twice f = only_used nat_eq first (not (is_overlay (only_used nat_eq living (is_overlay f) f)))
           (only_used nat_eq living (is_overlay f) f)
 
       number_kept : (f : Filesystem ℕ) → (twice f).number ≡ f.number
@@ -191,8 +177,7 @@ module _ (world before : World ℕ) (names : List TaskName) (others : OthersStay
 
       layers_kept : (number : ℕ) (f : Filesystem ℕ)
           → has_layer_on nat_eq number (twice f) ≡ has_layer_on nat_eq number f
-      layers_kept number f =
-          cut_layers number first _ (only_used nat_eq living (is_overlay f) f)
+      layers_kept number f = cut_layers number first _ (only_used nat_eq living (is_overlay f) f)
           ∙ cut_layers number living (is_overlay f) f
 
   free_stays : (number : ℕ) → used_alone nat_eq before names number ≡ true → used_alone nat_eq last names number ≡ true
@@ -200,13 +185,10 @@ module _ (world before : World ℕ) (names : List TaskName) (others : OthersStay
       let parts = and_parts (no_outsider_on nat_eq before names number)
       (list_all (λ merged. not (has_layer_on nat_eq number merged)
       || no_outsider_on nat_eq before names merged.number) (overlays before)) alone in
-      and_from (no_outsider_on nat_eq last names number)
-      (list_all (λ merged. not (has_layer_on nat_eq number merged)
-      || no_outsider_on nat_eq last names merged.number) (overlays last))
-      (no_outsider_same number ∙ parts.0)
+      and_from (no_outsider_on nat_eq last names number) (list_all (λ merged. not (has_layer_on nat_eq number merged)
+      || no_outsider_on nat_eq last names merged.number) (overlays last)) (no_outsider_same number ∙ parts.0)
       (list_all_from_among (λ merged. not (has_layer_on nat_eq number merged)
-      || no_outsider_on nat_eq last names merged.number) (overlays last)
-      (λ merged m. let was = overlay_was merged m in
+      || no_outsider_on nat_eq last names merged.number) (overlays last) (λ merged m. let was = overlay_was merged m in
       ap (λ b. not b || no_outsider_on nat_eq last names merged.number) (sym (was.3 number))
       ∙ ap (λ b. not (has_layer_on nat_eq number was.0) || b)
       (no_outsider_same merged.number ∙ ap (no_outsider_on nat_eq before names) (sym was.2))
@@ -217,8 +199,7 @@ module _ (world before : World ℕ) (names : List TaskName) (others : OthersStay
   others_swept = record {
     tasks = others.tasks;
     events = events_stay;
-    locations =
-        list_all_from_among (λ location. not (is_own_mount nat_eq before names (mount_at nat_eq last location)))
+    locations = list_all_from_among (λ location. not (is_own_mount nat_eq before names (mount_at nat_eq last location)))
         (locations (outsiders before names))
         (λ location m. ap (λ (x : Mount ℕ). not (is_own_mount nat_eq before names x))
         (found_living location (of_outsiders location m))

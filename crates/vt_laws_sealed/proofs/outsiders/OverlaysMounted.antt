@@ -42,21 +42,16 @@ use Rattle.vt_laws_sealed.proofs.outsiders.Staying.{LeavesApart}
 -- where one of the others may be, others have a foothold
 pub outside_uses : (world : World ℕ) (names : List TaskName) (location : Location ℕ) → IsOutside world names location
     → no_outsider_on nat_eq world names (mount_at nat_eq world location).filesystem ≡ false
-outside_uses world names location outside =
-    false_from_ne_true (no_outsider_on nat_eq world names number) (λ alone.
+outside_uses world names location outside = false_from_ne_true (no_outsider_on nat_eq world names number) (λ alone.
     let both = and_parts (not (list_any (λ (mount : Mount ℕ). nat_eq number mount.filesystem)
-    (other_mounts nat_eq world names)))
-    (not (list_any (λ place. nat_eq number (mount_at nat_eq world place).filesystem)
+    (other_mounts nat_eq world names))) (not (list_any (λ place. nat_eq number (mount_at nat_eq world place).filesystem)
     (locations (outsiders world names)))) alone in
-    ⊎_elim
-    (λ old. true≢false (sym (any_from_among (λ place. nat_eq number (mount_at nat_eq world place).filesystem)
-    (locations (outsiders world names)) old.0 old.1
-    (eq-eqb number (mount_at nat_eq world old.0).filesystem
+    ⊎_elim (λ old. true≢false (sym (any_from_among (λ place. nat_eq number (mount_at nat_eq world place).filesystem)
+    (locations (outsiders world names)) old.0 old.1 (eq-eqb number (mount_at nat_eq world old.0).filesystem
     (ap (λ n. (mount_numbered nat_eq world n).filesystem) old.2))) ∙ not-true _ both.1))
     (λ other. true≢false (sym (any_from_among (λ (mount : Mount ℕ). nat_eq number mount.filesystem)
     (other_mounts nat_eq world names) (mount_at nat_eq world location) other (eq-eqb number number refl))
-    ∙ not-true _ both.0))
-    outside)
+    ∙ not-true _ both.0)) outside)
   where
     number : ℕ
     number = (mount_at nat_eq world location).filesystem
@@ -75,8 +70,7 @@ module _ (world : World ℕ) (fresh : Fresh ℕ) (names : List TaskName) (name :
       → Ends (λ (here : Here ℕ). OnGround here.location) (source_walk nat_eq (looks_of nat_eq world) task path)
   source_ground path = by (source_walk nat_eq (looks_of nat_eq world) task path) refl
     where
-      by : (r : Result (Here ℕ) (Stop ℕ))
-          → source_walk nat_eq (looks_of nat_eq world) task path ≡ r → Ends
+      by : (r : Result (Here ℕ) (Stop ℕ)) → source_walk nat_eq (looks_of nat_eq world) task path ≡ r → Ends
           (λ (here : Here ℕ). OnGround here.location) r
       by (Ok here) e =
           searched_ground world outsider.is task (task_there world fresh names name call task outsider called) path
@@ -85,8 +79,7 @@ module _ (world : World ℕ) (fresh : Fresh ℕ) (names : List TaskName) (name :
 
   each_ground : (paths : List (List ℕ)) → Gives AreOnGround (each_walked nat_eq (looks_of nat_eq world) task paths)
   each_ground [] = λ place m. absurd m
-  each_ground (path ∷ paths) =
-      gives_then (λ (here : Here ℕ). OnGround here.location) AreOnGround
+  each_ground (path ∷ paths) = gives_then (λ (here : Here ℕ). OnGround here.location) AreOnGround
       (walk_end (source_walk nat_eq (looks_of nat_eq world) task path)) _
       (gives_end _ (source_walk nat_eq (looks_of nat_eq world) task path) (source_ground path)) (λ here ground.
       gives_then AreOnGround AreOnGround (each_walked nat_eq (looks_of nat_eq world) task paths) _ (each_ground paths)
@@ -103,8 +96,7 @@ module _ (world : World ℕ) (fresh : Fresh ℕ) (names : List TaskName) (name :
 
   layers_ground : (words : OverlayWords)
       → Gives (λ places. AreOnGround (layer_locations places)) (layers_walked nat_eq (looks_of nat_eq world) task words)
-  layers_ground words =
-      gives_then AreOnGround (λ places. AreOnGround (layer_locations places))
+  layers_ground words = gives_then AreOnGround (λ places. AreOnGround (layer_locations places))
       (each_walked nat_eq (looks_of nat_eq world) task words.lowers) _ (each_ground words.lowers) (λ lowers low.
       gives_then (λ place. AreOnGround (option_to_list place)) (λ places. AreOnGround (layer_locations places))
       (walked_if_given nat_eq (looks_of nat_eq world) task words.upper) _ (given_ground words.upper) (λ upper up.
@@ -119,31 +111,23 @@ module _ (world : World ℕ) (fresh : Fresh ℕ) (names : List TaskName) (name :
       → Among layer (layers_of (overlay_at (looks_of nat_eq world) task places))
       → (place : Location ℕ) × Among place (layer_locations places)
       × (layer.filesystem ≡ (mount_at nat_eq world place).filesystem)
-  layer_from places layer m =
-      ⊎_elim
-      (λ two. ⊎_elim (λ upper. let at = given_from places.upper upper in (
-        at.0,
-        among-append_left (places.lowers ++ option_to_list places.upper)
-            (option_to_list places.work) at.0
-            (among-append_right places.lowers (option_to_list places.upper) at.0 at.1),
-        at.2,
-      ))
-      (λ work. let at = given_from places.work work in (
-        at.0,
-        among-append_right (places.lowers ++ option_to_list places.upper)
-            (option_to_list places.work) at.0 at.1,
-        at.2,
-      ))
-      (among-append (option_to_list (option_map (layer_at (looks_of nat_eq world)) places.upper))
+  layer_from places layer m = ⊎_elim (λ two. ⊎_elim (λ upper. let at = given_from places.upper upper in (
+    at.0,
+    among-append_left (places.lowers ++ option_to_list places.upper) (option_to_list places.work) at.0
+        (among-append_right places.lowers (option_to_list places.upper) at.0 at.1),
+    at.2,
+  )) (λ work. let at = given_from places.work work in (
+    at.0,
+    among-append_right (places.lowers ++ option_to_list places.upper) (option_to_list places.work) at.0 at.1,
+    at.2,
+  )) (among-append (option_to_list (option_map (layer_at (looks_of nat_eq world)) places.upper))
       (option_to_list (option_map (layer_at (looks_of nat_eq world)) places.work)) layer two))
       (λ lower. let at = among-from_map (layer_at (looks_of nat_eq world)) places.lowers layer lower in (
         at.0,
-        among-append_left (places.lowers ++ option_to_list places.upper)
-            (option_to_list places.work) at.0
+        among-append_left (places.lowers ++ option_to_list places.upper) (option_to_list places.work) at.0
             (among-append_left places.lowers (option_to_list places.upper) at.0 at.1),
         ap (λ (l : Layer ℕ). l.filesystem) at.2,
-      ))
-      (among-append (option_to_list (option_map (layer_at (looks_of nat_eq world)) places.upper)
+      )) (among-append (option_to_list (option_map (layer_at (looks_of nat_eq world)) places.upper)
       ++ option_to_list (option_map (layer_at (looks_of nat_eq world)) places.work))
       (map (layer_at (looks_of nat_eq world)) places.lowers) layer m)
     where
@@ -157,8 +141,7 @@ module _ (world : World ℕ) (fresh : Fresh ℕ) (names : List TaskName) (name :
 
   -- So others have a foothold where a layer is, and the overlay is mounted on a mount of their namespace.
   abbrev IsOfOthers : Location ℕ → Overlay ℕ → Type 0
-  IsOfOthers place overlay =
-      ((mount_at nat_eq world place).namespace ≡ Some task.namespace)
+  IsOfOthers place overlay = ((mount_at nat_eq world place).namespace ≡ Some task.namespace)
       × ((layer : Layer ℕ) → Among layer (layers_of overlay)
       → no_outsider_on nat_eq world names layer.filesystem ≡ false)
 
@@ -174,8 +157,7 @@ module _ (world : World ℕ) (fresh : Fresh ℕ) (names : List TaskName) (name :
             (own_if world outsider.is task
             (ap (task_called world) (sym (name_found world name task called)) ∙ called) here.location passed.0),
         subst (λ (o : Overlay ℕ). (layer : Layer ℕ) → Among layer (layers_of o)
-            → no_outsider_on nat_eq world names layer.filesystem ≡ false) same_overlay
-            (λ layer m.
+            → no_outsider_on nat_eq world names layer.filesystem ≡ false) same_overlay (λ layer m.
             let from = layer_from places layer m in
             ap (no_outsider_on nat_eq world names) from.2
             ∙ outside_uses world names from.0 (ground_outside world fresh names name call task outsider called from.0
@@ -202,17 +184,13 @@ module _ (world : World ℕ) (fresh : Fresh ℕ) (names : List TaskName) (name :
       (attaching_leaves_apart world names set_apart fresh outsider.serves (world.filesystems ++ added ∷ [])
       (larger_sees world names set_apart fresh outsider.serves added 0 refl) (added ∷ [])
       (larger_with_overlay world names set_apart fresh outsider.serves added 0 refl refl)
-      (λ merged m number free. ⊎_elim
-      (λ e. ap (has_layer_on nat_eq number) e
+      (λ merged m number free. ⊎_elim (λ e. ap (has_layer_on nat_eq number) e
       ∙ none_from_among (λ (layer : Layer ℕ). nat_eq number layer.filesystem) (layers_of overlay) (λ layer n.
       false_from_ne_true (nat_eq number layer.filesystem) (λ at.
       true≢false (sym free ∙ ap (no_outsider_on nat_eq world names) (eqb-true number layer.filesystem at)
-      ∙ others.1 layer n))))
-      (λ none. absurd none) m)
-      (odds fresh) (λ k. (2 * k + 1, refl)) place task.namespace
+      ∙ others.1 layer n)))) (λ none. absurd none) m) (odds fresh) (λ k. (2 * k + 1, refl)) place task.namespace
       (namespace_outside world names set_apart task
       (caller_outside world fresh names name call task outsider called)) others.0
-      (new_mount added.number added.files.tree.root flags ∷ [])
-      (λ origin m. ⊎_elim
+      (new_mount added.number added.files.tree.root flags ∷ []) (λ origin m. ⊎_elim
       (λ e. inr (ap (λ (x : Mount ℕ). x.propagation) e, 0, ap (λ (x : Mount ℕ). x.filesystem) e))
       (λ none. absurd none) m) false (λ moving. absurd (true≢false (sym moving))))

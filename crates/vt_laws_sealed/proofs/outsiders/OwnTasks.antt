@@ -46,8 +46,7 @@ nothing_is_swept world fresh names name call task permit outsider called judged 
     let left : (call_outcome nat_eq fresh world task call).world ≡ (apply nat_eq fresh world task permit).world =
     ap (λ (o : Outcome ℕ). o.world) (call_is_judged_then_applied fresh world task call
     ∙ ap (λ j. after world j (apply nat_eq fresh world task)) judged) in
-    subst (λ w. settled nat_eq w ≡ w) left
-    (other_calls_keep_all world fresh task call outsider.is outsider.serves
+    subst (λ w. settled nat_eq w ≡ w) left (other_calls_keep_all world fresh task call outsider.is outsider.serves
     (ap (task_called world) (sym (name_found world name task called)) ∙ called) only no_type
     (ap (replaced_as fresh world) judged ∙ ap (replaced_if world) none))
 
@@ -70,13 +69,12 @@ IsOutside world names location =
 pub callers_outside : (world : World ℕ) (fresh : Fresh ℕ) (names : List TaskName) (name : TaskName) (call : Call)
     (task : Task ℕ) → IsOutsidersCall world fresh names name call → task_called world name ≡ Some task
     → (location : Location ℕ) → Among location (locations_of task) → IsOutside world names location
-callers_outside world fresh names name call task outsider called location m =
-    inl (
-      location,
-      among-flat_map locations_of (outsiders world names) task location
-          (caller_outside world fresh names name call task outsider called) m,
-      refl,
-    )
+callers_outside world fresh names name call task outsider called location m = inl (
+  location,
+  among-flat_map locations_of (outsiders world names) task location
+      (caller_outside world fresh names name call task outsider called) m,
+  refl,
+)
 
 -- Other tasks, with the members as they were: each task of others is where one of others was
 module _ (world : World ℕ) (names : List TaskName) (apart : IsApart world names) (tasks : List (Task ℕ))
@@ -113,16 +111,13 @@ module _ (world : World ℕ) (names : List TaskName) (apart : IsApart world name
       (not (list_any (λ location. nat_eq number (mount_at nat_eq left location).filesystem)
       (locations (outsiders left names))))
       (ap (λ some. not (list_any (λ (mount : Mount ℕ). nat_eq number mount.filesystem) (others_by some))) same
-      ∙ parts.0)
-      (ap not (none_from_among (λ location. nat_eq number (mount_at nat_eq world location).filesystem)
-      (locations (outsiders left names))
-      (λ location m. ⊎_elim
+      ∙ parts.0) (ap not (none_from_among (λ location. nat_eq number (mount_at nat_eq world location).filesystem)
+      (locations (outsiders left names)) (λ location m. ⊎_elim
       (λ old. ap (λ n. nat_eq number (mount_numbered nat_eq world n).filesystem) old.2
       ∙ none_among (λ place. nat_eq number (mount_at nat_eq world place).filesystem)
       (locations (outsiders world names)) (not-true _ parts.1) old.0 old.1)
       (none_among (λ (mount : Mount ℕ). nat_eq number mount.filesystem) (other_mounts nat_eq world names)
-      (not-true _ parts.0) (mount_at nat_eq world location))
-      (out_there location m))))
+      (not-true _ parts.0) (mount_at nat_eq world location)) (out_there location m))))
 
   other_not_own : (mount : Mount ℕ) → Among mount (other_mounts nat_eq world names)
       → not (is_own_mount nat_eq world names mount) ≡ true
@@ -148,8 +143,7 @@ module _ (world : World ℕ) (names : List TaskName) (apart : IsApart world name
     others = record {
       tasks = ap (λ some. list_all (λ (task : Task ℕ). not (own_by some task.namespace)) (outsiders left names)) same
           ∙ list_all_from_among (λ (task : Task ℕ). not (own_by (members world names) task.namespace))
-          (outsiders left names)
-          (λ task m.
+          (outsiders left names) (λ task m.
           let out = among-from_filter (λ (t : Task ℕ). not (is_member_task names t)) tasks task m in
           let was = from task out.0 (not-true (is_member_task names task) out.1) in
           ap (λ n. not (own_by (members world names) n)) was.2
@@ -157,14 +151,12 @@ module _ (world : World ℕ) (names : List TaskName) (apart : IsApart world name
           apart.tasks was.0 was.1);
       events =
           ap (λ some. list_all (λ own. list_all (λ other. not (share_events nat_eq world own other)) (others_by some))
-          (filter (λ (mount : Mount ℕ). holds_of (own_by some) mount.namespace) world.mounts)) same
-          ∙ apart.events;
+          (filter (λ (mount : Mount ℕ). holds_of (own_by some) mount.namespace) world.mounts)) same ∙ apart.events;
       locations =
           ap (λ some. list_all (λ location. not (holds_of (own_by some) (mount_at nat_eq world location).namespace))
           (locations (outsiders left names))) same
           ∙ list_all_from_among (λ location. not (is_own_mount nat_eq world names (mount_at nat_eq world location)))
-          (locations (outsiders left names))
-          (λ location m. ⊎_elim
+          (locations (outsiders left names)) (λ location m. ⊎_elim
           (λ old. ap (λ n. not (is_own_mount nat_eq world names (mount_numbered nat_eq world n))) old.2
           ∙ among_from_list_all (λ place. not (is_own_mount nat_eq world names (mount_at nat_eq world place)))
           (locations (outsiders world names)) apart.locations old.0 old.1)
@@ -182,14 +174,12 @@ module _ (world : World ℕ) (fresh : Fresh ℕ) (names : List TaskName) (name :
   replaced = map (replaced_if_called new) world.tasks
 
   not_member : (other : Task ℕ) → same_name new.name other.name ≡ true → is_member_task names other ≡ false
-  not_member other e =
-      ap (λ n. is_among same_name n names)
+  not_member other e = ap (λ n. is_among same_name n names)
       (sym (same_task_name new.name other.name e) ∙ same_called ∙ sym (name_found world name task called))
       ∙ outsider.outside
 
   pub replaced_members : filter (is_member_task names) replaced ≡ members world names
-  replaced_members =
-      filter-map (is_member_task names) (replaced_if_called new) world.tasks
+  replaced_members = filter-map (is_member_task names) (replaced_if_called new) world.tasks
       (λ other. ap (λ n. is_among same_name n names) (name-replaced_if_called new other))
       ∙ map_same (replaced_if_called new) (members world names)
       (λ other m. by other (among-from_filter (is_member_task names) world.tasks other m).1
@@ -244,8 +234,7 @@ module _ (world : World ℕ) (fresh : Fresh ℕ) (names : List TaskName) (name :
 module _ (world : World ℕ) (fresh : Fresh ℕ) (names : List TaskName) (name : TaskName) (call : Call) (task : Task ℕ)
     (outsider : IsOutsidersCall world fresh names name call) (called : task_called world name ≡ Some task) where
   child_outside : is_among same_name (child_name task) names ≡ false
-  child_outside =
-      false_from_ne_true (is_among same_name (child_name task) names) (λ h.
+  child_outside = false_from_ne_true (is_among same_name (child_name task) names) (λ h.
       let member = any_among (same_name (child_name task)) names h in
       let found = some_from_is_some (task_called world member.0)
       (among_from_list_all (λ n. is_some (task_called world n)) names outsider.there member.0 member.1) in
@@ -255,8 +244,7 @@ module _ (world : World ℕ) (fresh : Fresh ℕ) (names : List TaskName) (name :
       (contains_from_among world.tasks task
       (found_among (λ (t : Task ℕ). same_name name t.name) world.tasks task called))
       (contains_from_among world.tasks found.0
-      (found_among (λ (t : Task ℕ). same_name member.0 t.name) world.tasks found.0 found.1))
-      its_name in
+      (found_among (λ (t : Task ℕ). same_name member.0 t.name) world.tasks found.0 found.1)) its_name in
       omega (arith, counted))
 
   abbrev parent : Task ℕ
@@ -272,29 +260,23 @@ module _ (world : World ℕ) (fresh : Fresh ℕ) (names : List TaskName) (name :
       child_is_none = ap (λ n. is_among same_name n names) named ∙ child_outside
 
       forked_members : filter (is_member_task names) forked ≡ members world names
-      forked_members =
-          filter-append (is_member_task names) (map (replaced_if_called parent) world.tasks) (child ∷ [])
+      forked_members = filter-append (is_member_task names) (map (replaced_if_called parent) world.tasks) (child ∷ [])
           ∙ ap (λ b. filter (is_member_task names) (map (replaced_if_called parent) world.tasks) ++ cond b
-          (child ∷ []) [])
-          child_is_none
+          (child ∷ []) []) child_is_none
           ∙ append-nil (filter (is_member_task names) (map (replaced_if_called parent) world.tasks))
           ∙ replaced_members world fresh names name call task outsider called parent refl
 
       forked_from : (other : Task ℕ) → Among other forked → is_member_task names other ≡ false
           → (old : Task ℕ) × Among old (outsiders world names) × (other.namespace ≡ old.namespace)
           × ((location : Location ℕ) → Among location (locations_of other) → IsOutside world names location)
-      forked_from other m outside =
-          ⊎_elim
+      forked_from other m outside = ⊎_elim
           (λ old. replaced_from world fresh names name call task outsider called parent refl refl
-          (callers_outside world fresh names name call task outsider called) other old outside)
-          (λ new. ⊎_elim
-          (λ it. (
+          (callers_outside world fresh names name call task outsider called) other old outside) (λ new. ⊎_elim (λ it. (
             task,
             caller_outside world fresh names name call task outsider called,
             ap (λ (t : Task ℕ). t.namespace) it ∙ same_place,
             λ location at. no_more location (subst (λ (t : Task ℕ). Among location (locations_of t)) it at),
-          ))
-          (λ none. absurd none) new)
+          )) (λ none. absurd none) new)
           (among-append (map (replaced_if_called parent) world.tasks) (child ∷ []) other m)
 
       pub forking_leaves_apart : LeavesApart world (record world { tasks = forked }) names []
@@ -309,8 +291,7 @@ module _ (world : World ℕ) (fresh : Fresh ℕ) (names : List TaskName) (name :
       → takes_uses asked ≡ false → sets_type asked ≡ false → change_asked fresh world permit ≡ None
       → LeavesApart world (apply nat_eq fresh world task permit).world names []
       → LeavesApart world (settled nat_eq (apply nat_eq fresh world task permit).world) names []
-  unswept permit judged asked e only no_type none leaves =
-      subst (λ w. LeavesApart world w names [])
+  unswept permit judged asked e only no_type none leaves = subst (λ w. LeavesApart world w names [])
       (sym (nothing_is_swept world fresh names name call task permit outsider called judged
       (ap takes_uses e ∙ only) (ap sets_type e ∙ no_type) none)) leaves
 
@@ -324,8 +305,7 @@ module _ (world : World ℕ) (fresh : Fresh ℕ) (names : List TaskName) (name :
 
   pub credentials_leave : (credentials : Credentials)
       → judge_in nat_eq fresh world task call ≡ Ok (ToSetCredentials credentials)
-      → LeavesApart world (settled nat_eq (apply nat_eq fresh world task (ToSetCredentials credentials)).world) names
-      []
+      → LeavesApart world (settled nat_eq (apply nat_eq fresh world task (ToSetCredentials credentials)).world) names []
   credentials_leave credentials judged =
       let for = permits_are_for_their_calls fresh world task call (ToSetCredentials credentials) judged in
       unswept (ToSetCredentials credentials) judged (Drop for.0) for.1 refl refl refl

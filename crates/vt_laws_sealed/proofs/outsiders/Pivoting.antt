@@ -50,8 +50,7 @@ module _ (world : World ℕ) (fresh : Fresh ℕ) (names : List TaskName) (name :
   for_pivot = permits_are_for_their_calls fresh world task call (ToPivot new put) judged
 
   fits : MayPivot world task new put
-  fits =
-      (all_permits_fit world fresh task call (ToPivot new put) outsider.is outsider.serves
+  fits = (all_permits_fit world fresh task call (ToPivot new put) outsider.is outsider.serves
       (ap (task_called world) (sym (name_found world name task called)) ∙ called)
       (ap mounts_overlay for_pivot.2) judged).names
 
@@ -71,8 +70,7 @@ module _ (world : World ℕ) (fresh : Fresh ℕ) (names : List TaskName) (name :
   shape : (mount : Mount ℕ) → IsReshaped mount (change mount)
   shape mount = by (nat_eq mount.number new_root.number) (nat_eq mount.number old_root.number)
     where
-      by : (p q : Bool)
-          → IsReshaped mount (cond p (record mount { mount_point = old_root.mount_point })
+      by : (p q : Bool) → IsReshaped mount (cond p (record mount { mount_point = old_root.mount_point })
           (cond q (record mount { mount_point = Some put }) mount))
       by true q = (mount.namespace, old_root.mount_point, mount.propagation, refl, inl refl)
       by false true = (mount.namespace, Some put, mount.propagation, refl, inl refl)
@@ -81,8 +79,7 @@ module _ (world : World ℕ) (fresh : Fresh ℕ) (names : List TaskName) (name :
   type_kept : (mount : Mount ℕ) → (change mount).propagation ≡ mount.propagation
   type_kept mount = by (nat_eq mount.number new_root.number) (nat_eq mount.number old_root.number)
     where
-      by : (p q : Bool)
-          → (cond p (record mount { mount_point = old_root.mount_point })
+      by : (p q : Bool) → (cond p (record mount { mount_point = old_root.mount_point })
           (cond q (record mount { mount_point = Some put }) mount)).propagation ≡ mount.propagation
       by true q = refl
       by false true = refl
@@ -94,8 +91,7 @@ module _ (world : World ℕ) (fresh : Fresh ℕ) (names : List TaskName) (name :
   same_mount : (number : ℕ) (mount : Mount ℕ) → Among mount world.mounts
       → nat_eq mount.number (mount_numbered nat_eq world number).number ≡ true
       → mount ≡ mount_numbered nat_eq world number
-  same_mount number mount there e =
-      sym (found_itself world.mounts outsider.is.mounts.one_number mount there)
+  same_mount number mount there e = sym (found_itself world.mounts outsider.is.mounts.one_number mount there)
       ∙ ap (mount_numbered nat_eq world)
       (eqb-true mount.number (mount_numbered nat_eq world number).number e ∙ number-mount_in world.mounts number)
 
@@ -108,8 +104,7 @@ module _ (world : World ℕ) (fresh : Fresh ℕ) (names : List TaskName) (name :
       by : (p : Bool) → nat_eq mount.number new_root.number ≡ p → (q : Bool) → nat_eq mount.number old_root.number ≡ q
           → cond p (record mount { mount_point = old_root.mount_point })
           (cond q (record mount { mount_point = Some put }) mount) ≡ mount
-      by true e q f =
-          absurd (elsewhere (ap (λ (x : Mount ℕ). x.namespace) (same_mount new mount there e) ∙ fits.own))
+      by true e q f = absurd (elsewhere (ap (λ (x : Mount ℕ). x.namespace) (same_mount new mount there e) ∙ fits.own))
       by false e true f =
           absurd (elsewhere (ap (λ (x : Mount ℕ). x.namespace) (same_mount task.root.mount mount there f)
           ∙ fits.own_root))
@@ -138,22 +133,20 @@ module _ (world : World ℕ) (fresh : Fresh ℕ) (names : List TaskName) (name :
   name_kept : (t : Task ℕ) → (move t).name ≡ t.name
   name_kept t = by (nat_eq task.namespace t.namespace)
     where
-      by : (b : Bool)
-          → (cond b (record t {
-            root = pivoted_location nat_eq old_root new_root t.root;
-            directory = pivoted_location nat_eq old_root new_root t.directory;
-          }) t).name ≡ t.name
+      by : (b : Bool) → (cond b (record t {
+        root = pivoted_location nat_eq old_root new_root t.root;
+        directory = pivoted_location nat_eq old_root new_root t.directory;
+      }) t).name ≡ t.name
       by true = refl
       by false = refl
 
   namespace_kept : (t : Task ℕ) → (move t).namespace ≡ t.namespace
   namespace_kept t = by (nat_eq task.namespace t.namespace)
     where
-      by : (b : Bool)
-          → (cond b (record t {
-            root = pivoted_location nat_eq old_root new_root t.root;
-            directory = pivoted_location nat_eq old_root new_root t.directory;
-          }) t).namespace ≡ t.namespace
+      by : (b : Bool) → (cond b (record t {
+        root = pivoted_location nat_eq old_root new_root t.root;
+        directory = pivoted_location nat_eq old_root new_root t.directory;
+      }) t).namespace ≡ t.namespace
       by true = refl
       by false = refl
 
@@ -163,13 +156,11 @@ module _ (world : World ℕ) (fresh : Fresh ℕ) (names : List TaskName) (name :
   member_stays : (t : Task ℕ) → Among t (members world names) → move t ≡ t
   member_stays t m = by (nat_eq task.namespace t.namespace) refl
     where
-      by : (b : Bool) → nat_eq task.namespace t.namespace ≡ b
-          → cond b (record t {
-            root = pivoted_location nat_eq old_root new_root t.root;
-            directory = pivoted_location nat_eq old_root new_root t.directory;
-          }) t ≡ t
-      by true e =
-          absurd (true≢false
+      by : (b : Bool) → nat_eq task.namespace t.namespace ≡ b → cond b (record t {
+        root = pivoted_location nat_eq old_root new_root t.root;
+        directory = pivoted_location nat_eq old_root new_root t.directory;
+      }) t ≡ t
+      by true e = absurd (true≢false
           (sym (any_from_among (λ (x : Task ℕ). nat_eq task.namespace x.namespace) (members world names) t m e)
           ∙ outside))
       by false e = refl
@@ -185,8 +176,7 @@ module _ (world : World ℕ) (fresh : Fresh ℕ) (names : List TaskName) (name :
       )
 
   new_root_other : Among new_root (other_mounts nat_eq world names)
-  new_root_other =
-      is_other world names task.namespace outside new_root
+  new_root_other = is_other world names task.namespace outside new_root
       (⊎_elim (λ m. m) (λ none. none_is_some task.namespace (sym (ap (λ (x : Mount ℕ). x.namespace) none) ∙ fits.own))
       (found_or_none world.mounts new)) fits.own
 
@@ -198,8 +188,7 @@ module _ (world : World ℕ) (fresh : Fresh ℕ) (names : List TaskName) (name :
       by : (b : Bool) → same_location nat_eq from (root_of old_root) ≡ b → IsOutside world names location
       by true f =
           let it : location ≡ root_of new_root = e ∙ ap (λ b. cond b (root_of new_root) from) f in
-          inr (subst (λ x. Among x (other_mounts nat_eq world names))
-          (sym (ap (mount_at nat_eq world) it
+          inr (subst (λ x. Among x (other_mounts nat_eq world names)) (sym (ap (mount_at nat_eq world) it
           ∙ ap (mount_numbered nat_eq world) (number-mount_in world.mounts new))) new_root_other)
       by false f =
           let it : location ≡ from = e ∙ ap (λ b. cond b (root_of new_root) from) f in
@@ -220,15 +209,12 @@ module _ (world : World ℕ) (fresh : Fresh ℕ) (names : List TaskName) (name :
           → Among location (locations_of (cond b (record old {
             root = pivoted_location nat_eq old_root new_root old.root;
             directory = pivoted_location nat_eq old_root new_root old.directory;
-          }) old))
-          → IsOutside world names location
-      by old among true n =
-          ⊎_elim (λ root. moved_outside old among old.root location (inl refl) root)
+          }) old)) → IsOutside world names location
+      by old among true n = ⊎_elim (λ root. moved_outside old among old.root location (inl refl) root)
           (λ rest. ⊎_elim (λ directory. moved_outside old among old.directory location (inr (inl refl)) directory)
           (λ open_ones. inl (
             location,
-            among-flat_map locations_of (outsiders world names) old location among
-                (inr (inr open_ones)),
+            among-flat_map locations_of (outsiders world names) old location among (inr (inr open_ones)),
             refl,
           )) rest) n
       by old among false n =
@@ -240,8 +226,7 @@ module _ (world : World ℕ) (fresh : Fresh ℕ) (names : List TaskName) (name :
         ∙ map_same move (members world names) member_stays;
     outside = λ t m.
         let old = was t m in
-        ap (is_own_namespace nat_eq world names)
-        (ap (λ (x : Task ℕ). x.namespace) old.2 ∙ namespace_kept old.0)
+        ap (is_own_namespace nat_eq world names) (ap (λ (x : Task ℕ). x.namespace) old.2 ∙ namespace_kept old.0)
         ∙ namespace_outside world names set_apart old.0 old.1;
     located = located;
     listed = refl;
@@ -257,34 +242,28 @@ module _ (world : World ℕ) (fresh : Fresh ℕ) (names : List TaskName) (name :
       share_events nat_eq world (record (no_mount 0) { propagation = a }) (record (no_mount 0) { propagation = b })
 
   events : shares_no_events nat_eq pivoted_world names ≡ true
-  events =
-      ap (λ owns. list_all (λ own. list_all (λ other. not (share_events nat_eq pivoted_world own other))
-      (other_mounts nat_eq pivoted_world names)) owns)
-      (own_mounts_same world pivoted_world names
+  events = ap (λ owns. list_all (λ own. list_all (λ other. not (share_events nat_eq pivoted_world own other))
+      (other_mounts nat_eq pivoted_world names)) owns) (own_mounts_same world pivoted_world names
       (sees world names so_far change keeps kept_same world.master (map move world.tasks) world.namespaces moved
       (λ group e. refl)))
       ∙ list_all_from_among (λ own. list_all (λ other. not (share_events nat_eq pivoted_world own other))
       (other_mounts nat_eq pivoted_world names)) (own_mounts nat_eq world names)
       (λ own m. list_all_from_among (λ other. not (share_events nat_eq pivoted_world own other))
-      (other_mounts nat_eq pivoted_world names)
-      (λ other n.
+      (other_mounts nat_eq pivoted_world names) (λ other n.
       let from = others_from world names so_far change keeps kept_same world.master (map move world.tasks)
       world.namespaces moved other n in
-      ap (λ kind. not (share_by own.propagation kind))
-      (ap (λ (x : Mount ℕ). x.propagation) from.2 ∙ type_kept from.0)
+      ap (λ kind. not (share_by own.propagation kind)) (ap (λ (x : Mount ℕ). x.propagation) from.2 ∙ type_kept from.0)
       ∙ among_from_list_all (λ x. not (share_events nat_eq world own x)) (other_mounts nat_eq world names)
       (among_from_list_all (λ x. list_all (λ y. not (share_events nat_eq world x y)) (other_mounts nat_eq world names))
       (own_mounts nat_eq world names) set_apart.events own m) from.0 from.1))
 
   one_each : OneNumberEach pivoted_world
-  one_each =
-      pair-map (λ (a b : Mount ℕ). nat_eq a.number b.number) (λ (a b : Mount ℕ). nat_eq a.number b.number) change
+  one_each = pair-map (λ (a b : Mount ℕ). nat_eq a.number b.number) (λ (a b : Mount ℕ). nat_eq a.number b.number) change
       world.mounts
       (λ a b m n e. ap (λ k. nat_eq k (change b).number) (keeps.number a) ∙ ap (nat_eq a.number) (keeps.number b) ∙ e)
       outsider.is.mounts.one_number
 
   pub pivot_leaves : LeavesApart world (settled nat_eq (apply nat_eq fresh world task (ToPivot new put)).world) names []
-  pivot_leaves =
-      sweeping_leaves_apart world pivoted_world names set_apart outsider.sealed_off refl one_each []
+  pivot_leaves = sweeping_leaves_apart world pivoted_world names set_apart outsider.sealed_off refl one_each []
       (changing_leaves_apart world names so_far change keeps kept_same world.master (map move world.tasks)
       world.namespaces moved (λ group e. refl) events)

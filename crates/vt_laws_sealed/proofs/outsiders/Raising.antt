@@ -72,9 +72,7 @@ module _ (before left : World ℕ) (names : List TaskName) (name : TaskName) (ch
       by false e = refl
 
   pub members_raised : members later names ≡ members left names
-  members_raised =
-      filter-map (is_member_task names) raise left.tasks member_kept
-      ∙ map_same raise (members left names)
+  members_raised = filter-map (is_member_task names) raise left.tasks member_kept ∙ map_same raise (members left names)
       (λ task m. member_stays task (among-from_filter (is_member_task names) left.tasks task m).1)
 
   outsiders_raised : outsiders later names ≡ map raise (outsiders left names)
@@ -82,8 +80,7 @@ module _ (before left : World ℕ) (names : List TaskName) (name : TaskName) (ch
       filter-map (λ task. not (is_member_task names task)) raise left.tasks (λ task. ap not (member_kept task))
 
   outsiders_locations : locations (outsiders later names) ≡ locations (outsiders left names)
-  outsiders_locations =
-      ap (flat_map locations_of) outsiders_raised ∙ flat_map-map raise locations_of
+  outsiders_locations = ap (flat_map locations_of) outsiders_raised ∙ flat_map-map raise locations_of
       (outsiders left names) locations_kept
 
   -- by members and by locations of others
@@ -139,8 +136,7 @@ module _ (before left : World ℕ) (names : List TaskName) (name : TaskName) (ch
 
   pub used_alone_raised : (filesystem : ℕ)
       → used_alone nat_eq later names filesystem ≡ used_alone nat_eq left names filesystem
-  used_alone_raised filesystem =
-      ap (λ b. b && list_all free_later (overlays later)) (no_outsider_raised filesystem)
+  used_alone_raised filesystem = ap (λ b. b && list_all free_later (overlays later)) (no_outsider_raised filesystem)
       ∙ ap (λ b. no_outsider_on nat_eq left names filesystem && b)
       (ap (list_all free_later) (filter-map is_overlay raise_in left.filesystems (λ f. ap is_some (overlay_kept f)))
       ∙ all-map_same free_later free_left raise_in (overlays left) same)
@@ -159,8 +155,7 @@ module _ (before left : World ℕ) (names : List TaskName) (name : TaskName) (ch
           ∙ ap (λ b. not (has_layer_on nat_eq filesystem merged) || b) (no_outsider_raised merged.number)
 
   pub tasks_raised : holds_all_tasks nat_eq later names ≡ holds_all_tasks nat_eq left names
-  tasks_raised =
-      ap (λ tasks. list_all (λ (task : Task ℕ). not (own_by tasks task.namespace)) (outsiders later names))
+  tasks_raised = ap (λ tasks. list_all (λ (task : Task ℕ). not (own_by tasks task.namespace)) (outsiders later names))
       members_raised
       ∙ ap (list_all (λ (task : Task ℕ). not (own_by (members left names) task.namespace))) outsiders_raised
       ∙ all-map_same (λ (task : Task ℕ). not (own_by (members left names) task.namespace))
@@ -193,16 +188,14 @@ module _ (before left : World ℕ) (names : List TaskName) (name : TaskName) (ch
     -- a filesystem that they use is not raised
     used_stays : (filesystem : Filesystem ℕ) → is_among nat_eq filesystem.number used ≡ true
         → raise_in filesystem ≡ filesystem
-    used_stays filesystem m =
-        ap (λ b. cond b (record filesystem { change = raised filesystem.change }) filesystem)
+    used_stays filesystem m = ap (λ b. cond b (record filesystem { change = raised filesystem.change }) filesystem)
         (unraised filesystem.number (among_numbers used filesystem.number m))
 
     found_stays : (number : ℕ) → is_among nat_eq number used ≡ true → (list : List (Filesystem ℕ))
         → find (λ (f : Filesystem ℕ). nat_eq number f.number) (map raise_in list)
         ≡ find (λ (f : Filesystem ℕ). nat_eq number f.number) list
     found_stays number m [] = refl
-    found_stays number m (f ∷ rest) =
-        ap (λ n. cond (nat_eq number n) (Some (raise_in f))
+    found_stays number m (f ∷ rest) = ap (λ n. cond (nat_eq number n) (Some (raise_in f))
         (find (λ (x : Filesystem ℕ). nat_eq number x.number) (map raise_in rest))) (number_kept f)
         ∙ by (nat_eq number f.number) refl (found_stays number m rest)
       where
@@ -217,11 +210,9 @@ module _ (before left : World ℕ) (names : List TaskName) (name : TaskName) (ch
 
     -- of a filesystem the part depends on its tree alone, if they do not use it
     abbrev shown_by : FileTree ℕ → Filesystem ℕ → Option (Filesystem ℕ)
-    shown_by files x =
-        cond (is_among nat_eq x.number used) (Some x)
+    shown_by files x = cond (is_among nat_eq x.number used) (Some x)
         (when (list_any (λ (layer : Layer ℕ). nat_eq x.number layer.filesystem) lowers) (record x {
-          files = only_among nat_eq
-              (filter (λ object. list_any (λ (layer : Layer ℕ). nat_eq x.number layer.filesystem
+          files = only_among nat_eq (filter (λ object. list_any (λ (layer : Layer ℕ). nat_eq x.number layer.filesystem
               && is_under nat_eq files layer.directory object) lowers) x.files.numbers) x.files;
           change = 0;
         }))
@@ -231,15 +222,13 @@ module _ (before left : World ℕ) (names : List TaskName) (name : TaskName) (ch
       where
         either : (b : Bool) → is_among nat_eq x.number used ≡ false
             → shown_by files (cond b (record x { change = raised x.change }) x) ≡ shown_by files x
-        either true e =
-            ap (λ u. cond u (Some (record x { change = raised x.change }))
+        either true e = ap (λ u. cond u (Some (record x { change = raised x.change }))
             (when (list_any (λ (layer : Layer ℕ). nat_eq x.number layer.filesystem) lowers) (record x {
               files = only_among nat_eq
                   (filter (λ object. list_any (λ (layer : Layer ℕ). nat_eq x.number layer.filesystem
                   && is_under nat_eq files layer.directory object) lowers) x.files.numbers) x.files;
               change = 0;
-            }))) e
-            ∙ sym (ap (λ u. cond u (Some x)
+            }))) e ∙ sym (ap (λ u. cond u (Some x)
             (when (list_any (λ (layer : Layer ℕ). nat_eq x.number layer.filesystem) lowers) (record x {
               files = only_among nat_eq
                   (filter (λ object. list_any (λ (layer : Layer ℕ). nat_eq x.number layer.filesystem
@@ -253,8 +242,7 @@ module _ (before left : World ℕ) (names : List TaskName) (name : TaskName) (ch
         by false e = either (list_any (λ n. nat_eq n x.number) changed) e
 
     each_shown : (x : Filesystem ℕ) → shown_of later used lowers (raise_in x) ≡ shown_of left used lowers x
-    each_shown x =
-        ap (λ n. shown_by (filesystem_numbered nat_eq later n).files (raise_in x)) (number_kept x)
+    each_shown x = ap (λ n. shown_by (filesystem_numbered nat_eq later n).files (raise_in x)) (number_kept x)
         ∙ ap (λ files. shown_by files (raise_in x)) (raised_files before name changed left x.number)
         ∙ shown_same (filesystem_numbered nat_eq left x.number).files x
 
@@ -272,8 +260,7 @@ module _ (before left : World ℕ) (names : List TaskName) (name : TaskName) (ch
 
     own_stays : (namespace : Namespace ℕ) → is_own_namespace nat_eq left names namespace.number ≡ true
         → raise_of namespace ≡ namespace
-    own_stays namespace own =
-        ap (λ b. cond b namespace (record namespace { change = raised namespace.change }))
+    own_stays namespace own = ap (λ b. cond b namespace (record namespace { change = raised namespace.change }))
         (same_mounts before left names sees is apart namespace.number
         (ap (λ tasks. own_by tasks namespace.number) (sym sees.tasks) ∙ own))
 
@@ -291,14 +278,11 @@ module _ (before left : World ℕ) (names : List TaskName) (name : TaskName) (ch
       tasks = members_raised ∙ sees.tasks;
       mounts = ap (λ tasks. filter_map (keep left names tasks) left.mounts) members_raised ∙ sees.mounts;
       masters = sees.masters;
-      direct = λ number m.
-          ap (λ o. unwrap_or o (no_filesystem number))
+      direct = λ number m. ap (λ o. unwrap_or o (no_filesystem number))
           (found_stays number (used_directly_used before names number
-          (among_from_contains (used_directly nat_eq before names) number m)) left.filesystems)
-          ∙ sees.direct number m;
+          (among_from_contains (used_directly nat_eq before names) number m)) left.filesystems) ∙ sees.direct number m;
       filesystems = filter_map_map (shown_of later used lowers) raise_in left.filesystems
           ∙ filter_map_same (λ x. shown_of later used lowers (raise_in x)) (shown_of left used lowers) left.filesystems
-          (λ x m. each_shown x)
-          ∙ sees.filesystems;
+          (λ x m. each_shown x) ∙ sees.filesystems;
       namespaces = namespaces_raised ∙ sees.namespaces;
     }

@@ -27,8 +27,7 @@ use Rattle.vt_laws_sealed.proofs.outsiders.Staying.{LeavesApart}
 module _ (world : World ℕ) (names : List TaskName) {New : ℕ → Type 0} (apart : StandsApart world names New) where
   -- a type that only groups of others are in
   abbrev pub IsOfOthers : Propagation ℕ → Type 0
-  IsOfOthers kind =
-      ((number : ℕ) → group_of kind ≡ Some number → Foreign world names apart number)
+  IsOfOthers kind = ((number : ℕ) → group_of kind ≡ Some number → Foreign world names apart number)
       × ((number : ℕ) → kind ≡ Slave number → Foreign world names apart number)
 
   pub of_nobody : IsOfOthers Private
@@ -42,13 +41,11 @@ module _ (world : World ℕ) (names : List TaskName) {New : ℕ → Type 0} (apa
 
 -- A change of mounts of others, after which groups without members are gone
 module _ (world : World ℕ) (names : List TaskName) {New : ℕ → Type 0} (apart : StandsApart world names New)
-    (change : Mount ℕ → Mount ℕ)
-    (shape : (mount : Mount ℕ) → IsReshaped mount (change mount))
+    (change : Mount ℕ → Mount ℕ) (shape : (mount : Mount ℕ) → IsReshaped mount (change mount))
     (own_same : (own : Mount ℕ) → Among own (own_mounts nat_eq world names) → change own ≡ own)
     (nowhere_same : (mount : Mount ℕ) → Among mount world.mounts → mount.namespace ≡ None → change mount ≡ mount)
     (kinds : (other : Mount ℕ) → Among other (other_mounts nat_eq world names)
-    → IsOfOthers world names apart (change other).propagation)
-    (middle_master : ℕ → Option ℕ)
+    → IsOfOthers world names apart (change other).propagation) (middle_master : ℕ → Option ℕ)
     (middle_above : (number above : ℕ) → Foreign world names apart number
     → middle_master number ≡ Some above → Foreign world names apart above)
     (own_middle : (number : ℕ) → list_any (is_member_of nat_eq number) (own_mounts nat_eq world names) ≡ true
@@ -68,28 +65,23 @@ module _ (world : World ℕ) (names : List TaskName) {New : ℕ → Type 0} (apa
 
   -- a group that a mount of theirs hears has a member of theirs, also after the change
   members_stay : (own : Mount ℕ) → Among own (own_mounts nat_eq world names) → (number : ℕ)
-      → HearsGroup world names apart world own.propagation number
-      → has_members nat_eq middle.mounts number ≡ true
+      → HearsGroup world names apart world own.propagation number → has_members nat_eq middle.mounts number ≡ true
   members_stay own m number how =
       let member = member_of_heard world names apart own m number how in
       any_from_among (is_member_of nat_eq number) middle.mounts member.0
-      (subst (λ x. Among x middle.mounts) (own_same member.0 member.1)
-      (among-map change world.mounts member.0
+      (subst (λ x. Among x middle.mounts) (own_same member.0 member.1) (among-map change world.mounts member.0
       (among-from_filter (is_own_mount nat_eq world names) world.mounts member.0 member.1).0)) member.2
 
   heir_stays : (own : Mount ℕ) → Among own (own_mounts nat_eq world names) → (number : ℕ)
-      → HearsGroup world names apart world own.propagation number
-      → heir nat_eq middle (Some number) ≡ Some number
+      → HearsGroup world names apart world own.propagation number → heir nat_eq middle (Some number) ≡ Some number
   heir_stays own m number how =
       find-chain_start (has_members nat_eq middle.mounts) middle.master (length middle.mounts) number
       (members_stay own m number how)
 
-  heir_foreign : (number found : ℕ) → IsForeign number → heir nat_eq middle (Some number) ≡ Some found
-      → IsForeign found
+  heir_foreign : (number found : ℕ) → IsForeign number → heir nat_eq middle (Some number) ≡ Some found → IsForeign found
   heir_foreign number found foreign e =
       along_chain middle.master IsForeign (λ above lower up lower_foreign. middle_above lower above lower_foreign up)
-      (length middle.mounts) number found foreign
-      (is_among_numbers (groups_up middle number) found
+      (length middle.mounts) number found foreign (is_among_numbers (groups_up middle number) found
       (found_among (has_members nat_eq middle.mounts) (groups_up middle number) found e))
 
   inherited_foreign : (kind : Propagation ℕ) → IsOfOthers world names apart kind
@@ -97,13 +89,11 @@ module _ (world : World ℕ) (names : List TaskName) {New : ℕ → Type 0} (apa
   inherited_foreign (Shared g) is = is
   inherited_foreign (Slave g) is = by (heir nat_eq middle (Some g)) refl
     where
-      by : (o : Option ℕ) → heir nat_eq middle (Some g) ≡ o
-          → IsOfOthers world names apart (slave_of_heir o)
+      by : (o : Option ℕ) → heir nat_eq middle (Some g) ≡ o → IsOfOthers world names apart (slave_of_heir o)
       by None e = (λ number f. none_is_some number f, λ number f. none_is_some number (ap source_of f))
       by (Some found) e = (
         λ number f. none_is_some number f,
-        λ number f. subst IsForeign (same_Some found number (ap source_of f))
-            (heir_foreign g found (is.1 g refl) e),
+        λ number f. subst IsForeign (same_Some found number (ap source_of f)) (heir_foreign g found (is.1 g refl) e),
       )
   inherited_foreign Private is = is
   inherited_foreign Unbindable is = is
@@ -133,8 +123,7 @@ module _ (world : World ℕ) (names : List TaskName) {New : ℕ → Type 0} (apa
       by false = (mount.namespace, mount.mount_point, mount.propagation, refl, inl refl)
 
   pub all_shape : (mount : Mount ℕ) → IsReshaped mount (all_changed mount)
-  all_shape mount =
-      reshaped_twice mount (change mount) (all_changed mount) (shape mount) (regroup_shape (change mount))
+  all_shape mount = reshaped_twice mount (change mount) (all_changed mount) (shape mount) (regroup_shape (change mount))
 
   -- a mount of theirs stays
   own_type_stays : (own : Mount ℕ) → Among own (own_mounts nat_eq world names)
@@ -156,12 +145,10 @@ module _ (world : World ℕ) (names : List TaskName) {New : ℕ → Type 0} (apa
       by false = refl
 
   pub own_stays : (own : Mount ℕ) → Among own (own_mounts nat_eq world names) → all_changed own ≡ own
-  own_stays own m =
-      ap regroup (own_same own m) ∙ regroup_stays own (own_type_stays own m)
+  own_stays own m = ap regroup (own_same own m) ∙ regroup_stays own (own_type_stays own m)
 
   nowhere_stays : (mount : Mount ℕ) → Among mount world.mounts → mount.namespace ≡ None → all_changed mount ≡ mount
-  nowhere_stays mount there none =
-      ap regroup (nowhere_same mount there none)
+  nowhere_stays mount there none = ap regroup (nowhere_same mount there none)
       ∙ regroup_stays mount (by mount.propagation (and_parts (not (is_some mount.mount_point))
       (is_private mount.propagation)
       (sym (ap (λ o. is_some o || (not (is_some mount.mount_point) && is_private mount.propagation)) none)
@@ -254,8 +241,7 @@ module _ (world : World ℕ) (names : List TaskName) {New : ℕ → Type 0} (apa
     own_kinds own m = by own.propagation refl
       where
         by : (kind : Propagation ℕ) → own.propagation ≡ kind → master_of left kind ≡ master_of world kind
-        by (Shared g) e =
-            own_masters g (any_from_among (is_member_of nat_eq g) (own_mounts nat_eq world names) own m
+        by (Shared g) e = own_masters g (any_from_among (is_member_of nat_eq g) (own_mounts nat_eq world names) own m
             (ap (λ kind. holds_of (nat_eq g) (group_of kind)) e ∙ eq-eqb g g refl))
         by (Slave g) e = refl
         by Private e = refl
@@ -266,22 +252,15 @@ module _ (world : World ℕ) (names : List TaskName) {New : ℕ → Type 0} (apa
     kept_same = reshaping_kept world names apart all_changed all_shape own_stays nowhere_stays
 
     events : shares_no_events nat_eq left names ≡ true
-    events =
-        events_stay_apart world names apart left
-        (own_mounts_same world left names
+    events = events_stay_apart world names apart left (own_mounts_same world left names
         (sees world names apart all_changed (reshaping_keeps all_changed all_shape) kept_same master tasks namespaces
-        moved
-        own_masters)) own_kinds
-        (λ other m number how.
+        moved own_masters)) own_kinds (λ other m number how.
         let from = others_from world names apart all_changed
-        (reshaping_keeps all_changed all_shape) kept_same master tasks
-        namespaces moved other m in
+        (reshaping_keeps all_changed all_shape) kept_same master tasks namespaces moved other m in
         heard_foreign (all_changed from.0).propagation (changed_foreign from.0 from.1) number
         (subst (λ kind. HearsGroup world names apart left kind number)
         (ap (λ (x : Mount ℕ). x.propagation) from.2) how))
 
     pub regrouping_leaves_apart : LeavesApart world left names []
-    regrouping_leaves_apart =
-        changing_leaves_apart world names apart all_changed
-        (reshaping_keeps all_changed all_shape) kept_same master tasks
-        namespaces moved own_masters events
+    regrouping_leaves_apart = changing_leaves_apart world names apart all_changed
+        (reshaping_keeps all_changed all_shape) kept_same master tasks namespaces moved own_masters events

@@ -54,8 +54,7 @@ use Rattle.vt_laws_sealed.proofs.outsiders.TakingAway.{namespaces_taken_away, ta
 changed_at_same : (a b : World ℕ) (location : Location ℕ) → a.filesystems ≡ b.filesystems
     → (mount_at nat_eq a location).filesystem ≡ (mount_at nat_eq b location).filesystem
     → changed_at nat_eq a location ≡ changed_at nat_eq b location
-changed_at_same a b location same mounted =
-    ap (numbers_in a) mounted
+changed_at_same a b location same mounted = ap (numbers_in a) mounted
     ∙ ap (λ list. numbers_in (record a { filesystems = list }) (mount_at nat_eq b location).filesystem) same
     ∙ by (filesystem_numbered nat_eq b (mount_at nat_eq b location).filesystem).overlay
   where
@@ -66,14 +65,12 @@ changed_at_same a b location same mounted =
     there : Filesystem ℕ
     there = filesystem_numbered nat_eq b (mount_at nat_eq b location).filesystem
 
-    over : (o : Option (Layer ℕ))
-        → numbers_over nat_eq (record a { filesystems = b.filesystems }) there o
+    over : (o : Option (Layer ℕ)) → numbers_over nat_eq (record a { filesystems = b.filesystems }) there o
         ≡ numbers_over nat_eq b there o
     over None = refl
     over (Some upper) = refl
 
-    by : (o : Option (Overlay ℕ))
-        → numbers_of_change nat_eq (record a { filesystems = b.filesystems }) there o
+    by : (o : Option (Overlay ℕ)) → numbers_of_change nat_eq (record a { filesystems = b.filesystems }) there o
         ≡ numbers_of_change nat_eq b there o
     by None = refl
     by (Some overlay) = over overlay.upper
@@ -83,15 +80,13 @@ module _ (world : World ℕ) (names : List TaskName) (apart : IsApart world name
     (unused : (n : ℕ) → list_any (λ (point : ℕ × ℕ). nat_eq n point.0) (points_of nat_eq world directory) ≡ true
     → is_among nat_eq n (used_filesystems nat_eq world names) ≡ false) where
   abbrev IsOfOthersAt : Mount ℕ → Type 0
-  IsOfOthersAt mount =
-      (n : ℕ) × (mount.namespace ≡ Some n) × (is_own_namespace nat_eq world names n ≡ false)
+  IsOfOthersAt mount = (n : ℕ) × (mount.namespace ≡ Some n) × (is_own_namespace nat_eq world names n ≡ false)
 
   itself : (mount : Mount ℕ) → Among mount world.mounts → mount_numbered nat_eq world mount.number ≡ mount
   itself mount m = found_itself world.mounts apart.is.mounts.one_number mount m
 
   -- the mount that such a mount stands on shows a filesystem that is not theirs
-  parent_not_own : (mount : Mount ℕ) → Among mount world.mounts → (point : Location ℕ)
-      → mount.mount_point ≡ Some point
+  parent_not_own : (mount : Mount ℕ) → Among mount world.mounts → (point : Location ℕ) → mount.mount_point ≡ Some point
       → is_among nat_eq (mount_at nat_eq world point).filesystem (used_filesystems nat_eq world names) ≡ false
       → IsOfOthersAt mount
   parent_not_own mount m point stands not_theirs = by mount.namespace refl
@@ -105,12 +100,10 @@ module _ (world : World ℕ) (names : List TaskName) (apart : IsApart world name
             let placed : (mount_at nat_eq world point).namespace ≡ Some n =
             sym (namespace_below world mount.number point
             (among_from_all (λ (x : Mount ℕ). Stands nat_eq world x.number) world.mounts apart.is.mounts.standing mount
-            m)
-            (ap (λ (x : Mount ℕ). x.mount_point) (itself mount m) ∙ stands))
+            m) (ap (λ (x : Mount ℕ). x.mount_point) (itself mount m) ∙ stands))
             ∙ ap (λ (x : Mount ℕ). x.namespace) (itself mount m) ∙ e in
             let parent : Among (mount_at nat_eq world point) (own_mounts nat_eq world names) =
-            among-filter (is_own_mount nat_eq world names) world.mounts (mount_at nat_eq world point)
-            (⊎_elim (λ k. k)
+            among-filter (is_own_mount nat_eq world names) world.mounts (mount_at nat_eq world point) (⊎_elim (λ k. k)
             (λ none. none_is_some n (sym (ap (λ (x : Mount ℕ). x.namespace) none) ∙ placed))
             (found_or_none world.mounts point.mount))
             (ap (holds_of (is_own_namespace nat_eq world names)) placed ∙ own) in
@@ -130,21 +123,16 @@ module _ (world : World ℕ) (names : List TaskName) (apart : IsApart world name
       by from.0 at.0 at.1 mount.mount_point refl at.2
     where
       by : Among mount world.mounts → (at : ℕ × ℕ) → Among at (points_of nat_eq world directory)
-          → (o : Option (Location ℕ)) → mount.mount_point ≡ o
-          → holds_of (λ (point : Location ℕ). nat_eq point.node at.1
+          → (o : Option (Location ℕ)) → mount.mount_point ≡ o → holds_of (λ (point : Location ℕ). nat_eq point.node at.1
           && nat_eq (mount_at nat_eq world point).filesystem at.0) o ≡ true → IsOfOthersAt mount
       by k at among None e h = absurd (true≢false (sym h))
-      by k at among (Some point) e h =
-          parent_not_own mount k point e
-          (unused (mount_at nat_eq world point).filesystem
-          (any_from_among
-          (λ (p : ℕ × ℕ). nat_eq (mount_at nat_eq world point).filesystem p.0)
+      by k at among (Some point) e h = parent_not_own mount k point e (unused (mount_at nat_eq world point).filesystem
+          (any_from_among (λ (p : ℕ × ℕ). nat_eq (mount_at nat_eq world point).filesystem p.0)
           (points_of nat_eq world directory) at among
           (and_parts (nat_eq point.node at.1) (nat_eq (mount_at nat_eq world point).filesystem at.0) h).1))
 
   abbrev gone : List ℕ
-  gone =
-      map (λ (mount : Mount ℕ). mount.number)
+  gone = map (λ (mount : Mount ℕ). mount.number)
       (flat_map (mount_tree nat_eq world.mounts) (mounts_on nat_eq world directory))
 
   others_go : (k : ℕ) → is_going nat_eq gone k ≡ true
@@ -190,11 +178,9 @@ module _ (world : World ℕ) (fresh : Fresh ℕ) (names : List TaskName) (name :
   removed_in asked permit (removes_directory path place walk word passed) parent entry directory e =
       let same_directory : object_there place ≡ directory = cc in
       let same_parent : place.parent ≡ parent = cc in
-      one_mount directory parent
-      (ap (λ (l : Location ℕ). l.mount) (sym same_directory)
+      one_mount directory parent (ap (λ (l : Location ℕ). l.mount) (sym same_directory)
       ∙ old_mount world task place (special_word place.last word.0 word.1.0 word.1.1.0)
-      (old_is world task path place walk)
-      ∙ ap (λ (l : Location ℕ). l.mount) same_parent)
+      (old_is world task path place walk) ∙ ap (λ (l : Location ℕ). l.mount) same_parent)
   removed_in asked permit granted parent entry directory e = absurd cc
 
   replaced_in : (asked : Call) (permit : Permit ℕ)
@@ -208,18 +194,15 @@ module _ (world : World ℕ) (fresh : Fresh ℕ) (names : List TaskName) (name :
       to_place both.to_end in
       let together = eqb-true from_place.parent.mount to_place.parent.mount
       (not_true (nat_eq from_place.parent.mount to_place.parent.mount) passed.1.1.1.1.1.1.1.1.0) in
-      one_mount replaced from
-      (on_mount (entry_at (files_at nat_eq world to_place.parent).tree
+      one_mount replaced from (on_mount (entry_at (files_at nat_eq world to_place.parent).tree
       to_place.parent.node (name_of to_place.last))
       (sym (place_named world to_place.parent to_place.last to_place.object both.to_named.0 to_is.0.0).1 ∙ same_object)
       ∙ sym together ∙ ap (λ (l : Location ℕ). l.mount) same_from)
     where
-      on_mount : (o : Option ℕ)
-          → option_map (λ n. record { mount = to_place.parent.mount; node = n }) o ≡ Some replaced
+      on_mount : (o : Option ℕ) → option_map (λ n. record { mount = to_place.parent.mount; node = n }) o ≡ Some replaced
           → replaced.mount ≡ to_place.parent.mount
       on_mount None f = none_is_some replaced f
-      on_mount (Some n) f =
-          ap (λ (l : Location ℕ). l.mount)
+      on_mount (Some n) f = ap (λ (l : Location ℕ). l.mount)
           (sym (same_Some (record { mount = to_place.parent.mount; node = n }) replaced f))
   replaced_in asked permit granted from old to new object replaced e = absurd cc
 
@@ -233,16 +216,13 @@ module _ (world : World ℕ) (fresh : Fresh ℕ) (names : List TaskName) (name :
     same_there : filesystem_at nat_eq world directory ≡ there
     same_there = ap (filesystem_numbered nat_eq world) at
 
-    points_unused : (n : ℕ)
-        → list_any (λ (point : ℕ × ℕ). nat_eq n point.0) (points_of nat_eq world directory) ≡ true
+    points_unused : (n : ℕ) → list_any (λ (point : ℕ × ℕ). nat_eq n point.0) (points_of nat_eq world directory) ≡ true
         → is_among nat_eq n (used_filesystems nat_eq world names) ≡ false
     points_unused n h =
         let found = any_among (λ (point : ℕ × ℕ). nat_eq n point.0) (points_of nat_eq world directory) h in
-        ap (λ k. is_among nat_eq k (used_filesystems nat_eq world names)) (eqb-true n found.0.0 found.2)
-        ∙ ⊎_elim
+        ap (λ k. is_among nat_eq k (used_filesystems nat_eq world names)) (eqb-true n found.0.0 found.2) ∙ ⊎_elim
         (λ own. ap (λ (p : ℕ × ℕ). is_among nat_eq p.0 (used_filesystems nat_eq world names)) own
-        ∙ ap (λ k. is_among nat_eq k (used_filesystems nat_eq world names))
-        (number_of_filesystem world
+        ∙ ap (λ k. is_among nat_eq k (used_filesystems nat_eq world names)) (number_of_filesystem world
         (mount_at nat_eq world directory).filesystem ∙ at)
         ∙ changed_is_unused world fresh names name call task outsider called permit judged location change asks)
         (λ upper. over (filesystem_at nat_eq world directory).overlay refl found.0 upper) found.1
@@ -258,12 +238,10 @@ module _ (world : World ℕ) (fresh : Fresh ℕ) (names : List TaskName) (name :
                 → Among point (option_to_list (option_map (λ k. (layer.filesystem, k)) object))
                 → is_among nat_eq point.0 (used_filesystems nat_eq world names) ≡ false
             real layer None has k = absurd k
-            real layer (Some object) has k =
-                ⊎_elim
+            real layer (Some object) has k = ⊎_elim
                 (λ same. ap (λ (p : ℕ × ℕ). is_among nat_eq p.0 (used_filesystems nat_eq world names)) same
                 ∙ upper_is_unused world fresh names name call task outsider called permit judged location change asks
-                overlay (ap (λ (f : Filesystem ℕ). f.overlay) (sym same_there) ∙ e) layer has)
-                (λ none. absurd none) k
+                overlay (ap (λ (f : Filesystem ℕ). f.overlay) (sym same_there) ∙ e) layer has) (λ none. absurd none) k
 
             layered : (o : Option (Layer ℕ)) → overlay.upper ≡ o
                 → Among point (option_to_list (then_some o (λ layer. option_map (λ k. (layer.filesystem, k))
@@ -287,17 +265,13 @@ module _ (world : World ℕ) (fresh : Fresh ℕ) (names : List TaskName) (name :
         (without_mounts_on nat_eq world directory) (same_filesystems_without world directory)
         (left ∙ the_rest_stays fresh (without_mounts_on nat_eq world directory) location change
         ∙ ap (λ (w : World ℕ). record (without_mounts_on nat_eq world directory) { filesystems = w.filesystems })
-        (sym left))
-        (raised ∙ changed_at_same (without_mounts_on nat_eq world directory) world location
-        (same_filesystems_without world directory) (same_mounted_without world directory location))
-        mounts_leave
+        (sym left)) (raised ∙ changed_at_same (without_mounts_on nat_eq world directory) world location
+        (same_filesystems_without world directory) (same_mounted_without world directory location)) mounts_leave
 
 pub directory_removal_leaves : (world : World ℕ) (fresh : Fresh ℕ) (names : List TaskName) (name : TaskName)
-    (call : Call)
-    (task : Task ℕ) → IsOutsidersCall world fresh names name call → task_called world name ≡ Some task
+    (call : Call) (task : Task ℕ) → IsOutsidersCall world fresh names name call → task_called world name ≡ Some task
     → (parent : Location ℕ) (entry : List ℕ) (directory : Location ℕ)
-    → judge_in nat_eq fresh world task call ≡ Ok (ToRemoveDirectory parent entry directory)
-    → LeavesApart world
+    → judge_in nat_eq fresh world task call ≡ Ok (ToRemoveDirectory parent entry directory) → LeavesApart world
     (settled nat_eq (apply nat_eq fresh world task (ToRemoveDirectory parent entry directory)).world) names
     (filesystems_changed nat_eq world (ToRemoveDirectory parent entry directory))
 directory_removal_leaves world fresh names name call task outsider called parent entry directory judged =
@@ -311,8 +285,7 @@ pub renaming_leaves : (world : World ℕ) (fresh : Fresh ℕ) (names : List Task
     (task : Task ℕ) → IsOutsidersCall world fresh names name call → task_called world name ≡ Some task
     → (from : Location ℕ) (old : List ℕ) (to : Location ℕ) (new : List ℕ) (object : Location ℕ)
     (replaced : Option (Location ℕ))
-    → judge_in nat_eq fresh world task call ≡ Ok (ToRename from old to new object replaced)
-    → LeavesApart world
+    → judge_in nat_eq fresh world task call ≡ Ok (ToRename from old to new object replaced) → LeavesApart world
     (settled nat_eq (apply nat_eq fresh world task (ToRename from old to new object replaced)).world) names
     (filesystems_changed nat_eq world (ToRename from old to new object replaced))
 renaming_leaves world fresh names name call task outsider called from old to new object None judged =

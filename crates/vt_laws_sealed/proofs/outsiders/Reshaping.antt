@@ -13,8 +13,7 @@ use Rattle.vt_laws_sealed.proofs.outsiders.StandingApart.{StandsApart}
 
 -- a mount with another mount point and type, in its namespace or in none
 abbrev pub IsReshaped : Mount ℕ → Mount ℕ → Type 0
-IsReshaped old new =
-    (namespace : Option ℕ) × (point : Option (Location ℕ)) × (kind : Propagation ℕ)
+IsReshaped old new = (namespace : Option ℕ) × (point : Option (Location ℕ)) × (kind : Propagation ℕ)
     × (new ≡ record old { namespace = namespace; mount_point = point; propagation = kind })
     × ((namespace ≡ old.namespace) ⊎ (namespace ≡ None))
 
@@ -34,10 +33,8 @@ reshaped_twice old middle new one two = (
   two.1,
   two.2,
   two.3 ∙ ap (λ (x : Mount ℕ). record x { namespace = two.0; mount_point = two.1; propagation = two.2 }) one.3,
-  ⊎_elim
-      (λ same. ⊎_elim (λ kept. inl (same ∙ ap (λ (x : Mount ℕ). x.namespace) one.3 ∙ kept))
-      (λ none. inr (same ∙ ap (λ (x : Mount ℕ). x.namespace) one.3 ∙ none)) one.4)
-      inr two.4,
+  ⊎_elim (λ same. ⊎_elim (λ kept. inl (same ∙ ap (λ (x : Mount ℕ). x.namespace) one.3 ∙ kept))
+      (λ none. inr (same ∙ ap (λ (x : Mount ℕ). x.namespace) one.3 ∙ none)) one.4) inr two.4,
 )
 
 -- the part has the same of a mount of others
@@ -54,8 +51,7 @@ reshaped_kept world names apart mount there new shaped own_same nowhere_same = b
       where
         which : (b : Bool) → is_own_namespace nat_eq world names n ≡ b
             → keep world names (members world names) new ≡ keep world names (members world names) mount
-        which true own =
-            ap (keep world names (members world names)) (own_same
+        which true own = ap (keep world names (members world names)) (own_same
             (among-filter (is_own_mount nat_eq world names) world.mounts mount there
             (ap (holds_of (is_own_namespace nat_eq world names)) e ∙ own)))
         which false other =
@@ -69,8 +65,7 @@ reshaped_kept world names apart mount there new shaped own_same nowhere_same = b
             ap (λ b. b || is_at nat_eq (roots_and_directories (members world names)) mount)
             (⊎_elim (λ same. ap (holds_of (is_own_namespace nat_eq world names)) (same ∙ e) ∙ other)
             (ap (holds_of (is_own_namespace nat_eq world names))) shaped.4) ∙ no_place in
-            ap (keep world names (members world names)) shaped.3
-            ∙ ap (λ b. cond b (Some (record mount {
+            ap (keep world names (members world names)) shaped.3 ∙ ap (λ b. cond b (Some (record mount {
               namespace = shaped.0;
               mount_point = shaped.1;
               propagation = shaped.2;
@@ -79,12 +74,10 @@ reshaped_kept world names apart mount there new shaped own_same nowhere_same = b
             (when (is_at nat_eq (locations (members world names)) mount) (seen_by_descriptor mount))) no)
 
 pub reshaping_kept : (world : World ℕ) (names : List TaskName) {New : ℕ → Type 0} → StandsApart world names New
-    → (change : Mount ℕ → Mount ℕ)
-    → ((mount : Mount ℕ) → IsReshaped mount (change mount))
+    → (change : Mount ℕ → Mount ℕ) → ((mount : Mount ℕ) → IsReshaped mount (change mount))
     → ((own : Mount ℕ) → Among own (own_mounts nat_eq world names) → change own ≡ own)
     → ((mount : Mount ℕ) → Among mount world.mounts → mount.namespace ≡ None → change mount ≡ mount)
     → (mount : Mount ℕ) → Among mount world.mounts
     → keep world names (members world names) (change mount) ≡ keep world names (members world names) mount
 reshaping_kept world names apart change shape own_same nowhere_same mount there =
-    reshaped_kept world names apart mount there (change mount) (shape mount) (own_same mount)
-    (nowhere_same mount there)
+    reshaped_kept world names apart mount there (change mount) (shape mount) (own_same mount) (nowhere_same mount there)

@@ -52,8 +52,7 @@ new_masters : (group : ℕ → ℕ) (number : ℕ) (named : List (Mount ℕ)) (m
     ⊎ ((mount : Mount ℕ) × Among mount named × (number ≡ group mount.number)
     × (with_new_groups nat_eq group master named number ≡ master_after mount.propagation))
 new_masters group number [] master = inl refl
-new_masters group number (mount ∷ rest) master =
-    ⊎_elim (λ same. by (nat_eq number (group mount.number)) refl same)
+new_masters group number (mount ∷ rest) master = ⊎_elim (λ same. by (nat_eq number (group mount.number)) refl same)
     (λ made. inr (made.0, inr made.1, made.2, made.3))
     (new_masters group number rest (with_master nat_eq master (group mount.number) (master_after mount.propagation)))
   where
@@ -64,13 +63,12 @@ new_masters group number (mount ∷ rest) master =
         → (with_new_groups nat_eq group master (mount ∷ rest) number ≡ master number)
         ⊎ ((one : Mount ℕ) × Among one (mount ∷ rest) × (number ≡ group one.number)
         × (with_new_groups nat_eq group master (mount ∷ rest) number ≡ master_after one.propagation))
-    by true e same =
-        inr (
-          mount,
-          inl refl,
-          eqb-true number (group mount.number) e,
-          same ∙ ap (λ b. cond b (master_after mount.propagation) (master number)) e,
-        )
+    by true e same = inr (
+      mount,
+      inl refl,
+      eqb-true number (group mount.number) e,
+      same ∙ ap (λ b. cond b (master_after mount.propagation) (master number)) e,
+    )
     by false e same = inl (same ∙ ap (λ b. cond b (master_after mount.propagation) (master number)) e)
 
 module _ (world : World ℕ) (names : List TaskName) (apart : IsApart world names) (fresh : Fresh ℕ)
@@ -93,8 +91,7 @@ module _ (world : World ℕ) (names : List TaskName) (apart : IsApart world name
 
   -- a type that only groups of others are in
   abbrev IsOfOthers : Propagation ℕ → Type 0
-  IsOfOthers kind =
-      ((number : ℕ) → group_of kind ≡ Some number → IsForeign number)
+  IsOfOthers kind = ((number : ℕ) → group_of kind ≡ Some number → IsForeign number)
       × ((number : ℕ) → kind ≡ Slave number → IsForeign number)
 
   abbrev is_named : Mount ℕ → Bool
@@ -106,8 +103,7 @@ module _ (world : World ℕ) (names : List TaskName) (apart : IsApart world name
   -- what is not in the namespace is not named
   not_named : (mount : Mount ℕ) → Among mount world.mounts → (mount.namespace ≡ Some namespace → ⊥)
       → is_named mount ≡ false
-  not_named mount there elsewhere =
-      false_from_ne_true (is_named mount) (λ h.
+  not_named mount there elsewhere = false_from_ne_true (is_named mount) (λ h.
       let at = any_among (λ (other : Mount ℕ). nat_eq mount.number other.number) named h in
       let in_it = named_in at.0 at.1 in
       elsewhere (ap (λ (x : Mount ℕ). x.namespace)
@@ -126,8 +122,7 @@ module _ (world : World ℕ) (names : List TaskName) (apart : IsApart world name
 
   -- a group that a mount of theirs hears has a member of theirs, also when types are set
   members_stay : (own : Mount ℕ) → Among own (own_mounts nat_eq world names) → (number : ℕ)
-      → HearsGroup world names so_far world own.propagation number
-      → has_members nat_eq middle.mounts number ≡ true
+      → HearsGroup world names so_far world own.propagation number → has_members nat_eq middle.mounts number ≡ true
   members_stay own m number how =
       let member = member_of_heard world names so_far own m number how in
       any_from_among (is_member_of nat_eq number) middle.mounts member.0
@@ -136,8 +131,7 @@ module _ (world : World ℕ) (names : List TaskName) (apart : IsApart world name
       (among-from_filter (is_own_mount nat_eq world names) world.mounts member.0 member.1).0)) member.2
 
   heir_stays : (own : Mount ℕ) → Among own (own_mounts nat_eq world names) → (number : ℕ)
-      → HearsGroup world names so_far world own.propagation number
-      → heir nat_eq middle (Some number) ≡ Some number
+      → HearsGroup world names so_far world own.propagation number → heir nat_eq middle (Some number) ≡ Some number
   heir_stays own m number how =
       find-chain_start (has_members nat_eq middle.mounts) middle.master (length middle.mounts) number
       (members_stay own m number how)
@@ -153,8 +147,7 @@ module _ (world : World ℕ) (names : List TaskName) (apart : IsApart world name
       is_other world names namespace outside mount at.0 at.1
 
   middle_above : (number above : ℕ) → IsForeign number → middle.master number ≡ Some above → IsForeign above
-  middle_above number above foreign e =
-      ⊎_elim
+  middle_above number above foreign e = ⊎_elim
       (λ same. foreign_above world names so_far number above foreign (sym same ∙ e))
       (λ made. after made.0 (named_other made.0 made.1) made.0.propagation refl (sym made.3 ∙ e))
       (new_masters group number named world.master)
@@ -166,12 +159,10 @@ module _ (world : World ℕ) (names : List TaskName) (apart : IsApart world name
       after mount m Private k h = none_is_some above h
       after mount m Unbindable k h = none_is_some above h
 
-  heir_foreign : (number found : ℕ) → IsForeign number → heir nat_eq middle (Some number) ≡ Some found
-      → IsForeign found
+  heir_foreign : (number found : ℕ) → IsForeign number → heir nat_eq middle (Some number) ≡ Some found → IsForeign found
   heir_foreign number found foreign e =
       along_chain middle.master IsForeign (λ above lower up lower_foreign. middle_above lower above lower_foreign up)
-      (length middle.mounts) number found foreign
-      (is_among_numbers (groups_up middle number) found
+      (length middle.mounts) number found foreign (is_among_numbers (groups_up middle number) found
       (found_among (has_members nat_eq middle.mounts) (groups_up middle number) found e))
 
   -- the type of a mount of others, once types are set
@@ -231,8 +222,7 @@ module _ (world : World ℕ) (names : List TaskName) (apart : IsApart world name
       by None e = (λ number f. none_is_some number f, λ number f. none_is_some number (ap source_of f))
       by (Some found) e = (
         λ number f. none_is_some number f,
-        λ number f. subst IsForeign (same_Some found number (ap source_of f))
-            (heir_foreign g found (is.1 g refl) e),
+        λ number f. subst IsForeign (same_Some found number (ap source_of f)) (heir_foreign g found (is.1 g refl) e),
       )
   inherited_foreign Private is = is
   inherited_foreign Unbindable is = is
@@ -249,8 +239,7 @@ module _ (world : World ℕ) (names : List TaskName) (apart : IsApart world name
     after_all = regrouped_by nat_eq lost middle
 
     mounts_are : after_all.mounts ≡ map change world.mounts
-    mounts_are =
-        by lost ∙ map_twice regroup retype world.mounts
+    mounts_are = by lost ∙ map_twice regroup retype world.mounts
       where
         by : (b : Bool) → (regrouped_by nat_eq b middle).mounts
             ≡ map (λ (mount : Mount ℕ). cond b (inheriting nat_eq middle mount) mount) middle.mounts
@@ -308,8 +297,7 @@ module _ (world : World ℕ) (names : List TaskName) (apart : IsApart world name
         by false = refl
 
     own_stays : (own : Mount ℕ) → Among own (own_mounts nat_eq world names) → change own ≡ own
-    own_stays own m =
-        ap regroup (stays own (own_not_named own m)) ∙ regroup_stays own (own_type_stays own m)
+    own_stays own m = ap regroup (stays own (own_not_named own m)) ∙ regroup_stays own (own_type_stays own m)
 
     nowhere_stays : (mount : Mount ℕ) → Among mount world.mounts → mount.namespace ≡ None → change mount ≡ mount
     nowhere_stays mount there none =
@@ -336,16 +324,14 @@ module _ (world : World ℕ) (names : List TaskName) (apart : IsApart world name
           where
             which : (b : Bool) → is_own_namespace nat_eq world names n ≡ b
                 → keep world names (members world names) (change mount) ≡ keep world names (members world names) mount
-            which true own =
-                ap (keep world names (members world names)) (own_stays mount
+            which true own = ap (keep world names (members world names)) (own_stays mount
                 (among-filter (is_own_mount nat_eq world names) world.mounts mount there
                 (ap (holds_of (is_own_namespace nat_eq world names)) e ∙ own)))
             which false other =
                 let no : (is_own world names (members world names) mount
                 || is_at nat_eq (roots_and_directories (members world names)) mount) ≡ false =
                 ap (λ b. b || is_at nat_eq (roots_and_directories (members world names)) mount)
-                (not_own world names n other mount there e)
-                ∙ not_stood_on world names apart n other mount there e in
+                (not_own world names n other mount there e) ∙ not_stood_on world names apart n other mount there e in
                 let changed = changed_type mount in
                 ap (keep world names (members world names)) changed.1
                 ∙ ap (λ b. cond b (Some (record mount { propagation = changed.0 }))
@@ -360,8 +346,7 @@ module _ (world : World ℕ) (names : List TaskName) (apart : IsApart world name
         let own = any_among (is_member_of nat_eq number) (own_mounts nat_eq world names) h in
         let there = (among-from_filter (is_own_mount nat_eq world names) world.mounts own.0 own.1).0 in
         let is_in = member_group number own.0 own.2 in
-        let same : middle.master number ≡ world.master number =
-        ⊎_elim (λ e. e)
+        let same : middle.master number ≡ world.master number = ⊎_elim (λ e. e)
         (λ made. let new = new_group made.0.number in
         absurd (member_not_new world fresh serves own.0 number new.0 there is_in (made.2 ∙ new.1)))
         (new_masters group number named world.master) in
@@ -424,8 +409,7 @@ module _ (world : World ℕ) (names : List TaskName) (apart : IsApart world name
           → IsOfOthers (change other).propagation
       changed_foreign other m = by lost
         where
-          by : (b : Bool)
-              → IsOfOthers (cond b (inheriting nat_eq middle (retype other)) (retype other)).propagation
+          by : (b : Bool) → IsOfOthers (cond b (inheriting nat_eq middle (retype other)) (retype other)).propagation
           by true = inherited_foreign (retype other).propagation (retyped_foreign other m)
           by false = retyped_foreign other m
 
@@ -434,19 +418,16 @@ module _ (world : World ℕ) (names : List TaskName) (apart : IsApart world name
       own_kinds own m = by own.propagation refl
         where
           by : (kind : Propagation ℕ) → own.propagation ≡ kind → master_of left kind ≡ master_of world kind
-          by (Shared g) e =
-              own_masters g (any_from_among (is_member_of nat_eq g) (own_mounts nat_eq world names) own m
+          by (Shared g) e = own_masters g (any_from_among (is_member_of nat_eq g) (own_mounts nat_eq world names) own m
               (ap (λ kind. holds_of (nat_eq g) (group_of kind)) e ∙ eq-eqb g g refl))
           by (Slave g) e = refl
           by Private e = refl
           by Unbindable e = refl
 
       events : shares_no_events nat_eq left names ≡ true
-      events =
-          events_stay_apart world names so_far left
+      events = events_stay_apart world names so_far left
           (own_mounts_same world left names (sees world names apart change keeps kept_same master own_masters))
-          own_kinds
-          (λ other m number how.
+          own_kinds (λ other m number how.
           let from = among-from_map change (other_mounts nat_eq world names) other
           (subst (Among other) (others_changed world names apart change keeps kept_same master) m) in
           heard_foreign (change from.0).propagation (changed_foreign from.0 from.1) number
@@ -454,8 +435,7 @@ module _ (world : World ℕ) (names : List TaskName) (apart : IsApart world name
           (ap (λ (x : Mount ℕ). x.propagation) from.2) how))
 
       pub retyping_leaves_apart : LeavesApart world left names []
-      retyping_leaves_apart =
-          changing_leaves_apart world names apart change keeps kept_same master own_masters events
+      retyping_leaves_apart = changing_leaves_apart world names apart change keeps kept_same master own_masters events
 
 -- what a change of types names is in the namespace
 named_are_in : (world : World ℕ) (names : List TaskName) (apart : IsApart world names) (namespace number : ℕ)
@@ -477,8 +457,7 @@ named_are_in world names apart namespace number placed recursive mount m = by re
 
 module _ (world : World ℕ) (fresh : Fresh ℕ) (names : List TaskName) (name : TaskName) (call : Call)
     (task : Task ℕ) (outsider : IsOutsidersCall world fresh names name call)
-    (called : task_called world name ≡ Some task)
-    (number : ℕ) (word : TypeWord) (recursive : Bool)
+    (called : task_called world name ≡ Some task) (number : ℕ) (word : TypeWord) (recursive : Bool)
     (judged : judge_in nat_eq fresh world task call ≡ Ok (ToSetType number word recursive)) where
   apart_before : IsApart world names
   apart_before = apart_if_sealed world names outsider.is outsider.sealed_off
@@ -536,13 +515,10 @@ module _ (world : World ℕ) (fresh : Fresh ℕ) (names : List TaskName) (name :
       its_named_in has_lost
 
   swept : settled nat_eq done ≡ record world { mounts = map changes world.mounts; master = last_master }
-  swept =
-      subst KeepsAllButMasters
-      (ap (λ c. (call_outcome nat_eq fresh world task c).world) (sym for_type.1)
+  swept = subst KeepsAllButMasters (ap (λ c. (call_outcome nat_eq fresh world task c).world) (sym for_type.1)
       ∙ ap (λ j. (after world j (apply nat_eq fresh world task)).world) judged)
       (all_types_leave_all_but_masters world fresh task for_type.0 word recursive outsider.is outsider.serves called_so)
-      ∙ tail has_lost
-      ∙ ap (λ ms. record world { mounts = ms; master = last_master }) done_mounts
+      ∙ tail has_lost ∙ ap (λ ms. record world { mounts = ms; master = last_master }) done_mounts
     where
       tail : (b : Bool) → record (regrouped_by nat_eq b halfway) { master = last_master }
           ≡ record world { mounts = (regrouped_by nat_eq b halfway).mounts; master = last_master }
@@ -563,22 +539,17 @@ module _ (world : World ℕ) (fresh : Fresh ℕ) (names : List TaskName) (name :
       let at = among-from_filter (is_own_mount nat_eq world names) world.mounts own.0 own.1 in
       ap (λ b. cond b (done.master n) None)
       (any_from_among (is_member_of nat_eq n) (filter (mount_lives nat_eq done) done.mounts) own.0
-      (among-filter (mount_lives nat_eq done) done.mounts own.0
-      (subst (Among own.0) (sym done_mounts)
+      (among-filter (mount_lives nat_eq done) done.mounts own.0 (subst (Among own.0) (sym done_mounts)
       (subst (λ x. Among x (map changes world.mounts))
       (own_stays world names apart_before fresh outsider.serves task.namespace outside its_group its_new word its_named
-      its_named_in has_lost own.0 own.1)
-      (among-map changes world.mounts own.0 at.0)))
-      (or_left (is_some own.0.namespace) _ (lives own.0.namespace at.1)))
-      own.2)
+      its_named_in has_lost own.0 own.1) (among-map changes world.mounts own.0 at.0)))
+      (or_left (is_some own.0.namespace) _ (lives own.0.namespace at.1))) own.2)
     where
       lives : (o : Option ℕ) → holds_of (is_own_namespace nat_eq world names) o ≡ true → is_some o ≡ true
       lives None f = f
       lives (Some x) f = refl
 
   pub type_leaves : LeavesApart world (settled nat_eq done) names []
-  type_leaves =
-      subst (λ w. LeavesApart world w names []) (sym swept)
+  type_leaves = subst (λ w. LeavesApart world w names []) (sym swept)
       (retyping_leaves_apart world names apart_before fresh outsider.serves task.namespace outside its_group its_new
-      word
-      its_named its_named_in has_lost last_master taken_or_not theirs_stay_there)
+      word its_named its_named_in has_lost last_master taken_or_not theirs_stay_there)

@@ -22,24 +22,20 @@ use Rattle.vt_laws_sealed.proofs.part.part.PartOfPart.{is_own, keep, kept_how, u
 module _ (used : List ℕ) (lowers : List (Layer ℕ)) where
   abbrev pub lowered_by : FileTree ℕ → Filesystem ℕ → Filesystem ℕ
   lowered_by files x = record x {
-    files = only_among nat_eq
-        (filter (λ object. list_any (λ (layer : Layer ℕ). nat_eq x.number layer.filesystem
+    files = only_among nat_eq (filter (λ object. list_any (λ (layer : Layer ℕ). nat_eq x.number layer.filesystem
         && is_under nat_eq files layer.directory object) lowers) x.files.numbers) x.files;
     change = 0;
   }
 
   pub shown_is : (a : World ℕ) (y x : Filesystem ℕ) → is_among nat_eq x.number used ≡ true
       → shown_of a used lowers y ≡ Some x → y ≡ x
-  shown_is a y x is e =
-      by (is_among nat_eq y.number used) refl
+  shown_is a y x is e = by (is_among nat_eq y.number used) refl
       (list_any (λ (layer : Layer ℕ). nat_eq y.number layer.filesystem) lowers) e
     where
       by : (b : Bool) → is_among nat_eq y.number used ≡ b → (c : Bool)
           → cond b (Some y) (when c (lowered_by (filesystem_numbered nat_eq a y.number).files y)) ≡ Some x → y ≡ x
       by true f c h = same_Some y x h
-      by false f true h =
-          absurd (true≢false (sym is
-          ∙ ap (λ (z : Filesystem ℕ). is_among nat_eq z.number used)
+      by false f true h = absurd (true≢false (sym is ∙ ap (λ (z : Filesystem ℕ). is_among nat_eq z.number used)
           (sym (same_Some (lowered_by (filesystem_numbered nat_eq a y.number).files y) x h)) ∙ f))
       by false f false h = none_is_some x h
 
@@ -58,8 +54,7 @@ module _ (used : List ℕ) (lowers : List (Layer ℕ)) where
 pub shown_at : (world : World ℕ) (names : List TaskName) (mount : Mount ℕ)
     → is_at nat_eq (locations (members world names)) mount ≡ true
     → (shown : Mount ℕ) × (keep world names (members world names) mount ≡ Some shown)
-shown_at world names mount at =
-    either (is_own world names (members world names) mount
+shown_at world names mount at = either (is_own world names (members world names) mount
     || is_at nat_eq (roots_and_directories (members world names)) mount)
   where
     either : (b : Bool) → (shown : Mount ℕ) × (cond b (Some mount)
@@ -78,8 +73,7 @@ changed_of world names number m =
     (used_directly nat_eq world names) number m in
     by from.0 from.1 (find (λ (f : Filesystem ℕ). nat_eq from.0 f.number) world.filesystems) refl from.2
   where
-    up : (o : Option (Overlay ℕ))
-        → Among number (overlay_or [] (λ overlay. map (λ (layer : Layer ℕ). layer.filesystem)
+    up : (o : Option (Overlay ℕ)) → Among number (overlay_or [] (λ overlay. map (λ (layer : Layer ℕ). layer.filesystem)
         (option_to_list overlay.upper ++ option_to_list overlay.work)) o)
         → (layer : Layer ℕ) × Among layer (overlay_or [] layers_of o) × (number ≡ layer.filesystem)
     up None h = absurd h
@@ -93,8 +87,7 @@ changed_of world names number m =
         )
 
     by : (k : ℕ) → Among k (used_directly nat_eq world names) → (o : Option (Filesystem ℕ))
-        → find (λ (f : Filesystem ℕ). nat_eq k f.number) world.filesystems ≡ o
-        → Among number (change_layers (unwrap_or
+        → find (λ (f : Filesystem ℕ). nat_eq k f.number) world.filesystems ≡ o → Among number (change_layers (unwrap_or
         (find (λ (f : Filesystem ℕ). nat_eq k f.number) world.filesystems) (no_filesystem k)))
         → (merged : Filesystem ℕ) × Among merged world.filesystems
         × Among merged.number (used_directly nat_eq world names)
@@ -105,8 +98,7 @@ changed_of world names number m =
         (subst (λ o. Among number (change_layers (unwrap_or o (no_filesystem k)))) e h) in (
           merged,
           found_among (λ (f : Filesystem ℕ). nat_eq k f.number) world.filesystems merged e,
-          subst (λ n. Among n (used_directly nat_eq world names))
-              (eqb-true k merged.number
+          subst (λ n. Among n (used_directly nat_eq world names)) (eqb-true k merged.number
               (found_passes (λ (f : Filesystem ℕ). nat_eq k f.number) world.filesystems merged e)) direct,
           layer.0,
           layer.1,
@@ -128,19 +120,15 @@ module _ (world later : World ℕ) (names : List TaskName) (sees : SeesTheSame w
 
   shown_number : (mount shown : Mount ℕ) → keep world names theirs mount ≡ Some shown
       → (shown.number ≡ mount.number) × (shown.filesystem ≡ mount.filesystem) × (shown.root ≡ mount.root)
-  shown_number mount shown e =
-      ⊎_elim
-      (λ same. (
-        ap (λ (x : Mount ℕ). x.number) (sym same),
-        ap (λ (x : Mount ℕ). x.filesystem) (sym same),
-        ap (λ (x : Mount ℕ). x.root) (sym same),
-      ))
-      (λ stub. (
-        ap (λ (x : Mount ℕ). x.number) (sym stub.0),
-        ap (λ (x : Mount ℕ). x.filesystem) (sym stub.0),
-        ap (λ (x : Mount ℕ). x.root) (sym stub.0),
-      ))
-      (kept_how world names theirs mount shown e)
+  shown_number mount shown e = ⊎_elim (λ same. (
+    ap (λ (x : Mount ℕ). x.number) (sym same),
+    ap (λ (x : Mount ℕ). x.filesystem) (sym same),
+    ap (λ (x : Mount ℕ). x.root) (sym same),
+  )) (λ stub. (
+    ap (λ (x : Mount ℕ). x.number) (sym stub.0),
+    ap (λ (x : Mount ℕ). x.filesystem) (sym stub.0),
+    ap (λ (x : Mount ℕ). x.root) (sym stub.0),
+  )) (kept_how world names theirs mount shown e)
 
   -- a mount that the part has is there, with number, filesystem and root
   pub there_later : (mount shown : Mount ℕ) → Among mount world.mounts → keep world names theirs mount ≡ Some shown
@@ -160,15 +148,13 @@ module _ (world later : World ℕ) (names : List TaskName) (sees : SeesTheSame w
       )
 
   pub own_later : (mount : Mount ℕ) → Among mount (own_mounts nat_eq world names) → Among mount later.mounts
-  own_later mount m =
-      (among-from_filter (is_own_mount nat_eq later names) later.mounts mount
+  own_later mount m = (among-from_filter (is_own_mount nat_eq later names) later.mounts mount
       (subst (Among mount) (sym (own_mounts_same world later names sees)) m)).0
 
   -- a filesystem that they use is there, and was
   pub used_later : (x : Filesystem ℕ) → Among x world.filesystems
       → is_among nat_eq x.number (used_filesystems nat_eq world names) ≡ true → Among x later.filesystems
-  used_later =
-      used_across (used_filesystems nat_eq world names) (own_lowers nat_eq world names) world later
+  used_later = used_across (used_filesystems nat_eq world names) (own_lowers nat_eq world names) world later
       (sym sees.filesystems)
 
   pub used_was : (x : Filesystem ℕ) → Among x later.filesystems
@@ -204,8 +190,7 @@ module _ (world later : World ℕ) (names : List TaskName) (sees : SeesTheSame w
           absurd (subst (λ o. Among layer (of_overlay [] (λ (overlay : Overlay ℕ). overlay.lowers)
           (unwrap_or o (no_filesystem number)))) e h)
       by number direct (Some merged) e h =
-          let same : number ≡ merged.number =
-          eqb-true number merged.number
+          let same : number ≡ merged.number = eqb-true number merged.number
           (found_passes (λ (f : Filesystem ℕ). nat_eq number f.number) world.filesystems merged e) in (
             merged,
             found_among (λ (f : Filesystem ℕ). nat_eq number f.number) world.filesystems merged e,

@@ -30,8 +30,7 @@ use Rattle.vt_laws_trees.specs.Calls.Searched.Way.{arrives, follows, goes_on}
 module _ (world : World ℕ) (is : IsWorld nat_eq world) (task : Task ℕ) (there : Among task world.tasks) where
   -- a mount of the task's namespace, or a detached one that its root or working directory is on
   abbrev pub IsGround : ℕ → Type 0
-  IsGround number =
-      ((mount_numbered nat_eq world number).namespace ≡ Some task.namespace)
+  IsGround number = ((mount_numbered nat_eq world number).namespace ≡ Some task.namespace)
       ⊎ (((mount_numbered nat_eq world number).namespace ≡ None)
       × ((number ≡ task.root.mount) ⊎ (number ≡ task.directory.mount)))
 
@@ -41,8 +40,7 @@ module _ (world : World ℕ) (is : IsWorld nat_eq world) (task : Task ℕ) (ther
   seen : (location : Location ℕ) → is_directory_seen_in nat_eq world task.namespace location ≡ true
       → ((mount_at nat_eq world location).namespace ≡ Some task.namespace)
       ⊎ ((mount_at nat_eq world location).namespace ≡ None)
-  seen location h =
-      by (mount_at nat_eq world location).namespace refl
+  seen location h = by (mount_at nat_eq world location).namespace refl
       (and_parts (is_directory_at nat_eq world location)
       (list_all (nat_eq task.namespace) (option_to_list (mount_at nat_eq world location).namespace)) h).1
     where
@@ -56,8 +54,7 @@ module _ (world : World ℕ) (is : IsWorld nat_eq world) (task : Task ℕ) (ther
 
   stood : (is_directory_seen_in nat_eq world task.namespace task.root ≡ true)
       × (is_directory_seen_in nat_eq world task.namespace task.directory ≡ true)
-  stood =
-      and_parts (is_directory_seen_in nat_eq world task.namespace task.root)
+  stood = and_parts (is_directory_seen_in nat_eq world task.namespace task.root)
       (is_directory_seen_in nat_eq world task.namespace task.directory)
       (among_from_list_all (stands_on_directories nat_eq world) world.tasks is.tasks.directories task there)
 
@@ -89,8 +86,7 @@ module _ (world : World ℕ) (is : IsWorld nat_eq world) (task : Task ℕ) (ther
           let same = namespace_below world child.number a
           (among_from_all (λ (x : Mount ℕ). Stands nat_eq world x.number) world.mounts is.mounts.standing child m)
           (ap (λ (x : Mount ℕ). x.mount_point) itself ∙ point) in
-          subst OnGround (same_Some (root_of child) b h)
-          (⊎_elim (λ own. inl (same ∙ own))
+          subst OnGround (same_Some (root_of child) b h) (⊎_elim (λ own. inl (same ∙ own))
           (λ none. absurd (nowhere_unplaced world is.mounts child m
           (ap (λ (x : Mount ℕ). x.namespace) (sym itself) ∙ same ∙ none.0) a point)) ground)
 
@@ -102,30 +98,23 @@ module _ (world : World ℕ) (is : IsWorld nat_eq world) (task : Task ℕ) (ther
   -- so is a parent
   parent_ground : (number : ℕ) (point : Location ℕ) → IsGround number
       → (mount_numbered nat_eq world number).mount_point ≡ Some point → OnGround point
-  parent_ground number point ground e =
-      ⊎_elim
-      (λ own.
+  parent_ground number point ground e = ⊎_elim (λ own.
       let m = found number own in
-      inl (sym (namespace_below world number point
-      (subst (Stands nat_eq world) (number-mount_in world.mounts number)
+      inl (sym (namespace_below world number point (subst (Stands nat_eq world) (number-mount_in world.mounts number)
       (among_from_all (λ (x : Mount ℕ). Stands nat_eq world x.number) world.mounts is.mounts.standing
-      (mount_numbered nat_eq world number) m)) e) ∙ own))
-      (λ none. ⊎_elim
+      (mount_numbered nat_eq world number) m)) e) ∙ own)) (λ none. ⊎_elim
       (λ m. absurd (nowhere_unplaced world is.mounts (mount_numbered nat_eq world number) m none.0 point e))
       (λ missing. none_is_some point (sym (ap (λ (x : Mount ℕ). x.mount_point) missing) ∙ e))
-      (found_or_none world.mounts number))
-      ground
+      (found_or_none world.mounts number)) ground
     where
       found : (number : ℕ) → (mount_numbered nat_eq world number).namespace ≡ Some task.namespace
           → Among (mount_numbered nat_eq world number) world.mounts
-      found number own =
-          ⊎_elim (λ m. m)
+      found number own = ⊎_elim (λ m. m)
           (λ missing. none_is_some task.namespace (sym (ap (λ (x : Mount ℕ). x.namespace) missing) ∙ own))
           (found_or_none world.mounts number)
 
   hop_ground : (a b : Location ℕ) → OnGround a → hop nat_eq (looks_of nat_eq world) task a ≡ Some b → OnGround b
-  hop_ground a b ground e =
-      by (same_location nat_eq a task.root) (nat_eq a.node (mount_at nat_eq world a).root) e
+  hop_ground a b ground e = by (same_location nat_eq a task.root) (nat_eq a.node (mount_at nat_eq world a).root) e
     where
       by : (p q : Bool) → cond p None (cond q (mount_at nat_eq world a).mount_point None) ≡ Some b → OnGround b
       by true q h = none_is_some b h
@@ -140,28 +129,24 @@ module _ (world : World ℕ) (is : IsWorld nat_eq world) (task : Task ℕ) (ther
       same : (a b : Location ℕ) → OnGround a → Path (Result (Location ℕ) Deny) (Ok a) (Ok b) → OnGround b
       same a b on h = let e : a ≡ b = cc in subst OnGround e on
 
-      by : (p q : Bool)
-          → cond p (Ok top) (unless ((q, W8) ∷ []) (Ok (topmost nat_eq world.mounts
+      by : (p q : Bool) → cond p (Ok top) (unless ((q, W8) ∷ []) (Ok (topmost nat_eq world.mounts
           (parent_location nat_eq (looks_of nat_eq world) top)))) ≡ Ok next → OnGround next
       by true q h = same top next ground h
       by false true h = refused h
         where
           refused : Path (Result (Location ℕ) Deny) (Err (denial W8)) (Ok next) → OnGround next
           refused k = absurd cc
-      by false false h =
-          same (topmost nat_eq world.mounts (parent_location nat_eq (looks_of nat_eq world) top)) next
+      by false false h = same (topmost nat_eq world.mounts (parent_location nat_eq (looks_of nat_eq world) top)) next
           (topmost_ground (parent_location nat_eq (looks_of nat_eq world) top) ground) h
 
   pub step_ground : (here next : Location ℕ) (word : LastWord) → OnGround here
       → stepped nat_eq (looks_of nat_eq world) task here word ≡ Ok next → OnGround next
   step_ground here next NoWord ground e = let same : here ≡ next = cc in subst OnGround same ground
   step_ground here next Dot ground e = let same : here ≡ next = cc in subst OnGround same ground
-  step_ground here next DotDot ground e =
-      up_ground (last_or here (hops nat_eq (looks_of nat_eq world) task here)) next
+  step_ground here next DotDot ground e = up_ground (last_or here (hops nat_eq (looks_of nat_eq world) task here)) next
       (chain_ends OnGround (hop nat_eq (looks_of nat_eq world) task) hop_ground (length world.mounts) here here ground)
       e
-  step_ground here next (Named name) ground e =
-      by (entry_location nat_eq (looks_of nat_eq world) here name) refl e
+  step_ground here next (Named name) ground e = by (entry_location nat_eq (looks_of nat_eq world) here name) refl e
     where
       by : (o : Option (Location ℕ)) → entry_location nat_eq (looks_of nat_eq world) here name ≡ o
           → ok_or (option_map (topmost nat_eq world.mounts) o) (denial W6) ≡ Ok next → OnGround next
@@ -189,9 +174,7 @@ module _ (world : World ℕ) (is : IsWorld nat_eq world) (task : Task ℕ) (ther
   way_ground here end path_words passed (goes_on at next last word rest walked e plain way) ground =
       way_ground next last rest walked way (step_ground at next (last_word word) ground e)
   way_ground here end path_words passed (follows at link inside last word text rest in_text walked e linked text_way
-      way)
-      ground =
-      way_ground inside last rest walked way
+      way) ground = way_ground inside last rest walked way
       (way_ground (start_of task at text) inside (words text) in_text text_way (start_ground at text ground))
 
   pub searched_ground : (path : List ℕ) (end : Location ℕ) → IsSearchedTo world task path end → OnGround end

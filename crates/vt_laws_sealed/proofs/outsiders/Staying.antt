@@ -71,13 +71,11 @@ module _ (world : World ℕ) (fresh : Fresh ℕ) (names : List TaskName) (name :
     later = numbers_raised nat_eq world name changed left
 
     later_sees : SeesTheSame world later names
-    later_sees =
-        sees_raised world left names name changed outsider.outside leaves.sees outsider.is.mounts apart.events
+    later_sees = sees_raised world left names name changed outsider.outside leaves.sees outsider.is.mounts apart.events
         leaves.unraised
 
     later_is : IsWorld nat_eq later
-    later_is =
-        subst (IsWorld nat_eq) policy_left
+    later_is = subst (IsWorld nat_eq) policy_left
         (every_call_keeps_worlds world fresh name call outsider.is outsider.serves outsider.few_groups)
 
     later_apart : IsApart later names
@@ -97,10 +95,8 @@ module _ (world : World ℕ) (fresh : Fresh ℕ) (names : List TaskName) (name :
     later_leaves = record {
       sealed_off =
           fewer_footholds_seal_too later world names later_apart outsider.is (part_same world later names later_sees)
-          (λ number m. later_free number
-          (inr (subst (Among number) (used_same world later names later_sees)
-          (among_from_contains (used_filesystems nat_eq later names) number m))))
-          outsider.sealed_off;
+          (λ number m. later_free number (inr (subst (Among number) (used_same world later names later_sees)
+          (among_from_contains (used_filesystems nat_eq later names) number m)))) outsider.sealed_off;
       part = part_same world later names later_sees;
       no_more = λ filesystem m. later_free filesystem.number
           (inl (is_among_numbers (map (λ (f : Filesystem ℕ). f.number) world.filesystems) filesystem.number
@@ -116,8 +112,7 @@ pub by_permit : ((world : World ℕ) (fresh : Fresh ℕ) (names : List TaskName)
     (task : Task ℕ) → IsOutsidersCall world fresh names name call → task_called world name ≡ Some task
     → (permit : Permit ℕ) → judge_in nat_eq fresh world task call ≡ Ok permit
     → LeavesApart world (settled nat_eq (apply nat_eq fresh world task permit).world) names
-    (filesystems_changed nat_eq world permit))
-    → OutsidersLeaveASealedSet
+    (filesystems_changed nat_eq world permit)) → OutsidersLeaveASealedSet
 by_permit leaves world fresh names name call outsider = by (policy nat_eq fresh world name call).answer refl
   where
     granted : (answer : Answer) → (policy nat_eq fresh world name call).answer ≡ Ok answer → (b : Bool)
@@ -134,8 +129,7 @@ by_permit leaves world fresh names name call outsider = by (policy nat_eq fresh 
 
     by : (answer : Result Answer Deny) → (policy nat_eq fresh world name call).answer ≡ answer
         → LeavesItSealed world (policy nat_eq fresh world name call).world names
-    by (Err deny) e =
-        leaves_itself world (policy nat_eq fresh world name call).world fresh names name call outsider
+    by (Err deny) e = leaves_itself world (policy nat_eq fresh world name call).world fresh names name call outsider
         (denial_changes_nothing fresh world name call deny e)
     by (Ok answer) e = granted answer e (only_looks call) refl
 
@@ -144,8 +138,7 @@ by_permit leaves world fresh names name call outsider = by (policy nat_eq fresh 
 pub free_with : (world left : World ℕ) (names : List TaskName) (more : List (Filesystem ℕ))
     → overlays left ≡ overlays world ++ more
     → ((number : ℕ) → IsOfTheWorld world names number → no_outsider_on nat_eq world names number ≡ true
-    → no_outsider_on nat_eq left names number ≡ true)
-    → ((merged : Filesystem ℕ) → Among merged more → (number : ℕ)
+    → no_outsider_on nat_eq left names number ≡ true) → ((merged : Filesystem ℕ) → Among merged more → (number : ℕ)
     → no_outsider_on nat_eq world names number ≡ true → has_layer_on nat_eq number merged ≡ false)
     → (number : ℕ) → IsOfTheWorld world names number → used_alone nat_eq world names number ≡ true
     → used_alone nat_eq left names number ≡ true
@@ -153,8 +146,7 @@ free_with world left names more grown fewer none number of alone =
     let parts = and_parts (no_outsider_on nat_eq world names number)
     (list_all (free_in world) (overlays world)) alone in
     and_from (no_outsider_on nat_eq left names number) (list_all (free_in left) (overlays left))
-    (fewer number of parts.0)
-    (list_all_from_among (free_in left) (overlays left) (λ merged m.
+    (fewer number of parts.0) (list_all_from_among (free_in left) (overlays left) (λ merged m.
     ⊎_elim
     (λ old. ⊎_elim (or_left (not (has_layer_on nat_eq number merged)) (no_outsider_on nat_eq left names merged.number))
     (λ e. or_right (not (has_layer_on nat_eq number merged)) (no_outsider_on nat_eq left names merged.number)
@@ -170,8 +162,7 @@ free_with world left names more grown fewer none number of alone =
         not (has_layer_on nat_eq number merged) || no_outsider_on nat_eq in_world names merged.number
 
     of_the_world : (merged : Filesystem ℕ) → Among merged (overlays world) → IsOfTheWorld world names merged.number
-    of_the_world merged m =
-        inl (is_among_numbers (map (λ (f : Filesystem ℕ). f.number) world.filesystems) merged.number
+    of_the_world merged m = inl (is_among_numbers (map (λ (f : Filesystem ℕ). f.number) world.filesystems) merged.number
         (among-map (λ (f : Filesystem ℕ). f.number) world.filesystems merged
         (among-from_filter is_overlay world.filesystems merged m).0))
 

@@ -26,17 +26,14 @@ sees_on world middle later names one two = record {
   direct = λ number m.
       two.direct number (subst (λ list. Contains list number) (sym (directly_same world middle names one)) m)
       ∙ one.direct number m;
-  filesystems =
-      sym (ap (λ used. filter_map (shown_of later used (own_lowers nat_eq middle names)) later.filesystems)
+  filesystems = sym (ap (λ used. filter_map (shown_of later used (own_lowers nat_eq middle names)) later.filesystems)
       (used_same world middle names one)
       ∙ ap (λ lowers. filter_map (shown_of later (used_filesystems nat_eq world names) lowers) later.filesystems)
-      (lowers_same world middle names one))
-      ∙ two.filesystems
+      (lowers_same world middle names one)) ∙ two.filesystems
       ∙ ap (λ used. filter_map (shown_of middle used (own_lowers nat_eq middle names)) middle.filesystems)
       (used_same world middle names one)
       ∙ ap (λ lowers. filter_map (shown_of middle (used_filesystems nat_eq world names) lowers) middle.filesystems)
-      (lowers_same world middle names one)
-      ∙ one.filesystems;
+      (lowers_same world middle names one) ∙ one.filesystems;
   namespaces = two.namespaces ∙ one.namespaces;
 }
 
@@ -55,11 +52,9 @@ leaves_on world middle later names same one two = record {
 }
   where
     in_middle : (number : ℕ) → IsOfTheWorld world names number → IsOfTheWorld middle names number
-    in_middle number of =
-        ⊎_elim
+    in_middle number of = ⊎_elim
         (λ there. inl (ap (λ list. is_among nat_eq number (map (λ (f : Filesystem ℕ). f.number) list)) same ∙ there))
-        (λ used. inr (subst (Among number) (sym (used_same world middle names one.sees)) used))
-        of
+        (λ used. inr (subst (Among number) (sym (used_same world middle names one.sees)) used)) of
 
 -- others and the set stand apart after a step that leaves mounts of others where they were, or in no namespace
 pub standing_on : (world later : World ℕ) (names : List TaskName) → StandsApart world names NothingNew
@@ -75,13 +70,10 @@ standing_on world later names standing leaves mounts same from = record {
   not_stood = λ namespace outside mount there placed.
       let old = from mount there namespace placed in
       ap (λ tasks. list_any (λ (l : Location ℕ). nat_eq l.mount mount.number)
-      (roots_and_directories tasks)) leaves.sees.tasks
-      ∙ ap (λ n. list_any (λ (l : Location ℕ). nat_eq l.mount n)
+      (roots_and_directories tasks)) leaves.sees.tasks ∙ ap (λ n. list_any (λ (l : Location ℕ). nat_eq l.mount n)
       (roots_and_directories (members world names))) (sym old.2)
       ∙ standing.not_stood namespace (sym (own_by namespace) ∙ outside) old.0 old.1 old.3;
-  own_listed = λ number own.
-      ap (λ list. is_among nat_eq number (map (λ (n : Namespace ℕ). n.number) list))
-      same
+  own_listed = λ number own. ap (λ list. is_among nat_eq number (map (λ (n : Namespace ℕ). n.number) list)) same
       ∙ standing.own_listed number (sym (own_by number) ∙ own);
   new_group = λ mount group m is_in new. new;
   new_master = λ group new. absurd new;

@@ -54,8 +54,7 @@ module _ (world before : World ℕ) (names : List TaskName) (apart : IsApart wor
       (λ f. only_used nat_eq mounted (is_overlay f) f) mounted.filesystems
       (λ a b m n e. ap (λ k. nat_eq k (only_used nat_eq mounted (is_overlay b) b).number)
       (number-only_used mounted (is_overlay a) a)
-      ∙ ap (nat_eq a.number) (number-only_used mounted (is_overlay b) b) ∙ e)
-      one_each
+      ∙ ap (nat_eq a.number) (number-only_used mounted (is_overlay b) b) ∙ e) one_each
 
   -- a lower layer of theirs is a directory of a plain tree
   plain_layer : (layer : Layer ℕ) → Among layer (own_lowers nat_eq world names)
@@ -77,10 +76,8 @@ module _ (world before : World ℕ) (names : List TaskName) (apart : IsApart wor
       → IsLowerTree (own_lowers nat_eq world names) x
   lower_tree x m lower =
       let at = any_among (λ (layer : Layer ℕ). nat_eq x.number layer.filesystem) (own_lowers nat_eq world names) lower
-      in
-      record {
-        plain = none_from_not_some x.overlay
-            (ap is_overlay (sym (found at.0 at.2))
+      in record {
+        plain = none_from_not_some x.overlay (ap is_overlay (sym (found at.0 at.2))
             ∙ not-true (is_overlay (filesystem_numbered nat_eq before at.0.filesystem)) (both at.0 at.1).0);
         files = record {
           tree = among_from_all (λ (f : Filesystem ℕ). IsTree f.files.tree) before.filesystems trees.trees x m;
@@ -96,16 +93,14 @@ module _ (world before : World ℕ) (names : List TaskName) (apart : IsApart wor
     where
       found : (layer : Layer ℕ) → nat_eq x.number layer.filesystem ≡ true
           → filesystem_numbered nat_eq before layer.filesystem ≡ x
-      found layer e =
-          ap (filesystem_numbered nat_eq before) (sym (eqb-true x.number layer.filesystem e))
+      found layer e = ap (filesystem_numbered nat_eq before) (sym (eqb-true x.number layer.filesystem e))
           ∙ found_filesystem before.filesystems trees.one_filesystem x m
 
       both : (layer : Layer ℕ) → Among layer (own_lowers nat_eq world names)
           → (not (is_overlay (filesystem_numbered nat_eq before layer.filesystem)) ≡ true)
           × (is_directory_node ((filesystem_numbered nat_eq before layer.filesystem).files.tree.node layer.directory)
           ≡ true)
-      both layer n =
-          and_parts (not (is_overlay (filesystem_numbered nat_eq before layer.filesystem)))
+      both layer n = and_parts (not (is_overlay (filesystem_numbered nat_eq before layer.filesystem)))
           (is_directory_node ((filesystem_numbered nat_eq before layer.filesystem).files.tree.node layer.directory))
           (plain_layer layer n)
 
@@ -126,10 +121,8 @@ module _ (world before : World ℕ) (names : List TaskName) (apart : IsApart wor
       (sym (from.2 ∙ ap (λ o. only_used nat_eq mounted (is_some o) from.0) it.plain)) it
 
   sees_last : SeesTheSame world (settled nat_eq before) names
-  sees_last =
-      groups_swept world (without_dead_inodes nat_eq mounted) names
-      (inodes_swept world merged_swept names apart sealed_off
-      (inodes_swept world mounted names apart sealed_off
+  sees_last = groups_swept world (without_dead_inodes nat_eq mounted) names
+      (inodes_swept world merged_swept names apart sealed_off (inodes_swept world mounted names apart sealed_off
       (filesystems_swept world living names apart (mounts_swept world before names leaves.sees)) one_living is_overlay
       (λ x m lower. lower_tree x (was_there x m) lower) one_each)
       one_living (λ f. not (is_overlay f)) lower_swept one_each_later)

@@ -46,8 +46,7 @@ namespaces_taken_away world gone =
 -- Mounts of others go, and others may be elsewhere. Each mount that goes is in a namespace of others.
 module _ (world : World ℕ) (names : List TaskName) {New : ℕ → Type 0} (apart : StandsApart world names New)
     (tasks : List (Task ℕ)) (namespaces : List (Namespace ℕ)) (moved : OthersMove world names tasks namespaces)
-    (gone : List ℕ)
-    (others_go : (number : ℕ) → is_going nat_eq gone number ≡ true
+    (gone : List ℕ) (others_go : (number : ℕ) → is_going nat_eq gone number ≡ true
     → (namespace : ℕ) × ((mount_numbered nat_eq world number).namespace ≡ Some namespace)
     × (is_own_namespace nat_eq world names namespace ≡ false)) where
   abbrev before : World ℕ
@@ -64,8 +63,7 @@ module _ (world : World ℕ) (names : List TaskName) {New : ℕ → Type 0} (apa
 
   own_not_going : (number namespace : ℕ) → (mount_numbered nat_eq world number).namespace ≡ Some namespace
       → is_own namespace ≡ true → goes number ≡ false
-  own_not_going number namespace e own =
-      false_from_ne_true (goes number) (λ h.
+  own_not_going number namespace e own = false_from_ne_true (goes number) (λ h.
       let other = others_go number h in
       true≢false (sym own ∙ ap is_own (same_Some namespace other.0 (sym e ∙ other.1)) ∙ other.2))
 
@@ -82,20 +80,16 @@ module _ (world : World ℕ) (names : List TaskName) {New : ℕ → Type 0} (apa
   shape : (mount : Mount ℕ) → IsReshaped mount (change mount)
   shape mount = by (goes mount.number)
     where
-      by : (b : Bool)
-          → IsReshaped mount (cond b (detached mount) (record mount {
-            mount_point = option_map new_point mount.mount_point;
-          }))
+      by : (b : Bool) → IsReshaped mount (cond b (detached mount) (record mount {
+        mount_point = option_map new_point mount.mount_point;
+      }))
       by true = (None, None, Private, refl, inr refl)
       by false = (mount.namespace, option_map new_point mount.mount_point, mount.propagation, refl, inl refl)
 
   point_stays : (point : Location ℕ) → goes point.mount ≡ false → new_point point ≡ point
-  point_stays point on =
-      chain_ends (λ (here : Location ℕ). here ≡ point) (mount_point_of_parent nat_eq before gone)
-      (λ here next e h. none_is_some next
-      (sym (ap (λ b. cond b (mount_at nat_eq before point).mount_point None) on)
-      ∙ ap (mount_point_of_parent nat_eq before gone) (sym e) ∙ h))
-      (length world.mounts) point point refl
+  point_stays point on = chain_ends (λ (here : Location ℕ). here ≡ point) (mount_point_of_parent nat_eq before gone)
+      (λ here next e h. none_is_some next (sym (ap (λ b. cond b (mount_at nat_eq before point).mount_point None) on)
+      ∙ ap (mount_point_of_parent nat_eq before gone) (sym e) ∙ h)) (length world.mounts) point point refl
 
   stays : (mount : Mount ℕ) → goes mount.number ≡ false
       → ((point : Location ℕ) → mount.mount_point ≡ Some point → goes point.mount ≡ false) → change mount ≡ mount
@@ -105,11 +99,9 @@ module _ (world : World ℕ) (names : List TaskName) {New : ℕ → Type 0} (apa
     where
       by : (o : Option (Location ℕ)) → mount.mount_point ≡ o
           → record mount { mount_point = option_map new_point mount.mount_point } ≡ mount
-      by None e =
-          ap (λ o. record mount { mount_point = option_map new_point o }) e
+      by None e = ap (λ o. record mount { mount_point = option_map new_point o }) e
           ∙ sym (ap (λ o. record mount { mount_point = o }) e)
-      by (Some point) e =
-          ap (λ o. record mount { mount_point = option_map new_point o }) e
+      by (Some point) e = ap (λ o. record mount { mount_point = option_map new_point o }) e
           ∙ ap (λ p. record mount { mount_point = Some p }) (point_stays point (parent point e))
           ∙ sym (ap (λ o. record mount { mount_point = o }) e)
 
@@ -124,8 +116,7 @@ module _ (world : World ℕ) (names : List TaskName) {New : ℕ → Type 0} (apa
           let placed : (mount_numbered nat_eq world own.number).namespace ≡ Some namespace =
           ap (λ (x : Mount ℕ). x.namespace) (itself own at) ∙ e in
           stays own (own_not_going own.number namespace placed h) (λ point p.
-          own_not_going point.mount namespace
-          (sym (namespace_below world own.number point
+          own_not_going point.mount namespace (sym (namespace_below world own.number point
           (among_from_all (λ (x : Mount ℕ). Stands nat_eq world x.number) world.mounts apart.mounts.standing own at)
           (ap (λ (x : Mount ℕ). x.mount_point) (itself own at) ∙ p)) ∙ placed) h)
 
@@ -138,10 +129,9 @@ module _ (world : World ℕ) (names : List TaskName) {New : ℕ → Type 0} (apa
       → IsOfOthers world names apart (change other).propagation
   kinds other m = by (goes other.number)
     where
-      by : (b : Bool)
-          → IsOfOthers world names apart (cond b (detached other) (record other {
-            mount_point = option_map new_point other.mount_point;
-          })).propagation
+      by : (b : Bool) → IsOfOthers world names apart (cond b (detached other) (record other {
+        mount_point = option_map new_point other.mount_point;
+      })).propagation
       by true = of_nobody world names apart
       by false = old_type world names apart other m
 
@@ -152,13 +142,11 @@ module _ (world : World ℕ) (names : List TaskName) {New : ℕ → Type 0} (apa
   lost = list_any (lost_a_group nat_eq halfway) halfway.mounts
 
   abbrev regrouped_world : World ℕ
-  regrouped_world =
-      after_all world names apart change shape own_same nowhere_same kinds world.master
+  regrouped_world = after_all world names apart change shape own_same nowhere_same kinds world.master
       (foreign_above world names apart) (λ number h. refl) tasks namespaces moved lost
 
   abbrev all_change : Mount ℕ → Mount ℕ
-  all_change =
-      all_changed world names apart change shape own_same nowhere_same kinds world.master
+  all_change = all_changed world names apart change shape own_same nowhere_same kinds world.master
       (foreign_above world names apart) (λ number h. refl) tasks namespaces moved lost
 
   abbrev left : World ℕ
@@ -170,27 +158,23 @@ module _ (world : World ℕ) (names : List TaskName) {New : ℕ → Type 0} (apa
   }
 
   world_left : record (taken_away nat_eq before gone) { namespaces = namespaces } ≡ left
-  world_left =
-      by lost
-      ∙ ap (λ ms. record world {
-        mounts = ms;
-        master = regrouped_world.master;
-        namespaces = namespaces;
-        tasks = tasks;
-      })
-      (mounts_are world names apart change shape own_same nowhere_same kinds world.master
+  world_left = by lost ∙ ap (λ ms. record world {
+    mounts = ms;
+    master = regrouped_world.master;
+    namespaces = namespaces;
+    tasks = tasks;
+  }) (mounts_are world names apart change shape own_same nowhere_same kinds world.master
       (foreign_above world names apart) (λ number h. refl) tasks namespaces moved lost)
     where
       with_names : World ℕ
       with_names = record halfway { namespaces = namespaces }
 
-      by : (b : Bool) → record (regrouped_by nat_eq b halfway) { namespaces = namespaces }
-          ≡ record world {
-            mounts = (regrouped_by nat_eq b with_names).mounts;
-            master = (regrouped_by nat_eq b with_names).master;
-            namespaces = namespaces;
-            tasks = tasks;
-          }
+      by : (b : Bool) → record (regrouped_by nat_eq b halfway) { namespaces = namespaces } ≡ record world {
+        mounts = (regrouped_by nat_eq b with_names).mounts;
+        master = (regrouped_by nat_eq b with_names).master;
+        namespaces = namespaces;
+        tasks = tasks;
+      }
       by true = refl
       by false = refl
 
@@ -200,17 +184,14 @@ module _ (world : World ℕ) (names : List TaskName) {New : ℕ → Type 0} (apa
       (all_shape world names apart change shape own_same nowhere_same kinds world.master
       (foreign_above world names apart) (λ number h. refl) tasks namespaces moved lost) in
       pair-map (λ (a b : Mount ℕ). nat_eq a.number b.number) (λ (a b : Mount ℕ). nat_eq a.number b.number) all_change
-      world.mounts
-      (λ a b m n e. ap (λ k. nat_eq k (all_change b).number) (keeps.number a)
-      ∙ ap (nat_eq a.number) (keeps.number b) ∙ e)
-      apart.mounts.one_number
+      world.mounts (λ a b m n e. ap (λ k. nat_eq k (all_change b).number) (keeps.number a)
+      ∙ ap (nat_eq a.number) (keeps.number b) ∙ e) apart.mounts.one_number
 
   abbrev pub taken : World ℕ
   taken = record (taken_away nat_eq before gone) { namespaces = namespaces }
 
   left_leaves_apart : LeavesApart world left names []
-  left_leaves_apart =
-      regrouping_leaves_apart world names apart change shape own_same nowhere_same kinds world.master
+  left_leaves_apart = regrouping_leaves_apart world names apart change shape own_same nowhere_same kinds world.master
       (foreign_above world names apart) (λ number h. refl) tasks namespaces moved lost
       regrouped_world.master (λ number. inl refl) (λ number h. refl)
 
@@ -243,11 +224,9 @@ module _ (world : World ℕ) (names : List TaskName) {New : ℕ → Type 0} (apa
 -- So it is after the sweep.
 pub taking_leaves_apart : (world : World ℕ) (names : List TaskName) → IsApart world names
     → sealed nat_eq world names ≡ true → (tasks : List (Task ℕ)) (namespaces : List (Namespace ℕ))
-    → OthersMove world names tasks namespaces → (gone : List ℕ)
-    → ((number : ℕ) → is_going nat_eq gone number ≡ true
+    → OthersMove world names tasks namespaces → (gone : List ℕ) → ((number : ℕ) → is_going nat_eq gone number ≡ true
     → (namespace : ℕ) × ((mount_numbered nat_eq world number).namespace ≡ Some namespace)
-    × (is_own_namespace nat_eq world names namespace ≡ false))
-    → LeavesApart world
+    × (is_own_namespace nat_eq world names namespace ≡ false)) → LeavesApart world
     (settled nat_eq (record (taken_away nat_eq (record world { tasks = tasks }) gone) { namespaces = namespaces }))
     names []
 taking_leaves_apart world names apart sealed_off tasks namespaces moved gone others_go =

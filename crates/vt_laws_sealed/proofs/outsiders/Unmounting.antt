@@ -51,14 +51,11 @@ module _ (world : World ℕ) (names : List TaskName) {New : ℕ → Type 0} (apa
   unmounted_one = mount_numbered nat_eq world number
 
   its_own : (k : ℕ) → Among k (unmounted_one.number ∷ []) → IsOfOthersAt k
-  its_own k m =
-      ⊎_elim
-      (λ e. (
-        namespace,
-        ap (λ j. (mount_numbered nat_eq world j).namespace) (e ∙ number-mount_in world.mounts number) ∙ placed,
-        outside,
-      ))
-      (λ none. absurd none) m
+  its_own k m = ⊎_elim (λ e. (
+    namespace,
+    ap (λ j. (mount_numbered nat_eq world j).namespace) (e ∙ number-mount_in world.mounts number) ∙ placed,
+    outside,
+  )) (λ none. absurd none) m
 
   -- the parent is one of others
   module _ (point : Location ℕ) (at : unmounted_one.mount_point ≡ Some point) where
@@ -66,8 +63,7 @@ module _ (world : World ℕ) (names : List TaskName) {New : ℕ → Type 0} (apa
     parent = mount_at nat_eq world point
 
     one_there : Among unmounted_one world.mounts
-    one_there =
-        ⊎_elim (λ m. m) (λ none. none_is_some namespace (sym (ap (λ (x : Mount ℕ). x.namespace) none) ∙ placed))
+    one_there = ⊎_elim (λ m. m) (λ none. none_is_some namespace (sym (ap (λ (x : Mount ℕ). x.namespace) none) ∙ placed))
         (found_or_none world.mounts number)
 
     itself : (mount : Mount ℕ) → Among mount world.mounts → mount_numbered nat_eq world mount.number ≡ mount
@@ -75,8 +71,7 @@ module _ (world : World ℕ) (names : List TaskName) {New : ℕ → Type 0} (apa
 
     below : (mount : Mount ℕ) → Among mount world.mounts → (place : Location ℕ) → mount.mount_point ≡ Some place
         → mount.namespace ≡ (mount_at nat_eq world place).namespace
-    below mount m place e =
-        ap (λ (x : Mount ℕ). x.namespace) (sym (itself mount m))
+    below mount m place e = ap (λ (x : Mount ℕ). x.namespace) (sym (itself mount m))
         ∙ namespace_below world mount.number place
         (among_from_all (λ (x : Mount ℕ). Stands nat_eq world x.number) world.mounts apart.mounts.standing mount m)
         (ap (λ (x : Mount ℕ). x.mount_point) (itself mount m) ∙ e)
@@ -85,9 +80,7 @@ module _ (world : World ℕ) (names : List TaskName) {New : ℕ → Type 0} (apa
     parent_placed = sym (below unmounted_one one_there point at) ∙ placed
 
     parent_other : Among parent (other_mounts nat_eq world names)
-    parent_other =
-        is_other world names namespace outside parent
-        (⊎_elim (λ m. m)
+    parent_other = is_other world names namespace outside parent (⊎_elim (λ m. m)
         (λ none. none_is_some namespace (sym (ap (λ (x : Mount ℕ). x.namespace) none) ∙ parent_placed))
         (found_or_none world.mounts point.mount)) parent_placed
 
@@ -105,9 +98,7 @@ module _ (world : World ℕ) (names : List TaskName) {New : ℕ → Type 0} (apa
         by (Some group) e m =
             let out = among-from_filter (receives nat_eq world group) world.mounts receiver m in (
               out.0,
-              λ n f own.
-                  true≢false (sym out.1
-                  ∙ no_event_of_others_reaches_them world names receiver parent group
+              λ n f own. true≢false (sym out.1 ∙ no_event_of_others_reaches_them world names receiver parent group
                   (record { mounts = apart.mounts; apart = apart.events })
                   (contains_from_among (own_mounts nat_eq world names) receiver
                   (among-filter (is_own_mount nat_eq world names) world.mounts receiver out.0
@@ -128,8 +119,7 @@ module _ (world : World ℕ) (names : List TaskName) {New : ℕ → Type 0} (apa
         by None h = none_is_some child h
         by (Some x) h = may (may_go nat_eq world x) x h
 
-    its_receivers : (k : ℕ)
-        → Among k (map (λ (x : Mount ℕ). x.number) (filter_map (goes_at nat_eq world point.node)
+    its_receivers : (k : ℕ) → Among k (map (λ (x : Mount ℕ). x.number) (filter_map (goes_at nat_eq world point.node)
         (receivers_of nat_eq world parent))) → IsOfOthersAt k
     its_receivers k m =
         let child = among-from_map (λ (x : Mount ℕ). x.number) (filter_map (goes_at nat_eq world point.node)
@@ -143,16 +133,14 @@ module _ (world : World ℕ) (names : List TaskName) {New : ℕ → Type 0} (apa
         let stands = stands_there place child.0 (found_passes (stands_at nat_eq place) world.mounts child.0 found) in
         let same : child.0.namespace ≡ from.0.namespace =
         below child.0 child_there place stands ∙ ap (λ (x : Mount ℕ). x.namespace) (itself from.0 receiver.0) in
-        by child.0 child_there place stands child.0.namespace refl
-        (λ n e own. receiver.1 n (sym same ∙ e) own)
+        by child.0 child_there place stands child.0.namespace refl (λ n e own. receiver.1 n (sym same ∙ e) own)
         (ap (mount_numbered nat_eq world) child.2 ∙ itself child.0 child_there)
       where
         by : (child : Mount ℕ) → Among child world.mounts → (place : Location ℕ) → child.mount_point ≡ Some place
             → (o : Option ℕ) → child.namespace ≡ o
             → ((n : ℕ) → child.namespace ≡ Some n → is_own_namespace nat_eq world names n ≡ true → ⊥)
             → mount_numbered nat_eq world k ≡ child → IsOfOthersAt k
-        by child m place stands None e no_own it =
-            absurd (nowhere_unplaced world apart.mounts child m e place stands)
+        by child m place stands None e no_own it = absurd (nowhere_unplaced world apart.mounts child m e place stands)
         by child m place stands (Some n) e no_own it = (
           n,
           ap (λ (x : Mount ℕ). x.namespace) it ∙ e,
@@ -160,8 +148,7 @@ module _ (world : World ℕ) (names : List TaskName) {New : ℕ → Type 0} (apa
         )
 
   pub others_go : (k : ℕ) → is_going nat_eq (going nat_eq world unmounted_one) k ≡ true → IsOfOthersAt k
-  others_go k h =
-      by unmounted_one.mount_point refl (among_numbers (going nat_eq world unmounted_one) k h)
+  others_go k h = by unmounted_one.mount_point refl (among_numbers (going nat_eq world unmounted_one) k h)
     where
       shared : (point : Location ℕ) → unmounted_one.mount_point ≡ Some point → (b : Bool)
           → Among k (going_from nat_eq world unmounted_one point b) → IsOfOthersAt k
@@ -187,8 +174,7 @@ module _ (world : World ℕ) (fresh : Fresh ℕ) (names : List TaskName) (name :
   for_umount = permits_are_for_their_calls fresh world task call (ToUnmount number) judged
 
   placed_in : (mount_numbered nat_eq world number).namespace ≡ Some task.namespace
-  placed_in =
-      (all_permits_fit world fresh task call (ToUnmount number) outsider.is outsider.serves
+  placed_in = (all_permits_fit world fresh task call (ToUnmount number) outsider.is outsider.serves
       (ap (task_called world) (sym (name_found world name task called)) ∙ called)
       (ap mounts_overlay for_umount.1) judged).names.0
 
@@ -197,11 +183,8 @@ module _ (world : World ℕ) (fresh : Fresh ℕ) (names : List TaskName) (name :
 
   pub unmount_leaves : LeavesApart world (settled nat_eq (apply nat_eq fresh world task (ToUnmount number)).world)
       names []
-  unmount_leaves =
-      subst (λ w. LeavesApart world (settled nat_eq w) names [])
-      (namespaces_taken_away world gone)
+  unmount_leaves = subst (λ w. LeavesApart world (settled nat_eq w) names []) (namespaces_taken_away world gone)
       (taking_leaves_apart world names set_apart outsider.sealed_off world.tasks world.namespaces
-      (others_rest world names so_far) gone
-      (others_go world names so_far task.namespace
+      (others_rest world names so_far) gone (others_go world names so_far task.namespace
       (namespace_outside world names set_apart task (caller_outside world fresh names name call task outsider called))
       number placed_in))

@@ -75,13 +75,9 @@ module _ (world : World ℕ) (names : List TaskName) (apart : IsApart world name
 
   -- the new namespace is none of theirs
   new_namespace : is_own number ≡ false
-  new_namespace =
-      false_from_ne_true (is_own number) (λ own.
-      true≢false
-      (sym (is_among_right number
-      (flat_map_mounts ++ flat_map_filesystems)
-      (map (λ (n : Namespace ℕ). n.number) world.namespaces) (so_far.own_listed number own))
-      ∙ serves.unused 0))
+  new_namespace = false_from_ne_true (is_own number) (λ own.
+      true≢false (sym (is_among_right number (flat_map_mounts ++ flat_map_filesystems)
+      (map (λ (n : Namespace ℕ). n.number) world.namespaces) (so_far.own_listed number own)) ∙ serves.unused 0))
     where
       flat_map_mounts : List ℕ
       flat_map_mounts = flat_map used_by_mount world.mounts
@@ -130,21 +126,18 @@ module _ (world : World ℕ) (names : List TaskName) (apart : IsApart world name
 
   of_others : (location : Location ℕ) → Among location (locations (outsiders world names))
       → Among location (all_locations world)
-  of_others =
-      of_tasks (outsiders world names)
+  of_others = of_tasks (outsiders world names)
       (λ t m. (among-from_filter (λ (x : Task ℕ). not (is_member_task names x)) world.tasks t m).0)
 
   roots_located : (location : Location ℕ) → Among location (roots_and_directories theirs)
       → Among location (all_locations world)
   roots_located location m =
       let of = among-from_flat_map (λ (t : Task ℕ). t.root ∷ t.directory ∷ []) theirs location m in
-      of_members location (among-flat_map locations_of theirs of.0 location of.1
-      (⊎_elim (λ root. inl root)
+      of_members location (among-flat_map locations_of theirs of.0 location of.1 (⊎_elim (λ root. inl root)
       (λ rest. ⊎_elim (λ directory. inr (inl directory)) (λ none. absurd none) rest) of.2))
 
   copy_not_kept : (mount : Mount ℕ) → IsCopy mount → kept mount ≡ None
-  copy_not_kept mount is_copy =
-      ap (λ b. cond (b || is_at nat_eq (roots_and_directories theirs) mount) (Some mount)
+  copy_not_kept mount is_copy = ap (λ b. cond (b || is_at nat_eq (roots_and_directories theirs) mount) (Some mount)
       (when (is_at nat_eq (locations theirs) mount) (seen_by_descriptor mount)))
       (ap (λ (x : Mount ℕ). holds_of is_own x.namespace) is_copy.2 ∙ new_namespace)
       ∙ ap (λ b. cond b (Some mount) (when (is_at nat_eq (locations theirs) mount) (seen_by_descriptor mount)))
@@ -155,17 +148,14 @@ module _ (world : World ℕ) (names : List TaskName) (apart : IsApart world name
     sees : SeesTheSame world left names
     sees = record {
       tasks = same;
-      mounts =
-          ap (λ some. filter_map (keep world names some) left.mounts) same
-          ∙ filter_map-append kept world.mounts copies
-          ∙ ap (λ l. filter_map kept world.mounts ++ l)
+      mounts = ap (λ some. filter_map (keep world names some) left.mounts) same
+          ∙ filter_map-append kept world.mounts copies ∙ ap (λ l. filter_map kept world.mounts ++ l)
           (none_kept kept copies (λ mount m. copy_not_kept mount (copies_are mount m)))
           ∙ append-nil (filter_map kept world.mounts);
       masters = λ group h. refl;
       direct = λ n m. refl;
       filesystems = refl;
-      namespaces =
-          ap (λ some. filter (λ (n : Namespace ℕ). own_by some n.number) left.namespaces) same
+      namespaces = ap (λ some. filter (λ (n : Namespace ℕ). own_by some n.number) left.namespaces) same
           ∙ filter-append (λ (n : Namespace ℕ). is_own n.number) world.namespaces new_ones
           ∙ ap (λ b. filter (λ (n : Namespace ℕ). is_own n.number) world.namespaces ++ cond b new_ones []) new_namespace
           ∙ append-nil (filter (λ (n : Namespace ℕ). is_own n.number) world.namespaces);
@@ -192,8 +182,7 @@ module _ (world : World ℕ) (names : List TaskName) (apart : IsApart world name
             (ap (λ (x : Task ℕ). not (is_member_task names x)) (sym it) ∙ out)))
 
     out_placed : (t : Task ℕ) → Among t (outsiders left names) → is_own t.namespace ≡ false
-    out_placed t m =
-        ⊎_elim (λ it. ap (λ (x : Task ℕ). is_own x.namespace) it ∙ new_namespace)
+    out_placed t m = ⊎_elim (λ it. ap (λ (x : Task ℕ). is_own x.namespace) it ∙ new_namespace)
         (namespace_outside world names apart t) (out_from t m)
 
     -- a location of others was one, or is on a copy
@@ -216,8 +205,7 @@ module _ (world : World ℕ) (names : List TaskName) (apart : IsApart world name
                   ∙ ap (λ n. mount_numbered nat_eq left (copy n)) (eqb-true location.mount at.0.number at.2)
                   ∙ found_copy world fresh task apart.is serves at.0 at.1,
             )
-        by false f =
-            inl (subst (λ l. Among l (locations (outsiders world names)))
+        by false f = inl (subst (λ l. Among l (locations (outsiders world names)))
             (sym (e ∙ ap (λ b. cond b (location_on_copy copy location) location) f))
             (among-flat_map locations_of (outsiders world names) task location caller m))
 
@@ -225,15 +213,12 @@ module _ (world : World ℕ) (names : List TaskName) (apart : IsApart world name
         → Among location (locations (outsiders world names)) ⊎ IsOnCopy location
     located_from location m =
         let of = among-from_flat_map locations_of (outsiders left names) location m in
-        ⊎_elim
-        (λ it. of_moved (subst (λ (t : Task ℕ). Among location (locations_of t)) it of.2))
-        (λ old. inl (among-flat_map locations_of (outsiders world names) of.0 location old of.2))
-        (out_from of.0 of.1)
+        ⊎_elim (λ it. of_moved (subst (λ (t : Task ℕ). Among location (locations_of t)) it of.2))
+        (λ old. inl (among-flat_map locations_of (outsiders world names) of.0 location old of.2)) (out_from of.0 of.1)
       where
         of_moved : Among location (locations_of moved)
             → Among location (locations (outsiders world names)) ⊎ IsOnCopy location
-        of_moved m =
-            ⊎_elim (λ root. moved_from task.root (inl refl) location root)
+        of_moved m = ⊎_elim (λ root. moved_from task.root (inl refl) location root)
             (λ rest. ⊎_elim (λ directory. moved_from task.directory (inr (inl refl)) location directory)
             (λ files. inl (among-flat_map locations_of (outsiders world names) task location caller (inr (inr files))))
             rest) m
@@ -253,9 +238,7 @@ module _ (world : World ℕ) (names : List TaskName) (apart : IsApart world name
         left.mounts)) same m) in
         ⊎_elim
         (λ old. inl (among-filter (λ (x : Mount ℕ). holds_of (λ n. not (is_own n)) x.namespace) world.mounts other old
-        out.1))
-        (λ new. inr (copies_are other new))
-        (among-append world.mounts copies other out.0)
+        out.1)) (λ new. inr (copies_are other new)) (among-append world.mounts copies other out.0)
 
     masters_are : (kind : Propagation ℕ) → master_of left kind ≡ master_of world kind
     masters_are (Shared group) = refl
@@ -282,13 +265,10 @@ module _ (world : World ℕ) (names : List TaskName) (apart : IsApart world name
         (not (list_any (λ location. nat_eq n (mount_at nat_eq left location).filesystem)
         (locations (outsiders left names))))
         (ap not (none_from_among (λ (mount : Mount ℕ). nat_eq n mount.filesystem) (other_mounts nat_eq left names)
-        (λ other m. ⊎_elim (none_shows other)
-        (λ is_copy. ap (λ (x : Mount ℕ). nat_eq n x.filesystem) is_copy.2
-        ∙ none_shows is_copy.0 (old_other is_copy.0 is_copy.1))
-        (others_from other m))))
+        (λ other m. ⊎_elim (none_shows other) (λ is_copy. ap (λ (x : Mount ℕ). nat_eq n x.filesystem) is_copy.2
+        ∙ none_shows is_copy.0 (old_other is_copy.0 is_copy.1)) (others_from other m))))
         (ap not (none_from_among (λ location. nat_eq n (mount_at nat_eq left location).filesystem)
-        (locations (outsiders left names))
-        (λ location m. ⊎_elim
+        (locations (outsiders left names)) (λ location m. ⊎_elim
         (λ old. ap (λ (x : Mount ℕ). nat_eq n x.filesystem) (old_at location old)
         ∙ none_among (λ place. nat_eq n (mount_at nat_eq world place).filesystem)
         (locations (outsiders world names)) (not-true _ parts.1) location old)
@@ -302,10 +282,8 @@ module _ (world : World ℕ) (names : List TaskName) (apart : IsApart world name
         tasks = ap (λ some. list_all (λ (t : Task ℕ). not (own_by some t.namespace)) (outsiders left names)) same
             ∙ list_all_from_among (λ (t : Task ℕ). not (is_own t.namespace)) (outsiders left names)
             (λ t m. ap not (out_placed t m));
-        events =
-            events_stay_apart world names so_far left (own_mounts_same world left names sees)
-            (λ own m. masters_are own.propagation)
-            (λ other m group how. ⊎_elim
+        events = events_stay_apart world names so_far left (own_mounts_same world left names sees)
+            (λ own m. masters_are own.propagation) (λ other m group how. ⊎_elim
             (λ old. other_hears_foreign world names so_far other old group (hears other.propagation group how))
             (λ is_copy. other_hears_foreign world names so_far is_copy.0 (old_other is_copy.0 is_copy.1) group
             (hears is_copy.0.propagation group
@@ -315,8 +293,7 @@ module _ (world : World ℕ) (names : List TaskName) (apart : IsApart world name
             ap (λ some. list_all (λ location. not (holds_of (own_by some) (mount_at nat_eq left location).namespace))
             (locations (outsiders left names))) same
             ∙ list_all_from_among (λ location. not (holds_of is_own (mount_at nat_eq left location).namespace))
-            (locations (outsiders left names))
-            (λ location m. ⊎_elim
+            (locations (outsiders left names)) (λ location m. ⊎_elim
             (λ old. ap (λ (x : Mount ℕ). not (holds_of is_own x.namespace)) (old_at location old)
             ∙ among_from_list_all (λ place. not (is_own_mount nat_eq world names (mount_at nat_eq world place)))
             (locations (outsiders world names)) apart.locations location old)
@@ -337,8 +314,7 @@ module _ (world : World ℕ) (names : List TaskName) (apart : IsApart world name
       events = copied_leaves_apart.others.events;
       locations = copied_leaves_apart.others.locations;
       not_stood = λ namespace outside mount there placed.
-          ap (λ some. is_at nat_eq (roots_and_directories some) mount) same
-          ∙ ⊎_elim
+          ap (λ some. is_at nat_eq (roots_and_directories some) mount) same ∙ ⊎_elim
           (λ old. not_stood_on world names apart namespace (sym (own_left namespace) ∙ outside) mount old placed)
           (λ new. not_located (roots_and_directories theirs) roots_located mount (copies_are mount new))
           (among-append world.mounts copies mount there);
@@ -359,8 +335,7 @@ module _ (world : World ℕ) (names : List TaskName) (apart : IsApart world name
     left_placed t m = own_left t.namespace ∙ out_placed t m
 
     pub unsharing_leaves_apart : LeavesApart world (namespaces_ended nat_eq left) names []
-    unsharing_leaves_apart =
-        leaves_on world left (namespaces_ended nat_eq left) names refl copied_leaves_apart
+    unsharing_leaves_apart = leaves_on world left (namespaces_ended nat_eq left) names refl copied_leaves_apart
         (ended_leaves_apart left names copied_standing left.tasks refl left_placed
         (λ location m. inl (location, m, refl)))
 
@@ -378,8 +353,7 @@ unshare_leaves world fresh names name call task outsider called =
     (numbers_by nat_eq (odds fresh) (mounts_of nat_eq world task.namespace)) (evens fresh 0) task in
     let same = replaced_members world fresh names name call task outsider called moved_task refl in
     sweeping_leaves_apart world (namespaces_ended nat_eq (unshared nat_eq world fresh task)) names set_apart
-    outsider.sealed_off
-    (filesystems_unshared world names set_apart fresh outsider.serves task caller same)
+    outsider.sealed_off (filesystems_unshared world names set_apart fresh outsider.serves task caller same)
     (ended_namespaces_keep_mounts (unshared nat_eq world fresh task)
     (unshare_keeps_mounts world fresh task outsider.serves outsider.is.mounts)).one_number []
     (unsharing_leaves_apart world names set_apart fresh outsider.serves task caller same)

@@ -47,8 +47,7 @@ module _ {A : Type 0} where
 -- what is in a list without repetitions is in it
 pub among-from_each_once : (xs : List ℕ) (x : ℕ) → Among x (each_once nat_eq xs) → Among x xs
 among-from_each_once [] x m = m
-among-from_each_once (y ∷ ys) x m =
-    ⊎_elim inl (λ later. inr (among-from_each_once ys x
+among-from_each_once (y ∷ ys) x m = ⊎_elim inl (λ later. inr (among-from_each_once ys x
     (among-from_filter (λ z. not (nat_eq y z)) (each_once nat_eq ys) x later).0)) m
 
 -- what is in a list is in it without repetitions
@@ -64,8 +63,7 @@ among-each_once (y ∷ ys) x m = ⊎_elim inl (λ l. here (nat_eq y x) refl (amo
 -- filters by two tests that agree on what is kept
 pub filter_both : {A : Type 0} (k : A → Option A) (p q : A → Bool) (xs : List A)
     → ((x : A) → Among x xs → q x ≡ true → (k x ≡ Some x) × (p x ≡ true))
-    → ((x y : A) → Among x xs → q x ≡ false → k x ≡ Some y → p y ≡ false)
-    → filter p (filter_map k xs) ≡ filter q xs
+    → ((x y : A) → Among x xs → q x ≡ false → k x ≡ Some y → p y ≡ false) → filter p (filter_map k xs) ≡ filter q xs
 filter_both k p q [] pass fail = refl
 filter_both {A} k p q (x ∷ xs) pass fail =
     grind (arith, common_steps, filter_both k p q xs (λ y m. pass y (inr m)) (λ y z m. fail y z (inr m)))

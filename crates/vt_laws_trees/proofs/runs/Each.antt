@@ -1,5 +1,6 @@
 -- Two lists of which each two elements at one place stand in a relation.
-use Rattle.std.proofs.Common.{◌≡◌, refl, subst, Bool, true, false, cond, ◌||◌, List, [], ◌∷◌, ◌++◌, map, filter, find, flat_map, Option, Some, None}
+use Rattle.std.proofs.Common.{arith, ◌≡◌, refl, subst, Bool, true, false, cond, ◌||◌, List, [], ◌∷◌, ◌++◌, map, filter, find, flat_map, Option, Some, None}
+use Rattle.std.proofs.lemmas.Grind.{common_steps}
 use Rattle.std.specs.Prelude.{unwrap_or, ⊤}
 use Rattle.std.specs.List.{list_any}
 use Rattle.vt_spec.proofs.Options.{cons-first, cons-rest}
@@ -31,8 +32,7 @@ module _ {A B : Type 0} (R : A → B → Type 0) where
   each_append [] [] more again each rest = rest
   each_append [] (b ∷ others) more again each rest = absurd each
   each_append (a ∷ ones) [] more again each rest = absurd each
-  each_append (a ∷ ones) (b ∷ others) more again each rest =
-      (each.0, each_append ones others more again each.1 rest)
+  each_append (a ∷ ones) (b ∷ others) more again each rest = (each.0, each_append ones others more again each.1 rest)
 
   module _ (p : A → Bool) (q : B → Bool) (alike : (a : A) (b : B) → R a b → p a ≡ q b) where
     pub each_any : (ones : List A) (others : List B) → Each ones others → list_any p ones ≡ list_any q others
@@ -69,18 +69,13 @@ module _ {A B : Type 0} (R : A → B → Type 0) (p : A → Bool) (q : B → Boo
   each_filter [] [] each = tt
   each_filter [] (b ∷ others) each = absurd each
   each_filter (a ∷ ones) [] each = absurd each
-  each_filter (a ∷ ones) (b ∷ others) each =
-      let rest = each_filter ones others each.1 in
-      chosen (Each R) (p a) (q b) (alike a b each.0) (a ∷ filter p ones) (filter p ones) (b ∷ filter q others)
-      (filter q others) (each.0, rest) rest
+  each_filter (a ∷ ones) (b ∷ others) each = grind (arith, common_steps, chosen, each_filter ones others each.1)
 
   pub each_find : (ones : List A) (others : List B) → Each R ones others → IfAny R (find p ones) (find q others)
   each_find [] [] each = tt
   each_find [] (b ∷ others) each = absurd each
   each_find (a ∷ ones) [] each = absurd each
-  each_find (a ∷ ones) (b ∷ others) each =
-      chosen (IfAny R) (p a) (q b) (alike a b each.0) (Some a) (find p ones) (Some b) (find q others) each.0
-      (each_find ones others each.1)
+  each_find (a ∷ ones) (b ∷ others) each = grind (arith, common_steps, chosen, each_find ones others each.1)
 
   pub each_found : (d : A) (e : B) → R d e → (ones : List A) (others : List B) → Each R ones others
       → R (unwrap_or (find p ones) d) (unwrap_or (find q others) e)
@@ -88,8 +83,7 @@ module _ {A B : Type 0} (R : A → B → Type 0) (p : A → Bool) (q : B → Boo
   each_found d e none [] (b ∷ others) each = absurd each
   each_found d e none (a ∷ ones) [] each = absurd each
   each_found d e none (a ∷ ones) (b ∷ others) each =
-      chosen (λ one other. R (unwrap_or one d) (unwrap_or other e)) (p a) (q b) (alike a b each.0) (Some a)
-      (find p ones) (Some b) (find q others) each.0 (each_found d e none ones others each.1)
+      grind (arith, common_steps, chosen, each_found d e none ones others each.1)
 
 -- lists that are the same by what is told of each
 module _ {A B C : Type 0} (f : A → C) (g : B → C) where

@@ -1,4 +1,5 @@
 -- What is made of a list in another order.
+use Rattle.std.proofs.lemmas.Grind.{common_steps}
 use Rattle.std.proofs.Common.{◌≡◌, refl, ap, ◌∙◌, ℕ, zero, suc, ◌<◌, Bool, true, false, cond, ◌&&◌, List, [], ◌∷◌, ◌++◌, length, get_or, set, swap, filter, flat_map, append_assoc, arith}
 use Rattle.std.specs.List.{list_all}
 use Rattle.std.specs.List.Sorted.{IsPermutation}
@@ -13,8 +14,7 @@ module _ {X : Type 0} (R : List X → List X → Type 0) (same : (xs : List X) �
   to_head : (l : List X) (j : ℕ) (x d : X) → j < length l → R (x ∷ l) (get_or l j d ∷ set l j x)
   to_head [] j x d h = absurd (omega arith)
   to_head (y ∷ l) zero x d h = turn x y l
-  to_head (y ∷ l) (suc j) x d h =
-      onward _ _ _ (turn x y l)
+  to_head (y ∷ l) (suc j) x d h = onward _ _ _ (turn x y l)
       (onward _ _ _ (skip y _ _ (to_head l j x d (omega arith))) (turn y (get_or l j d) (set l j x)))
 
   exchanged : (l : List X) (i j : ℕ) (d : X) → i < length l → j < length l
@@ -30,41 +30,29 @@ module _ {X : Type 0} (R : List X → List X → Type 0) (same : (xs : List X) �
   swapped (x ∷ l) i j p q = exchanged (x ∷ l) i j x p q
 
   pub along_permutation : (xs ys : List X) → IsPermutation xs ys → R xs ys
-  along_permutation xs =
-      IsPermutation-keeps xs (R xs) (same xs) (λ l i j p q h. onward xs l _ h (swapped l i j p q))
+  along_permutation xs = IsPermutation-keeps xs (R xs) (same xs) (λ l i j p q h. onward xs l _ h (swapped l i j p q))
 
 pub IsPermutation-flat_map : {A B : Type 0} (f : A → List B) (xs ys : List A) → IsPermutation xs ys
     → IsPermutation (flat_map f xs) (flat_map f ys)
 IsPermutation-flat_map f = along_permutation (λ xs ys. IsPermutation (flat_map f xs) (flat_map f ys))
-    (λ xs. IsPermutation-refl _)
-    (λ x xs ys h. IsPermutation-append_right (f x) _ _ h)
+    (λ xs. IsPermutation-refl _) (λ x xs ys h. IsPermutation-append_right (f x) _ _ h)
     (λ x y xs. rw (← append_assoc (f x), ← append_assoc (f y))
     (IsPermutation-append_left (flat_map f xs) _ _ (IsPermutation-append_comm (f x) (f y))))
     (λ xs ys zs. IsPermutation-trans _ _ _)
 
-filter_as_flat_map : {A : Type 0} (p : A → Bool) (xs : List A)
-    → filter p xs ≡ flat_map (λ x. cond (p x) (x ∷ []) []) xs
+filter_as_flat_map : {A : Type 0} (p : A → Bool) (xs : List A) → filter p xs ≡ flat_map (λ x. cond (p x) (x ∷ []) []) xs
 filter_as_flat_map p [] = refl
-filter_as_flat_map p (x ∷ xs) = by (p x) (filter_as_flat_map p xs)
-  where
-    by : (b : Bool) → filter p xs ≡ flat_map (λ y. cond (p y) (y ∷ []) []) xs
-        → cond b (x ∷ filter p xs) (filter p xs)
-        ≡ cond b (x ∷ []) [] ++ flat_map (λ y. cond (p y) (y ∷ []) []) xs
-    by true rest = ap (λ l. x ∷ l) rest
-    by false rest = rest
+filter_as_flat_map p (x ∷ xs) = grind (arith, common_steps, filter_as_flat_map p xs)
 
 pub IsPermutation-filter : {A : Type 0} (p : A → Bool) (xs ys : List A) → IsPermutation xs ys
     → IsPermutation (filter p xs) (filter p ys)
-IsPermutation-filter p xs ys h =
-    rw (filter_as_flat_map p xs, filter_as_flat_map p ys)
+IsPermutation-filter p xs ys h = rw (filter_as_flat_map p xs, filter_as_flat_map p ys)
     (IsPermutation-flat_map (λ x. cond (p x) (x ∷ []) []) xs ys h)
 
 pub list_all-IsPermutation : {A : Type 0} (p : A → Bool) (xs ys : List A) → IsPermutation xs ys
     → list_all p xs ≡ list_all p ys
-list_all-IsPermutation p = along_permutation (λ xs ys. list_all p xs ≡ list_all p ys)
-    (λ xs. refl)
-    (λ x xs ys h. ap (λ b. p x && b) h)
-    (λ x y xs. turned (p x) (p y) (list_all p xs))
+list_all-IsPermutation p = along_permutation (λ xs ys. list_all p xs ≡ list_all p ys) (λ xs. refl)
+    (λ x xs ys h. ap (λ b. p x && b) h) (λ x y xs. turned (p x) (p y) (list_all p xs))
     (λ xs ys zs first second. first ∙ second)
   where
     turned : (a b c : Bool) → (a && (b && c)) ≡ (b && (a && c))

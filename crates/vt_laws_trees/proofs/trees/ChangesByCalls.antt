@@ -1,5 +1,6 @@
 -- Every call but the mount of an overlay leaves a world of trees.
-use Rattle.std.proofs.Common.{eqb-true, ◌≡◌, refl, sym, ap, subst, ◌∙◌, true≢false, ℕ, nat_eq, eq-eqb, Bool, true, false, not, cond, List, [], ◌∷◌, ◌++◌, ◌||◌, Option, Some, None, is_some, ok_or, option_map, T, inl, inr, ◌*◌}
+use Rattle.std.proofs.Common.{arith, eqb-true, ◌≡◌, refl, sym, ap, subst, ◌∙◌, true≢false, ℕ, nat_eq, eq-eqb, Bool, true, false, not, cond, List, [], ◌∷◌, ◌++◌, ◌||◌, Option, Some, None, is_some, ok_or, T, inl, inr, ◌*◌}
+use Rattle.std.proofs.lemmas.Grind.{common_steps}
 use Rattle.std.specs.Prelude.{unwrap_or}
 use Rattle.std.specs.List.{All}
 use Rattle.std.proofs.lemmas.List.Elements.{All-append, All-cons, All-filter, All-map, All-nil, All-weaker}
@@ -13,8 +14,8 @@ use Rattle.vt_spec.specs.Machine.Mounts.{Location, Mount, mount_in, no_mount, ro
 use Rattle.vt_spec.specs.Machine.NewMounts.{plain_filesystem}
 use Rattle.vt_spec.specs.Machine.Outcomes.{Outcome}
 use Rattle.vt_spec.specs.Machine.Policy.{call_outcome, finished_by}
-use Rattle.vt_spec.specs.Machine.Settled.{filesystem_lives, only_used, only_used_by, real_among, settled, used_in, without_dead_filesystems, without_dead_in, without_dead_mounts}
-use Rattle.vt_spec.specs.Machine.World.{Filesystem, Overlay, Task, World, first_mount, is_directory_at, is_overlay, new_plain, new_tree, no_filesystem, opening, root_attr, task_called, files_at, node_at}
+use Rattle.vt_spec.specs.Machine.Settled.{filesystem_lives, only_used, settled, without_dead_filesystems, without_dead_in, without_dead_mounts}
+use Rattle.vt_spec.specs.Machine.World.{Filesystem, Task, World, first_mount, is_directory_at, is_overlay, new_plain, new_tree, no_filesystem, opening, root_attr, task_called, files_at, node_at}
 use Rattle.vt_spec.proofs.Nodes.{none_is_not}
 use Rattle.vt_spec.proofs.Trees.{is_tree-tree_of_root}
 use Rattle.vt_laws_trees.specs.Trees.{IsFileTree, IsProper}
@@ -58,17 +59,7 @@ root_only root k true e is = sym (eqb-true k root e)
 root_only root k false e is = refl
 
 pub new_tree_is : (root : ℕ) → IsFileTree (new_tree nat_eq root)
-new_tree_is root = record {
-  tree = is_tree-tree_of_root root root_attr;
-  numbers = λ k. listed (nat_eq k root);
-  own_parents = λ k is unnamed. root_only root k (nat_eq k root) refl is;
-}
-  where
-    listed : (b : Bool)
-        → (b || false) ≡ is_some {T = Node ℕ}
-        (cond b (Some (record { attr = root_attr; content = new_directory root })) None)
-    listed true = refl
-    listed false = refl
+new_tree_is root = grind (arith, common_steps, is_tree-tree_of_root, root_only)
 
 -- a filesystem more
 pub more_filesystems : (world after_call : World ℕ) (filesystem : Filesystem ℕ)
@@ -86,17 +77,7 @@ more_filesystems world after_call filesystem same plain tree conditions = record
 -- What nothing uses goes
 used_plain : (world : World ℕ) (chosen : Bool) (filesystem : Filesystem ℕ) → is_overlay filesystem ≡ false
     → is_overlay (only_used nat_eq world chosen filesystem) ≡ false
-used_plain world true filesystem plain = by _
-  where
-    mapped : (o : Option (Overlay ℕ)) → is_some o ≡ false
-        → is_some (option_map (real_among nat_eq (used_in nat_eq world filesystem)) o) ≡ false
-    mapped None e = refl
-    mapped (Some overlay) e = e
-
-    by : (b : Bool) → is_overlay (only_used_by nat_eq b (used_in nat_eq world filesystem) filesystem) ≡ false
-    by true = plain
-    by false = mapped filesystem.overlay plain
-used_plain world false filesystem plain = plain
+used_plain world chosen filesystem plain = grind (arith, common_steps)
 
 pub without_dead_plain : (chosen : Filesystem ℕ → Bool) (world : World ℕ)
     → All (λ f. is_overlay f ≡ false) world.filesystems
@@ -113,16 +94,14 @@ settled_keeps world conditions =
     let plain_living : All (λ f. is_overlay f ≡ false) living.filesystems =
     All-filter (filesystem_lives nat_eq mounted_world) (λ f. is_overlay f ≡ false) world.filesystems conditions.plain in
     record {
-      plain =
-          without_dead_plain (λ f. not (is_overlay f)) (without_dead_in nat_eq is_overlay living)
+      plain = without_dead_plain (λ f. not (is_overlay f)) (without_dead_in nat_eq is_overlay living)
           (without_dead_plain is_overlay living plain_living);
       trees = settling_keeps_trees world conditions.trees;
     }
 
 -- each way in which a call is granted
 module _ (fresh : Fresh ℕ) (world : World ℕ) (task : Task ℕ) (conditions : IsWorldOfTrees world)
-    (standing : IsStanding world)
-    (new : AreNew fresh world) where
+    (standing : IsStanding world) (new : AreNew fresh world) where
   -- a new object under a free name
   new_keeps : (place : Place ℕ) (node : Node ℕ) → IsNewIn place.parent.node node → IsFilePlace world place
       → is_special place.last ≡ false → is_some place.object ≡ false
@@ -169,8 +148,7 @@ module _ (fresh : Fresh ℕ) (world : World ℕ) (task : Task ℕ) (conditions :
   -- open(2)
   opened_keeps : (file : Location ℕ) (access : Access)
       → IsWorldOfTrees (apply nat_eq fresh world task (ToOpen file access)).world
-  opened_keeps file access =
-      same_filesystems (apply nat_eq fresh world task (ToOpen file access)).world
+  opened_keeps file access = same_filesystems (apply nat_eq fresh world task (ToOpen file access)).world
       (with_copy nat_eq (is_copied_up nat_eq world file access) fresh world file) refl
       (by (is_copied_up nat_eq world file access))
     where
@@ -188,8 +166,7 @@ module _ (fresh : Fresh ℕ) (world : World ℕ) (task : Task ℕ) (conditions :
   granted_keeps : (call : Call) (permit : Permit ℕ) → mounts_overlay call ≡ false
       → IsGranted nat_eq (looks_of nat_eq world) (overfills nat_eq fresh world task) task call permit
       → IsWorldOfTrees (apply nat_eq fresh world task permit).world
-  granted_keeps call permit other (overwrites_file path bytes place file end named there passed) =
-      bytes_keep file bytes
+  granted_keeps call permit other (overwrites_file path bytes place file end named there passed) = bytes_keep file bytes
   granted_keeps call permit other (writes_new_file path bytes place end named missing fits passed) =
       let is = file_is world task path place end in
       new_keeps place (new_file task file_mode bytes) (inr refl) is.0.0
@@ -207,8 +184,7 @@ module _ (fresh : Fresh ℕ) (world : World ℕ) (task : Task ℕ) (conditions :
       let there : is_some (node_at nat_eq world from.location) ≡ true =
       at_end (λ (here : Here ℕ). is_some (node_at nat_eq world here.location) ≡ true)
       (symlink_walk nat_eq (looks_of nat_eq world) task old) from
-      (ends_link_walk world (λ k default short. (conditions.trees k default short).tree) standing task old)
-      from_end in
+      (ends_link_walk world (λ k default short. (conditions.trees k default short).tree) standing task old) from_end in
       change_keeps_world fresh world place.parent (linking from.location place) conditions
       (may_link world task from.location place there (new_leaf_is world task new place end).0 named.0 passed)
   granted_keeps call permit other (unlinks path place end named passed) =
@@ -257,13 +233,11 @@ module _ (fresh : Fresh ℕ) (world : World ℕ) (task : Task ℕ) (conditions :
 
   pub outcome_keeps : (call : Call) → mounts_overlay call ≡ false
       → IsWorldOfTrees (call_outcome nat_eq fresh world task call).world
-  outcome_keeps call other =
-      call_holds IsWorldOfTrees fresh world task call conditions (λ permit granted.
+  outcome_keeps call other = call_holds IsWorldOfTrees fresh world task call conditions (λ permit granted.
       granted_keeps call permit other granted)
 
 finished_keeps : (before : World ℕ) (name : TaskName) (changed : List ℕ) (outcome : Outcome ℕ) (b : Bool)
-    → IsWorldOfTrees outcome.world
-    → IsWorldOfTrees (finished_by nat_eq b before name changed outcome).world
+    → IsWorldOfTrees outcome.world → IsWorldOfTrees (finished_by nat_eq b before name changed outcome).world
 finished_keeps before name changed outcome true conditions = conditions
 finished_keeps before name changed outcome false conditions =
     same_filesystems (finished_by nat_eq false before name changed outcome).world
@@ -282,8 +256,7 @@ opening_has_trees fresh = (
   record {
     plain = All-cons (λ f. is_overlay f ≡ false) (new_plain nat_eq (fresh 2) (fresh 3)) [] refl
         (All-nil (λ f. is_overlay f ≡ false));
-    trees =
-        All-cons (λ f. IsFileTree f.files) (new_plain nat_eq (fresh 2) (fresh 3)) [] (new_tree_is (fresh 3))
+    trees = All-cons (λ f. IsFileTree f.files) (new_plain nat_eq (fresh 2) (fresh 3)) [] (new_tree_is (fresh 3))
         (All-nil (λ f. IsFileTree f.files));
   },
   record {
@@ -311,10 +284,4 @@ opening_has_trees fresh = (
         (eq-eqb (fresh 2) (fresh 2) refl)
 
     root_there : is_directory_at nat_eq (opening nat_eq fresh) (record { mount = fresh 0; node = fresh 3 }) ≡ true
-    root_there =
-        ap (λ (m : Mount ℕ). is_directory_node
-        ((numbered m.filesystem (new_plain nat_eq (fresh 2) (fresh 3) ∷ [])).files.tree.node (fresh 3))) the_mount
-        ∙ ap (λ (f : Filesystem ℕ). is_directory_node (f.files.tree.node (fresh 3))) the_filesystem
-        ∙ ap (λ b. is_directory_node {N = ℕ}
-        (cond b (Some (record { attr = root_attr; content = new_directory (fresh 3) })) None))
-        (eq-eqb (fresh 3) (fresh 3) refl)
+    root_there = grind (arith, common_steps, numbered, the_mount, the_filesystem, eq-eqb)

@@ -1,16 +1,16 @@
 -- Permits that change no file leave the filesystems.
-use Rattle.std.proofs.Common.{map, ◌≡◌, refl, ◌∙◌, ℕ, nat_eq, Bool, true, false, cond, List, [], ◌∷◌, true≢false}
+use Rattle.std.proofs.Common.{arith, ◌≡◌, refl, ◌∙◌, ℕ, nat_eq, Bool, true, false, cond, List, [], ◌∷◌, true≢false}
+use Rattle.std.proofs.lemmas.Grind.{common_steps}
 use Rattle.vt_spec.specs.Language.Calls.{TypeWord}
-use Rattle.vt_spec.specs.Machine.Detach.{deepest_first, unmounted, unmounted_if_there}
+use Rattle.vt_spec.specs.Machine.Detach.{unmounted, unmounted_if_there}
 use Rattle.vt_spec.specs.Lists.{Fresh, folded}
-use Rattle.vt_spec.specs.Machine.Mounts.{Mount, mount_tree, numbers_by}
-use Rattle.vt_spec.specs.Machine.Namespaces.{namespace_entered, unshared}
-use Rattle.vt_spec.specs.Machine.World.{Task, World, mount_numbered, without_task}
-use Rattle.vt_spec.specs.Machine.Types.{named_mounts, retyped_mount, with_new_groups, with_type}
+use Rattle.vt_spec.specs.Machine.Mounts.{Mount}
+use Rattle.vt_spec.specs.Machine.World.{Task, World}
+use Rattle.vt_spec.specs.Machine.Types.{with_type}
 use Rattle.vt_spec.proofs.Worlds.{filesystems-regrouped, filesystems-taken_away}
 use Rattle.vt_spec.specs.Machine.Apply.{apply}
 use Rattle.vt_spec.specs.Machine.Permits.{Permit}
-use Rattle.vt_spec.specs.Machine.Permits.Permit.{ToChange, ToEnterNamespace, ToExit, ToMake, ToMountOverlay, ToMountPlain, ToOpen, ToOpenNew, ToRemoveDirectory, ToRename, ToSetType, ToUnmount, ToUnmountLazily, ToUnshare, ToWritePart}
+use Rattle.vt_spec.specs.Machine.Permits.Permit.{ToChange, ToMake, ToMountOverlay, ToMountPlain, ToOpen, ToOpenNew, ToRemoveDirectory, ToRename, ToWritePart}
 
 -- Mounts that go, or get another type, leave the filesystems
 
@@ -25,13 +25,7 @@ lazily_filesystems (mount ∷ mounts) world = lazily_filesystems mounts (unmount
 
 pub typed_filesystems : (fresh : Fresh ℕ) (world : World ℕ) (number : ℕ) (word : TypeWord) (recursive : Bool)
     → (with_type nat_eq fresh world number word recursive).filesystems ≡ world.filesystems
-typed_filesystems fresh world number word recursive =
-    let named = named_mounts nat_eq world number recursive in
-    let group = numbers_by nat_eq fresh named in
-    filesystems-regrouped (record world {
-      mounts = map (retyped_mount nat_eq group word named) world.mounts;
-      master = with_new_groups nat_eq group world.master named;
-    })
+typed_filesystems fresh world number word recursive = grind (arith, common_steps, filesystems-regrouped)
 
 -- the permits of changes of files, and of mounts of new filesystems
 abbrev pub changes_files : Permit ℕ → Bool
@@ -49,22 +43,5 @@ changes_files permit = false
 -- the others leave the filesystems
 pub files_stay : (fresh : Fresh ℕ) (world : World ℕ) (task : Task ℕ) (permit : Permit ℕ) → changes_files permit ≡ false
     → (apply nat_eq fresh world task permit).world.filesystems ≡ world.filesystems
-files_stay fresh world task (ToChange location change) e = absurd (true≢false e)
-files_stay fresh world task (ToMake directory name node) e = absurd (true≢false e)
-files_stay fresh world task (ToRemoveDirectory parent name directory) e = absurd (true≢false e)
-files_stay fresh world task (ToRename from old to new object replaced) e = absurd (true≢false e)
-files_stay fresh world task (ToOpen file access) e = absurd (true≢false e)
-files_stay fresh world task (ToOpenNew directory name node access) e = absurd (true≢false e)
-files_stay fresh world task (ToWritePart file offset bytes) e = absurd (true≢false e)
-files_stay fresh world task (ToMountPlain destination flags) e = absurd (true≢false e)
-files_stay fresh world task (ToMountOverlay destination overlay flags) e = absurd (true≢false e)
-files_stay fresh world task ToExit e = filesystems-taken_away (without_task world task.name) _
-files_stay fresh world task ToUnshare e = filesystems-taken_away (unshared nat_eq world fresh task) _
-files_stay fresh world task (ToEnterNamespace namespace) e =
-    filesystems-taken_away (namespace_entered nat_eq world task namespace) _
-files_stay fresh world task (ToUnmount mount) e = filesystems-taken_away world _
-files_stay fresh world task (ToUnmountLazily mount) e =
-    lazily_filesystems
-    (deepest_first nat_eq world (mount_tree nat_eq world.mounts (mount_numbered nat_eq world mount))) world
-files_stay fresh world task (ToSetType mount word recursive) e = typed_filesystems fresh world mount word recursive
-files_stay fresh world task permit e = refl
+files_stay fresh world task permit e =
+    grind (arith, common_steps, true≢false, filesystems-taken_away, lazily_filesystems, typed_filesystems)

@@ -1,5 +1,6 @@
 -- What is removed and renamed may be.
-use Rattle.std.proofs.Common.{eqb-true, ◌≡◌, ◌≢◌, refl, sym, ap, subst, ◌∙◌, true≢false, ℕ, nat_eq, eq-eqb, Bool, true, false, not, List, [], ◌∷◌, ◌&&◌, Option, Some, None, is_some, option_map}
+use Rattle.std.proofs.Common.{arith, eqb-true, ◌≡◌, ◌≢◌, refl, sym, ap, subst, ◌∙◌, true≢false, ℕ, nat_eq, eq-eqb, Bool, true, false, not, List, [], ◌∷◌, ◌&&◌, Option, Some, None, is_some, option_map}
+use Rattle.std.proofs.lemmas.Grind.{common_steps}
 use Rattle.vt_spec.specs.Errors.{NoneFails}
 use Rattle.std.specs.Prelude.{unwrap_or}
 use Rattle.vt_spec.specs.Tree.{entries_in, entry_named, is_directory_node}
@@ -56,8 +57,7 @@ module _ (world : World ℕ) (place : Place ℕ) (plain : is_special place.last 
 
   old_named : (object.mount ≡ place.parent.mount)
       × (entry_at (files_at nat_eq world place.parent).tree place.parent.node (name_of place.last) ≡ Some object.node)
-  old_named =
-      named_by world place.parent (name_of place.last) object
+  old_named = named_by world place.parent (name_of place.last) object
       (sym object_is ∙ (place_named world place.parent place.last place.object plain is).1)
 
   -- it is seen in the tree of its directory
@@ -102,17 +102,14 @@ module _ (world : World ℕ) (task : Task ℕ) (from to : Place ℕ)
   -- what has the new name
   new_object : (number : ℕ) → entry_at files.tree to.parent.node (name_of to.last) ≡ Some number
       → to.object ≡ Some (record { mount = to.parent.mount; node = number })
-  new_object number entry =
-      to_named.1
-      ∙ ap (option_map (λ object. record { mount = to.parent.mount; node = object }))
+  new_object number entry = to_named.1 ∙ ap (option_map (λ object. record { mount = to.parent.mount; node = object }))
       (ap (λ (f : FileTree ℕ). entry_at f.tree to.parent.node (name_of to.last)) to_files ∙ entry)
 
   to_reached : IsReached files.tree to.parent.node
   to_reached = by to.object refl
     where
       by : (o : Option (Location ℕ)) → to.object ≡ o → IsReached files.tree to.parent.node
-      by None e =
-          subst (λ (f : FileTree ℕ). IsReached f.tree to.parent.node) to_files
+      by None e = subst (λ (f : FileTree ℕ). IsReached f.tree to.parent.node) to_files
           (not_removed_reached (files_at nat_eq world to.parent).tree
           (subst (λ (f : FileTree ℕ). IsTree f.tree) (sym to_files) trees.tree) to.parent.node to_named.0
           (ap (λ o. not (is_some o) && is_removed_at nat_eq world to.parent) (sym e) ∙ to_new.0))
@@ -133,8 +130,7 @@ module _ (world : World ℕ) (task : Task ℕ) (from to : Place ℕ)
           (old_is.0 ∙ one_mount))
 
       under : is_directory_under nat_eq (files_at nat_eq world old) old.node to.parent.node ≡ true
-      under =
-          ap (λ m. is_directory_under nat_eq (shown world m) old.node to.parent.node) old_is.0
+      under = ap (λ m. is_directory_under nat_eq (shown world m) old.node to.parent.node) old_is.0
           ∙ under_seen files trees to.parent.node to_directory to_reached old.node names e
 
       start_directory : (list : List (List ℕ)) → led files.tree old.node list ≡ Some to.parent.node
@@ -149,11 +145,9 @@ module _ (world : World ℕ) (task : Task ℕ) (from to : Place ℕ)
       by false is = true≢false (sym (start_directory names e) ∙ ap is_directory_node (sym old_node_in) ∙ is)
 
   moves_other : entry_at files.tree to.parent.node (name_of to.last) ≢ Some old.node
-  moves_other entry =
-      true≢false (sym (and_from _ _
+  moves_other entry = true≢false (sym (and_from _ _
       (eq-eqb _ _ (ap (λ m. (mount_at nat_eq world (record { mount = m; node = 0 })).filesystem)
-      (old_is.0 ∙ one_mount)))
-      (eq-eqb old.node old.node refl))
+      (old_is.0 ∙ one_mount))) (eq-eqb old.node old.node refl))
       ∙ ap (is_one_object nat_eq world old) (sym (new_object old.node entry)) ∙ other)
 
   moves_empty : (number : ℕ) → entry_at files.tree to.parent.node (name_of to.last) ≡ Some number
@@ -167,25 +161,16 @@ module _ (world : World ℕ) (task : Task ℕ) (from to : Place ℕ)
       seen = ap (λ (f : FileTree ℕ). f.tree.node number) to_files
 
       by : (b : Bool) → is_directory_at nat_eq world old ≡ b → entries_in (files.tree.node number) ≡ []
-      by true is =
-          ap entries_in (sym seen)
+      by true is = ap entries_in (sym seen)
           ∙ nil_from_not_some (entries_in (node_at nat_eq world (record { mount = to.parent.mount; node = number })))
           (ap (λ b. b && is_nonempty nat_eq world (record { mount = to.parent.mount; node = number })) (sym is)
           ∙ ap (λ o. is_directory_at nat_eq world old && holds_of (is_nonempty nat_eq world) o) (sym here)
           ∙ passed.1.1.0)
-      by false is =
-          ap entries_in (sym seen)
+      by false is = ap entries_in (sym seen)
           ∙ entries_in-no_directory (node_at nat_eq world (record { mount = to.parent.mount; node = number }))
           (ap (λ b. not b && is_directory_at nat_eq world (record { mount = to.parent.mount; node = number })) (sym is)
           ∙ ap (λ o. not (is_directory_at nat_eq world old) && holds_of (is_directory_at nat_eq world) o) (sym here)
           ∙ passed.0)
 
   pub may_move : MayMove files.tree from.parent.node (name_of from.last) to.parent.node (name_of to.last) old.node
-  may_move = record {
-    named = old_is.1;
-    in_directory = to_directory;
-    reached = to_reached;
-    not_under = moves_not_under;
-    replaced_other = moves_other;
-    replaced_empty = moves_empty;
-  }
+  may_move = grind (arith, common_steps, old_is, to_directory, to_reached, moves_not_under, moves_other, moves_empty)

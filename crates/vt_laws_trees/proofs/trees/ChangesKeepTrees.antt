@@ -45,8 +45,7 @@ module _ (files : FileTree ℕ) (directory : ℕ) (name : List ℕ) (number : �
       (eqb_tells directory number)
 
   nodes_alike : (k : ℕ) → (with_object nat_eq files.tree directory name number node).node k ≡ in_turn.node k
-  nodes_alike k =
-      one_of_two k (nat_eq k directory) (nat_eq k number) refl refl
+  nodes_alike k = one_of_two k (nat_eq k directory) (nat_eq k number) refl refl
       ∙ ap (λ o. cond (nat_eq k directory) (node_with_entry name number o)
       (cond (nat_eq k number) (Some node) (files.tree.node k))) (sym directory_first)
 
@@ -56,48 +55,32 @@ module _ (files : FileTree ℕ) (directory : ℕ) (name : List ℕ) (number : �
 module _ (files : FileTree ℕ) (directory : ℕ) (name : List ℕ) (number : ℕ) (node : Node ℕ)
     (conditions : IsTree files.tree) (may : MayMake files.tree directory name number node) where
   directory_differs : directory ≢ number
-  directory_differs =
-      used_differs files.tree directory name number node conditions may.name_is_free.in_directory
-      may.name_is_free.reached
-      may.name_is_free.free may.number_is_new may.fits directory
+  directory_differs = used_differs files.tree directory name number node conditions may.name_is_free.in_directory
+      may.name_is_free.reached may.name_is_free.free may.number_is_new may.fits directory
       (directory_used files.tree directory may.name_is_free.in_directory)
 
   pub made_is_tree : IsTree (changed nat_eq files (Make directory name number node)).tree
-  made_is_tree =
-      subst IsTree (made_alike files directory name number node directory_differs)
+  made_is_tree = subst IsTree (made_alike files directory name number node directory_differs)
       (is_tree-with_object files.tree directory name number node conditions may.name_is_free.in_directory
-      may.name_is_free.reached
-      may.name_is_free.free may.number_is_new may.fits)
+      may.name_is_free.reached may.name_is_free.free may.number_is_new may.fits)
 
   grown_own_parents : HasOwnParents files.tree
       → HasOwnParents (with_object nat_eq files.tree directory name number node)
-  grown_own_parents own k is unnamed =
-      ⊎_elim
-      (λ t. absurd (unnamed (
-        directory,
-        name,
-        entry_new files.tree directory name number node conditions may.name_is_free.in_directory
-            may.name_is_free.reached
-            may.name_is_free.free may.number_is_new may.fits
-            ∙ ap Some (sym t.1),
-      )))
-      (λ t.
-      parent_beside files.tree directory name number node conditions may.name_is_free.in_directory
-      may.name_is_free.reached
-      may.name_is_free.free may.number_is_new may.fits k k t.1
-      ∙ own k
+  grown_own_parents own k is unnamed = ⊎_elim (λ t. absurd (unnamed (
+    directory,
+    name,
+    entry_new files.tree directory name number node conditions may.name_is_free.in_directory
+        may.name_is_free.reached may.name_is_free.free may.number_is_new may.fits ∙ ap Some (sym t.1),
+  ))) (λ t. parent_beside files.tree directory name number node conditions may.name_is_free.in_directory
+      may.name_is_free.reached may.name_is_free.free may.number_is_new may.fits k k t.1 ∙ own k
       (sym (kept_beside files.tree directory name number node conditions may.name_is_free.in_directory
-      may.name_is_free.reached
-      may.name_is_free.free may.number_is_new may.fits is_directory_node
-      (is_directory-node_with_entry name number) k t.1) ∙ is)
-      (λ named. unnamed (
+      may.name_is_free.reached may.name_is_free.free may.number_is_new may.fits is_directory_node
+      (is_directory-node_with_entry name number) k t.1) ∙ is) (λ named. unnamed (
         named.0,
         named.1,
         entry_kept files.tree directory name number node conditions may.name_is_free.in_directory
-            may.name_is_free.reached
-            may.name_is_free.free may.number_is_new may.fits named.0 named.1 k named.2,
-      )))
-      (eqb_tells k number)
+            may.name_is_free.reached may.name_is_free.free may.number_is_new may.fits named.0 named.1 k named.2,
+      ))) (eqb_tells k number)
 
   pub made_own_parents : HasOwnParents files.tree
       → HasOwnParents (changed nat_eq files (Make directory name number node)).tree
@@ -134,12 +117,10 @@ changes_keep_trees files (CopyUp object) conditions may = conditions
 pub changes_keep_own_parents : ChangesKeepOwnParents
 changes_keep_own_parents files (Make directory name number node) conditions own may =
     made_own_parents files directory name number node conditions may own
-changes_keep_own_parents files (AddName directory name object) conditions own may =
-    own_parent-rearranged files.tree
+changes_keep_own_parents files (AddName directory name object) conditions own may = own_parent-rearranged files.tree
     (changed nat_eq files (AddName directory name object)).tree.node Nobody Nowhere conditions
     (linked_rearranged files directory name object conditions may) own
-changes_keep_own_parents files (Remove directory name object) conditions own may =
-    own_parent-rearranged files.tree
+changes_keep_own_parents files (Remove directory name object) conditions own may = own_parent-rearranged files.tree
     (changed nat_eq files (Remove directory name object)).tree.node _ Nowhere conditions
     (removed_rearranged files directory name object conditions may) own
 changes_keep_own_parents files (Move from old to new object) conditions own may =
@@ -152,8 +133,7 @@ changes_keep_own_parents files (SetBytes file bytes) conditions own may =
 changes_keep_own_parents files (SetAttr object attr) conditions own may =
     own_parent-rearranged files.tree (changed nat_eq files (SetAttr object attr)).tree.node Nobody Nowhere conditions
     (still_rearranged files object (node_with_attr attr) (attr_keeps_place attr) conditions) own
-changes_keep_own_parents files (SetMark directory opaque) conditions own may =
-    own_parent-rearranged files.tree
+changes_keep_own_parents files (SetMark directory opaque) conditions own may = own_parent-rearranged files.tree
     (changed nat_eq files (SetMark directory opaque)).tree.node Nobody Nowhere conditions
     (still_rearranged files directory (node_with_mark opaque) (mark_keeps_place opaque) conditions) own
 changes_keep_own_parents files (CopyUp object) conditions own may = own
@@ -181,8 +161,7 @@ numbers_with_inode files number node lists k = by (nat_eq k number)
 pub changes_keep_numbers : ChangesKeepNumbers
 changes_keep_numbers files (Make directory name number node) lists =
     numbers_stay (with_inode nat_eq files number node) directory (node_with_entry name number)
-    (is_some-node_with_entry name number)
-    (numbers_with_inode files number node lists)
+    (is_some-node_with_entry name number) (numbers_with_inode files number node lists)
 changes_keep_numbers files (AddName directory name object) lists =
     numbers_stay files directory (node_with_entry name object) (is_some-node_with_entry name object) lists
 changes_keep_numbers files (Remove directory name object) lists =

@@ -1,5 +1,6 @@
 -- The entries of a tree in which a name is given, or taken away.
-use Rattle.std.proofs.Common.{◌≡◌, ◌≢◌, refl, sym, ap, ◌∙◌, true≢false, ℕ, nat_eq, Bool, true, false, not, cond, List, [], ◌⊎◌, inl, inr, ⊎_elim, Some, None}
+use Rattle.std.proofs.Common.{arith, ◌≡◌, ◌≢◌, refl, sym, ap, ◌∙◌, true≢false, ℕ, nat_eq, Bool, true, false, not, cond, List, [], ◌⊎◌, inl, inr, ⊎_elim, Some, None}
+use Rattle.std.proofs.lemmas.Grind.{common_steps}
 use Rattle.std.proofs.lemmas.Bool.Decides.{eqb_tells}
 use Rattle.std.proofs.lemmas.Float.{T_from_true}
 use Rattle.std.specs.Str.{bytes_eq}
@@ -19,8 +20,7 @@ use Rattle.vt_spec.proofs.NodeChanges.{entries-node_without_entry}
 module _ (files : FileTree ℕ) (directory : ℕ) (name : List ℕ) where
   entries_there : entries_in ((without_name nat_eq files directory name).tree.node directory) ≡ without_entry name
       (entries_in (files.tree.node directory))
-  entries_there =
-      ap entries_in (changed_node_there files directory (node_without_entry name))
+  entries_there = ap entries_in (changed_node_there files directory (node_without_entry name))
       ∙ entries-node_without_entry name (files.tree.node directory)
 
   entries_elsewhere : (other : ℕ) → other ≢ directory
@@ -31,14 +31,11 @@ module _ (files : FileTree ℕ) (directory : ℕ) (name : List ℕ) where
   pub untaken_told : (d : ℕ) (n : List ℕ) (k : ℕ)
       → entry_at (without_name nat_eq files directory name).tree d n ≡ Some k
       → (entry_at files.tree d n ≡ Some k) × ¬ ((d ≡ directory) × (n ≡ name))
-  untaken_told d n k e =
-      ⊎_elim
-      (λ t. by (bytes_eq n name) refl t.1
+  untaken_told d n k e = ⊎_elim (λ t. by (bytes_eq n name) refl t.1
       (sym (entry_named-without_entry n name (entries_in (files.tree.node directory)))
       ∙ sym (ap (entry_named n) entries_there)
       ∙ ap (λ m. entry_at (without_name nat_eq files directory name).tree m n) (sym t.1) ∙ e))
-      (λ t. (sym (ap (entry_named n) (entries_elsewhere d t.1)) ∙ e, λ same. t.1 same.0))
-      (eqb_tells d directory)
+      (λ t. (sym (ap (entry_named n) (entries_elsewhere d t.1)) ∙ e, λ same. t.1 same.0)) (eqb_tells d directory)
     where
       by : (b : Bool) → bytes_eq n name ≡ b → d ≡ directory
           → cond (not b) (entry_named n (entries_in (files.tree.node directory))) None ≡ Some k
@@ -52,49 +49,37 @@ module _ (files : FileTree ℕ) (directory : ℕ) (name : List ℕ) where
   -- and what was there is left, but for that name
   pub untaken_kept : (d : ℕ) (n : List ℕ) (k : ℕ) → entry_at files.tree d n ≡ Some k
       → ((d ≡ directory) × (n ≡ name)) ⊎ (entry_at (without_name nat_eq files directory name).tree d n ≡ Some k)
-  untaken_kept d n k e =
-      ⊎_elim
-      (λ t. by (bytes_eq n name) refl t.1)
-      (λ t. inr (ap (entry_named n) (entries_elsewhere d t.1) ∙ e))
-      (eqb_tells d directory)
+  untaken_kept d n k e = ⊎_elim (λ t. by (bytes_eq n name) refl t.1)
+      (λ t. inr (ap (entry_named n) (entries_elsewhere d t.1) ∙ e)) (eqb_tells d directory)
     where
       by : (b : Bool) → bytes_eq n name ≡ b → d ≡ directory
           → ((d ≡ directory) × (n ≡ name)) ⊎ (entry_at (without_name nat_eq files directory name).tree d n ≡ Some k)
       by true same here = inl (here, (bytes_decides n name).0 same)
-      by false differ here = inr (ap (λ m. entry_at (without_name nat_eq files directory name).tree m n) here
-          ∙ ap (entry_named n) entries_there
-          ∙ entry_named-without_entry n name (entries_in (files.tree.node directory))
-          ∙ ap (λ b. cond (not b) (entry_named n (entries_in (files.tree.node directory))) None) differ
-          ∙ ap (λ m. entry_at files.tree m n) (sym here) ∙ e)
+      by false differ here = grind (arith, common_steps, entries_there, entry_named-without_entry)
 
   -- entries stay in order, and what is empty stays so
   pub untaken_in_order : ((d : ℕ) → is_sorted name_cmp (entries_in (files.tree.node d)) ≡ true)
       → (d : ℕ) → is_sorted name_cmp (entries_in ((without_name nat_eq files directory name).tree.node d)) ≡ true
-  untaken_in_order sorted d =
-      ⊎_elim
+  untaken_in_order sorted d = ⊎_elim
       (λ t. ap (λ m. is_sorted name_cmp (entries_in ((without_name nat_eq files directory name).tree.node m))) t.1
       ∙ ap (is_sorted name_cmp) entries_there
       ∙ passes _ (is_sorted-where_key name_cmp (λ x. not (bytes_eq x name)) (entries_in (files.tree.node directory))
-      (T_from_true _ (sorted directory))))
-      (λ t. ap (is_sorted name_cmp) (entries_elsewhere d t.1) ∙ sorted d)
+      (T_from_true _ (sorted directory)))) (λ t. ap (is_sorted name_cmp) (entries_elsewhere d t.1) ∙ sorted d)
       (eqb_tells d directory)
 
   pub untaken_empty : (d : ℕ) → entries_in (files.tree.node d) ≡ []
       → entries_in ((without_name nat_eq files directory name).tree.node d) ≡ []
-  untaken_empty d empty =
-      ⊎_elim
+  untaken_empty d empty = ⊎_elim
       (λ t. ap (λ m. entries_in ((without_name nat_eq files directory name).tree.node m)) t.1 ∙ entries_there
       ∙ ap (without_entry name) (ap (λ m. entries_in (files.tree.node m)) (sym t.1) ∙ empty))
-      (λ t. entries_elsewhere d t.1 ∙ empty)
-      (eqb_tells d directory)
+      (λ t. entries_elsewhere d t.1 ∙ empty) (eqb_tells d directory)
 
 -- A name given
 module _ (files : FileTree ℕ) (directory : ℕ) (name : List ℕ) (number : ℕ)
     (in_directory : IsDirectory files.tree directory) where
   given_there : entries_in ((with_name nat_eq files directory name number).tree.node directory) ≡ with_entry name number
       (entries_in (files.tree.node directory))
-  given_there =
-      ap entries_in (changed_node_there files directory (node_with_entry name number))
+  given_there = ap entries_in (changed_node_there files directory (node_with_entry name number))
       ∙ entries-node_with_entry name number (files.tree.node directory) in_directory
 
   pub given_elsewhere : (other : ℕ) → other ≢ directory
@@ -103,8 +88,7 @@ module _ (files : FileTree ℕ) (directory : ℕ) (name : List ℕ) (number : �
 
   -- the name leads to the number
   pub given_entry : entry_at (with_name nat_eq files directory name number).tree directory name ≡ Some number
-  given_entry =
-      ap (entry_named name) given_there
+  given_entry = ap (entry_named name) given_there
       ∙ entry_named-with_entry name name number (entries_in (files.tree.node directory))
       ∙ ap (λ o. cond (is_eq o) (Some number) (entry_named name (entries_in (files.tree.node directory))))
       (tied_itself nat_list_cmp_total name)
@@ -114,14 +98,11 @@ module _ (files : FileTree ℕ) (directory : ℕ) (name : List ℕ) (number : �
       → entry_at (with_name nat_eq files directory name number).tree d n ≡ Some k
       → ((d ≡ directory) × (n ≡ name) × (k ≡ number))
       ⊎ ((entry_at files.tree d n ≡ Some k) × ¬ ((d ≡ directory) × (n ≡ name)))
-  given_told d n k e =
-      ⊎_elim
-      (λ t. by (eq_by_cmp name_cmp n name) refl t.1
+  given_told d n k e = ⊎_elim (λ t. by (eq_by_cmp name_cmp n name) refl t.1
       (sym (entry_named-with_entry n name number (entries_in (files.tree.node directory)))
       ∙ sym (ap (entry_named n) given_there)
       ∙ ap (λ m. entry_at (with_name nat_eq files directory name number).tree m n) (sym t.1) ∙ e))
-      (λ t. inr (sym (ap (entry_named n) (given_elsewhere d t.1)) ∙ e, λ same. t.1 same.0))
-      (eqb_tells d directory)
+      (λ t. inr (sym (ap (entry_named n) (given_elsewhere d t.1)) ∙ e, λ same. t.1 same.0)) (eqb_tells d directory)
     where
       by : (b : Bool) → eq_by_cmp name_cmp n name ≡ b → d ≡ directory
           → cond b (Some number) (entry_named n (entries_in (files.tree.node directory))) ≡ Some k
@@ -138,28 +119,14 @@ module _ (files : FileTree ℕ) (directory : ℕ) (name : List ℕ) (number : �
   pub given_kept : (d : ℕ) (n : List ℕ) (k : ℕ) → entry_at files.tree d n ≡ Some k
       → ((d ≡ directory) × (n ≡ name)) ⊎ (entry_at (with_name nat_eq files directory name number).tree d n ≡ Some k)
   given_kept d n k e =
-      ⊎_elim
-      (λ t. by (eq_by_cmp name_cmp n name) refl t.1)
-      (λ t. inr (ap (entry_named n) (given_elsewhere d t.1) ∙ e))
-      (eqb_tells d directory)
-    where
-      by : (b : Bool) → eq_by_cmp name_cmp n name ≡ b → d ≡ directory
-          → ((d ≡ directory) × (n ≡ name)) ⊎ (entry_at (with_name nat_eq files directory name number).tree d n ≡ Some k)
-      by true tie here = inl (here, same_name n name tie)
-      by false apart here = inr (ap (λ m. entry_at (with_name nat_eq files directory name number).tree m n) here
-          ∙ ap (entry_named n) given_there
-          ∙ entry_named-with_entry n name number (entries_in (files.tree.node directory))
-          ∙ ap (λ b. cond b (Some number) (entry_named n (entries_in (files.tree.node directory)))) apart
-          ∙ ap (λ m. entry_at files.tree m n) (sym here) ∙ e)
+      grind (arith, common_steps, given_elsewhere, eqb_tells, same_name, given_there, entry_named-with_entry)
 
   -- entries stay in order
   pub given_in_order : ((d : ℕ) → is_sorted name_cmp (entries_in (files.tree.node d)) ≡ true)
       → (d : ℕ) → is_sorted name_cmp (entries_in ((with_name nat_eq files directory name number).tree.node d)) ≡ true
-  given_in_order sorted d =
-      ⊎_elim
+  given_in_order sorted d = ⊎_elim
       (λ t. ap (λ m. is_sorted name_cmp (entries_in ((with_name nat_eq files directory name number).tree.node m))) t.1
       ∙ ap (is_sorted name_cmp) given_there
       ∙ passes _ (is_sorted-put name_cmp nat_list_cmp_total name number (entries_in (files.tree.node directory))
-      (T_from_true _ (sorted directory))))
-      (λ t. ap (is_sorted name_cmp) (given_elsewhere d t.1) ∙ sorted d)
+      (T_from_true _ (sorted directory)))) (λ t. ap (is_sorted name_cmp) (given_elsewhere d t.1) ∙ sorted d)
       (eqb_tells d directory)

@@ -1,10 +1,11 @@
 -- What an inode keeps when it loses an entry, its entries, or gets another parent, attributes or mark.
-use Rattle.std.proofs.Common.{◌≡◌, ◌≢◌, refl, ℕ, nat_eq, Bool, Option, Some, None, is_some}
+use Rattle.std.proofs.Common.{arith, ◌≡◌, ◌≢◌, refl, ℕ, nat_eq, Bool, Option, Some, None, is_some}
+use Rattle.std.proofs.lemmas.Grind.{common_steps}
 use Rattle.vt_spec.specs.declared.attributes.Attr.{Attr}
 use Rattle.vt_spec.specs.Rights.{is_directory}
 use Rattle.vt_spec.specs.Tree.{Node, Content, kind_of, entries_of, is_directory_node, entries_in, parent_of, parent_in}
 use Rattle.vt_spec.specs.Tree.Content.{Directory, Regular, Symlink, Whiteout}
-use Rattle.vt_spec.specs.Language.Changes.{changed_node, content_with_mark, content_with_parent, node_with_attr, node_with_mark, node_with_parent}
+use Rattle.vt_spec.specs.Language.Changes.{changed_node, content_with_mark, node_with_attr, node_with_mark, node_with_parent}
 use Rattle.vt_spec.specs.FileTree.{FileTree}
 use Rattle.vt_spec.proofs.Nodes.{node_other, node_set, part_kept}
 
@@ -17,8 +18,7 @@ pub record KeepsPlace (change : Option (Node ℕ) → Option (Node ℕ)) : Type 
 
 -- what a change of one inode keeps of it is kept at every inode
 pub part_stays : {A : Type 0} (files : FileTree ℕ) (number : ℕ) (change : Option (Node ℕ) → Option (Node ℕ))
-    (part : Option (Node ℕ) → A)
-    → ((o : Option (Node ℕ)) → part (change o) ≡ part o)
+    (part : Option (Node ℕ) → A) → ((o : Option (Node ℕ)) → part (change o) ≡ part o)
     → (other : ℕ) → part ((changed_node nat_eq files number change).tree.node other) ≡ part (files.tree.node other)
 part_stays files number change part same other =
     part_kept part files.tree number (change (files.tree.node number)) (same (files.tree.node number)) other
@@ -29,29 +29,12 @@ pub changed_node_there : (files : FileTree ℕ) (number : ℕ) (change : Option 
 changed_node_there files number change = node_set files.tree number (change (files.tree.node number))
 
 pub elsewhere : (files : FileTree ℕ) (number : ℕ) (change : Option (Node ℕ) → Option (Node ℕ)) (other : ℕ)
-    → other ≢ number
-    → (changed_node nat_eq files number change).tree.node other ≡ files.tree.node other
+    → other ≢ number → (changed_node nat_eq files number change).tree.node other ≡ files.tree.node other
 elsewhere files number change other differ = node_other files.tree number (change (files.tree.node number)) other differ
 
 -- other attributes
 pub attr_keeps_place : (attr : Attr) → KeepsPlace (node_with_attr attr)
-attr_keeps_place attr = record { kind = kind; used = used; entries = entries; parent = parent }
-  where
-    kind : (o : Option (Node ℕ)) → is_directory_node (node_with_attr attr o) ≡ is_directory_node o
-    kind None = refl
-    kind (Some node) = refl
-
-    used : (o : Option (Node ℕ)) → is_some (node_with_attr attr o) ≡ is_some o
-    used None = refl
-    used (Some node) = refl
-
-    entries : (o : Option (Node ℕ)) → entries_in (node_with_attr attr o) ≡ entries_in o
-    entries None = refl
-    entries (Some node) = refl
-
-    parent : (own : ℕ) (o : Option (Node ℕ)) → parent_in own (node_with_attr attr o) ≡ parent_in own o
-    parent own None = refl
-    parent own (Some node) = refl
+attr_keeps_place attr = grind (arith, common_steps)
 
 -- another mark
 module _ (opaque : Bool) where
@@ -76,31 +59,9 @@ module _ (opaque : Bool) where
   mark_parent own Whiteout = refl
 
   pub mark_keeps_place : KeepsPlace (node_with_mark opaque)
-  mark_keeps_place = record { kind = kind; used = used; entries = entries; parent = parent }
-    where
-      kind : (o : Option (Node ℕ)) → is_directory_node (node_with_mark opaque o) ≡ is_directory_node o
-      kind None = refl
-      kind (Some node) = mark_kind node.content
-
-      used : (o : Option (Node ℕ)) → is_some (node_with_mark opaque o) ≡ is_some o
-      used None = refl
-      used (Some node) = refl
-
-      entries : (o : Option (Node ℕ)) → entries_in (node_with_mark opaque o) ≡ entries_in o
-      entries None = refl
-      entries (Some node) = mark_entries node.content
-
-      parent : (own : ℕ) (o : Option (Node ℕ)) → parent_in own (node_with_mark opaque o) ≡ parent_in own o
-      parent own None = refl
-      parent own (Some node) = mark_parent own node.content
+  mark_keeps_place = grind (arith, common_steps, mark_kind, mark_entries, mark_parent)
 
 -- with itself as the parent, it is its own
 pub own_parent-node_with_parent : (own : ℕ) (o : Option (Node ℕ)) → parent_in own (node_with_parent own o) ≡ own
 own_parent-node_with_parent own None = refl
-own_parent-node_with_parent own (Some node) = by node.content
-  where
-    by : (content : Content ℕ) → parent_of own (content_with_parent own content) ≡ own
-    by (Directory old entries opaque) = refl
-    by (Regular bytes) = refl
-    by (Symlink text) = refl
-    by Whiteout = refl
+own_parent-node_with_parent own (Some node) = grind (arith, common_steps)

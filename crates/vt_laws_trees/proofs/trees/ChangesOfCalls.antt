@@ -1,10 +1,10 @@
 -- A name that is missing, in a directory that is not removed, is free.
-use Rattle.std.proofs.Common.{◌≡◌, refl, sym, ap, ◌∙◌, true≢false, ℕ, nat_eq, false, not, ◌&&◌, Option, Some, None, is_some, option_map}
+use Rattle.std.proofs.Common.{arith, ◌≡◌, refl, ap, ◌∙◌, true≢false, ℕ, nat_eq, false, not, ◌&&◌, Option, Some, None, is_some, option_map}
+use Rattle.std.proofs.lemmas.Grind.{common_steps}
 use Rattle.vt_spec.specs.Errors.{NoneFails}
-use Rattle.vt_spec.specs.Tree.{entries_in, entry_named}
 use Rattle.vt_spec.specs.Machine.Walking.{Place, is_special, name_of}
 use Rattle.vt_spec.proofs.Walk.{new_name_rules}
-use Rattle.vt_spec.specs.Machine.World.{World, files_at, is_removed_at, node_at}
+use Rattle.vt_spec.specs.Machine.World.{World, files_at}
 use Rattle.vt_laws_trees.specs.Trees.{IsFileTree, IsFree}
 use Rattle.vt_laws_trees.proofs.trees.TreesReached.{not_removed_reached}
 use Rattle.vt_laws_trees.proofs.trees.TreesWalked.{IsFilePlace, file_named}
@@ -18,18 +18,8 @@ mapped_none f (Some a) e = absurd (true≢false (ap is_some e))
 module _ (world : World ℕ) where
   -- a name that is missing, in a directory that is not removed, is free
   pub place_is_free : (place : Place ℕ) → IsFilePlace world place → is_special place.last ≡ false
-      → is_some place.object ≡ false
-      → NoneFails (new_name_rules nat_eq world place)
+      → is_some place.object ≡ false → NoneFails (new_name_rules nat_eq world place)
       → IsFileTree (files_at nat_eq world place.parent)
       → IsFree (files_at nat_eq world place.parent).tree place.parent.node (name_of place.last)
   place_is_free place is plain missing passed conditions =
-      let named = file_named world place.parent place.last place.object plain is in
-      record {
-        in_directory = named.0;
-        reached = not_removed_reached
-            (files_at nat_eq world place.parent).tree conditions.tree place.parent.node named.0
-            (ap (λ b. not b && is_removed_at nat_eq world place.parent) (sym missing) ∙ passed.0);
-        free = mapped_none (λ object. record { mount = place.parent.mount; node = object })
-            (entry_named (name_of place.last) (entries_in (node_at nat_eq world place.parent)))
-            (named.1 (none_from_not_some place.object missing));
-      }
+      grind (arith, common_steps, file_named, not_removed_reached, mapped_none, none_from_not_some)

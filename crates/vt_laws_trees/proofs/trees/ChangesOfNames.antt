@@ -1,5 +1,6 @@
 -- Changes of inodes, links, removals and renames are rearrangements of a tree.
-use Rattle.std.proofs.Common.{◌≡◌, ◌≢◌, refl, sym, ap, subst, ◌∙◌, true≢false, ℕ, nat_eq, List, ◌⊎◌, inl, inr, ⊎_elim, Option, Some, None, is_some}
+use Rattle.std.proofs.Common.{arith, ◌≡◌, ◌≢◌, refl, sym, ap, subst, ◌∙◌, true≢false, ℕ, nat_eq, List, ◌⊎◌, inl, inr, ⊎_elim, Option, Some, None, is_some}
+use Rattle.std.proofs.lemmas.Grind.{common_steps}
 use Rattle.std.proofs.lemmas.Bool.Decides.{eqb_tells}
 use Rattle.std.proofs.lemmas.Option.{same_Some}
 use Rattle.std.specs.FinMap.Entries.{is_sorted}
@@ -30,8 +31,7 @@ decided_some (Some other) number =
 -- Other attributes, bytes or marks
 module _ (files : FileTree ℕ) (number : ℕ) (change : Option (Node ℕ) → Option (Node ℕ)) (keeps : KeepsPlace change)
     (conditions : IsTree files.tree) where
-  still_entries : (directory : ℕ)
-      → entries_in ((changed_node nat_eq files number change).tree.node directory)
+  still_entries : (directory : ℕ) → entries_in ((changed_node nat_eq files number change).tree.node directory)
       ≡ entries_in (files.tree.node directory)
   still_entries directory = part_stays files number change entries_in keeps.entries directory
 
@@ -76,33 +76,26 @@ module _ (files : FileTree ℕ) (directory : ℕ) (name : List ℕ) (object : �
         (is_directory-node_with_entry name object);
     in_order = given_in_order files directory name object may.name_is_free.in_directory conditions.in_order;
     alive = λ d n k e. part_stays files directory (node_with_entry name object) is_some
-        (is_some-node_with_entry name object) k
-        ∙ ⊎_elim
-        (λ new. ap (λ m. is_some (files.tree.node m)) new.2 ∙ may.is_there)
-        (λ old. conditions.alive d n k old.0)
+        (is_some-node_with_entry name object) k ∙ ⊎_elim
+        (λ new. ap (λ m. is_some (files.tree.node m)) new.2 ∙ may.is_there) (λ old. conditions.alive d n k old.0)
         (linked_told d n k e);
-    kept = λ d n k e is. ⊎_elim
-        (λ same. none_is_not (entry_at files.tree directory name) k may.name_is_free.free
-        (sym (ap (λ m. entry_at files.tree m n) same.0 ∙ ap (entry_at files.tree directory) same.1) ∙ e))
-        inr
+    kept = λ d n k e is. ⊎_elim (λ same. none_is_not (entry_at files.tree directory name) k may.name_is_free.free
+        (sym (ap (λ m. entry_at files.tree m n) same.0 ∙ ap (entry_at files.tree directory) same.1) ∙ e)) inr
         (given_kept files directory name object may.name_is_free.in_directory d n k e);
     told = λ d n k e is. ⊎_elim
         (λ new. absurd (true≢false (sym is ∙ ap (λ m. is_directory_node (files.tree.node m)) new.2 ∙ may.no_directory)))
-        (λ old. inr (old.0, λ nobody. nobody))
-        (linked_told d n k e);
+        (λ old. inr (old.0, λ nobody. nobody)) (linked_told d n k e);
     decided = λ k. inr (λ nobody. nobody);
     arrives_entry = λ d n k nobody. absurd nobody;
     arrives_leaves = λ d n k nobody. nobody;
     arrives_once = λ d other n again k nobody nor. absurd nobody;
     arrives_reached = λ d n k nobody. absurd nobody;
     arrives_parent = λ d n k nobody is. absurd nobody;
-    stays_parent =
-        λ k is stays. part_stays files directory (node_with_entry name object) (parent_in k)
+    stays_parent = λ k is stays. part_stays files directory (node_with_entry name object) (parent_in k)
         (parent-node_with_entry name object k) k;
     leaves_how = λ k is nobody. absurd nobody;
     root_stays = λ nobody. nobody;
-    fills = λ k empty. ⊎_elim
-        (λ t. inr (subst (IsReached files.tree) (sym t.1) may.name_is_free.reached))
+    fills = λ k empty. ⊎_elim (λ t. inr (subst (IsReached files.tree) (sym t.1) may.name_is_free.reached))
         (λ t. inl (given_elsewhere files directory name object may.name_is_free.in_directory k t.1 ∙ empty))
         (eqb_tells k directory);
   }
@@ -140,8 +133,7 @@ module _ (files : FileTree ℕ) (directory : ℕ) (name : List ℕ) (object : �
   removed_entry d n = ap (entry_named n) (removed_entries d)
 
   removed_used : (k : ℕ) → is_some (removed.tree.node k) ≡ is_some (files.tree.node k)
-  removed_used k =
-      part_stays untaken object (node_with_parent object) is_some (is_some-node_with_parent object) k
+  removed_used k = part_stays untaken object (node_with_parent object) is_some (is_some-node_with_parent object) k
       ∙ part_stays files directory (node_without_entry name) is_some (is_some-node_without_entry name) k
 
   removed_kind : (k : ℕ) → is_directory_node (removed.tree.node k) ≡ is_directory_node (files.tree.node k)
@@ -154,13 +146,11 @@ module _ (files : FileTree ℕ) (directory : ℕ) (name : List ℕ) (object : �
   removed_told d n k e = untaken_told files directory name d n k (sym (removed_entry d n) ∙ e)
 
   removed_own : parent_in object (removed.tree.node object) ≡ object
-  removed_own =
-      ap (parent_in object) (changed_node_there untaken object (node_with_parent object))
+  removed_own = ap (parent_in object) (changed_node_there untaken object (node_with_parent object))
       ∙ own_parent-node_with_parent object (untaken.tree.node object)
 
   removed_parent : (k : ℕ) → k ≢ object → parent_in k (removed.tree.node k) ≡ parent_in k (files.tree.node k)
-  removed_parent k differ =
-      ap (parent_in k) (elsewhere untaken object (node_with_parent object) k differ)
+  removed_parent k differ = ap (parent_in k) (elsewhere untaken object (node_with_parent object) k differ)
       ∙ part_stays files directory (node_without_entry name) (parent_in k) (parent-node_without_entry name k) k
 
   removed_vanishes : Vanishes (files.tree.node object) (removed.tree.node object) object
@@ -176,18 +166,14 @@ module _ (files : FileTree ℕ) (directory : ℕ) (name : List ℕ) (object : �
     in_order = λ d. ap (is_sorted name_cmp) (removed_entries d)
         ∙ untaken_in_order files directory name conditions.in_order d;
     alive = λ d n k e. removed_used k ∙ conditions.alive d n k (removed_told d n k e).0;
-    kept = λ d n k e is. ⊎_elim
-        (λ same. inl
-        (same_Some k object (sym e ∙ ap (λ m. entry_at files.tree m n) same.0
-        ∙ ap (entry_at files.tree directory) same.1 ∙ may.named)))
-        (λ entry. inr (removed_entry d n ∙ entry))
+    kept = λ d n k e is. ⊎_elim (λ same. inl (same_Some k object (sym e ∙ ap (λ m. entry_at files.tree m n) same.0
+        ∙ ap (entry_at files.tree directory) same.1 ∙ may.named))) (λ entry. inr (removed_entry d n ∙ entry))
         (untaken_kept files directory name d n k e);
     told = λ d n k e is.
         let old = removed_told d n k e in
         inr (
           old.0,
-          λ same. old.1
-              (only_name files.tree conditions directory name object may.named d n k old.0 is same),
+          λ same. old.1 (only_name files.tree conditions directory name object may.named d n k old.0 is same),
         );
     decided = λ k. ⊎_elim (λ t. inl t.1) (λ t. inr t.1) (eqb_tells k object);
     arrives_entry = λ d n k nobody. absurd nobody;
@@ -220,9 +206,7 @@ module _ (files : FileTree ℕ) where
       → parent_in k ((without_parent nat_eq files o).tree.node k) ≡ k
   unparented_own None k e = none_is_not None k refl e
   unparented_own (Some object) k e =
-      subst (λ m. parent_in m ((without_parent nat_eq files (Some object)).tree.node m) ≡ m) (same_Some object k e)
-      (ap (parent_in object) (changed_node_there files object (node_with_parent object))
-      ∙ own_parent-node_with_parent object (files.tree.node object))
+      grind (arith, common_steps, same_Some, changed_node_there, own_parent-node_with_parent)
 
   pub unparented_parent : (o : Option ℕ) (k : ℕ) → o ≢ Some k
       → parent_in k ((without_parent nat_eq files o).tree.node k) ≡ parent_in k (files.tree.node k)

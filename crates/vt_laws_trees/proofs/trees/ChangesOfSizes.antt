@@ -1,17 +1,14 @@
 -- Changes keep trees within the limits of names, texts and files.
-use Rattle.std.proofs.Common.{eq-eqb, eqb-true, ◌≡◌, refl, sym, ap, ◌∙◌, ℕ, nat_eq, nat_le, Bool, true, false, not, cond, List, [], ◌∷◌, length, map, ◌&&◌, Option, Some, None}
-use Rattle.std.specs.declared.cmp.Ordering.{Ordering}
-use Rattle.std.specs.declared.cmp.Ordering.TheVariants.{Equal, Greater, Less}
-use Rattle.std.specs.FinMap.Entries.{by_order}
+use Rattle.std.proofs.Common.{arith, eq-eqb, eqb-true, ◌≡◌, refl, ap, ◌∙◌, ℕ, nat_eq, nat_le, Bool, true, false, not, cond, List, [], ◌∷◌, length, map, ◌&&◌, Option, Some, None}
+use Rattle.std.proofs.lemmas.Grind.{common_steps}
 use Rattle.std.specs.List.{filter, list_all}
 use Rattle.std.specs.Str.{bytes_eq}
 use Rattle.vt_spec.specs.declared.attributes.Attr.{Attr}
-use Rattle.vt_spec.specs.Tree.{Content, Entries, Node, name_cmp, node_with_bytes, node_with_entry, with_entry, entries_in, entry_named}
+use Rattle.vt_spec.specs.Tree.{Content, Entries, Node, node_with_bytes, node_with_entry, with_entry, entries_in, entry_named}
 use Rattle.vt_spec.specs.Tree.Content.{Directory, Regular, Symlink, Whiteout}
 use Rattle.vt_spec.specs.Language.Changes.{changed_node, node_with_attr, node_with_mark, node_with_parent, node_without_entry, with_inode, with_name, without_entry, without_name, without_parent}
 use Rattle.vt_spec.specs.Language.Changes.Change.{AddName, CopyUp, Make, Move, Remove, SetAttr, SetBytes, SetMark}
 use Rattle.vt_spec.specs.FileTree.{FileTree}
-use Rattle.vt_spec.specs.Lists.{is_among}
 use Rattle.vt_spec.specs.Language.Limits.{largest_file}
 use Rattle.vt_spec.specs.Machine.Settled.{filesystem_lives, only_among, only_used, only_used_by, used_in, without_dead_filesystems, without_dead_in, without_dead_mounts}
 use Rattle.vt_spec.specs.Machine.World.{Filesystem, World, is_overlay}
@@ -33,34 +30,12 @@ put_fits : (name : List ℕ) (number : ℕ) (entries : Entries ℕ) → is_fit_n
     → list_all is_fit_name (map (λ e. e.0) (with_entry name number entries)) ≡ true
 put_fits name number [] h k = both (is_fit_name name) true h refl
 put_fits name number (entry ∷ entries) h k =
-    by (name_cmp name entry.0)
-    (put_fits name number entries h
-    ((and_parts (is_fit_name entry.0) (list_all is_fit_name (map (λ e. e.0) entries)) k).1))
-  where
-    by : (o : Ordering) → list_all is_fit_name (map (λ e. e.0) (with_entry name number entries)) ≡ true
-        → list_all is_fit_name
-        (map (λ e. e.0)
-        (by_order o ((name, number) ∷ entry ∷ entries) ((entry.0, number) ∷ entries)
-        (entry ∷ with_entry name number entries))) ≡ true
-    by Less rest = both (is_fit_name name) (list_all is_fit_name (map (λ e. e.0) (entry ∷ entries))) h k
-    by Equal rest = k
-    by Greater rest =
-        both (is_fit_name entry.0) (list_all is_fit_name (map (λ e. e.0) (with_entry name number entries)))
-        ((and_parts (is_fit_name entry.0) (list_all is_fit_name (map (λ e. e.0) entries)) k).0) rest
+    grind (arith, common_steps, and_parts, both, put_fits name number entries h)
 
 filter_fits : (stays : List ℕ × ℕ → Bool) (entries : Entries ℕ) → list_all is_fit_name (map (λ e. e.0) entries) ≡ true
     → list_all is_fit_name (map (λ e. e.0) (filter stays entries)) ≡ true
 filter_fits stays [] k = refl
-filter_fits stays (entry ∷ entries) k =
-    by (stays entry) (filter_fits stays entries
-    ((and_parts (is_fit_name entry.0) (list_all is_fit_name (map (λ e. e.0) entries)) k).1))
-  where
-    by : (b : Bool) → list_all is_fit_name (map (λ e. e.0) (filter stays entries)) ≡ true
-        → list_all is_fit_name (map (λ e. e.0) (cond b (entry ∷ filter stays entries) (filter stays entries))) ≡ true
-    by true rest =
-        both (is_fit_name entry.0) (list_all is_fit_name (map (λ e. e.0) (filter stays entries)))
-        ((and_parts (is_fit_name entry.0) (list_all is_fit_name (map (λ e. e.0) entries)) k).0) rest
-    by false rest = rest
+filter_fits stays (entry ∷ entries) k = grind (arith, common_steps, and_parts, both, filter_fits stays entries)
 
 -- a directory's limits are those of its names
 names_of_directory : (b : Bool) → (true && b && true) ≡ true → b ≡ true
@@ -100,47 +75,22 @@ no_entry_fits name (Some node) k = by node.attr node.content k
     by attr Whiteout g = g
 
 pub parent_fits : (parent : ℕ) (o : Option (Node ℕ)) → fits o ≡ true → fits (node_with_parent parent o) ≡ true
-parent_fits parent None k = k
-parent_fits parent (Some node) k = by node.attr node.content k
-  where
-    by : (attr : Attr) (content : Content ℕ) → fits (Some (record { attr = attr; content = content })) ≡ true
-        → fits (node_with_parent parent (Some (record { attr = attr; content = content }))) ≡ true
-    by attr (Directory old entries opaque) g = g
-    by attr (Regular bytes) g = g
-    by attr (Symlink text) g = g
-    by attr Whiteout g = g
+parent_fits parent o k = grind (arith, common_steps)
 
 attr_fits : (new : Attr) (o : Option (Node ℕ)) → fits o ≡ true → fits (node_with_attr new o) ≡ true
 attr_fits new None k = k
 attr_fits new (Some node) k = k
 
 mark_fits : (opaque : Bool) (o : Option (Node ℕ)) → fits o ≡ true → fits (node_with_mark opaque o) ≡ true
-mark_fits opaque None k = k
-mark_fits opaque (Some node) k = by node.attr node.content k
-  where
-    by : (attr : Attr) (content : Content ℕ) → fits (Some (record { attr = attr; content = content })) ≡ true
-        → fits (node_with_mark opaque (Some (record { attr = attr; content = content }))) ≡ true
-    by attr (Directory parent entries old) g = g
-    by attr (Regular bytes) g = g
-    by attr (Symlink text) g = g
-    by attr Whiteout g = g
+mark_fits opaque o k = grind (arith, common_steps)
 
 bytes_fit : (bytes : List ℕ) → nat_le (length bytes) largest_file ≡ true → (o : Option (Node ℕ)) → fits o ≡ true
     → fits (node_with_bytes bytes o) ≡ true
-bytes_fit bytes h None k = k
-bytes_fit bytes h (Some node) k = by node.attr node.content k
-  where
-    by : (attr : Attr) (content : Content ℕ) → fits (Some (record { attr = attr; content = content })) ≡ true
-        → fits (node_with_bytes bytes (Some (record { attr = attr; content = content }))) ≡ true
-    by attr (Directory parent entries opaque) g = g
-    by attr (Regular old) g = ap (λ b. b && true && true) h
-    by attr (Symlink text) g = g
-    by attr Whiteout g = g
+bytes_fit bytes h o k = grind (arith, common_steps)
 
 -- Trees
 all_alike : (test other : ℕ → Bool) → ((n : ℕ) → test n ≡ true → other n ≡ true) → (list : List ℕ)
-    → list_all test list ≡ true
-    → list_all other list ≡ true
+    → list_all test list ≡ true → list_all other list ≡ true
 all_alike test other keeps [] h = refl
 all_alike test other keeps (n ∷ list) h =
     both (other n) (list_all other list) (keeps n ((and_parts (test n) (list_all test list) h).0))
@@ -149,18 +99,7 @@ all_alike test other keeps (n ∷ list) h =
 pub changed_fits_there : (files : FileTree ℕ) (number : ℕ) (change : Option (Node ℕ) → Option (Node ℕ))
     → (fits (files.tree.node number) ≡ true → fits (change (files.tree.node number)) ≡ true)
     → is_fit_tree files ≡ true → is_fit_tree (changed_node nat_eq files number change) ≡ true
-changed_fits_there files number change keeps h =
-    all_alike (λ n. fits (files.tree.node n))
-    (λ n. fits ((changed_node nat_eq files number change).tree.node n)) one files.numbers h
-  where
-    one : (n : ℕ) → fits (files.tree.node n) ≡ true
-        → fits ((changed_node nat_eq files number change).tree.node n) ≡ true
-    one n k = by (nat_eq n number) refl
-      where
-        by : (b : Bool) → nat_eq n number ≡ b
-            → fits (cond b (change (files.tree.node number)) (files.tree.node n)) ≡ true
-        by true e = keeps (ap (λ m. fits (files.tree.node m)) (sym (eqb-true n number e)) ∙ k)
-        by false e = k
+changed_fits_there files number change keeps h = grind (arith, common_steps, all_alike, eqb-true)
 
 changed_fits : (files : FileTree ℕ) (number : ℕ) (change : Option (Node ℕ) → Option (Node ℕ))
     → ((o : Option (Node ℕ)) → fits o ≡ true → fits (change o) ≡ true)
@@ -174,8 +113,7 @@ unparented_fits files (Some object) h = changed_fits files object (node_with_par
 
 pub inode_fits : (files : FileTree ℕ) (number : ℕ) (node : Node ℕ) → is_fit_node node ≡ true → is_fit_tree files ≡ true
     → is_fit_tree (with_inode nat_eq files number node) ≡ true
-inode_fits files number node k h =
-    both (fits ((with_inode nat_eq files number node).tree.node number))
+inode_fits files number node k h = both (fits ((with_inode nat_eq files number node).tree.node number))
     (list_all (λ n. fits ((with_inode nat_eq files number node).tree.node n)) files.numbers)
     (ap (λ b. fits (cond b (Some node) (files.tree.node number))) (eq-eqb number number refl) ∙ k)
     (all_alike (λ n. fits (files.tree.node n))
@@ -191,8 +129,7 @@ inode_fits files number node k h =
 pub changes_keep_sizes : ChangesKeepSizes
 changes_keep_sizes files (Make directory name number node) h fit =
     changed_fits (with_inode nat_eq files number node) directory (node_with_entry name number)
-    (entry_fits name number fit.0)
-    (inode_fits files number node fit.1 h)
+    (entry_fits name number fit.0) (inode_fits files number node fit.1 h)
 changes_keep_sizes files (AddName directory name object) h fit =
     changed_fits files directory (node_with_entry name object) (entry_fits name object fit) h
 changes_keep_sizes files (Remove directory name object) h fit =
@@ -216,17 +153,7 @@ changes_keep_sizes files (CopyUp object) h fit = h
 -- What nothing uses goes
 among_fits : (used : List ℕ) (files : FileTree ℕ) → is_fit_tree files ≡ true
     → is_fit_tree (only_among nat_eq used files) ≡ true
-among_fits used files h =
-    all-filter (λ n. fits ((only_among nat_eq used files).tree.node n)) (λ n. is_among nat_eq n used) files.numbers
-    (all_alike (λ n. fits (files.tree.node n))
-    (λ n. fits ((only_among nat_eq used files).tree.node n)) one files.numbers h)
-  where
-    one : (n : ℕ) → fits (files.tree.node n) ≡ true → fits ((only_among nat_eq used files).tree.node n) ≡ true
-    one n k = by (is_among nat_eq n used)
-      where
-        by : (b : Bool) → fits (cond b (files.tree.node n) None) ≡ true
-        by true = k
-        by false = refl
+among_fits used files h = grind (arith, common_steps, all-filter, all_alike)
 
 used_fits : (world : World ℕ) (chosen : Bool) (filesystem : Filesystem ℕ) → is_fit_filesystem filesystem ≡ true
     → is_fit_filesystem (only_used nat_eq world chosen filesystem) ≡ true
@@ -239,8 +166,7 @@ used_fits world false filesystem h = h
 
 round_fits : (chosen : Filesystem ℕ → Bool) (world : World ℕ) → list_all is_fit_filesystem world.filesystems ≡ true
     → list_all is_fit_filesystem (without_dead_in nat_eq chosen world).filesystems ≡ true
-round_fits chosen world h =
-    all_mapped is_fit_filesystem (λ f. only_used nat_eq world (chosen f) f)
+round_fits chosen world h = all_mapped is_fit_filesystem (λ f. only_used nat_eq world (chosen f) f)
     (λ f k. used_fits world (chosen f) f k) world.filesystems h
 
 pub settling_keeps_sizes : SettlingKeepsSizes

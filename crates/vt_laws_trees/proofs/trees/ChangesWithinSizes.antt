@@ -1,4 +1,5 @@
 -- Every call but the mount of an overlay keeps names, link texts and files within the limits.
+use Rattle.std.proofs.lemmas.Grind.{common_steps}
 use Rattle.std.proofs.Common.{arith, eq-eqb, ◌≡◌, refl, sym, ap, subst, ◌∙◌, true≢false, ℕ, ◌+◌, ◌≤◌, nat_eq, nat_le, le-leb, leb-true, ltb-false, Bool, true, false, not, cond, List, [], ◌∷◌, ◌++◌, length, take, drop, ◌&&◌, inl, inr, ⊎_elim, Option, Some, None, is_some, ok_or}
 use Rattle.std.proofs.lemmas.List.{length-append, length-drop, length-take}
 use Rattle.std.specs.List.{All, list_all, list_any}
@@ -20,7 +21,7 @@ use Rattle.vt_spec.specs.Machine.Filesystems.{filesystem_changed, filesystems_ra
 use Rattle.vt_spec.specs.Lists.{Fresh, evens, odds}
 use Rattle.vt_spec.specs.Machine.Mounts.{Location}
 use Rattle.vt_spec.proofs.Tables.{pwrite_rules, with_new}
-use Rattle.vt_spec.specs.Machine.Descriptors.{is_copied_up, overwritten, padded, pwritten, with_copy}
+use Rattle.vt_spec.specs.Machine.Descriptors.{is_copied_up, overwritten, pwritten, with_copy}
 use Rattle.vt_spec.specs.Machine.Rows.{file_mode, linking, making, new_file}
 use Rattle.vt_spec.specs.Machine.NewMounts.{plain_filesystem}
 use Rattle.vt_spec.specs.Machine.Rules.Removing.{moving, object_there, removing}
@@ -54,8 +55,7 @@ use Rattle.vt_laws_trees.proofs.trees.PlacesReached.{file_is, new_is, new_leaf_i
 
 -- a new tree
 new_plain_fits : (number root : ℕ) → is_fit_filesystem (new_plain nat_eq number root) ≡ true
-new_plain_fits number root =
-    both (fits ((new_plain nat_eq number root).files.tree.node root)) true
+new_plain_fits number root = both (fits ((new_plain nat_eq number root).files.tree.node root)) true
     (ap (λ b. fits (cond b (Some (record { attr = root_attr; content = new_directory root })) None))
     (eq-eqb root root refl)) refl
 
@@ -75,13 +75,10 @@ module _ (fresh : Fresh ℕ) (world : World ℕ) (location : Location ℕ) (chan
   new = with_files old (changed nat_eq old.files change)
 
   no_overlay : IsFitWorld world → old.overlay ≡ None
-  no_overlay conditions =
-      none_from_not_some old.overlay
-      (numbered_anyhow (λ f. is_overlay f ≡ false)
+  no_overlay conditions = none_from_not_some old.overlay (numbered_anyhow (λ f. is_overlay f ≡ false)
       (mount_at nat_eq world location).filesystem world.filesystems conditions.plain refl)
 
-  pub change_fits : IsFitWorld world
-      → (is_fit_tree (files_at nat_eq world location) ≡ true
+  pub change_fits : IsFitWorld world → (is_fit_tree (files_at nat_eq world location) ≡ true
       → is_fit_tree (changed nat_eq (files_at nat_eq world location) change) ≡ true)
       → IsFitWorld (with_change nat_eq fresh world location change)
   change_fits conditions keeps =
@@ -90,9 +87,7 @@ module _ (fresh : Fresh ℕ) (world : World ℕ) (location : Location ℕ) (chan
         plain = replaced_all (λ f. is_overlay f ≡ false) new world.filesystems conditions.plain
             (inl (ap is_some (no_overlay conditions)));
         fit = list_all-from_AllPass is_fit_filesystem (with_filesystem nat_eq world new).filesystems
-            (replaced_all (λ f. is_fit_filesystem f ≡ true) new world.filesystems fitting
-            (⊎_elim
-            (λ is. inl (keeps is))
+            (replaced_all (λ f. is_fit_filesystem f ≡ true) new world.filesystems fitting (⊎_elim (λ is. inl (keeps is))
             (λ missing. inr (subst (λ n. All (λ f. nat_eq n f.number ≡ false) world.filesystems)
             (sym (number_numbered (mount_at nat_eq world location).filesystem world.filesystems)) missing.1))
             (numbered_all (λ f. is_fit_filesystem f ≡ true)
@@ -104,22 +99,12 @@ module _ (fresh : Fresh ℕ) (world : World ℕ) (location : Location ℕ) (chan
 
 -- bytes written into a file end where they end, or where it ended
 pub overwritten_length : (offset : ℕ) (more bytes : List ℕ) (most : ℕ) → offset + length more ≤ most
-    → length bytes ≤ most
-    → length (overwritten offset more bytes) ≤ most
+    → length bytes ≤ most → length (overwritten offset more bytes) ≤ most
 overwritten_length offset more bytes most short old =
-    omega (
-      arith,
-      length-append (take offset (padded offset bytes) ++ more) (drop (offset + length more) bytes),
-      length-append (take offset (padded offset bytes)) more,
-      length-drop (offset + length more) bytes,
-      length-take offset (padded offset bytes),
-      short,
-      old,
-    )
+    grind (arith, common_steps, length-append, length-drop, length-take)
 
 overwritten_fits : (offset : ℕ) (more : List ℕ) → offset + length more ≤ largest_file → (o : Option (Node ℕ))
-    → fits o ≡ true
-    → fits (node_with_bytes (overwritten offset more (bytes_in o)) o) ≡ true
+    → fits o ≡ true → fits (node_with_bytes (overwritten offset more (bytes_in o)) o) ≡ true
 overwritten_fits offset more short None k = k
 overwritten_fits offset more short (Some node) k = by node.attr node.content k
   where
@@ -127,13 +112,7 @@ overwritten_fits offset more short (Some node) k = by node.attr node.content k
         → fits (node_with_bytes (overwritten offset more (bytes_in (Some (record { attr = attr; content = content }))))
         (Some (record { attr = attr; content = content }))) ≡ true
     by attr (Directory parent entries opaque) g = g
-    by attr (Regular bytes) g =
-        ap (λ b. b && true && true)
-        (le-leb (length (overwritten offset more bytes)) largest_file
-        (overwritten_length offset more bytes largest_file short
-        (leb-true (length bytes) largest_file
-        ((and_parts (nat_le (length bytes) largest_file) true
-        ((and_parts (nat_le (length bytes) largest_file && true) true g).0)).0))))
+    by attr (Regular bytes) g = grind (arith, common_steps, le-leb, overwritten_length, leb-true, and_parts)
     by attr (Symlink text) g = g
     by attr Whiteout g = g
 
@@ -141,8 +120,7 @@ module _ (fresh : Fresh ℕ) (world : World ℕ) (task : Task ℕ) (conditions :
   -- a change within the limits, also after mounts were taken away
   fit_change : (any : Fresh ℕ) (location : Location ℕ) (change : Change ℕ) → IsFitChange change
       → IsFitWorld (with_change nat_eq any world location change)
-  fit_change any location change fit =
-      change_fits any world location change conditions
+  fit_change any location change fit = change_fits any world location change conditions
       (λ small. changes_keep_sizes (files_at nat_eq world location) change small fit)
 
   fit_change_after : (any : Fresh ℕ) (before : World ℕ) → before.filesystems ≡ world.filesystems
@@ -153,8 +131,7 @@ module _ (fresh : Fresh ℕ) (world : World ℕ) (task : Task ℕ) (conditions :
       (λ small. changes_keep_sizes (files_at nat_eq before location) change small fit)
 
   fit_new : (place : Place ℕ) (node : Node ℕ) → HasFitLast world task place → is_special place.last ≡ false
-      → is_fit_node node ≡ true
-      → IsFitWorld (with_new nat_eq fresh world place node)
+      → is_fit_node node ≡ true → IsFitWorld (with_new nat_eq fresh world place node)
   fit_new place node last plain fit =
       fit_change (odds fresh) place.parent (making place (evens fresh 0) node) (fit_name_of place.last plain last, fit)
 
@@ -162,8 +139,7 @@ module _ (fresh : Fresh ℕ) (world : World ℕ) (task : Task ℕ) (conditions :
       → NoneFails (pwrite_rules nat_eq world file offset bytes)
       → IsFitWorld (pwritten nat_eq fresh world file offset bytes)
   fit_pwritten file offset [] passed = conditions
-  fit_pwritten file offset (byte ∷ bytes) passed =
-      change_fits fresh world file
+  fit_pwritten file offset (byte ∷ bytes) passed = change_fits fresh world file
       (SetBytes file.node (overwritten offset (byte ∷ bytes) (bytes_in (node_at nat_eq world file)))) conditions
       (changed_fits_there (files_at nat_eq world file) file.node
       (node_with_bytes (overwritten offset (byte ∷ bytes) (bytes_in (node_at nat_eq world file))))
@@ -173,8 +149,7 @@ module _ (fresh : Fresh ℕ) (world : World ℕ) (task : Task ℕ) (conditions :
   -- open(2)
   fit_opened : (file : Location ℕ) (access : Access)
       → IsFitWorld (apply nat_eq fresh world task (ToOpen file access)).world
-  fit_opened file access =
-      alike_fit (apply nat_eq fresh world task (ToOpen file access)).world
+  fit_opened file access = alike_fit (apply nat_eq fresh world task (ToOpen file access)).world
       (with_copy nat_eq (is_copied_up nat_eq world file access) fresh world file) refl
       (by (is_copied_up nat_eq world file access))
     where
@@ -187,8 +162,7 @@ module _ (fresh : Fresh ℕ) (world : World ℕ) (task : Task ℕ) (conditions :
       → IsFitWorld (apply nat_eq fresh world task (open_new_permit task place access mode)).world
   fit_created place access mode last plain =
       alike_fit (apply nat_eq fresh world task (open_new_permit task place access mode)).world
-      (with_new nat_eq fresh world place (new_file task mode [])) refl
-      (fit_new place (new_file task mode []) last plain
+      (with_new nat_eq fresh world place (new_file task mode [])) refl (fit_new place (new_file task mode []) last plain
       (ap (λ b. b && true && true) (le-leb 0 largest_file (omega arith))))
 
   -- a new plain filesystem
@@ -199,8 +173,7 @@ module _ (fresh : Fresh ℕ) (world : World ℕ) (task : Task ℕ) (conditions :
         (All-append (λ f. is_overlay f ≡ false) world.filesystems (plain_filesystem nat_eq fresh ∷ []) conditions.plain
         (All-cons (λ f. is_overlay f ≡ false) (plain_filesystem nat_eq fresh) [] refl
         (All-nil (λ f. is_overlay f ≡ false))));
-    fit =
-        ap (list_all is_fit_filesystem) same
+    fit = ap (list_all is_fit_filesystem) same
         ∙ all_appended is_fit_filesystem world.filesystems (plain_filesystem nat_eq fresh) conditions.fit
         (new_plain_fits (evens fresh 0) (evens fresh 1));
   }
@@ -218,8 +191,7 @@ module _ (fresh : Fresh ℕ) (world : World ℕ) (task : Task ℕ) (conditions :
   granted_fits call permit other (makes_directory path mode place end passed) =
       fit_new place (directory_made task place mode) (new_is world task path place end).1 passed.0 refl
   granted_fits call permit other (makes_symlink text path place fits end passed) =
-      fit_new place (symlink_made task text) (new_leaf_is world task path place end).1 passed.0
-      (ap (λ b. b && true)
+      fit_new place (symlink_made task text) (new_leaf_is world task path place end).1 passed.0 (ap (λ b. b && true)
       (both (not (is_empty text)) (nat_le (length text) longest_path) (ap not fits.0)
       (no_longer longest_path text fits.1.0)))
   granted_fits call permit other (makes_whiteout path place end passed) =
@@ -234,8 +206,7 @@ module _ (fresh : Fresh ℕ) (world : World ℕ) (task : Task ℕ) (conditions :
       place.parent (removing place (object_there place)) tt
   granted_fits call permit other (renames _ new from to names another passed) =
       fit_change_after fresh (without_replaced nat_eq world to.object) (filesystems-without_replaced world to.object)
-      from.parent (moving from to (object_there from))
-      (fit_name_of to.last names.to_named.0
+      from.parent (moving from to (object_there from)) (fit_name_of to.last names.to_named.0
       (rename_new_is world task new (is_directory_there nat_eq (looks_of nat_eq world) from) to names.to_end).1)
   granted_fits call permit other (changes_mode path mode here end passed) = fit_change fresh here.location _ tt
   granted_fits call permit other (changes_owner path uid gid here end passed) = fit_change fresh here.location _ tt
@@ -270,8 +241,7 @@ fit_settled world conditions =
     let plain_living : All (λ f. is_overlay f ≡ false) living.filesystems =
     All-filter (filesystem_lives nat_eq mounted) (λ f. is_overlay f ≡ false) world.filesystems conditions.plain in
     record {
-      plain =
-          without_dead_plain (λ f. not (is_overlay f)) (without_dead_in nat_eq is_overlay living)
+      plain = without_dead_plain (λ f. not (is_overlay f)) (without_dead_in nat_eq is_overlay living)
           (without_dead_plain is_overlay living plain_living);
       fit = settling_keeps_sizes world conditions.fit;
     }
@@ -292,8 +262,7 @@ fit_raised changed world conditions = record {
         by false = h
 
 fit_finished : (before : World ℕ) (name : TaskName) (changed : List ℕ) (outcome : Outcome ℕ) (b : Bool)
-    → IsFitWorld outcome.world
-    → IsFitWorld (finished_by nat_eq b before name changed outcome).world
+    → IsFitWorld outcome.world → IsFitWorld (finished_by nat_eq b before name changed outcome).world
 fit_finished before name changed outcome true conditions = conditions
 fit_finished before name changed outcome false conditions =
     alike_fit (finished_by nat_eq false before name changed outcome).world

@@ -22,8 +22,7 @@ module _ (world : World ℕ) (task : Task ℕ) where
     at_end _ (new_walk nat_eq looks task path) place (fit_new_walk world task path) e,
   )
 
-  pub new_leaf_is : (path : List ℕ) (place : Place ℕ) → new_leaf_walk nat_eq looks task path ≡ Ok place
-      → NewPlace place
+  pub new_leaf_is : (path : List ℕ) (place : Place ℕ) → new_leaf_walk nat_eq looks task path ≡ Ok place → NewPlace place
   new_leaf_is path place e = (
     at_end _ (new_leaf_walk nat_eq looks task path) place (ends_new_leaf_walk world task path) e,
     at_end _ (new_leaf_walk nat_eq looks task path) place (fit_new_leaf_walk world task path) e,
@@ -52,8 +51,7 @@ module _ (world : World ℕ) (task : Task ℕ) where
   -- where the walk of an old name ends
   pub old_leaf_is : (path : List ℕ) (place : Place ℕ) → old_leaf_walk nat_eq looks task path ≡ Ok place
       → IsOldPlace world task place
-  old_leaf_is path place =
-      at_end _ (old_leaf_walk nat_eq looks task path) place (ends_old_leaf_walk world task path)
+  old_leaf_is path place = at_end _ (old_leaf_walk nat_eq looks task path) place (ends_old_leaf_walk world task path)
 
   pub old_is : (path : List ℕ) (place : Place ℕ) → old_walk nat_eq looks task path ≡ Ok place
       → IsOldPlace world task place

@@ -1,13 +1,14 @@
 -- The directories above a directory, one by one: a directory under another sees it above itself.
-use Rattle.std.proofs.Common.{◌≡◌, ◌≢◌, refl, sym, ap, subst, ◌∙◌, true≢false, ℕ, zero, suc, ◌+◌, ◌-◌, ◌<◌, ◌≤◌, arith, nat_eq, eq-eqb, eqb-true, ne_eqb, Bool, true, false, cond, List, [], ◌∷◌, length, map, ◌||◌, ⊎_elim, Option, Some, None, option_and_then, unwrap_or}
+use Rattle.std.proofs.lemmas.Grind.{common_steps}
+use Rattle.std.proofs.Common.{◌≡◌, ◌≢◌, refl, sym, ap, subst, ◌∙◌, true≢false, ℕ, zero, suc, ◌+◌, ◌-◌, ◌<◌, ◌≤◌, arith, nat_eq, eq-eqb, eqb-true, ne_eqb, Bool, true, false, cond, List, [], ◌∷◌, length, ◌||◌, ⊎_elim, Option, Some, None, option_and_then, unwrap_or}
 use Rattle.std.proofs.lemmas.Bool.{cases_lt, or_right}
 use Rattle.std.proofs.lemmas.Map.Made.{length-le_from_is_member}
 use Rattle.std.proofs.lemmas.Option.{same_Some}
 use Rattle.std.specs.Cmp.{nat_eq_equiv}
 use Rattle.std.specs.List.{AllByRecursion, IsDistinct}
 use Rattle.vt_spec.specs.Rights.{is_directory}
-use Rattle.vt_spec.specs.Tree.{Content, Node, Tree, entries_in, entries_of, is_directory_node, kind_of, parent_in}
-use Rattle.vt_spec.specs.Tree.Content.{Directory, Regular, Symlink, Whiteout}
+use Rattle.vt_spec.specs.Tree.{Node, Tree, entries_in, is_directory_node, parent_in}
+use Rattle.vt_spec.specs.Tree.Content.{Directory}
 use Rattle.vt_spec.specs.TreeInvariant.{entry_at, led, IsDirectory, IsReached, IsTree}
 use Rattle.vt_spec.specs.FileTree.{FileTree, has_entry_to, is_directory_under, named_parent, targets_in}
 use Rattle.vt_spec.specs.Lists.{chain, is_among, when}
@@ -49,30 +50,13 @@ module _ (tree : Tree ℕ) where
   -- what has an entry to something is a directory
   entry_to_directory : (o : Option (Node ℕ)) (k : ℕ) → is_among nat_eq k (targets_in o) ≡ true
       → is_directory_node o ≡ true
-  entry_to_directory None k h = absurd (true≢false (sym h))
-  entry_to_directory (Some node) k h = by node.content h
-    where
-      by : (content : Content ℕ) → is_among nat_eq k (map (λ e. e.1) (entries_of content)) ≡ true
-          → is_directory (kind_of content) ≡ true
-      by (Directory parent entries opaque) h = refl
-      by (Regular bytes) h = absurd (true≢false (sym h))
-      by (Symlink text) h = absurd (true≢false (sym h))
-      by Whiteout h = absurd (true≢false (sym h))
+  entry_to_directory o k h = grind (arith, common_steps, true≢false)
 
   parent_is_directory : (k d : ℕ) → named_parent nat_eq tree k ≡ Some d → IsDirectory tree d
-  parent_is_directory k d e = by (nat_eq k tree.root) (has_entry_to nat_eq tree (parent_in k (tree.node k)) k) refl e
-    where
-      by : (a b : Bool) → has_entry_to nat_eq tree (parent_in k (tree.node k)) k ≡ b
-          → cond a None (when b (parent_in k (tree.node k))) ≡ Some d → IsDirectory tree d
-      by true b h e = none_is_not None d refl e
-      by false true h e =
-          subst (IsDirectory tree) (same_Some (parent_in k (tree.node k)) d e)
-          (entry_to_directory (tree.node (parent_in k (tree.node k))) k h)
-      by false false h e = none_is_not None d refl e
+  parent_is_directory k d e = grind (arith, common_steps, none_is_not, same_Some, entry_to_directory)
 
   root_above_none : named_parent nat_eq tree tree.root ≡ None
-  root_above_none =
-      ap (λ b. cond b None
+  root_above_none = ap (λ b. cond b None
       (when (has_entry_to nat_eq tree (parent_in tree.root (tree.node tree.root)) tree.root)
       (parent_in tree.root (tree.node tree.root)))) (eq-eqb tree.root tree.root refl)
 
@@ -109,10 +93,8 @@ module _ (tree : Tree ℕ) where
 module _ (tree : Tree ℕ) (conditions : IsTree tree) where
   -- the parent of a directory that has a name is the directory of the name
   pub parent_named : (directory : ℕ) (name : List ℕ) (number : ℕ) → entry_at tree directory name ≡ Some number
-      → IsDirectory tree number
-      → named_parent nat_eq tree number ≡ Some directory
-  parent_named directory name number entry is =
-      ap (λ b. cond b None
+      → IsDirectory tree number → named_parent nat_eq tree number ≡ Some directory
+  parent_named directory name number entry is = ap (λ b. cond b None
       (when (has_entry_to nat_eq tree (parent_in number (tree.node number)) number)
       (parent_in number (tree.node number))))
       (ne_eqb number tree.root (λ root. conditions.root_unnamed directory name (entry ∙ ap Some root)))
@@ -151,10 +133,7 @@ module _ (files : FileTree ℕ) (conditions : IsFileTree files) (to : ℕ) (is :
   past_root k lt =
       let more = k - suc height in
       let whole : k ≡ more + suc height = omega arith in
-      ap (λ n. up files.tree n (Some to)) whole ∙ up_plus files.tree more (suc height) (Some to)
-      ∙ ap (up files.tree more) (ap (option_and_then (named_parent nat_eq files.tree)) at_root
-      ∙ root_above_none files.tree)
-      ∙ up_none files.tree more
+      grind (arith, common_steps, up_plus, at_root, root_above_none, up_none)
 
   -- what is up is no higher than the root
   low : (k e : ℕ) → up files.tree k (Some to) ≡ Some e → k ≤ height
@@ -173,8 +152,7 @@ module _ (files : FileTree ℕ) (conditions : IsFileTree files) (to : ℕ) (is :
           let whole : height ≡ more + k = omega arith in
           none_is_not None files.tree.root refl
           (sym (ap (λ n. up files.tree n (Some to)) whole ∙ up_plus files.tree more k (Some to)
-          ∙ ap (up files.tree more) e
-          ∙ up_none files.tree more) ∙ at_root)
+          ∙ ap (up files.tree more) e ∙ up_none files.tree more) ∙ at_root)
       by (Some x) e = refl
 
   above_differ : (j k : ℕ) → j < k → k ≤ height → above k ≢ above j
@@ -182,8 +160,7 @@ module _ (files : FileTree ℕ) (conditions : IsFileTree files) (to : ℕ) (is :
       let more = height - j in
       let whole : height ≡ more + j = omega arith in
       let past : height < more + k = omega arith in
-      none_is_not None files.tree.root refl
-      (sym (past_root (more + k) past) ∙ up_plus files.tree more k (Some to)
+      none_is_not None files.tree.root refl (sym (past_root (more + k) past) ∙ up_plus files.tree more k (Some to)
       ∙ ap (up files.tree more) (above_there k le ∙ ap Some same ∙ sym (above_there j (omega arith)))
       ∙ sym (up_plus files.tree more j (Some to)) ∙ ap (λ n. up files.tree n (Some to)) (sym whole) ∙ at_root)
 
@@ -199,11 +176,7 @@ module _ (files : FileTree ℕ) (conditions : IsFileTree files) (to : ℕ) (is :
   line_apart : (i k : ℕ) → k < i → i ≤ height → AllByRecursion (λ y. nat_eq (above i) y ≡ false) (line k)
   unfolding line
   line_apart i zero lt le = (ne_eqb (above i) (above 0) (above_differ 0 i lt le), tt)
-  line_apart i (suc k) lt le = (
-    ne_eqb (above i) (above (suc k)) (above_differ (suc k) i lt le),
-    line_apart i k
-        (omega arith) le,
-  )
+  line_apart i (suc k) lt le = grind (arith, common_steps, ne_eqb, above_differ, line_apart i k (omega arith) le)
 
   line_distinct : (k : ℕ) → k ≤ height → IsDistinct nat_eq (line k)
   unfolding line IsDistinct
@@ -211,8 +184,7 @@ module _ (files : FileTree ℕ) (conditions : IsFileTree files) (to : ℕ) (is :
   line_distinct (suc k) le = (line_apart (suc k) k (omega arith) le, line_distinct k (omega arith))
 
   above_listed : (k : ℕ) → k ≤ height → is_among nat_eq (above k) files.numbers ≡ true
-  above_listed k le =
-      conditions.numbers (above k) ∙ directory_used files.tree (above k)
+  above_listed k le = conditions.numbers (above k) ∙ directory_used files.tree (above k)
       (up_directory files.tree k to (above k) is (above_there k le))
 
   line_listed : (k q : ℕ) → k ≤ height → is_among nat_eq q (line k) ≡ true → is_among nat_eq q files.numbers ≡ true
@@ -234,8 +206,7 @@ module _ (files : FileTree ℕ) (conditions : IsFileTree files) (to : ℕ) (is :
   -- there are no more steps than inodes
   height_small : height < length files.numbers
   height_small =
-      let few =
-      length-le_from_is_member nat_eq_equiv (line height) files.numbers (line_distinct height (omega arith))
+      let few = length-le_from_is_member nat_eq_equiv (line height) files.numbers (line_distinct height (omega arith))
       (λ q h. line_listed height q (omega arith) h) in
       omega (arith, few, line_length height)
 

@@ -1,8 +1,8 @@
 -- What a path leads to is there, where the roots of mounts and their places are.
-use Rattle.std.proofs.Common.{◌≡◌, ◌≢◌, refl, sym, ap, subst, ◌∙◌, true≢false, ℕ, zero, suc, nat_eq, Bool, true, false, not, cond, List, [], ◌∷◌, length, reverse, ◌==◌, ⊎_elim, Option, Some, None, is_some, option_map, ok_or, Result, Ok, Err}
-use Rattle.std.specs.Prelude.{codes, filter, unwrap_or}
+use Rattle.std.proofs.Common.{arith, ◌≡◌, ◌≢◌, refl, sym, ap, subst, ◌∙◌, true≢false, ℕ, zero, suc, nat_eq, Bool, true, false, not, cond, List, [], ◌∷◌, length, reverse, ◌==◌, ⊎_elim, Option, Some, None, is_some, option_map, ok_or, Result, Ok, Err}
+use Rattle.std.proofs.lemmas.Grind.{common_steps}
+use Rattle.std.specs.Prelude.{filter, unwrap_or}
 use Rattle.std.specs.List.{All, find}
-use Rattle.std.specs.Str.{bytes_eq}
 use Rattle.std.proofs.lemmas.List.{length-reverse, nil_from_length}
 use Rattle.std.proofs.lemmas.List.Elements.{All-head, All-tail}
 use Rattle.vt_spec.specs.declared.errors.Deny.{Deny}
@@ -46,16 +46,7 @@ chain_ends Q next step (suc most) default start q = by (next start) refl (λ b p
 
 -- a path without words is a path of slashes
 one_part : (byte : ℕ) (list : List (List ℕ)) → filter (λ part. not (is_empty part)) (with_byte false byte list) ≢ []
-one_part byte [] e = true≢false (sym (ap is_nil e))
-  where
-    is_nil : List (List ℕ) → Bool
-    is_nil [] = true
-    is_nil (x ∷ xs) = false
-one_part byte (part ∷ list) e = true≢false (sym (ap is_nil e))
-  where
-    is_nil : List (List ℕ) → Bool
-    is_nil [] = true
-    is_nil (x ∷ xs) = false
+one_part byte list e = grind (arith, common_steps, true≢false)
 
 no_words : (text : List ℕ) → words text ≡ [] → is_empty text ≡ false → ends_in_slash text ≡ true
 no_words [] e h = absurd (true≢false h)
@@ -68,27 +59,19 @@ no_words (byte ∷ []) e h = by (byte == 47) refl e
 no_words (byte ∷ next ∷ bytes) e h = by (byte == 47) e (λ g. no_words (next ∷ bytes) g refl)
   where
     by : (b : Bool) → filter (λ part. not (is_empty part)) (with_byte b byte (parts 47 (next ∷ bytes))) ≡ []
-        → (words (next ∷ bytes) ≡ [] → ends_in_slash (next ∷ bytes) ≡ true)
-        → ends_in_slash (next ∷ bytes) ≡ true
+        → (words (next ∷ bytes) ≡ [] → ends_in_slash (next ∷ bytes) ≡ true) → ends_in_slash (next ∷ bytes) ≡ true
     by true g rest = rest g
     by false g rest = absurd (one_part byte (parts 47 (next ∷ bytes)) g)
 
 -- a word is no missing word
 is_some_word : (word : List ℕ) → is_no_word (last_word word) ≡ false
-is_some_word word = by (bytes_eq word (codes ".")) (bytes_eq word (codes ".."))
-  where
-    by : (a b : Bool) → is_no_word (cond a Dot (cond b DotDot (Named word))) ≡ false
-    by true b = refl
-    by false true = refl
-    by false false = refl
+is_some_word word = grind (arith, common_steps)
 
 -- where a directory is, there is a tree
 pub directory_in_tree : (world : World ℕ) → All (λ (f : Filesystem ℕ). IsTree f.files.tree) world.filesystems
     → (location : Location ℕ) → is_directory_at nat_eq world location ≡ true
     → IsTree (files_at nat_eq world location).tree
-directory_in_tree world trees location is =
-    ⊎_elim (λ tree. tree)
-    (λ missing. absurd (true≢false
+directory_in_tree world trees location is = ⊎_elim (λ tree. tree) (λ missing. absurd (true≢false
     (sym is ∙ ap (λ (f : Filesystem ℕ). is_directory_node (f.files.tree.node location.node)) missing.0)))
     (numbered_all (λ filesystem. IsTree filesystem.files.tree)
     (mount_at nat_eq world location).filesystem world.filesystems trees)
@@ -111,14 +94,12 @@ module _ (world : World ℕ) (trees : All (λ (f : Filesystem ℕ). IsTree f.fil
       by : (o : Option (Mount ℕ)) → child_at nat_eq world.mounts a ≡ o → option_map root_of o ≡ Some b
           → IsDirectoryThere b
       by None is h = none_is_not None b refl h
-      by (Some mount) is h =
-          subst IsDirectoryThere (ap (λ o. unwrap_or o b) h)
+      by (Some mount) is h = subst IsDirectoryThere (ap (λ o. unwrap_or o b) h)
           (found_all (λ m. is_directory_at nat_eq world (root_of m) ≡ true)
           (stands_at nat_eq a) world.mounts mount standing.roots is)
 
   topmost_there : (location : Location ℕ) → IsThere location → IsThere (topmost nat_eq world.mounts location)
-  topmost_there location is =
-      chain_ends IsThere (λ here. option_map root_of (child_at nat_eq world.mounts here))
+  topmost_there location is = chain_ends IsThere (λ here. option_map root_of (child_at nat_eq world.mounts here))
       (λ a b there e. directory_there b (child_there a b e)) (length world.mounts) location location is
 
   -- the place of a mount
@@ -148,23 +129,19 @@ module _ (world : World ℕ) (trees : All (λ (f : Filesystem ℕ). IsTree f.fil
     parent_there location is = (directory_in_tree world trees location is).parent_directory location.node is
 
     up_there : (location reached : Location ℕ) → IsDirectoryThere location
-        → up_from nat_eq world task location ≡ Ok reached
-        → IsThere reached
+        → up_from nat_eq world task location ≡ Ok reached → IsThere reached
     up_there location reached is e = by (is_top nat_eq world task location) (is_lost nat_eq world location) e
       where
-        by : (p q : Bool)
-            → cond p (Ok location)
+        by : (p q : Bool) → cond p (Ok location)
             (unless ((q, W8) ∷ []) (Ok (topmost nat_eq world.mounts (parent_location nat_eq world location))))
-            ≡ Ok reached
-            → IsThere reached
+            ≡ Ok reached → IsThere reached
         by true q h = subst IsThere (ok_same location reached (Ok location) refl h) (directory_there location is)
         by false true h = absurd (true≢false (sym (ap is_ok_result h)))
           where
             is_ok_result : Result (Location ℕ) Deny → Bool
             is_ok_result (Ok l) = true
             is_ok_result (Err d) = false
-        by false false h =
-            subst IsThere (ok_same (topmost nat_eq world.mounts
+        by false false h = subst IsThere (ok_same (topmost nat_eq world.mounts
             (parent_location nat_eq world location)) reached _ refl h)
             (topmost_there (parent_location nat_eq world location)
             (directory_there (parent_location nat_eq world location) (parent_there location is)))
@@ -176,8 +153,7 @@ module _ (world : World ℕ) (trees : All (λ (f : Filesystem ℕ). IsTree f.fil
         by : (o : Option ℕ) → entry_named name (entries_in (node_at nat_eq world here)) ≡ o
             → option_map (λ number. record { mount = here.mount; node = number }) o ≡ Some object → IsThere object
         by None f h = none_is_not None object refl h
-        by (Some number) f h =
-            subst IsThere (ap (λ o. unwrap_or o object) h)
+        by (Some number) f h = subst IsThere (ap (λ o. unwrap_or o object) h)
             ((directory_in_tree world trees here is).alive here.node name number f)
 
     -- one word
@@ -186,8 +162,7 @@ module _ (world : World ℕ) (trees : All (λ (f : Filesystem ℕ). IsTree f.fil
     step_there here NoWord reached is e =
         subst IsThere (ok_same here reached (Ok here) refl e) (directory_there here is)
     step_there here Dot reached is e = subst IsThere (ok_same here reached (Ok here) refl e) (directory_there here is)
-    step_there here DotDot reached is e =
-        up_there (last_or here (hops nat_eq world task here)) reached
+    step_there here DotDot reached is e = up_there (last_or here (hops nat_eq world task here)) reached
         (chain_ends IsDirectoryThere (hop nat_eq world task) hop_there (length world.mounts) here here is) e
     step_there here (Named name) reached is e = by (entry_location nat_eq world here name) refl e
       where
@@ -198,8 +173,7 @@ module _ (world : World ℕ) (trees : All (λ (f : Filesystem ℕ). IsTree f.fil
             is_ok_result : Result (Location ℕ) Deny → Bool
             is_ok_result (Ok l) = true
             is_ok_result (Err d) = false
-        by (Some object) f h =
-            subst IsThere (ok_same (topmost nat_eq world.mounts object) reached _ refl h)
+        by (Some object) f h = subst IsThere (ok_same (topmost nat_eq world.mounts object) reached _ refl h)
             (topmost_there object (entry_there here name object is f))
 
     abbrev EndsThere : Result (Here ℕ) (Stop ℕ) → Type 0
@@ -209,8 +183,7 @@ module _ (world : World ℕ) (trees : All (λ (f : Filesystem ℕ). IsTree f.fil
     pub word_there : (here : Here ℕ) (word : LastWord) → EndsThere (word_walked nat_eq world task here word)
     word_there here word =
         ends_step (λ next. is_some (node_at nat_eq world next.location) ≡ true) (steps_with nat_eq world task here word)
-        (search_rules nat_eq world task here.location) (stepped nat_eq world task here.location word)
-        (λ reached. Ok
+        (search_rules nat_eq world task here.location) (stepped nat_eq world task here.location word) (λ reached. Ok
         (record { location = reached; left = here.left; steps = steps_with nat_eq world task here word }))
         (λ passed reached e. step_there here.location word reached
         (not_true (is_directory_at nat_eq world here.location) passed.0) e)
@@ -234,19 +207,15 @@ module _ (world : World ℕ) (trees : All (λ (f : Filesystem ℕ). IsTree f.fil
         ends_next (λ here. is_some (node_at nat_eq world here.location) ≡ true) (path_walked nat_eq world task path)
         (λ here. walk_unless here.steps (slash_rules nat_eq world path here.location) here)
         (λ here. ends_unless (λ h. is_some (node_at nat_eq world h.location) ≡ true) here.steps
-        (slash_rules nat_eq world path here.location) here
-        (λ passed. directory_there here.location
+        (slash_rules nat_eq world path here.location) here (λ passed. directory_there here.location
         (not_true (is_directory_at nat_eq world here.location)
         (ap (λ b. cond b (not (is_directory_at nat_eq world here.location)) false) (sym slash) ∙ passed.0))))
-    link_there_by path false slash =
-        ends_then (λ text. (ends_in_slash text ≡ false) × (is_empty text ≡ false))
+    link_there_by path false slash = ends_then (λ text. (ends_in_slash text ≡ false) × (is_empty text ≡ false))
         (λ here. is_some (node_at nat_eq world here.location) ≡ true) (path_text path)
         (λ text. then_walk (prefix_walked nat_eq world task (followed nat_eq world task) (walk_start task text)
-        (reverse (words text)))
-        (λ here. last_walked nat_eq world task here (final_word (reverse (words text)))))
+        (reverse (words text))) (λ here. last_walked nat_eq world task here (final_word (reverse (words text)))))
         (ends_unless (λ text. (ends_in_slash text ≡ false) × (is_empty text ≡ false)) [] (path_rules path) path
-        (λ passed. (slash, passed.0)))
-        (λ text full.
+        (λ passed. (slash, passed.0))) (λ text full.
         ends_next (λ here. is_some (node_at nat_eq world here.location) ≡ true)
         (prefix_walked nat_eq world task (followed nat_eq world task) (walk_start task text) (reverse (words text)))
         (λ here. last_walked nat_eq world task here (final_word (reverse (words text))))
@@ -254,8 +223,7 @@ module _ (world : World ℕ) (trees : All (λ (f : Filesystem ℕ). IsTree f.fil
       where
         some_words : (text : List ℕ) → (ends_in_slash text ≡ false) × (is_empty text ≡ false)
             → reverse (words text) ≢ []
-        some_words text full none =
-            true≢false (sym
+        some_words text full none = true≢false (sym
             (no_words text (nil_from_length (words text) (sym (length-reverse (words text)) ∙ ap length none)) full.1)
             ∙ full.0)
 

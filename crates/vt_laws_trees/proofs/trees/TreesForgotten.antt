@@ -1,5 +1,6 @@
 -- A tree without the inodes that are not used is a tree.
-use Rattle.std.proofs.Common.{eqb-true, ◌≡◌, refl, sym, ap, subst, ◌∙◌, true≢false, ℕ, nat_eq, eq-eqb, Bool, true, false, cond, List, [], ◌∷◌, ◌++◌, not, ◌&&◌, ◌||◌, ⊎_elim, Some, None, is_some}
+use Rattle.std.proofs.Common.{arith, eqb-true, ◌≡◌, refl, sym, ap, subst, ◌∙◌, true≢false, ℕ, nat_eq, eq-eqb, Bool, true, false, cond, List, [], ◌∷◌, ◌++◌, not, ◌&&◌, ◌||◌, ⊎_elim, Some, None, is_some}
+use Rattle.std.proofs.lemmas.Grind.{common_steps}
 use Rattle.std.specs.List.{filter, flat_map, list_all, list_any}
 use Rattle.std.proofs.lemmas.Map.Views.{any-filter_same}
 use Rattle.std.proofs.lemmas.List.Elements.{All-filter, All-map, All-weaker}
@@ -21,14 +22,12 @@ use Rattle.vt_spec.proofs.NodeChanges.{directory_from_entry}
 use Rattle.vt_spec.proofs.Options.{none_from_not_some}
 
 pub among_flat_map : (f : ℕ → List ℕ) (xs : List ℕ) (x y : ℕ) → is_among nat_eq x xs ≡ true
-    → is_among nat_eq y (f x) ≡ true
-    → is_among nat_eq y (flat_map f xs) ≡ true
+    → is_among nat_eq y (f x) ≡ true → is_among nat_eq y (flat_map f xs) ≡ true
 among_flat_map f [] x y h k = absurd (true≢false (sym h))
 among_flat_map f (z ∷ zs) x y h k = by (nat_eq x z) refl (λ e. among_flat_map f zs x y e k) h
   where
     by : (b : Bool) → nat_eq x z ≡ b → (list_any (nat_eq x) zs ≡ true → is_among nat_eq y (flat_map f zs) ≡ true)
-        → (b || list_any (nat_eq x) zs) ≡ true
-        → is_among nat_eq y (f z ++ flat_map f zs) ≡ true
+        → (b || list_any (nat_eq x) zs) ≡ true → is_among nat_eq y (f z ++ flat_map f zs) ≡ true
     by true same rest e = is_among_left y (f z) (flat_map f zs)
         (ap (λ n. is_among nat_eq y (f n)) (sym (eqb-true x z same)) ∙ k)
     by false differ rest e = is_among_right y (f z) (flat_map f zs) (rest e)
@@ -73,9 +72,7 @@ module _ (used : List ℕ) (files : FileTree ℕ) (holds : HoldsTree used files)
   -- a directory with an entry is used: without a name it would be empty
   pub entry_used : (directory : ℕ) (name : List ℕ) (number : ℕ) → entry_at files.tree directory name ≡ Some number
       → IsUsed directory
-  entry_used directory name number e =
-      ⊎_elim (λ is. is)
-      (λ unused. no_entries files.tree directory name number
+  entry_used directory name number e = ⊎_elim (λ is. is) (λ unused. no_entries files.tree directory name number
       (conditions.tree.unnamed_empty directory (directory_from_entry name number (files.tree.node directory) e)
       (λ root. true≢false (sym holds.root ∙ ap (λ n. is_among nat_eq n used) (sym root) ∙ unused))
       (λ named. true≢false (sym (holds.named directory named) ∙ unused))) e)
@@ -88,8 +85,7 @@ module _ (used : List ℕ) (files : FileTree ℕ) (holds : HoldsTree used files)
 
   entry_was : (directory : ℕ) (name : List ℕ) (number : ℕ) → entry_at kept directory name ≡ Some number
       → entry_at files.tree directory name ≡ Some number
-  entry_was directory name number e =
-      ap (λ o. entry_named name (entries_in o))
+  entry_was directory name number e = ap (λ o. entry_named name (entries_in o))
       (sym (kept_node directory (kept_directory directory (directory_from_entry name number (kept.node directory) e))))
       ∙ e
 
@@ -113,14 +109,11 @@ module _ (used : List ℕ) (files : FileTree ℕ) (holds : HoldsTree used files)
   -- the parent of a directory that is used is used: it has an entry, or is the directory itself
   parent_used : (number : ℕ) → IsDirectory files.tree number → IsUsed number
       → IsUsed (parent_in number (files.tree.node number))
-  parent_used number is used_there =
-      ⊎_elim (λ is_used. is_used)
+  parent_used number is used_there = ⊎_elim (λ is_used. is_used)
       (λ unused. absurd (true≢false (sym used_there ∙ ap (λ n. is_among nat_eq n used)
-      (sym (conditions.own_parents number is (λ named. true≢false
-      (sym (entry_used named.0 named.1 number named.2)
+      (sym (conditions.own_parents number is (λ named. true≢false (sym (entry_used named.0 named.1 number named.2)
       ∙ ap (λ n. is_among nat_eq n used) (sym (conditions.tree.one_parent named.0 named.1 number named.2 is))
-      ∙ unused)))) ∙ unused)))
-      (cases_Bool (is_among nat_eq (parent_in number (files.tree.node number)) used))
+      ∙ unused)))) ∙ unused))) (cases_Bool (is_among nat_eq (parent_in number (files.tree.node number)) used))
 
   kept_tree : IsTree kept
   kept_tree = record {
@@ -130,8 +123,7 @@ module _ (used : List ℕ) (files : FileTree ℕ) (holds : HoldsTree used files)
     in_order = kept_in_order;
     alive = λ d n k e. ap is_some (kept_node k (holds.named k (d, n, entry_was d n k e)))
         ∙ conditions.tree.alive d n k (entry_was d n k e);
-    one_parent =
-        λ d n k e is. parent_kept k (kept_directory k is)
+    one_parent = λ d n k e is. parent_kept k (kept_directory k is)
         ∙ conditions.tree.one_parent d n k (entry_was d n k e) (was_directory k is);
     one_name = λ d n other k e f is.
         conditions.tree.one_name d n other k (entry_was d n k e) (entry_was d other k f) (was_directory k is);
@@ -146,16 +138,13 @@ module _ (used : List ℕ) (files : FileTree ℕ) (holds : HoldsTree used files)
   }
 
   kept_own_parents : HasOwnParents kept
-  kept_own_parents k is unnamed =
-      parent_kept k (kept_directory k is)
+  kept_own_parents k is unnamed = parent_kept k (kept_directory k is)
       ∙ conditions.own_parents k (was_directory k is) (λ named. unnamed (name_kept k named))
 
   kept_numbers : (k : ℕ) → is_among nat_eq k (filter (λ m. is_among nat_eq m used) files.numbers)
       ≡ is_some (kept.node k)
-  kept_numbers k =
-      any-filter_same (nat_eq k) (λ m. is_among nat_eq m used) (is_among nat_eq k used)
-      (λ m same. ap (λ n. is_among nat_eq n used) (sym (eqb-true k m same))) files.numbers
-      ∙ by (is_among nat_eq k used)
+  kept_numbers k = any-filter_same (nat_eq k) (λ m. is_among nat_eq m used) (is_among nat_eq k used)
+      (λ m same. ap (λ n. is_among nat_eq n used) (sym (eqb-true k m same))) files.numbers ∙ by (is_among nat_eq k used)
     where
       by : (b : Bool) → (b && is_among nat_eq k files.numbers) ≡ is_some (cond b (files.tree.node k) None)
       by true = conditions.numbers k
@@ -176,25 +165,16 @@ module _ (world : World ℕ) (filesystem : Filesystem ℕ) where
   pub among_named_or_located : (number : ℕ)
       → is_among nat_eq number (named_in filesystem.files ++ located_in nat_eq world filesystem.number) ≡ true
       → is_among nat_eq number (used_in nat_eq world filesystem) ≡ true
-  among_named_or_located number h =
-      or_right (nat_eq number filesystem.files.tree.root) (is_among nat_eq number used_under_root)
-      (is_among_left number
-      (named_in filesystem.files ++ located_in nat_eq world filesystem.number
-      ++ layers_in nat_eq world filesystem.number)
-      (flat_map (objects_of_overlay nat_eq filesystem.number) world.filesystems)
-      (is_among_left number (named_in filesystem.files ++ located_in nat_eq world filesystem.number)
-      (layers_in nat_eq world filesystem.number) h))
+  among_named_or_located number h = grind (arith, common_steps, or_right, is_among_left)
 
   pub among_located : (number : ℕ) → is_among nat_eq number (located_in nat_eq world filesystem.number) ≡ true
       → is_among nat_eq number (used_in nat_eq world filesystem) ≡ true
-  among_located number h =
-      among_named_or_located number (is_among_right number (named_in filesystem.files)
+  among_located number h = among_named_or_located number (is_among_right number (named_in filesystem.files)
       (located_in nat_eq world filesystem.number) h)
 
   pub named_is_used : IsFileTree filesystem.files → HoldsTree (used_in nat_eq world filesystem) filesystem.files
   named_is_used conditions = record {
-    root =
-        ap (λ b. b || is_among nat_eq filesystem.files.tree.root used_under_root)
+    root = ap (λ b. b || is_among nat_eq filesystem.files.tree.root used_under_root)
         (eq-eqb filesystem.files.tree.root filesystem.files.tree.root refl);
     named = λ number named. among_named_or_located number
         (is_among_left number (named_in filesystem.files) (located_in nat_eq world filesystem.number)
@@ -202,8 +182,7 @@ module _ (world : World ℕ) (filesystem : Filesystem ℕ) where
   }
 
 pub only_used_of_is : (used : List ℕ) (filesystem : Filesystem ℕ) → HoldsTree used filesystem.files
-    → IsFileTree filesystem.files
-    → IsFileTree (only_used_of nat_eq used filesystem).files
+    → IsFileTree filesystem.files → IsFileTree (only_used_of nat_eq used filesystem).files
 only_used_of_is used filesystem holds conditions = by _
   where
     by : (b : Bool) → IsFileTree (only_used_by nat_eq b used filesystem).files
@@ -218,8 +197,7 @@ only_used_is world false filesystem conditions = conditions
 
 pub without_dead_in_is : (chosen : Filesystem ℕ → Bool) (world : World ℕ) → HasFileTrees world
     → HasFileTrees (without_dead_in nat_eq chosen world)
-without_dead_in_is chosen world trees =
-    All-map (λ filesystem. IsFileTree filesystem.files)
+without_dead_in_is chosen world trees = All-map (λ filesystem. IsFileTree filesystem.files)
     (λ filesystem. only_used nat_eq world (chosen filesystem) filesystem) world.filesystems
     (All-weaker (λ filesystem. IsFileTree filesystem.files)
     (λ filesystem. IsFileTree (only_used nat_eq world (chosen filesystem) filesystem).files)
@@ -236,13 +214,7 @@ settling_keeps_trees world trees =
 
 -- what is used stays, and what is not is gone
 pub used_stays : UsedStays
-used_stays world filesystem number is = by _
-  where
-    by : (b : Bool)
-        → (only_used_by nat_eq b (used_in nat_eq world filesystem) filesystem).files.tree.node number
-        ≡ filesystem.files.tree.node number
-    by true = refl
-    by false = ap (λ b. cond b (filesystem.files.tree.node number) None) is
+used_stays world filesystem number is = grind (arith, common_steps)
 
 -- a list of which each passes has none that does not
 all_pass : (test : ℕ → Bool) (xs : List ℕ) (x : ℕ) → list_all test xs ≡ true → test x ≡ false
@@ -251,8 +223,7 @@ all_pass test [] x h k = refl
 all_pass test (y ∷ ys) x h k = by (nat_eq x y) refl (test y) refl (λ e. all_pass test ys x e k) h
   where
     by : (b : Bool) → nat_eq x y ≡ b → (c : Bool) → test y ≡ c
-        → (list_all test ys ≡ true → is_among nat_eq x ys ≡ false)
-        → (c && list_all test ys) ≡ true
+        → (list_all test ys ≡ true → is_among nat_eq x ys ≡ false) → (c && list_all test ys) ≡ true
         → (b || is_among nat_eq x ys) ≡ false
     by b e false f rest h = absurd (true≢false (sym h))
     by true e true f rest h = absurd (true≢false (sym f ∙ ap test (sym (eqb-true x y e)) ∙ k))
@@ -263,8 +234,7 @@ unused_is_gone world filesystem number conditions unused = by _ refl
   where
     by : (b : Bool) → list_all (λ m. is_among nat_eq m (used_in nat_eq world filesystem)) filesystem.files.numbers ≡ b
         → (only_used_by nat_eq b (used_in nat_eq world filesystem) filesystem).files.tree.node number ≡ None
-    by true all = none_from_not_some (filesystem.files.tree.node number)
-        (sym (conditions.numbers number)
+    by true all = none_from_not_some (filesystem.files.tree.node number) (sym (conditions.numbers number)
         ∙ all_pass (λ m. is_among nat_eq m
         (used_in nat_eq world filesystem)) filesystem.files.numbers number all unused)
     by false all = ap (λ b. cond b (filesystem.files.tree.node number) None) unused

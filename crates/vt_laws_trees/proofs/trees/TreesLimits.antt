@@ -1,8 +1,8 @@
 -- No call breaks a limit of a task.
-use Rattle.std.proofs.Common.{◌≡◌, refl, sym, ap, ◌∙◌, true≢false, ℕ, nat_eq, nat_le, Bool, true, false, not, cond, List, [], ◌∷◌, length, map, ◌+◌, Option, Some, None, ok_or, Result, Ok, Err}
+use Rattle.std.proofs.Common.{arith, ◌≡◌, refl, sym, ap, ◌∙◌, true≢false, ℕ, nat_eq, nat_le, Bool, true, false, not, cond, List, [], ◌∷◌, length, map, ◌+◌, Option, Some, None, ok_or, Ok}
+use Rattle.std.proofs.lemmas.Grind.{common_steps}
 use Rattle.std.specs.Prelude.{unwrap_or}
 use Rattle.std.specs.List.{find, list_all}
-use Rattle.vt_spec.specs.declared.errors.Deny.{Deny}
 use Rattle.vt_spec.specs.declared.errors.Rule.TheVariants.{S2}
 use Rattle.vt_spec.specs.Errors.{denial}
 use Rattle.vt_spec.specs.Language.Calls.{Access, Call, ForkWords, TaskName, TypeWord, same_name}
@@ -12,7 +12,7 @@ use Rattle.vt_spec.specs.Language.Changes.Change.{CopyUp, SetMark}
 use Rattle.vt_spec.specs.Machine.Detach.{deepest_first, lazily_unmounted, unmounted, unmounted_if_there, without_mounts_on, without_replaced}
 use Rattle.vt_spec.specs.Machine.Filesystems.{raised, with_change}
 use Rattle.vt_spec.specs.Lists.{Fresh, evens, folded, odds}
-use Rattle.vt_spec.specs.Machine.Mounts.{Location, Mount, mount_tree, numbers_by}
+use Rattle.vt_spec.specs.Machine.Mounts.{Location, Mount, mount_tree}
 use Rattle.vt_spec.specs.Machine.Namespaces.{namespace_entered, namespaces_ended, pivoted, pivoted_location, pivoted_task, unshared}
 use Rattle.vt_spec.specs.Machine.Descriptors.{is_copied_up, pwritten, with_copy, with_descriptor, without_descriptor}
 use Rattle.vt_spec.specs.Language.Limits.{deepest_name, most_descriptors, most_forks}
@@ -23,7 +23,7 @@ use Rattle.vt_spec.specs.Machine.Rules.Removing.{moving, object_there, removing}
 use Rattle.vt_spec.specs.Machine.Tasks.{child_credentials, child_of}
 use Rattle.vt_spec.specs.Machine.Outcomes.{Outcome}
 use Rattle.vt_spec.specs.Machine.Policy.{call_outcome, finished_by, raised_task}
-use Rattle.vt_spec.specs.Machine.Types.{named_mounts, retyped_mount, with_new_groups, with_type}
+use Rattle.vt_spec.specs.Machine.Types.{with_type}
 use Rattle.vt_spec.specs.Machine.Walking.{Place}
 use Rattle.vt_spec.specs.Machine.Invariants.{is_within_limits}
 use Rattle.vt_spec.proofs.Nodes.{none_is_not}
@@ -49,21 +49,12 @@ same_tasks a b same is = ap (list_all is_within_limits) same ∙ is
 pub lazily_tasks : (mounts : List (Mount ℕ)) (world : World ℕ)
     → (folded (unmounted_if_there nat_eq) world mounts).tasks ≡ world.tasks
 lazily_tasks [] world = refl
-lazily_tasks (mount ∷ mounts) world = lazily_tasks mounts (unmounted_if_there nat_eq world mount) ∙ by _
-  where
-    by : (b : Bool) → (cond b (unmounted nat_eq world mount.number) world).tasks ≡ world.tasks
-    by true = tasks-taken_away world _
-    by false = refl
+lazily_tasks (mount ∷ mounts) world =
+    grind (arith, common_steps, tasks-taken_away, lazily_tasks mounts (unmounted_if_there nat_eq world mount))
 
 pub typed_tasks : (fresh : Fresh ℕ) (world : World ℕ) (number : ℕ) (word : TypeWord) (recursive : Bool)
     → (with_type nat_eq fresh world number word recursive).tasks ≡ world.tasks
-typed_tasks fresh world number word recursive =
-    let named = named_mounts nat_eq world number recursive in
-    let group = numbers_by nat_eq fresh named in
-    tasks-regrouped (record world {
-      mounts = map (retyped_mount nat_eq group word named) world.mounts;
-      master = with_new_groups nat_eq group world.master named;
-    })
+typed_tasks fresh world number word recursive = grind (arith, common_steps, tasks-regrouped)
 
 -- a task in the place of the one with its name
 task_keeps : (world : World ℕ) (task : Task ℕ) → is_within_limits task ≡ true → HasSmallTasks world
@@ -79,23 +70,20 @@ found_within : (world : World ℕ) (name : TaskName) (list : List (Task ℕ)) (t
     → list_all is_within_limits list ≡ true
     → find (λ other. same_name name other.name) list ≡ Some task → is_within_limits task ≡ true
 found_within world name [] task h e = none_is_not None task refl e
-found_within world name (first ∷ list) task h e =
-    by (same_name name first.name) e
+found_within world name (first ∷ list) task h e = by (same_name name first.name) e
     (λ g. found_within world name list task
     ((and_parts (is_within_limits first) (list_all is_within_limits list) h).1) g)
   where
     by : (b : Bool) → cond b (Some first) (find (λ other. same_name name other.name) list) ≡ Some task
         → (find (λ other. same_name name other.name) list ≡ Some task → is_within_limits task ≡ true)
         → is_within_limits task ≡ true
-    by true g rest =
-        ap is_within_limits (sym (ap (λ o. unwrap_or o first) g))
+    by true g rest = ap is_within_limits (sym (ap (λ o. unwrap_or o first) g))
         ∙ (and_parts (is_within_limits first) (list_all is_within_limits list) h).0
     by false g rest = rest g
 
 -- fork(2) names few groups
 fork_given : (words : Option ForkWords) → names_few_groups (Fork words) ≡ true → (given : ForkWords)
-    → words ≡ Some given
-    → nat_le (length given.groups) 32 ≡ true
+    → words ≡ Some given → nat_le (length given.groups) 32 ≡ true
 fork_given None few given e = none_is_not None given refl e
 fork_given (Some words) few given e =
     ap (λ (w : ForkWords). nat_le (length w.groups) 32) (sym (ap (λ o. unwrap_or o words) e)) ∙ few
@@ -103,10 +91,8 @@ fork_given (Some words) few given e =
 module _ (fresh : Fresh ℕ) (world : World ℕ) (task : Task ℕ) (small : HasSmallTasks world)
     (is : is_within_limits task ≡ true) where
   change_small : (any : Fresh ℕ) (before : World ℕ) → before.tasks ≡ world.tasks
-      → (location : Location ℕ) (change : Change ℕ)
-      → HasSmallTasks (with_change nat_eq any before location change)
-  change_small any before same location change =
-      same_tasks (with_change nat_eq any before location change) world
+      → (location : Location ℕ) (change : Change ℕ) → HasSmallTasks (with_change nat_eq any before location change)
+  change_small any before same location change = same_tasks (with_change nat_eq any before location change) world
       (tasks-with_change any before location change ∙ same) small
 
   written_small : (file : Location ℕ) (offset : ℕ) (bytes : List ℕ)
@@ -119,8 +105,7 @@ module _ (fresh : Fresh ℕ) (world : World ℕ) (task : Task ℕ) (small : HasS
   HasRoom = nat_le most_descriptors (length task.descriptors) ≡ false
 
   opened_small : HasRoom → (after_call : World ℕ) → after_call.tasks ≡ world.tasks
-      → (file : Location ℕ) (access : Access)
-      → HasSmallTasks (with_task after_call (with_descriptor task file access))
+      → (file : Location ℕ) (access : Access) → HasSmallTasks (with_task after_call (with_descriptor task file access))
   opened_small room after_call same file access =
       task_keeps after_call (with_descriptor task file access) (opened_within task file access is room)
       (same_tasks after_call world same small)
@@ -137,8 +122,7 @@ module _ (fresh : Fresh ℕ) (world : World ℕ) (task : Task ℕ) (small : HasS
 
   create_small : HasRoom → (place : Place ℕ) (access : Access) (mode : ℕ)
       → HasSmallTasks (apply nat_eq fresh world task (open_new_permit task place access mode)).world
-  create_small room place access mode =
-      opened_small room (with_new nat_eq fresh world place (new_file task mode []))
+  create_small room place access mode = opened_small room (with_new nat_eq fresh world place (new_file task mode []))
       (tasks-with_change (odds fresh) world place.parent (making place (evens fresh 0) (new_file task mode [])))
       (record { mount = place.parent.mount; node = evens fresh 0 }) access
 
@@ -151,13 +135,10 @@ module _ (fresh : Fresh ℕ) (world : World ℕ) (task : Task ℕ) (small : HasS
           → is_within_limits (pivoted_task nat_eq task.namespace root new other) ≡ true
       keeps other h = by (nat_eq task.namespace other.namespace)
         where
-          by : (b : Bool)
-              → is_within_limits (cond b
-              (record other {
-                root = pivoted_location nat_eq root new other.root;
-                directory = pivoted_location nat_eq
-                    root new other.directory;
-              }) other) ≡ true
+          by : (b : Bool) → is_within_limits (cond b (record other {
+            root = pivoted_location nat_eq root new other.root;
+            directory = pivoted_location nat_eq root new other.directory;
+          }) other) ≡ true
           by true = h
           by false = h
 
@@ -192,8 +173,7 @@ module _ (fresh : Fresh ℕ) (world : World ℕ) (task : Task ℕ) (small : HasS
   granted_small call permit few (renames old new from to names two passed) =
       change_small fresh (without_replaced nat_eq world to.object) (tasks-without_replaced world to.object) from.parent
       (moving from to (object_there from))
-  granted_small call permit few (changes_mode path mode here end passed) =
-      change_small fresh world refl here.location _
+  granted_small call permit few (changes_mode path mode here end passed) = change_small fresh world refl here.location _
   granted_small call permit few (changes_owner path uid gid here end passed) =
       change_small fresh world refl here.location _
   granted_small call permit few (changes_mark path mark here admin end passed) =
@@ -214,8 +194,7 @@ module _ (fresh : Fresh ℕ) (world : World ℕ) (task : Task ℕ) (small : HasS
       (child_of task (child_credentials task.credentials words))
       (task_keeps world (record task { forks = task.forks + 1 }) (parent_within task is may.0) small)
       (child_within task words is may.1 (fork_given words few))
-  granted_small call permit few exits =
-      ended_keeps (without_task world task.name)
+  granted_small call permit few exits = ended_keeps (without_task world task.name)
       (all-filter is_within_limits (λ other. not (same_name task.name other.name)) world.tasks small)
   granted_small call permit few (unshares admin) =
       ended_keeps (unshared nat_eq world fresh task) (task_keeps world _ is small)
@@ -224,8 +203,7 @@ module _ (fresh : Fresh ℕ) (world : World ℕ) (task : Task ℕ) (small : HasS
   granted_small call permit few (unmounts path here admin end passed) =
       same_tasks (unmounted nat_eq world here.location.mount) world (tasks-taken_away world _) small
   granted_small call permit few (unmounts_lazily path here admin end passed) =
-      same_tasks (lazily_unmounted nat_eq world here.location.mount) world
-      (lazily_tasks
+      same_tasks (lazily_unmounted nat_eq world here.location.mount) world (lazily_tasks
       (deepest_first nat_eq world (mount_tree nat_eq world.mounts
       (mount_numbered nat_eq world here.location.mount))) world) small
   granted_small call permit few (changes_type path word recursive here admin end passed) =
@@ -241,8 +219,7 @@ module _ (fresh : Fresh ℕ) (world : World ℕ) (task : Task ℕ) (small : HasS
       call_holds HasSmallTasks fresh world task call small (λ permit granted. granted_small call permit few granted)
 
 finished_small : (before : World ℕ) (name : TaskName) (changed : List ℕ) (outcome : Outcome ℕ) (b : Bool)
-    → HasSmallTasks outcome.world
-    → HasSmallTasks (finished_by nat_eq b before name changed outcome).world
+    → HasSmallTasks outcome.world → HasSmallTasks (finished_by nat_eq b before name changed outcome).world
 finished_small before name changed outcome true small = small
 finished_small before name changed outcome false small =
     all_mapped is_within_limits (raised_task name) keeps outcome.world.tasks small
@@ -255,18 +232,12 @@ finished_small before name changed outcome false small =
         by false = h
 
 found_task : (o : Option (Task ℕ)) (task : Task ℕ) → ok_or o (denial S2) ≡ Ok task → o ≡ Some task
-found_task None task e = absurd (true≢false (sym (ap is_ok_result e)))
-  where
-    is_ok_result : Result (Task ℕ) Deny → Bool
-    is_ok_result (Ok l) = true
-    is_ok_result (Err d) = false
-found_task (Some other) task e = ap Some (ok_same other task (Ok other) refl e)
+found_task o task e = grind (arith, common_steps, true≢false, ok_same)
 
 pub calls_keep_small_tasks : CallsKeepSmallTasks
 calls_keep_small_tasks world fresh name call small few =
     after_holds HasSmallTasks world (ok_or (task_called world name) (denial S2)) _ small (λ task found.
-    finished_small world name _ (call_outcome nat_eq fresh world task call) _
-    (outcome_small fresh world task small
+    finished_small world name _ (call_outcome nat_eq fresh world task call) _ (outcome_small fresh world task small
     (found_within world name world.tasks task small (found_task (task_called world name) task found)) call few))
 
 pub opening_has_small_tasks : OpeningHasSmallTasks

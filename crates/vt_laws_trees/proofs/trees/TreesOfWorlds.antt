@@ -1,5 +1,6 @@
 -- A change of a filesystem in a world of trees leaves a world of trees.
-use Rattle.std.proofs.Common.{eqb-true, ◌≡◌, refl, sym, ap, subst, ◌∙◌, true≢false, ℕ, nat_eq, Bool, true, false, cond, List, [], ◌∷◌, map, ◌⊎◌, inl, inr, ⊎_elim, Some, None, is_some}
+use Rattle.std.proofs.Common.{arith, eqb-true, ◌≡◌, refl, sym, ap, subst, ◌∙◌, true≢false, ℕ, nat_eq, Bool, true, false, cond, List, [], ◌∷◌, map, ◌⊎◌, inl, inr, ⊎_elim, Some, None, is_some}
+use Rattle.std.proofs.lemmas.Grind.{common_steps}
 use Rattle.std.specs.Prelude.{unwrap_or}
 use Rattle.std.specs.List.{All, find, list_any}
 use Rattle.std.proofs.lemmas.List.Elements.{All-cons, All-head, All-nil, All-tail}
@@ -27,8 +28,7 @@ numbered_all P number [] h = inr (refl, All-nil (λ filesystem. nat_eq number fi
 numbered_all P number (filesystem ∷ list) h =
     by (nat_eq number filesystem.number) refl (numbered_all P number list (All-tail P filesystem list h))
   where
-    by : (b : Bool) → nat_eq number filesystem.number ≡ b
-        → P (numbered number list)
+    by : (b : Bool) → nat_eq number filesystem.number ≡ b → P (numbered number list)
         ⊎ ((numbered number list ≡ no_filesystem number) × All (λ other. nat_eq number other.number ≡ false) list)
         → P (unwrap_or (cond b (Some filesystem) (find (λ other. nat_eq number other.number) list))
         (no_filesystem number))
@@ -41,21 +41,14 @@ numbered_all P number (filesystem ∷ list) h =
 
 -- what holds of a filesystem by its number in any case
 pub numbered_anyhow : (P : Filesystem ℕ → Type 0) (number : ℕ) (list : List (Filesystem ℕ)) → All P list
-    → P (no_filesystem number)
-    → P (numbered number list)
+    → P (no_filesystem number) → P (numbered number list)
 numbered_anyhow P number list h none =
     ⊎_elim (λ is. is) (λ missing. subst P (sym missing.0) none) (numbered_all P number list h)
 
 -- its number is the one it is found by
 pub number_numbered : (number : ℕ) (list : List (Filesystem ℕ)) → (numbered number list).number ≡ number
 number_numbered number [] = refl
-number_numbered number (filesystem ∷ list) = by (nat_eq number filesystem.number) refl (number_numbered number list)
-  where
-    by : (b : Bool) → nat_eq number filesystem.number ≡ b → (numbered number list).number ≡ number
-        → (unwrap_or (cond b (Some filesystem) (find (λ other. nat_eq number other.number) list))
-        (no_filesystem number)).number ≡ number
-    by true e rest = sym (eqb-true number filesystem.number e)
-    by false e rest = rest
+number_numbered number (filesystem ∷ list) = grind (arith, common_steps, eqb-true, number_numbered number list)
 
 -- one filesystem replaced
 pub replaced_all : (P : Filesystem ℕ → Type 0) (new : Filesystem ℕ) (list : List (Filesystem ℕ)) → All P list
@@ -64,8 +57,7 @@ pub replaced_all : (P : Filesystem ℕ → Type 0) (new : Filesystem ℕ) (list 
 replaced_all P new [] h either = All-nil P
 replaced_all P new (filesystem ∷ list) h either =
     All-cons P (replaced_if_numbered nat_eq new filesystem) (map (replaced_if_numbered nat_eq new) list)
-    (by (nat_eq new.number filesystem.number) refl either)
-    (replaced_all P new list (All-tail P filesystem list h)
+    (by (nat_eq new.number filesystem.number) refl either) (replaced_all P new list (All-tail P filesystem list h)
     (⊎_elim inl (λ none. inr (All-tail (λ other. nat_eq new.number other.number ≡ false) filesystem list none)) either))
   where
     by : (b : Bool) → nat_eq new.number filesystem.number ≡ b
@@ -107,9 +99,7 @@ module _ (fresh : Fresh ℕ) (world : World ℕ) (location : Location ℕ) (chan
   new = with_files old (changed nat_eq old.files change)
 
   no_overlay : IsWorldOfTrees world → old.overlay ≡ None
-  no_overlay conditions =
-      none_from_not_some old.overlay
-      (numbered_anyhow (λ filesystem. is_overlay filesystem ≡ false)
+  no_overlay conditions = none_from_not_some old.overlay (numbered_anyhow (λ filesystem. is_overlay filesystem ≡ false)
       (mount_at nat_eq world location).filesystem world.filesystems conditions.plain refl)
 
   change_of_plain : IsWorldOfTrees world
@@ -126,19 +116,16 @@ module _ (fresh : Fresh ℕ) (world : World ℕ) (location : Location ℕ) (chan
   pub change_keeps_world : IsWorldOfTrees world
       → (IsFileTree (files_at nat_eq world location) → IsProper (files_at nat_eq world location).tree change)
       → IsWorldOfTrees (with_change nat_eq fresh world location change)
-  change_keeps_world conditions proper =
-      subst IsWorldOfTrees (sym (change_of_plain conditions)) (record {
-        plain =
-            replaced_all (λ filesystem. is_overlay filesystem ≡ false) new world.filesystems conditions.plain
-            (inl (ap is_some (no_overlay conditions)));
-        trees = replaced_all (λ filesystem. IsFileTree filesystem.files) new world.filesystems conditions.trees
-            (⊎_elim
-            (λ is. inl (new_is_tree is (proper is)))
-            (λ missing. inr (subst (λ n. All (λ filesystem. nat_eq n filesystem.number ≡ false) world.filesystems)
-            (sym (number_numbered (mount_at nat_eq world location).filesystem world.filesystems)) missing.1))
-            (numbered_all (λ filesystem. IsFileTree filesystem.files)
-            (mount_at nat_eq world location).filesystem world.filesystems conditions.trees));
-      })
+  change_keeps_world conditions proper = subst IsWorldOfTrees (sym (change_of_plain conditions)) (record {
+    plain = replaced_all (λ filesystem. is_overlay filesystem ≡ false) new world.filesystems conditions.plain
+        (inl (ap is_some (no_overlay conditions)));
+    trees = replaced_all (λ filesystem. IsFileTree filesystem.files) new world.filesystems conditions.trees (⊎_elim
+        (λ is. inl (new_is_tree is (proper is)))
+        (λ missing. inr (subst (λ n. All (λ filesystem. nat_eq n filesystem.number ≡ false) world.filesystems)
+        (sym (number_numbered (mount_at nat_eq world location).filesystem world.filesystems)) missing.1))
+        (numbered_all (λ filesystem. IsFileTree filesystem.files)
+        (mount_at nat_eq world location).filesystem world.filesystems conditions.trees));
+  })
 
 -- a number that is handed in is new wherever it is used
 pub new_at : (fresh : Fresh ℕ) (world : World ℕ) (location : Location ℕ) → AreNew fresh world → (k : ℕ)

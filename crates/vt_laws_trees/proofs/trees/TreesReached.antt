@@ -35,15 +35,12 @@ listed_entry : (entries : Entries ℕ) (number : ℕ) → is_sorted name_cmp ent
     → is_among nat_eq number (map (λ e. e.1) entries) ≡ true
     → (name : List ℕ) × (entry_named name entries ≡ Some number)
 listed_entry [] number sorted h = absurd (true≢false (sym h))
-listed_entry (entry ∷ entries) number sorted h =
-    by (nat_eq number entry.1) refl h
-    (λ g. listed_entry entries number
+listed_entry (entry ∷ entries) number sorted h = by (nat_eq number entry.1) refl h (λ g. listed_entry entries number
     ((and_parts (below_all name_cmp entry.0 entries) (is_sorted name_cmp entries) sorted).1) g)
   where
     later : (name : List ℕ) → entry_named name entries ≡ Some number → (b : Bool) → eq_by_cmp name_cmp name entry.0 ≡ b
         → cond b (Some entry.1) (entry_named name entries) ≡ Some number
-    later name e true tie =
-        absurd (below_missing entry.0 entries number
+    later name e true tie = absurd (below_missing entry.0 entries number
         ((and_parts (below_all name_cmp entry.0 entries) (is_sorted name_cmp entries) sorted).0)
         (ap (λ n. entry_named n entries) (sym (same_name name entry.0 tie)) ∙ e))
     later name e false tie = e
@@ -64,8 +61,7 @@ listed_entry (entry ∷ entries) number sorted h =
 module _ (tree : Tree ℕ) (conditions : IsTree tree) (directory : ℕ) (is : IsDirectory tree directory) where
   -- not removed is the root, or has a name
   pub not_removed_reached : is_removed nat_eq tree directory ≡ false → IsReached tree directory
-  not_removed_reached stays =
-      by (nat_eq directory tree.root)
+  not_removed_reached stays = by (nat_eq directory tree.root)
       (has_entry_to nat_eq tree (parent_in directory (tree.node directory)) directory) refl refl stays
     where
       by : (a b : Bool) → nat_eq directory tree.root ≡ a
@@ -95,11 +91,8 @@ module _ (tree : Tree ℕ) (conditions : IsTree tree) (directory : ℕ) (is : Is
 
       by : (b : Bool) → is_removed nat_eq tree directory ≡ b → IsReached tree directory
       by false stays = not_removed_reached stays
-      by true removed =
-          no_entries tree directory name number
-          (conditions.unnamed_empty directory is
+      by true removed = no_entries tree directory name number (conditions.unnamed_empty directory is
           (λ root. true≢false (sym (eq-eqb directory tree.root root)
           ∙ no_root (nat_eq directory tree.root) (is_some (named_parent nat_eq tree directory)) removed))
           (λ named. true≢false (sym (ap is_some (parent_named tree conditions named.0 named.1 directory named.2 is))
-          ∙ no_parent (nat_eq directory tree.root) (is_some (named_parent nat_eq tree directory)) removed)))
-          entry
+          ∙ no_parent (nat_eq directory tree.root) (is_some (named_parent nat_eq tree directory)) removed))) entry

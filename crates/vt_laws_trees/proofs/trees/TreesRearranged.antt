@@ -21,8 +21,7 @@ led_closed tree P step from (name ∷ names) number p e =
 
 -- what has no entries has none of this name
 pub no_entries : {P : Type 0} (tree : Tree ℕ) (directory : ℕ) (name : List ℕ) (number : ℕ)
-    → entries_in (tree.node directory) ≡ []
-    → entry_at tree directory name ≡ Some number → P
+    → entries_in (tree.node directory) ≡ [] → entry_at tree directory name ≡ Some number → P
 no_entries tree directory name number empty e =
     none_is_not (entry_at tree directory name) number (ap (entry_named name) empty) e
 
@@ -38,11 +37,9 @@ pub record IsRearranged (tree : Tree ℕ) (node : ℕ → Option (Node ℕ)) (Le
   pub directories : (number : ℕ) → is_directory_node (node number) ≡ is_directory_node (tree.node number)
   pub in_order : (directory : ℕ) → is_sorted name_cmp (entries_in (node directory)) ≡ true
   pub alive : (directory : ℕ) (name : List ℕ) (number : ℕ)
-      → entry_named name (entries_in (node directory)) ≡ Some number
-      → is_some (node number) ≡ true
+      → entry_named name (entries_in (node directory)) ≡ Some number → is_some (node number) ≡ true
   pub kept : (directory : ℕ) (name : List ℕ) (number : ℕ) → entry_at tree directory name ≡ Some number
-      → IsDirectory tree number
-      → Leaves number ⊎ (entry_named name (entries_in (node directory)) ≡ Some number)
+      → IsDirectory tree number → Leaves number ⊎ (entry_named name (entries_in (node directory)) ≡ Some number)
   pub told : (directory : ℕ) (name : List ℕ) (number : ℕ) → entry_named name (entries_in (node directory)) ≡ Some number
       → IsDirectory tree number
       → Arrives directory name number ⊎ ((entry_at tree directory name ≡ Some number) × ¬ (Leaves number))
@@ -55,8 +52,7 @@ pub record IsRearranged (tree : Tree ℕ) (node : ℕ → Option (Node ℕ)) (Le
   pub arrives_reached : (directory : ℕ) (name : List ℕ) (number : ℕ) → Arrives directory name number
       → IsReached (record { root = tree.root; node = node }) directory
   pub arrives_parent : (directory : ℕ) (name : List ℕ) (number : ℕ) → Arrives directory name number
-      → IsDirectory tree number
-      → parent_in number (node number) ≡ directory
+      → IsDirectory tree number → parent_in number (node number) ≡ directory
   pub stays_parent : (number : ℕ) → IsDirectory tree number → ¬ (Leaves number)
       → parent_in number (node number) ≡ parent_in number (tree.node number)
   pub leaves_how : (number : ℕ) → IsDirectory tree number → Leaves number
@@ -83,20 +79,12 @@ module _ (tree : Tree ℕ) (node : ℕ → Option (Node ℕ)) (Leaves : ℕ → 
       → IsReached after number ⊎ (Leaves number × (entries_in (tree.node number) ≡ []))
 
   remains_along : (directory : ℕ) (name : List ℕ) (number : ℕ) → Remains directory
-      → entry_at tree directory name ≡ Some number
-      → Remains number
-  remains_along directory name number remains e is =
-      ⊎_elim
-      (λ reached. ⊎_elim
-      (λ leaves. ⊎_elim
-      (λ arrives. inl
+      → entry_at tree directory name ≡ Some number → Remains number
+  remains_along directory name number remains e is = ⊎_elim (λ reached. ⊎_elim (λ leaves. ⊎_elim (λ arrives. inl
       (entry_reached after arrives.0 arrives.1 number (moves.arrives_reached arrives.0 arrives.1 number arrives.2)
-      (moves.arrives_entry arrives.0 arrives.1 number arrives.2)))
-      (λ gone. inr (leaves, gone.was_empty))
-      (moves.leaves_how number is leaves))
-      (λ entry. inl (entry_reached after directory name number reached entry))
-      (moves.kept directory name number e is))
-      (λ gone. no_entries tree directory name number gone.1 e)
+      (moves.arrives_entry arrives.0 arrives.1 number arrives.2))) (λ gone. inr (leaves, gone.was_empty))
+      (moves.leaves_how number is leaves)) (λ entry. inl (entry_reached after directory name number reached entry))
+      (moves.kept directory name number e is)) (λ gone. no_entries tree directory name number gone.1 e)
       (remains (directory_from_entry name number (tree.node directory) e))
 
   remains_reached : (number : ℕ) → IsDirectory tree number → IsReached tree number
@@ -106,8 +94,7 @@ module _ (tree : Tree ℕ) (node : ℕ → Option (Node ℕ)) (Leaves : ℕ → 
 
   after_one_parent : (directory : ℕ) (name : List ℕ) (number : ℕ) → entry_at after directory name ≡ Some number
       → IsDirectory after number → parent_in number (node number) ≡ directory
-  after_one_parent directory name number e is =
-      ⊎_elim
+  after_one_parent directory name number e is = ⊎_elim
       (λ arrives. moves.arrives_parent directory name number arrives (before_directory number is))
       (λ old. moves.stays_parent number (before_directory number is) old.1
       ∙ conditions.one_parent directory name number old.0 (before_directory number is))
@@ -115,23 +102,17 @@ module _ (tree : Tree ℕ) (node : ℕ → Option (Node ℕ)) (Leaves : ℕ → 
 
   after_one_name : (directory : ℕ) (name other : List ℕ) (number : ℕ) → entry_at after directory name ≡ Some number
       → entry_at after directory other ≡ Some number → IsDirectory after number → name ≡ other
-  after_one_name directory name other number e f is =
-      ⊎_elim
-      (λ arrives. ⊎_elim
+  after_one_name directory name other number e f is = ⊎_elim (λ arrives. ⊎_elim
       (λ again. moves.arrives_once directory directory name other number arrives again)
       (λ old. absurd (old.1 (moves.arrives_leaves directory name number arrives)))
-      (moves.told directory other number f (before_directory number is)))
-      (λ old. ⊎_elim
+      (moves.told directory other number f (before_directory number is))) (λ old. ⊎_elim
       (λ arrives. absurd (old.1 (moves.arrives_leaves directory other number arrives)))
       (λ older. conditions.one_name directory name other number old.0 older.0 (before_directory number is))
       (moves.told directory other number f (before_directory number is)))
       (moves.told directory name number e (before_directory number is))
 
   after_parent_directory : (number : ℕ) → IsDirectory after number → IsDirectory after (parent_in number (node number))
-  after_parent_directory number is =
-      ⊎_elim
-      (λ leaves. ⊎_elim
-      (λ arrives. subst (IsDirectory after)
+  after_parent_directory number is = ⊎_elim (λ leaves. ⊎_elim (λ arrives. subst (IsDirectory after)
       (sym (moves.arrives_parent arrives.0 arrives.1 number arrives.2 (before_directory number is)))
       (directory_from_entry arrives.1 number (node arrives.0)
       (moves.arrives_entry arrives.0 arrives.1 number arrives.2)))
@@ -139,18 +120,12 @@ module _ (tree : Tree ℕ) (node : ℕ → Option (Node ℕ)) (Leaves : ℕ → 
       (moves.leaves_how number (before_directory number is) leaves))
       (λ stays. subst (IsDirectory after) (sym (moves.stays_parent number (before_directory number is) stays))
       (after_directory (parent_in number (tree.node number))
-      (conditions.parent_directory number (before_directory number is))))
-      (moves.decided number)
+      (conditions.parent_directory number (before_directory number is)))) (moves.decided number)
 
   after_reached : (number : ℕ) → IsDirectory after number → HasName after number → IsReached after number
-  after_reached number is named =
-      ⊎_elim
-      (λ arrives. entry_reached after named.0 named.1 number
-      (moves.arrives_reached named.0 named.1 number arrives) named.2)
-      (λ old. ⊎_elim
-      (λ reached. reached)
-      (λ gone. absurd (old.1 gone.0))
-      (remains_reached number (before_directory number is)
+  after_reached number is named = ⊎_elim (λ arrives. entry_reached after named.0 named.1 number
+      (moves.arrives_reached named.0 named.1 number arrives) named.2) (λ old. ⊎_elim (λ reached. reached)
+      (λ gone. absurd (old.1 gone.0)) (remains_reached number (before_directory number is)
       (conditions.reached number (before_directory number is) (named.0, named.1, old.0))))
       (moves.told named.0 named.1 number named.2 (before_directory number is))
 
@@ -162,16 +137,11 @@ module _ (tree : Tree ℕ) (node : ℕ → Option (Node ℕ)) (Leaves : ℕ → 
 
   after_unnamed_empty : (number : ℕ) → IsDirectory after number → number ≢ tree.root → ¬ (HasName after number)
       → entries_in (node number) ≡ []
-  after_unnamed_empty number is root unnamed =
-      ⊎_elim
-      (λ leaves. ⊎_elim
+  after_unnamed_empty number is root unnamed = ⊎_elim (λ leaves. ⊎_elim
       (λ arrives. absurd (unnamed (arrives.0, arrives.1, moves.arrives_entry arrives.0 arrives.1 number arrives.2)))
-      (λ gone. gone.is_empty)
-      (moves.leaves_how number (before_directory number is) leaves))
-      (λ stays.
+      (λ gone. gone.is_empty) (moves.leaves_how number (before_directory number is) leaves)) (λ stays.
       let before = was_unnamed number (before_directory number is) stays unnamed in
-      ⊎_elim
-      (λ empty. empty)
+      ⊎_elim (λ empty. empty)
       (λ reached. absurd (⊎_elim (λ same. root (sym same)) before (reached_named tree number reached)))
       (moves.fills number (conditions.unnamed_empty number (before_directory number is) root before)))
       (moves.decided number)
@@ -198,12 +168,9 @@ module _ (tree : Tree ℕ) (node : ℕ → Option (Node ℕ)) (Leaves : ℕ → 
   pub own_parent-rearranged : ((number : ℕ) → IsDirectory tree number → ¬ (HasName tree number)
       → parent_in number (tree.node number) ≡ number)
       → (number : ℕ) → IsDirectory after number → ¬ (HasName after number) → parent_in number (node number) ≡ number
-  own_parent-rearranged own number is unnamed =
-      ⊎_elim
-      (λ leaves. ⊎_elim
+  own_parent-rearranged own number is unnamed = ⊎_elim (λ leaves. ⊎_elim
       (λ arrives. absurd (unnamed (arrives.0, arrives.1, moves.arrives_entry arrives.0 arrives.1 number arrives.2)))
-      (λ gone. gone.own_parent)
-      (moves.leaves_how number (before_directory number is) leaves))
+      (λ gone. gone.own_parent) (moves.leaves_how number (before_directory number is) leaves))
       (λ stays. moves.stays_parent number (before_directory number is) stays
       ∙ own number (before_directory number is) (was_unnamed number (before_directory number is) stays unnamed))
       (moves.decided number)

@@ -1,8 +1,8 @@
 -- The last word of a path is a name within the limits.
-use Rattle.std.proofs.Common.{◌≡◌, refl, ap, true≢false, ℕ, zero, suc, ◌+◌, nat_le, nat_lt, le-leb, ltb-false, Bool, true, false, not, cond, List, [], ◌∷◌, length, reverse, ◌&&◌, ◌||◌, Option, Some, None, is_some, Result, nat_eq}
-use Rattle.std.specs.Prelude.{⊤, codes}
+use Rattle.std.proofs.Common.{arith, ◌≡◌, refl, true≢false, ℕ, zero, suc, ◌+◌, nat_le, nat_lt, le-leb, ltb-false, Bool, true, false, not, cond, List, [], ◌∷◌, length, reverse, ◌&&◌, ◌||◌, Option, Some, None, is_some, Result, nat_eq}
+use Rattle.std.proofs.lemmas.Grind.{common_steps}
+use Rattle.std.specs.Prelude.{⊤}
 use Rattle.std.specs.List.{filter, list_all, list_any}
-use Rattle.std.specs.Str.{bytes_eq}
 use mathlib.Core.List.{reverse_aux}
 use Rattle.vt_spec.specs.declared.errors.Rule.TheVariants.{W6}
 use Rattle.vt_spec.specs.PathText.{ends_in_slash, is_empty, parts, path_rules, words}
@@ -27,30 +27,18 @@ parts_fit : (list : List (List ℕ))
 parts_fit [] h = refl
 parts_fit (part ∷ list) h = by (is_empty part) refl h (λ g. parts_fit list g)
   where
-    by : (b : Bool) → is_empty part ≡ b
-        → list_any (λ word. nat_lt longest_name (length word))
+    by : (b : Bool) → is_empty part ≡ b → list_any (λ word. nat_lt longest_name (length word))
         (cond (not b) (part ∷ filter (λ p. not (is_empty p)) list) (filter (λ p. not (is_empty p)) list)) ≡ false
         → (list_any (λ word. nat_lt longest_name (length word)) (filter (λ p. not (is_empty p)) list) ≡ false
         → list_all is_fit_name (filter (λ p. not (is_empty p)) list) ≡ true)
         → list_all is_fit_name (cond (not b) (part ∷ filter (λ p. not (is_empty p)) list)
         (filter (λ p. not (is_empty p)) list)) ≡ true
-    by true e g rest = rest g
-    by false e g rest =
-        let short =
-        or_false_left (nat_lt longest_name (length part))
-        (list_any (λ word. nat_lt longest_name (length word)) (filter (λ p. not (is_empty p)) list)) g in
-        let later =
-        (or_parts (nat_lt longest_name (length part))
-        (list_any (λ word. nat_lt longest_name (length word)) (filter (λ p. not (is_empty p)) list)) g).1 in
-        both (is_fit_name part) (list_all is_fit_name (filter (λ p. not (is_empty p)) list))
-        (both (not (is_empty part)) (nat_le (length part) longest_name) (ap not e) (no_longer longest_name part short))
-        (rest later)
+    by b e g rest = grind (arith, common_steps, or_false_left, or_parts, both, no_longer)
 
 all_turned : (test : List ℕ → Bool) (list done : List (List ℕ)) → list_all test list ≡ true → list_all test done ≡ true
     → list_all test (reverse_aux list done) ≡ true
 all_turned test [] done h k = k
-all_turned test (x ∷ list) done h k =
-    all_turned test list (x ∷ done) ((and_parts (test x) (list_all test list) h).1)
+all_turned test (x ∷ list) done h k = all_turned test list (x ∷ done) ((and_parts (test x) (list_all test list) h).1)
     (both (test x) (list_all test done) ((and_parts (test x) (list_all test list) h).0) k)
 
 all_reversed : (test : List ℕ → Bool) (list : List (List ℕ)) → list_all test list ≡ true
@@ -71,13 +59,7 @@ fit_name_of DotDot plain fit = absurd (true≢false plain)
 fit_name_of (Named name) plain fit = fit
 
 final_fits : (list : List (List ℕ)) → list_all is_fit_name list ≡ true → IsFitWord (final_word list)
-final_fits [] h = tt
-final_fits (word ∷ front) h = by (bytes_eq word (codes ".")) (bytes_eq word (codes ".."))
-  where
-    by : (a b : Bool) → IsFitWord (cond a Dot (cond b DotDot (Named word)))
-    by true b = tt
-    by false true = tt
-    by false false = (and_parts (is_fit_name word) (list_all is_fit_name front) h).0
+final_fits list h = grind (arith, common_steps, and_parts)
 
 -- a text whose words are names
 abbrev pub HasFitWords : List ℕ → Type 0
@@ -105,27 +87,23 @@ module _ (world : World ℕ) (task : Task ℕ) where
       (object_named nat_eq world task here.location (Named name)) _ (λ passed object e. fit)
 
   fit_text : (path : List ℕ) → Ends HasFitWords (path_text path)
-  fit_text path =
-      ends_unless HasFitWords [] (path_rules path) path
+  fit_text path = ends_unless HasFitWords [] (path_rules path) path
       (λ passed. (or_parts (nat_lt longest_path (length path))
       (list_any (λ word. nat_lt longest_name (length word)) (words path)) passed.1.0).1)
 
   fit_place_walk : (path : List ℕ) → Ends HasFitLast (place_walk nat_eq world task path)
-  fit_place_walk path =
-      ends_then HasFitWords HasFitLast (path_text path) _ (fit_text path) (λ text fit.
+  fit_place_walk path = ends_then HasFitWords HasFitLast (path_text path) _ (fit_text path) (λ text fit.
       ends_next HasFitLast (prefix_walked nat_eq world task (followed nat_eq world task) (walk_start task text)
       (reverse (words text)))
       (λ here. placed nat_eq world task here (final_word (reverse (words text))) (ends_in_slash text))
       (λ here. fit_placed here (final_word (reverse (words text))) (ends_in_slash text) (last_fits text fit)))
 
   pub fit_new_walk : (path : List ℕ) → Ends HasFitLast (new_walk nat_eq world task path)
-  fit_new_walk path =
-      ends_then HasFitLast HasFitLast (place_walk nat_eq world task path) _ (fit_place_walk path)
+  fit_new_walk path = ends_then HasFitLast HasFitLast (place_walk nat_eq world task path) _ (fit_place_walk path)
       (λ place fit. ends_unless HasFitLast place.steps (new_name_rules nat_eq world place) place (λ passed. fit))
 
   pub fit_new_leaf_walk : (path : List ℕ) → Ends HasFitLast (new_leaf_walk nat_eq world task path)
-  fit_new_leaf_walk path =
-      ends_then HasFitLast HasFitLast (new_walk nat_eq world task path) _ (fit_new_walk path)
+  fit_new_leaf_walk path = ends_then HasFitLast HasFitLast (new_walk nat_eq world task path) _ (fit_new_walk path)
       (λ place fit. ends_unless HasFitLast place.steps ((place.slash && not (is_some place.object), W6) ∷ []) place
       (λ passed. fit))
 
@@ -137,8 +115,7 @@ module _ (world : World ℕ) (task : Task ℕ) where
       (λ next. file_walked nat_eq depth world task next inner (slash || ends_in_slash text))
 
   fit_file_or_link : (place : Place ℕ) (text : Option (List ℕ)) (follow : List ℕ → Result (Place ℕ) (Stop ℕ))
-      → HasFitLast place
-      → ((inner : List ℕ) → Ends HasFitLast (follow inner))
+      → HasFitLast place → ((inner : List ℕ) → Ends HasFitLast (follow inner))
       → Ends HasFitLast (file_or_symlink nat_eq world place text follow)
   fit_file_or_link place None follow fit rest = fit
   fit_file_or_link place (Some text) follow fit rest = rest text
@@ -149,10 +126,8 @@ module _ (world : World ℕ) (task : Task ℕ) where
   fit_file_walked (suc depth) start text slash fit =
       ends_next HasFitLast (prefix_walked nat_eq world task (followed nat_eq world task) start (reverse (words text)))
       (λ here. then_walk (placed nat_eq world task here (final_word (reverse (words text)))
-      (slash || ends_in_slash text))
-      (λ place. file_or_symlink nat_eq world place (symlink_there nat_eq world place)
-      (linked_file depth text slash here place))) (λ here.
-      ends_then HasFitLast HasFitLast
+      (slash || ends_in_slash text)) (λ place. file_or_symlink nat_eq world place (symlink_there nat_eq world place)
+      (linked_file depth text slash here place))) (λ here. ends_then HasFitLast HasFitLast
       (placed nat_eq world task here (final_word (reverse (words text))) (slash || ends_in_slash text))
       (λ place. file_or_symlink nat_eq world place (symlink_there nat_eq world place)
       (linked_file depth text slash here place))
@@ -164,13 +139,11 @@ module _ (world : World ℕ) (task : Task ℕ) where
       (symlink_start nat_eq world task here.location (symlink_of here place) inner))
       (λ next. file_walked nat_eq depth world task next inner (slash || ends_in_slash text))
       (ends_unless (λ next. HasFitWords inner) place.steps (follow_rules nat_eq world (symlink_of here place) inner)
-      (symlink_start nat_eq world task here.location (symlink_of here place) inner)
-      (λ passed. passed.1.1.0))
+      (symlink_start nat_eq world task here.location (symlink_of here place) inner) (λ passed. passed.1.1.0))
       (λ next inside. fit_file_walked depth next inner (slash || ends_in_slash text) inside))))
 
   pub fit_file_walk : (path : List ℕ) → Ends HasFitLast (file_walk nat_eq world task path)
-  fit_file_walk path =
-      ends_then HasFitWords HasFitLast (path_text path) _ (fit_text path) (λ text fit.
+  fit_file_walk path = ends_then HasFitWords HasFitLast (path_text path) _ (fit_text path) (λ text fit.
       ends_then HasFitLast HasFitLast
       (file_walked nat_eq (most_symlinks + 1) world task (walk_start task text) text false) _
       (fit_file_walked (most_symlinks + 1) (walk_start task text) text false fit) (λ place last.

@@ -1,5 +1,6 @@
 -- What calls do to tasks keeps the limits of tasks.
-use Rattle.std.proofs.Common.{nat_eq, ◌≡◌, ◌≢◌, refl, sym, ap, ◌∙◌, true≢false, ℕ, suc, ◌+◌, ◌<◌, ◌≤◌, ◌==◌, ◌%◌, arith, nat_le, nat_lt, eq-eqb, eqb-true, le-leb, le-ltb, leb-true, leb-false, lt-ltb, Bool, true, false, not, cond, List, [], ◌∷◌, ◌++◌, length, map, ◌&&◌, Option, Some, None}
+use Rattle.std.proofs.lemmas.Grind.{common_steps}
+use Rattle.std.proofs.Common.{nat_eq, ◌≡◌, ◌≢◌, refl, ap, ◌∙◌, true≢false, ℕ, suc, ◌+◌, ◌<◌, ◌≤◌, ◌==◌, ◌%◌, arith, nat_le, nat_lt, eq-eqb, eqb-true, le-leb, le-ltb, leb-true, leb-false, lt-ltb, Bool, true, false, not, cond, List, [], ◌∷◌, ◌++◌, length, map, ◌&&◌, Option, Some, None}
 use Rattle.std.proofs.Math.Nat.{mod-lt}
 use Rattle.std.proofs.lemmas.List.{length-append}
 use Rattle.std.proofs.lemmas.Bool.{and_parts}
@@ -53,19 +54,11 @@ pub record IsWithin (task : Task ℕ) : Type 0 where
   pub umask : nat_lt task.umask 512 ≡ true
 
 pub limits_of : (task : Task ℕ) → IsWithin task → is_within_limits task ≡ true
-limits_of task is =
-    both _ (nat_lt task.umask 512)
-    (both _ (nat_le (length task.credentials.groups) 32)
-    (both _ (nat_le (length task.name) deepest_name)
-    (both _ (nat_le task.forks most_forks)
+limits_of task is = both _ (nat_lt task.umask 512) (both _ (nat_le (length task.credentials.groups) 32)
+    (both _ (nat_le (length task.name) deepest_name) (both _ (nat_le task.forks most_forks)
     (both _ (list_all (λ descriptor. nat_lt descriptor.number most_descriptors) task.descriptors)
     (both (nat_le (length task.descriptors) most_descriptors)
-    (are_ascending_from 0 task.descriptors) is.few is.ascending)
-    is.low)
-    is.forks)
-    is.depth)
-    is.groups)
-    is.umask
+    (are_ascending_from 0 task.descriptors) is.few is.ascending) is.low) is.forks) is.depth) is.groups) is.umask
 
 pub within : (task : Task ℕ) → is_within_limits task ≡ true → IsWithin task
 within task is =
@@ -93,8 +86,7 @@ within task is =
 
 -- lists of tasks
 pub all_mapped : {A : Type 0} (test : A → Bool) (change : A → A) → ((a : A) → test a ≡ true → test (change a) ≡ true)
-    → (list : List A)
-    → list_all test list ≡ true → list_all test (map change list) ≡ true
+    → (list : List A) → list_all test list ≡ true → list_all test (map change list) ≡ true
 all_mapped test change keeps [] h = refl
 all_mapped test change keeps (a ∷ list) h =
     both (test (change a)) (list_all test (map change list)) (keeps a ((and_parts (test a) (list_all test list) h).0))
@@ -118,30 +110,16 @@ replaced_within new old h k = by (same_name new.name old.name)
 -- Descriptors: the least free number is no larger than how many there are
 free_small : (number : ℕ) (list : List (Descriptor ℕ)) → free_from number list ≤ number + length list
 free_small number [] = omega arith
-free_small number (descriptor ∷ list) = by (descriptor.number == number) (free_small (number + 1) list)
-  where
-    later : (a b c : ℕ) → c ≤ (a + 1) + b → c ≤ a + suc b
-    later a b c h = omega arith
-
-    by : (b : Bool) → free_from (number + 1) list ≤ (number + 1) + length list
-        → cond b (free_from (number + 1) list) number ≤ number + suc (length list)
-    by true h = later number (length list) (free_from (number + 1) list) h
-    by false h = omega arith
+free_small number (descriptor ∷ list) = grind (arith, common_steps, free_small (number + 1) list)
 
 inserted_length : (new : Descriptor ℕ) (list : List (Descriptor ℕ)) → length (inserted new list) ≡ suc (length list)
 inserted_length new [] = refl
-inserted_length new (descriptor ∷ list) = by (nat_lt new.number descriptor.number) (inserted_length new list)
-  where
-    by : (b : Bool) → length (inserted new list) ≡ suc (length list)
-        → length (cond b (new ∷ descriptor ∷ list) (descriptor ∷ inserted new list)) ≡ suc (suc (length list))
-    by true h = refl
-    by false h = ap suc h
+inserted_length new (descriptor ∷ list) = grind (arith, common_steps, inserted_length new list)
 
 inserted_all : (test : Descriptor ℕ → Bool) (new : Descriptor ℕ) (list : List (Descriptor ℕ)) → test new ≡ true
     → list_all test list ≡ true → list_all test (inserted new list) ≡ true
 inserted_all test new [] h k = both (test new) true h refl
-inserted_all test new (descriptor ∷ list) h k =
-    by (nat_lt new.number descriptor.number)
+inserted_all test new (descriptor ∷ list) h k = by (nat_lt new.number descriptor.number)
     (inserted_all test new list h ((and_parts (test descriptor) (list_all test list) k).1))
   where
     by : (b : Bool) → list_all test (inserted new list) ≡ true
@@ -165,44 +143,27 @@ inserted_ascending least new (descriptor ∷ list) e h =
 
     by : (b : Bool) → (descriptor.number == least) ≡ b → new.number ≡ cond b (free_from (least + 1) list) least
         → (new.number ≡ free_from (least + 1) list → are_ascending_from (least + 1) list ≡ true
-        → are_ascending_from (least + 1) (inserted new list) ≡ true)
-        → are_ascending_from least
+        → are_ascending_from (least + 1) (inserted new list) ≡ true) → are_ascending_from least
         (cond (nat_lt new.number descriptor.number) (new ∷ descriptor ∷ list) (descriptor ∷ inserted new list)) ≡ true
-    by true same f later =
-        let is : descriptor.number ≡ least = eqb-true descriptor.number least same in
-        ap (λ b. are_ascending_from least (cond b (new ∷ descriptor ∷ list) (descriptor ∷ inserted new list)))
-        (passed (free_above (least + 1) list) is)
-        ∙ both (nat_le least descriptor.number) (are_ascending_from (descriptor.number + 1) (inserted new list)) low
-        (ap (λ n. are_ascending_from (n + 1) (inserted new list)) is
-        ∙ later f (ap (λ n. are_ascending_from (n + 1) list) (sym is) ∙ rest))
-      where
-        passed : least + 1 ≤ free_from (least + 1) list → descriptor.number ≡ least
-            → nat_lt new.number descriptor.number ≡ false
-        passed above is = le-ltb new.number descriptor.number (omega (arith, f, above, is))
-    by false differ f later =
-        ap (λ b. are_ascending_from least (cond b (new ∷ descriptor ∷ list) (descriptor ∷ inserted new list)))
-        (lt-ltb new.number descriptor.number below)
-        ∙ both (nat_le least new.number)
-        (nat_le (new.number + 1) descriptor.number && are_ascending_from (descriptor.number + 1) list)
-        (le-leb least new.number (omega (arith, f)))
-        (both (nat_le (new.number + 1) descriptor.number) (are_ascending_from (descriptor.number + 1) list)
-        (le-leb (new.number + 1) descriptor.number (omega (arith, below))) rest)
-      where
-        below : new.number < descriptor.number
-        below =
-            let apart : descriptor.number ≢ least =
-            λ same. true≢false (sym (eq-eqb descriptor.number least same) ∙ differ) in
-            let above : least ≤ descriptor.number = leb-true least descriptor.number low in
-            omega (arith, f, apart, above)
+    by b same f later = grind (
+      arith,
+      common_steps,
+      later,
+      eqb-true,
+      free_above,
+      low,
+      rest,
+      le-ltb,
+      lt-ltb,
+      le-leb,
+      true≢false,
+      eq-eqb,
+      leb-true,
+    )
 
 filtered_length : (stays : Descriptor ℕ → Bool) (list : List (Descriptor ℕ)) → length (filter stays list) ≤ length list
 filtered_length stays [] = omega arith
-filtered_length stays (descriptor ∷ list) = by (stays descriptor) (filtered_length stays list)
-  where
-    by : (b : Bool) → length (filter stays list) ≤ length list
-        → length (cond b (descriptor ∷ filter stays list) (filter stays list)) ≤ suc (length list)
-    by true h = omega (arith, h)
-    by false h = omega (arith, h)
+filtered_length stays (descriptor ∷ list) = grind (arith, common_steps, filtered_length stays list)
 
 -- a descriptor more, where there are fewer than 256; and one less
 pub opened_within : (task : Task ℕ) (location : Location ℕ) (access : Access) → is_within_limits task ≡ true
@@ -211,8 +172,7 @@ pub opened_within : (task : Task ℕ) (location : Location ℕ) (access : Access
 opened_within task location access is room =
     let limits = within task is in
     let fewer = leb-false most_descriptors (length task.descriptors) room in
-    let new : Descriptor ℕ =
-    record {
+    let new : Descriptor ℕ = record {
       number = free_number task;
       location = location;
       reads = opens_for_reading access;
@@ -240,8 +200,7 @@ closed_within task number is =
           (omega (arith, few, filtered_length (λ descriptor. not (number == descriptor.number)) task.descriptors));
       ascending = ascending-filter
           (λ descriptor. not (number == descriptor.number)) 0 task.descriptors limits.ascending;
-      low =
-          all-filter (λ descriptor. nat_lt descriptor.number most_descriptors)
+      low = all-filter (λ descriptor. nat_lt descriptor.number most_descriptors)
           (λ descriptor. not (number == descriptor.number)) task.descriptors limits.low;
       forks = limits.forks;
       depth = limits.depth;

@@ -1,5 +1,6 @@
 -- What is known of the end of a walk: the directory of a name is one, and the name leads where its entry does.
-use Rattle.std.proofs.Common.{◌≡◌, refl, sym, ap, ◌∙◌, true≢false, ℕ, zero, suc, ◌+◌, nat_eq, Bool, true, false, not, List, [], ◌∷◌, ◌&&◌, ◌||◌, Option, Some, None, is_some, option_map, Result, Ok, Err, reverse, subst}
+use Rattle.std.proofs.Common.{arith, ◌≡◌, refl, sym, ap, ◌∙◌, true≢false, ℕ, zero, suc, ◌+◌, nat_eq, Bool, true, false, not, List, [], ◌∷◌, ◌&&◌, ◌||◌, Option, Some, None, is_some, option_map, Result, Ok, Err, reverse, subst}
+use Rattle.std.proofs.lemmas.Grind.{common_steps}
 use Rattle.std.specs.Prelude.{⊤}
 use Rattle.vt_spec.specs.declared.errors.Deny.{Deny}
 use Rattle.vt_spec.specs.declared.errors.Rule.TheVariants.{W3, W6}
@@ -30,14 +31,12 @@ ends_both Q R (Ok a) q r = (q, r)
 ends_both Q R (Err stop) q r = tt
 
 pub ends_then : {A B : Type 0} (Q : A → Type 0) (R : B → Type 0) (r : Result A (Stop ℕ)) (next : A → Result B (Stop ℕ))
-    → Ends Q r
-    → ((a : A) → Q a → Ends R (next a)) → Ends R (then_walk r next)
+    → Ends Q r → ((a : A) → Q a → Ends R (next a)) → Ends R (then_walk r next)
 ends_then Q R (Ok a) next q h = h a q
 ends_then Q R (Err stop) next q h = tt
 
 pub ends_next : {A B : Type 0} (R : B → Type 0) (r : Result A (Stop ℕ)) (next : A → Result B (Stop ℕ))
-    → ((a : A) → Ends R (next a))
-    → Ends R (then_walk r next)
+    → ((a : A) → Ends R (next a)) → Ends R (then_walk r next)
 ends_next R (Ok a) next h = h a
 ends_next R (Err stop) next h = tt
 
@@ -49,8 +48,7 @@ ends_unless Q steps ((false, rule) ∷ rows) a h = ends_unless Q steps rows a (�
 
 -- a step that may be refused by rules, or by itself
 pub ends_step : {A B : Type 0} (Q : B → Type 0) (steps : List (List ℕ)) (rules : Rules) (answer : Result A Deny)
-    (next : A → Result B Deny)
-    → (NoneFails rules → (a : A) → answer ≡ Ok a → Ends Q (stopped_by steps (next a)))
+    (next : A → Result B Deny) → (NoneFails rules → (a : A) → answer ≡ Ok a → Ends Q (stopped_by steps (next a)))
     → Ends Q (stopped_by steps (and_then (unless rules answer) next))
 ends_step Q steps [] (Ok a) next h = h tt a refl
 ends_step Q steps [] (Err deny) next h = tt
@@ -58,8 +56,7 @@ ends_step Q steps ((true, rule) ∷ rows) answer next h = tt
 ends_step Q steps ((false, rule) ∷ rows) answer next h = ends_step Q steps rows answer next (λ rest. h (refl, rest))
 
 pub after_holds : {A : Type 0} (P : World ℕ → Type 0) (world : World ℕ) (r : Result A Deny) (next : A → Outcome ℕ)
-    → P world
-    → ((a : A) → r ≡ Ok a → P (next a).world) → P (after world r next).world
+    → P world → ((a : A) → r ≡ Ok a → P (next a).world) → P (after world r next).world
 after_holds P world (Ok a) next p h = h a refl
 after_holds P world (Err deny) next p h = p
 
@@ -94,8 +91,7 @@ abbrev pub IsFilePlace : World ℕ → Place ℕ → Type 0
 IsFilePlace world place = IsFileOf world place.parent place.last place.object
 
 pub place_named : (world : World ℕ) (parent : Location ℕ) (last : LastWord) (object : Option (Location ℕ))
-    → is_special last ≡ false
-    → IsPlaceOf world parent last object
+    → is_special last ≡ false → IsPlaceOf world parent last object
     → (is_directory_at nat_eq world parent ≡ true) × (object ≡ entry_location nat_eq world parent (name_of last))
 place_named world parent NoWord object plain is = absurd (true≢false plain)
 place_named world parent Dot object plain is = absurd (true≢false plain)
@@ -103,9 +99,7 @@ place_named world parent DotDot object plain is = absurd (true≢false plain)
 place_named world parent (Named name) object plain is = is
 
 pub file_named : (world : World ℕ) (parent : Location ℕ) (last : LastWord) (object : Option (Location ℕ))
-    → is_special last ≡ false
-    → IsFileOf world parent last object
-    → (is_directory_at nat_eq world parent ≡ true)
+    → is_special last ≡ false → IsFileOf world parent last object → (is_directory_at nat_eq world parent ≡ true)
     × (object ≡ None → entry_location nat_eq world parent (name_of last) ≡ None)
 file_named world parent NoWord object plain is = absurd (true≢false plain)
 file_named world parent Dot object plain is = absurd (true≢false plain)
@@ -129,20 +123,16 @@ module _ (world : World ℕ) (task : Task ℕ) where
   ends_placed here DotDot slash =
       ends_step (IsPlace world) (steps_at nat_eq world task here DotDot) (search_rules nat_eq world task here.location)
       (object_named nat_eq world task here.location DotDot) _ (λ passed object e. tt)
-  ends_placed here (Named name) slash =
-      ends_step (IsPlace world) (steps_at nat_eq world task here (Named name))
-      (search_rules nat_eq world task here.location)
-      (object_named nat_eq world task here.location (Named name)) _
+  ends_placed here (Named name) slash = ends_step (IsPlace world) (steps_at nat_eq world task here (Named name))
+      (search_rules nat_eq world task here.location) (object_named nat_eq world task here.location (Named name)) _
       (λ passed object e. (
         not_true (is_directory_at nat_eq world here.location) passed.0,
-        sym
-            (ok_same (entry_location nat_eq world here.location name) object
+        sym (ok_same (entry_location nat_eq world here.location name) object
             (object_named nat_eq world task here.location (Named name)) refl e),
       ))
 
   pub ends_place_walk : (path : List ℕ) → Ends (IsPlace world) (place_walk nat_eq world task path)
-  ends_place_walk path =
-      ends_next (IsPlace world) (path_text path) _ (λ text.
+  ends_place_walk path = ends_next (IsPlace world) (path_text path) _ (λ text.
       ends_next (IsPlace world) (prefix_walked nat_eq world task (followed nat_eq world task) (walk_start task text)
       (reverse (words text)))
       (λ here. placed nat_eq world task here (final_word (reverse (words text))) (ends_in_slash text))
@@ -153,14 +143,12 @@ module _ (world : World ℕ) (task : Task ℕ) where
   IsNewPlace place = IsPlace world place × NoneFails (new_name_rules nat_eq world place)
 
   pub ends_new_walk : (path : List ℕ) → Ends IsNewPlace (new_walk nat_eq world task path)
-  ends_new_walk path =
-      ends_then (IsPlace world) IsNewPlace (place_walk nat_eq world task path) _ (ends_place_walk path)
+  ends_new_walk path = ends_then (IsPlace world) IsNewPlace (place_walk nat_eq world task path) _ (ends_place_walk path)
       (λ place is. ends_unless IsNewPlace place.steps (new_name_rules nat_eq world place) place
       (λ passed. (is, passed)))
 
   pub ends_new_leaf_walk : (path : List ℕ) → Ends IsNewPlace (new_leaf_walk nat_eq world task path)
-  ends_new_leaf_walk path =
-      ends_then IsNewPlace IsNewPlace (new_walk nat_eq world task path) _ (ends_new_walk path)
+  ends_new_leaf_walk path = ends_then IsNewPlace IsNewPlace (new_walk nat_eq world task path) _ (ends_new_walk path)
       (λ place is. ends_unless IsNewPlace place.steps ((place.slash && not (is_some place.object), W6) ∷ []) place
       (λ passed. is))
 
@@ -169,34 +157,23 @@ module _ (world : World ℕ) (task : Task ℕ) where
   IsOldPlace place = IsPlace world place × (is_some place.object ≡ true)
 
   pub ends_old_walk : (path : List ℕ) → Ends IsOldPlace (old_walk nat_eq world task path)
-  ends_old_walk path =
-      ends_then (IsPlace world) IsOldPlace (place_walk nat_eq world task path) _ (ends_place_walk path)
+  ends_old_walk path = ends_then (IsPlace world) IsOldPlace (place_walk nat_eq world task path) _ (ends_place_walk path)
       (λ place is. ends_unless IsOldPlace place.steps ((not (is_some place.object), W6) ∷ []) place
       (λ passed. (is, not_true (is_some place.object) passed.0)))
 
   pub ends_old_leaf_walk : (path : List ℕ) → Ends IsOldPlace (old_leaf_walk nat_eq world task path)
-  ends_old_leaf_walk path =
-      ends_then IsOldPlace IsOldPlace (old_walk nat_eq world task path) _ (ends_old_walk path)
+  ends_old_leaf_walk path = ends_then IsOldPlace IsOldPlace (old_walk nat_eq world task path) _ (ends_old_walk path)
       (λ place is. ends_unless IsOldPlace place.steps
-      ((place.slash && not (is_directory_there nat_eq world place), W3) ∷ []) place
-      (λ passed. is))
+      ((place.slash && not (is_directory_there nat_eq world place), W3) ∷ []) place (λ passed. is))
 
   -- files
   entered_file : (parent : Location ℕ) (last : LastWord) (object : Option (Location ℕ))
       → IsPlaceOf world parent last object
       → IsFileOf world parent last (option_map (topmost nat_eq world.mounts) object)
-  entered_file parent NoWord object is = tt
-  entered_file parent Dot object is = tt
-  entered_file parent DotDot object is = tt
-  entered_file parent (Named name) object is = (is.0, λ none. sym is.1 ∙ was_none object none)
-    where
-      was_none : (o : Option (Location ℕ)) → option_map (topmost nat_eq world.mounts) o ≡ None → o ≡ None
-      was_none None e = refl
-      was_none (Some x) e = absurd (true≢false (ap is_some e))
+  entered_file parent last object is = grind (arith, common_steps, true≢false)
 
   ends_file_or_link : (place : Place ℕ) (text : Option (List ℕ)) (follow : List ℕ → Result (Place ℕ) (Stop ℕ))
-      → IsPlace world place
-      → ((inner : List ℕ) → Ends (IsFilePlace world) (follow inner))
+      → IsPlace world place → ((inner : List ℕ) → Ends (IsFilePlace world) (follow inner))
       → Ends (IsFilePlace world) (file_or_symlink nat_eq world place text follow)
   ends_file_or_link place None follow is rest = entered_file place.parent place.last place.object is
   ends_file_or_link place (Some text) follow is rest = rest text
@@ -219,16 +196,14 @@ module _ (world : World ℕ) (task : Task ℕ) where
   ends_file_walked zero start text slash = tt
   ends_file_walked (suc depth) start text slash =
       ends_next (IsFilePlace world) (prefix_walked nat_eq world task (followed nat_eq world task) start
-      (reverse (words text)))
-      (λ here. file_from depth text slash here) (λ here.
+      (reverse (words text))) (λ here. file_from depth text slash here) (λ here.
       ends_then (IsPlace world) (IsFilePlace world)
       (placed nat_eq world task here (final_word (reverse (words text))) (slash || ends_in_slash text))
       (λ place. file_or_symlink nat_eq world place (symlink_there nat_eq world place)
       (linked_file depth text slash here place))
       (ends_placed here (final_word (reverse (words text))) (slash || ends_in_slash text)) (λ place is.
       ends_file_or_link place (symlink_there nat_eq world place) (linked_file depth text slash here place) is (λ inner.
-      ends_next (IsFilePlace world)
-      (walk_unless place.steps (follow_rules nat_eq world (symlink_of here place) inner)
+      ends_next (IsFilePlace world) (walk_unless place.steps (follow_rules nat_eq world (symlink_of here place) inner)
       (symlink_start nat_eq world task here.location (symlink_of here place) inner))
       (λ next. file_walked nat_eq depth world task next inner (slash || ends_in_slash text))
       (λ next. ends_file_walked depth next inner (slash || ends_in_slash text)))))
@@ -237,8 +212,7 @@ module _ (world : World ℕ) (task : Task ℕ) where
   IsNewFilePlace place = IsFilePlace world place × NoneFails (new_name_rules nat_eq world place)
 
   pub ends_file_walk : (path : List ℕ) → Ends IsNewFilePlace (file_walk nat_eq world task path)
-  ends_file_walk path =
-      ends_next IsNewFilePlace (path_text path) _ (λ text.
+  ends_file_walk path = ends_next IsNewFilePlace (path_text path) _ (λ text.
       ends_then (IsFilePlace world) IsNewFilePlace
       (file_walked nat_eq (most_symlinks + 1) world task (walk_start task text) text false) _
       (ends_file_walked (most_symlinks + 1) (walk_start task text) text false) (λ place is.

@@ -17,8 +17,7 @@ module _ {A : Type 0} (number_of : A → ℕ) where
   found_one (first ∷ rest) apart a m number e =
       let parts = or_parts (list_any (λ b. nat_eq (number_of first) (number_of b)) rest)
       (any_pair (λ a b. nat_eq (number_of a) (number_of b)) rest) apart in
-      ⊎_elim
-      (λ same. ap (λ b. cond b (Some first) (numbered number rest))
+      ⊎_elim (λ same. ap (λ b. cond b (Some first) (numbered number rest))
       (ap (λ b. nat_eq number (number_of b)) (sym same) ∙ e) ∙ ap Some (sym same))
       (λ later. by (nat_eq number (number_of first)) refl parts.0 later (found_one rest parts.1 a later number e)) m
     where
@@ -33,8 +32,7 @@ module _ {A : Type 0} (number_of : A → ℕ) where
       by : (b : Bool) → nat_eq number (number_of first) ≡ b
           → list_any (λ x. nat_eq (number_of first) (number_of x)) rest ≡ false → Among a rest
           → numbered number rest ≡ Some a → cond b (Some first) (numbered number rest) ≡ Some a
-      by true f none n found =
-          absurd (true≢false (sym (eq-eqb (number_of first) (number_of a)
+      by true f none n found = absurd (true≢false (sym (eq-eqb (number_of first) (number_of a)
           (sym (eqb-true number (number_of first) f) ∙ eqb-true number (number_of a) e)) ∙ clash rest none n))
       by false f none n found = found
 

@@ -51,8 +51,7 @@ module _ (world : World ℕ) (is : IsWorld nat_eq world) (task : Task ℕ)
 
   -- a mount of the task's namespace, or a detached one that its root or working directory is on
   abbrev pub IsGround : ℕ → Type 0
-  IsGround number =
-      ((mount_numbered nat_eq world number).namespace ≡ Some task.namespace)
+  IsGround number = ((mount_numbered nat_eq world number).namespace ≡ Some task.namespace)
       ⊎ (((mount_numbered nat_eq world number).namespace ≡ None)
       × ((number ≡ task.root.mount) ⊎ (number ≡ task.directory.mount)))
 
@@ -64,8 +63,7 @@ module _ (world : World ℕ) (is : IsWorld nat_eq world) (task : Task ℕ)
 
   own_there : (number : ℕ) → (mount_numbered nat_eq world number).namespace ≡ Some task.namespace
       → Among (mount_numbered nat_eq world number) world.mounts
-  own_there number own =
-      ⊎_elim (λ m. m)
+  own_there number own = ⊎_elim (λ m. m)
       (λ missing. none_is_some task.namespace (sym (ap (λ (x : Mount ℕ). x.namespace) missing) ∙ own))
       (found_or_none world.mounts number)
 
@@ -78,10 +76,8 @@ module _ (world : World ℕ) (is : IsWorld nat_eq world) (task : Task ℕ)
       let there : list_any (λ (m : Mount ℕ). nat_eq mount.filesystem m.filesystem)
       (mounts_of nat_eq world task.namespace) ≡ true =
       any_from_among (λ (m : Mount ℕ). nat_eq mount.filesystem m.filesystem) (mounts_of nat_eq world task.namespace)
-      mount
-      (among-filter (λ (m : Mount ℕ). holds_of (nat_eq task.namespace) m.namespace) world.mounts mount
-      (own_there number own) own_one)
-      (nat_eq_itself mount.filesystem) in
+      mount (among-filter (λ (m : Mount ℕ). holds_of (nat_eq task.namespace) m.namespace) world.mounts mount
+      (own_there number own) own_one) (nat_eq_itself mount.filesystem) in
       ap (λ b. b || nat_eq mount.filesystem (mount_at nat_eq world task.root).filesystem
       || nat_eq mount.filesystem (mount_at nat_eq world task.directory).filesystem) there
   shown_seen number (inr (none, inl root)) =
@@ -110,8 +106,7 @@ module _ (world : World ℕ) (is : IsWorld nat_eq world) (task : Task ℕ)
   seen_in : (location : Location ℕ) → is_directory_seen_in nat_eq world task.namespace location ≡ true
       → ((mount_at nat_eq world location).namespace ≡ Some task.namespace)
       ⊎ ((mount_at nat_eq world location).namespace ≡ None)
-  seen_in location h =
-      by (mount_at nat_eq world location).namespace refl
+  seen_in location h = by (mount_at nat_eq world location).namespace refl
       (and_parts (is_directory_at nat_eq world location)
       (list_all (nat_eq task.namespace) (option_to_list (mount_at nat_eq world location).namespace)) h).1
     where
@@ -125,8 +120,7 @@ module _ (world : World ℕ) (is : IsWorld nat_eq world) (task : Task ℕ)
 
   stood : (is_directory_seen_in nat_eq world task.namespace task.root ≡ true)
       × (is_directory_seen_in nat_eq world task.namespace task.directory ≡ true)
-  stood =
-      and_parts (is_directory_seen_in nat_eq world task.namespace task.root)
+  stood = and_parts (is_directory_seen_in nat_eq world task.namespace task.root)
       (is_directory_seen_in nat_eq world task.namespace task.directory)
       (among_from_list_all (stands_on_directories nat_eq world) world.tasks is.tasks.directories task
       (found_among _ world.tasks task called))
@@ -162,8 +156,7 @@ module _ (world : World ℕ) (is : IsWorld nat_eq world) (task : Task ℕ)
           let point = stands_there a child (found_passes (stands_at nat_eq a) world.mounts child f) in
           let same = namespace_below world child.number a (standing child m)
           (ap (λ (x : Mount ℕ). x.mount_point) itself ∙ point) in
-          subst OnGround (same_Some (root_of child) b h)
-          (⊎_elim (λ own. inl (same ∙ own))
+          subst OnGround (same_Some (root_of child) b h) (⊎_elim (λ own. inl (same ∙ own))
           (λ none. absurd (nowhere_unplaced world is.mounts child a m
           (ap (λ (x : Mount ℕ). x.namespace) (sym itself) ∙ same ∙ none.0) point)) ground)
 
@@ -175,28 +168,21 @@ module _ (world : World ℕ) (is : IsWorld nat_eq world) (task : Task ℕ)
       (length world.mounts) here ground l m
 
   pub topmost_ground : (here : Location ℕ) → OnGround here → OnGround (topmost looks here)
-  topmost_ground here ground =
-      over_ground here ground (topmost looks here)
+  topmost_ground here ground = over_ground here ground (topmost looks here)
       (last_among (looks.mounts_over here) here (chain_start _ (length world.mounts) here))
 
   -- and a parent
   parent_ground : (number : ℕ) (point : Location ℕ) → IsGround number
       → (mount_numbered nat_eq world number).mount_point ≡ Some point → OnGround point
-  parent_ground number point ground e =
-      ⊎_elim
-      (λ own.
-      inl (sym (namespace_below world number point
-      (subst (Stands nat_eq world) (number-mount_in world.mounts number)
-      (standing (mount_numbered nat_eq world number) (own_there number own))) e) ∙ own))
-      (λ none. ⊎_elim
+  parent_ground number point ground e = ⊎_elim (λ own.
+      inl (sym (namespace_below world number point (subst (Stands nat_eq world) (number-mount_in world.mounts number)
+      (standing (mount_numbered nat_eq world number) (own_there number own))) e) ∙ own)) (λ none. ⊎_elim
       (λ m. absurd (nowhere_unplaced world is.mounts (mount_numbered nat_eq world number) point m none.0 e))
       (λ missing. none_is_some point (sym (ap (λ (x : Mount ℕ). x.mount_point) missing) ∙ e))
-      (found_or_none world.mounts number))
-      ground
+      (found_or_none world.mounts number)) ground
 
   hop_ground : (a b : Location ℕ) → OnGround a → hop nat_eq looks task a ≡ Some b → OnGround b
-  hop_ground a b ground e =
-      by (same_location nat_eq a task.root) (nat_eq a.node (mount_at nat_eq world a).root) e
+  hop_ground a b ground e = by (same_location nat_eq a task.root) (nat_eq a.node (mount_at nat_eq world a).root) e
     where
       by : (p q : Bool) → cond p None (cond q (mount_at nat_eq world a).mount_point None) ≡ Some b → OnGround b
       by true q h = none_is_some b h
@@ -212,8 +198,7 @@ module _ (world : World ℕ) (is : IsWorld nat_eq world) (task : Task ℕ)
   top_of here = last_or here (hops nat_eq looks task here)
 
   top_ground : (here : Location ℕ) → OnGround here → OnGround (top_of here)
-  top_ground here ground =
-      hops_ground here ground (top_of here)
+  top_ground here ground = hops_ground here ground (top_of here)
       (last_among (hops nat_eq looks task here) here (chain_start _ (length world.mounts) here))
 
   up_ground : (top next : Location ℕ) → OnGround top → up_from nat_eq looks task top ≡ Ok next → OnGround next
@@ -230,8 +215,7 @@ module _ (world : World ℕ) (is : IsWorld nat_eq world) (task : Task ℕ)
         where
           refused : Path (Result (Location ℕ) Deny) (Err (denial W8)) (Ok next) → OnGround next
           refused k = absurd cc
-      by false false h =
-          same (topmost looks (parent_location nat_eq looks top)) next
+      by false false h = same (topmost looks (parent_location nat_eq looks top)) next
           (topmost_ground (parent_location nat_eq looks top) ground) h
 
   -- an entry is on the mount of its directory
@@ -239,8 +223,7 @@ module _ (world : World ℕ) (is : IsWorld nat_eq world) (task : Task ℕ)
       → entry_location nat_eq looks here name ≡ Some l → OnGround l
   entry_ground here name ground l e = by (entry_named name (entries_in (looks.node here))) e
     where
-      by : (o : Option ℕ) → option_map (λ object. record { mount = here.mount; node = object }) o ≡ Some l
-          → OnGround l
+      by : (o : Option ℕ) → option_map (λ object. record { mount = here.mount; node = object }) o ≡ Some l → OnGround l
       by None h = none_is_some l h
       by (Some object) h = subst OnGround (same_Some (record { mount = here.mount; node = object }) l h) ground
 
@@ -299,10 +282,8 @@ module _ (world : World ℕ) (is : IsWorld nat_eq world) (task : Task ℕ)
       shown_on (here ∷ flat_map looks.mounts_over (option_to_list (entry_location nat_eq looks here name)))
       (λ l m. ⊎_elim (λ e. subst OnGround (sym e) ground)
       (λ n. object_ground (entry_location nat_eq looks here name) (entry_ground here name ground) l n) m)
-  met_seen here DotDot ground =
-      shown_on (hops nat_eq looks task here ++ entered_upward nat_eq looks task (top_of here))
-      (λ l m. ⊎_elim (λ n. hops_ground here ground l n)
-      (λ n. upward_ground (top_of here) (top_ground here ground) l n)
+  met_seen here DotDot ground = shown_on (hops nat_eq looks task here ++ entered_upward nat_eq looks task (top_of here))
+      (λ l m. ⊎_elim (λ n. hops_ground here ground l n) (λ n. upward_ground (top_of here) (top_ground here ground) l n)
       (among-append (hops nat_eq looks task here) (entered_upward nat_eq looks task (top_of here)) l m))
 
   pub met_at_seen : (here : Location ℕ) (word : LastWord) → OnGround here → (f : ℕ)

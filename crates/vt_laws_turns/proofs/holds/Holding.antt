@@ -54,8 +54,7 @@ use Rattle.vt_laws_turns.proofs.holds.Meeting.{walk_met}
 -- What is walked
 
 pub nth_among : {A : Type 0} (list : List A) (k : ℕ) (a : A) → slice_get list k ≡ Some a → Among a list
-nth_among list k a e =
-    among_from_contains list a (k, slice_get_within list k a e, get_or_from_slice_get list k a a e)
+nth_among list k a e = among_from_contains list a (k, slice_get_within list k a e, get_or_from_slice_get list k a a e)
 
 among-from_reverse : {A : Type 0} (list : List A) (a : A) → Among a (reverse list) → Among a list
 among-from_reverse [] a m = absurd m
@@ -73,10 +72,8 @@ of_route (route ∷ rest) met m = by route.fails m (of_route rest met)
         → (Among met (words_of rest) → (other : Route ℕ) × Among other rest × Among met other.steps)
         → (other : Route ℕ) × Among other (route ∷ rest) × Among met other.steps
     by true n later = (route, inl refl, n)
-    by false n later =
-        ⊎_elim (λ here. (route, inl refl, here))
-        (λ k. let found = later k in (found.0, inr found.1, found.2))
-        (among-append route.steps (words_of rest) met n)
+    by false n later = ⊎_elim (λ here. (route, inl refl, here))
+        (λ k. let found = later k in (found.0, inr found.1, found.2)) (among-append route.steps (words_of rest) met n)
 
 -- each word of a call meets what its task sees
 pub word_seen : (world : World ℕ) → IsWorld nat_eq world → (task : Task ℕ) → task_called world task.name ≡ Some task
@@ -90,8 +87,7 @@ word_seen world is task called call met m f n =
     (subst (Among found.0.steps) (routes_are_walks (looks_of nat_eq world) task call)
     (among-map (λ (route : Route ℕ). route.steps) (routes nat_eq (looks_of nat_eq world) task call) found.0 found.1)) in
     let walk = whole_walk nat_eq way.0.aim (looks_of nat_eq world) task way.0.path in
-    walk_met world is task called way.0.aim way.0.path f
-    (among-flat_map (λ (l : List ℕ). l) (steps_of walk) met f
+    walk_met world is task called way.0.aim way.0.path f (among-flat_map (λ (l : List ℕ). l) (steps_of walk) met f
     (among-from_reverse (steps_of walk) met (subst (Among met) way.2 found.2)) n)
 
 -- what is held was held, or is met now
@@ -102,12 +98,10 @@ newly_held world (f ∷ met) list held m =
     ⊎_elim (λ n. by (list_any (λ (other : ℕ × ℕ). nat_eq f other.0) list) n) (λ n. inr (inr n))
     (newly_held world met (hold_one nat_eq world list f) held m)
   where
-    by : (b : Bool)
-        → Among held (cond b list (list ++ ((f, filesystem_change_of nat_eq world f) ∷ [])))
+    by : (b : Bool) → Among held (cond b list (list ++ ((f, filesystem_change_of nat_eq world f) ∷ [])))
         → Among held list ⊎ Among held.0 (f ∷ met)
     by true n = inl n
-    by false n =
-        ⊎_elim inl (λ k. ⊎_elim (λ e. inr (inl (ap (λ (h : ℕ × ℕ). h.0) e))) (λ none. absurd none) k)
+    by false n = ⊎_elim inl (λ k. ⊎_elim (λ e. inr (inl (ap (λ (h : ℕ × ℕ). h.0) e))) (λ none. absurd none) k)
         (among-append list ((f, filesystem_change_of nat_eq world f) ∷ []) held n)
 
 -- Numbers
@@ -128,8 +122,7 @@ no_more_later held was now bound (inr (inl more)) = by (was == last_number) refl
 -- one that is current after it rose was current before
 current_before : (held was now : ℕ) → IsNoMore held was → Rises was now → is_stale held now ≡ false
     → is_stale held was ≡ false
-current_before held was now bound rises fresh =
-    subst (λ n. is_stale held n ≡ false) (same rises bound) fresh
+current_before held was now bound rises fresh = subst (λ n. is_stale held n ≡ false) (same rises bound) fresh
   where
     is : (held ≡ now) × (now ≢ last_number)
     is = not_stale held now fresh
@@ -161,9 +154,7 @@ module _ (world : World ℕ) (is : IsWorld nat_eq world) (fresh : Fresh ℕ) (se
 
   -- mounts that are left show what they showed
   shown : ShowAlike world later
-  shown =
-      policy_leads (ShowAlike world) world fresh name call
-      (λ one other c d e.
+  shown = policy_leads (ShowAlike world) world fresh name call (λ one other c d e.
       let same : one ≡ other =
       sym (found_itself world.mounts is.mounts.one_number one (among_from_contains world.mounts one c))
       ∙ ap (mount_numbered nat_eq world) e
@@ -183,14 +174,11 @@ module _ (world : World ℕ) (is : IsWorld nat_eq world) (fresh : Fresh ℕ) (se
       pub namespace : now.namespace ≡ old.namespace
 
     task_left : (now : Task ℕ) × (task_called later other ≡ Some now) × IsLeft now
-    task_left =
-        ⊎_elim (λ same. (old, same, record { change = refl; namespace = refl }))
-        (λ pivot. (
-          record old { root = pivot.0 old.root; directory = pivot.0 old.directory },
-          pivot.2,
-          record { change = refl; namespace = refl },
-        ))
-        (other_tasks_stay fresh world name call other old apart called)
+    task_left = ⊎_elim (λ same. (old, same, record { change = refl; namespace = refl })) (λ pivot. (
+      record old { root = pivot.0 old.root; directory = pivot.0 old.directory },
+      pivot.2,
+      record { change = refl; namespace = refl },
+    )) (other_tasks_stay fresh world name call other old apart called)
 
     left_so : (now : Task ℕ) → task_called later other ≡ Some now → IsLeft now
     left_so now found =
@@ -199,8 +187,7 @@ module _ (world : World ℕ) (is : IsWorld nat_eq world) (fresh : Fresh ℕ) (se
         subst IsLeft same left.2
 
     rises : Rises (namespace_change_of nat_eq world old.namespace) (namespace_change_of nat_eq later old.namespace)
-    rises =
-        namespace_rises world fresh name call old.namespace given (λ e.
+    rises = namespace_rises world fresh name call old.namespace given (λ e.
         true≢false (sym (eq-eqb (fresh (2 * 0)) old.namespace e)
         ∙ unused_number world fresh serves (2 * 0) old.namespace
         (among-append_right _ (map (λ (n : Namespace ℕ). n.number) world.namespaces) old.namespace
@@ -212,8 +199,7 @@ module _ (world : World ℕ) (is : IsWorld nat_eq world) (fresh : Fresh ℕ) (se
     module _ (unraised : is_stale (namespace_change_of nat_eq world old.namespace)
         (namespace_change_of nat_eq later old.namespace) ≡ false) where
       stays : task_called later other ≡ Some old
-      stays =
-          other_tasks_of_unraised_namespaces_stay world fresh name call other old given apart called unraised
+      stays = other_tasks_of_unraised_namespaces_stay world fresh name call other old given apart called unraised
 
       itself : (w : World ℕ) → task_called w other ≡ Some old → task_called w old.name ≡ Some old
       itself w found = ap (task_called w) (sym (name_found w other old found)) ∙ found
@@ -221,8 +207,7 @@ module _ (world : World ℕ) (is : IsWorld nat_eq world) (fresh : Fresh ℕ) (se
       shows : (l : Location ℕ) → is_among nat_eq l.mount (numbers_of world.mounts) ≡ true
           → is_among nat_eq l.mount (numbers_of later.mounts) ≡ true
           → (mount_at nat_eq later l).filesystem ≡ (mount_at nat_eq world l).filesystem
-      shows l before now =
-          sym (shown (mount_at nat_eq world l) (mount_at nat_eq later l)
+      shows l before now = sym (shown (mount_at nat_eq world l) (mount_at nat_eq later l)
           (contains_from_among world.mounts (mount_at nat_eq world l) (found_there world.mounts l.mount before))
           (contains_from_among later.mounts (mount_at nat_eq later l) (found_there later.mounts l.mount now))
           (number-mount_in world.mounts l.mount ∙ sym (number-mount_in later.mounts l.mount))).0
@@ -238,8 +223,7 @@ module _ (world : World ℕ) (is : IsWorld nat_eq world) (fresh : Fresh ℕ) (se
           || nat_eq f (mount_at nat_eq later old.directory).filesystem)
           (unraised_namespaces_keep_mounts world fresh name call old.namespace given unraised)
           ∙ ap (λ n. list_any (λ (m : Mount ℕ). nat_eq f m.filesystem) (mounts_of nat_eq world old.namespace)
-          || nat_eq f n || nat_eq f (mount_at nat_eq later old.directory).filesystem)
-          (shows old.root was.0.0 now.0.0)
+          || nat_eq f n || nat_eq f (mount_at nat_eq later old.directory).filesystem) (shows old.root was.0.0 now.0.0)
           ∙ ap (λ n. list_any (λ (m : Mount ℕ). nat_eq f m.filesystem) (mounts_of nat_eq world old.namespace)
           || nat_eq f (mount_at nat_eq world old.root).filesystem || nat_eq f n)
           (shows old.directory before.0.0 after.0.0)
@@ -247,20 +231,16 @@ module _ (world : World ℕ) (is : IsWorld nat_eq world) (fresh : Fresh ℕ) (se
 -- Turns
 module _ (sched : Sched ℕ) (is : IsWorld nat_eq sched.world) (holds : HoldsWhatIsSeen sched) where
   abbrev LeftUnderWay : Sched ℕ → Type 0
-  LeftUnderWay later =
-      (progress : Progress ℕ) → Contains later.under_way progress → Contains sched.under_way progress
+  LeftUnderWay later = (progress : Progress ℕ) → Contains later.under_way progress → Contains sched.under_way progress
 
   -- in the same world, with no other call under way
   fewer : (later : Sched ℕ) → later.world ≡ sched.world → LeftUnderWay later → HoldsWhatIsSeen later
   fewer later same left = record {
-    there = λ progress c.
-        ap (λ w. is_some (task_called w progress.task)) same ∙ holds.there progress (left progress c);
-    no_more = λ task progress under.
-        subst (λ w. IsNoMore progress.task_change task.change
+    there = λ progress c. ap (λ w. is_some (task_called w progress.task)) same ∙ holds.there progress (left progress c);
+    no_more = λ task progress under. subst (λ w. IsNoMore progress.task_change task.change
         × IsNoMore progress.namespace_change (namespace_change_of nat_eq w task.namespace)) (sym same)
         (holds.no_more task progress (before task progress under));
-    seen = λ task progress under current held c.
-        ap (λ w. is_seen_by w task held.0) same
+    seen = λ task progress under current held c. ap (λ w. is_seen_by w task held.0) same
         ∙ holds.seen task progress (before task progress under)
         (subst (λ w. HoldsItsTask w task progress) same current) held c;
   }
@@ -339,8 +319,7 @@ module _ (sched : Sched ℕ) (is : IsWorld nat_eq sched.world) (holds : HoldsWha
         subst (λ n. is_stale progress.namespace_change (namespace_change_of nat_eq left n) ≡ false) so.namespace
         current.namespace_change in
         let before : is_stale progress.namespace_change (namespace_change_of nat_eq sched.world old.0.namespace)
-        ≡ false =
-        current_before progress.namespace_change (namespace_change_of nat_eq sched.world old.0.namespace)
+        ≡ false = current_before progress.namespace_change (namespace_change_of nat_eq sched.world old.0.namespace)
         (namespace_change_of nat_eq left old.0.namespace) bound.1
         (rises sched.world is fresh serves name call few progress.task of.1 old.0 old.1) now in
         let unraised : is_stale (namespace_change_of nat_eq sched.world old.0.namespace)
@@ -351,22 +330,18 @@ module _ (sched : Sched ℕ) (is : IsWorld nat_eq sched.world) (holds : HoldsWha
         cc (stays sched.world is fresh serves name call few progress.task of.1 old.0 old.1 unraised, found) in
         subst (λ t. is_seen_by left t held.0 ≡ true) same
         (sees_the_same sched.world is fresh serves name call few progress.task of.1 old.0 old.1 unraised held.0
-        ∙ holds.seen old.0 progress (record { under_way = of.0; called = old.1 })
-        (record {
+        ∙ holds.seen old.0 progress (record { under_way = of.0; called = old.1 }) (record {
           task_change = ap (is_stale progress.task_change) (sym so.change) ∙ current.task_change;
           namespace_change = before;
         }) held c)
 
     pub after_call_holds : HoldsWhatIsSeen later
     after_call_holds = record {
-      there = λ progress c.
-          ap (λ w. is_some (task_called w progress.task)) commits.world ∙ still_there progress c;
-      no_more = λ task progress under.
-          subst (λ w. IsNoMore progress.task_change task.change
+      there = λ progress c. ap (λ w. is_some (task_called w progress.task)) commits.world ∙ still_there progress c;
+      no_more = λ task progress under. subst (λ w. IsNoMore progress.task_change task.change
           × IsNoMore progress.namespace_change (namespace_change_of nat_eq w task.namespace)) (sym commits.world)
           (still_no_more task progress under);
-      seen = λ task progress under current held c.
-          ap (λ w. is_seen_by w task held.0) commits.world
+      seen = λ task progress under current held c. ap (λ w. is_seen_by w task held.0) commits.world
           ∙ still_seen task progress under (subst (λ w. HoldsItsTask w task progress) commits.world current) held c;
     }
 
@@ -396,8 +371,7 @@ module _ (sched : Sched ℕ) (is : IsWorld nat_eq sched.world) (holds : HoldsWha
         first : (restarts : ℕ) → before ≡ first_progress nat_eq sched.world task restarts
             → IsNoMore before.task_change task.change
             × IsNoMore before.namespace_change (namespace_change_of nat_eq sched.world task.namespace)
-        first restarts e =
-            subst (λ (p : Progress ℕ). IsNoMore p.task_change task.change
+        first restarts e = subst (λ (p : Progress ℕ). IsNoMore p.task_change task.change
             × IsNoMore p.namespace_change (namespace_change_of nat_eq sched.world task.namespace)) (sym e)
             (inl (omega arith), inl (omega arith))
 
@@ -427,16 +401,14 @@ module _ (sched : Sched ℕ) (is : IsWorld nat_eq sched.world) (holds : HoldsWha
         ⊎_elim (seen_before (record { task_change = current.task_change; namespace_change = current.namespace_change }) held)
         (word_seen sched.world is task called call further.met
         (nth_among (words_of (routes nat_eq (looks_of nat_eq sched.world) task call)) before.walked further.met
-        further.word) held.0)
-        (newly_held sched.world further.met before.filesystems held
+        further.word) held.0) (newly_held sched.world further.met before.filesystems held
         (among_from_contains next.filesystems held c))
 
     -- it is the call that goes on, or was under way
     one_of : (P : Progress ℕ → Type 0) → P next
         → ((progress : Progress ℕ) → Contains sched.under_way progress → P progress) → (progress : Progress ℕ)
         → Contains goes.under_way progress → P progress
-    one_of P now before_it progress c =
-        ⊎_elim (λ same. subst P (sym same) now)
+    one_of P now before_it progress c = ⊎_elim (λ same. subst P (sym same) now)
         (λ m. before_it progress (contains_from_among sched.under_way progress
         (among-from_filter (λ (p : Progress ℕ). not (same_name next.task p.task)) sched.under_way progress m).0))
         (among_from_contains goes.under_way progress c)

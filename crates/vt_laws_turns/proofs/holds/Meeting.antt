@@ -80,17 +80,14 @@ module _ (world : World ℕ) (is : IsWorld nat_eq world) (task : Task ℕ)
   also_seen : (filesystem : ℕ) (steps : List (List ℕ)) → SeenOne filesystem → AllSeen steps
       → AllSeen (also_met filesystem steps)
   also_seen filesystem [] now before f m = before f m
-  also_seen filesystem (first ∷ steps) now before f m =
-      ⊎_elim (λ e. subst SeenOne (sym e) now) (λ n. before f n) m
+  also_seen filesystem (first ∷ steps) now before f m = ⊎_elim (λ e. subst SeenOne (sym e) now) (λ n. before f n) m
 
   all_seen : (filesystems : List ℕ) (steps : List (List ℕ)) → ((f : ℕ) → Among f filesystems → SeenOne f)
       → AllSeen steps → AllSeen (all_met filesystems steps)
   all_seen filesystems [] now before f m = before f m
-  all_seen filesystems (first ∷ steps) now before f m =
-      ⊎_elim
+  all_seen filesystems (first ∷ steps) now before f m = ⊎_elim
       (λ n. ⊎_elim (now f) (λ k. before f (among-append_left first (flat_map (λ l. l) steps) f k))
-      (among-append filesystems first f n))
-      (λ n. before f (among-append_right first (flat_map (λ l. l) steps) f n))
+      (among-append filesystems first f n)) (λ n. before f (among-append_right first (flat_map (λ l. l) steps) f n))
       (among-append (filesystems ++ first) (flat_map (λ l. l) steps) f m)
 
   -- One step
@@ -152,8 +149,7 @@ module _ (world : World ℕ) (is : IsWorld nat_eq world) (task : Task ℕ)
 
   entered_fine : (place : Place ℕ) → ObjectGround place.object → AllSeen place.steps
       → AllSeen (entered nat_eq sees place).steps
-  entered_fine place ground seen =
-      all_seen (filesystems_of nat_eq sees (entered_mounts nat_eq sees place)) place.steps
+  entered_fine place ground seen = all_seen (filesystems_of nat_eq sees (entered_mounts nat_eq sees place)) place.steps
       (shown_on world is task called (entered_mounts nat_eq sees place) (by (is_special place.last))) seen
     where
       by : (b : Bool) (l : Location ℕ)
@@ -186,8 +182,7 @@ module _ (world : World ℕ) (is : IsWorld nat_eq world) (task : Task ℕ)
     where
       by : (list : List (List ℕ)) → Fine (gone_on nat_eq sees task here others last)
           → Fine (gone_on nat_eq sees task here (record { words = list; slash = text.slash } ∷ others) last)
-      by [] later =
-          unless_then here.steps (end_rules nat_eq sees text.slash here.location) here
+      by [] later = unless_then here.steps (end_rules nat_eq sees text.slash here.location) here
           (λ reached. gone_on nat_eq sees task reached others last) seen later
       by (word ∷ list) later = (ground, seen)
 
@@ -197,16 +192,14 @@ module _ (world : World ℕ) (is : IsWorld nat_eq world) (task : Task ℕ)
       (start_ground world is task called directory text ground, by (is_absolute text))
     where
       by : (b : Bool) → AllSeen (cond b (also_met (mount_at sees task.root).filesystem symlink.steps) symlink.steps)
-      by true =
-          also_seen (mount_at sees task.root).filesystem symlink.steps
+      by true = also_seen (mount_at sees task.root).filesystem symlink.steps
           (shown_seen world is task called task.root.mount (root_ground world is task called)) seen
       by false = seen
 
   followed_fine : (directory : Location ℕ) (symlink : Here ℕ) (text : List ℕ) (pending : List Pending) (last : Last)
       → Ground directory → AllSeen symlink.steps
       → Fine (then_walk (walk_unless symlink.steps (follow_rules nat_eq sees symlink text)
-      (symlink_start nat_eq sees task directory symlink text))
-      (λ start. gone_on nat_eq sees task start pending last))
+      (symlink_start nat_eq sees task directory symlink text)) (λ start. gone_on nat_eq sees task start pending last))
   followed_fine directory symlink text pending last ground seen =
       let start = start_fine directory symlink text ground seen in
       unless_then symlink.steps (follow_rules nat_eq sees symlink text)
@@ -229,8 +222,7 @@ module _ (world : World ℕ) (is : IsWorld nat_eq world) (task : Task ℕ)
 
   reached_fine : (here : Here ℕ) (word : LastWord) → Ground here.location → AllSeen here.steps
       → Fine (then_walk (word_walked nat_eq sees task here word) (λ next. Ok (Reaches next)))
-  reached_fine here word ground seen =
-      here_then (word_walked nat_eq sees task here word) (λ next. Ok (Reaches next))
+  reached_fine here word ground seen = here_then (word_walked nat_eq sees task here word) (λ next. Ok (Reaches next))
       (word_fine here word ground seen) (λ next at all. all)
 
   last_fine : (here : Here ℕ) (last : Last) → Ground here.location → AllSeen here.steps
@@ -243,8 +235,7 @@ module _ (world : World ℕ) (is : IsWorld nat_eq world) (task : Task ℕ)
   last_fine here (AsName word slash) ground seen =
       place_then (placed nat_eq sees task here word slash) (λ place. Ok (Names place))
       (placed_fine here word slash ground seen) (λ place object all. all)
-  last_fine here (AsFile word slash) ground seen =
-      place_then (placed nat_eq sees task here word slash)
+  last_fine here (AsFile word slash) ground seen = place_then (placed nat_eq sees task here word slash)
       (λ place. opened nat_eq sees task here place slash (symlink_there nat_eq sees place))
       (placed_fine here word slash ground seen)
       (λ place object all. opened_fine here place slash ground object all (symlink_there nat_eq sees place))
@@ -256,22 +247,19 @@ module _ (world : World ℕ) (is : IsWorld nat_eq world) (task : Task ℕ)
   text_fine here (word ∷ list) slash others last ground seen =
       here_then (word_walked nat_eq sees task here (last_word word))
       (λ next. arrived nat_eq sees task here.location next (record { words = list; slash = slash } ∷ others) last
-      (symlink_text (sees.node next.location)))
-      (word_fine here (last_word word) ground seen)
+      (symlink_text (sees.node next.location))) (word_fine here (last_word word) ground seen)
       (λ next at all. arrived_fine here.location next (record { words = list; slash = slash } ∷ others) last ground at
       all (symlink_text (sees.node next.location)))
 
   one_word_fine : (here : Here ℕ) (pending : List Pending) (last : Last) → Ground here.location → AllSeen here.steps
       → Fine (one_word nat_eq sees task (record { here = here; pending = pending; last = last }))
   one_word_fine here [] last ground seen = last_fine here last ground seen
-  one_word_fine here (text ∷ others) last ground seen =
-      text_fine here text.words text.slash others last ground seen
+  one_word_fine here (text ∷ others) last ground seen = text_fine here text.words text.slash others last ground seen
 
   walked_on_fine : (count : ℕ) (a : Result (Walk ℕ) (Stop ℕ)) → Fine a
       → Fine (then_walk a (walked_on nat_eq count sees task))
   walked_on_fine zero (Ok walk) fine = fine
-  walked_on_fine (suc count) (Ok (Goes walker)) fine =
-      walked_on_fine count (one_word nat_eq sees task walker)
+  walked_on_fine (suc count) (Ok (Goes walker)) fine = walked_on_fine count (one_word nat_eq sees task walker)
       (one_word_fine walker.here walker.pending walker.last fine.0 fine.1)
   walked_on_fine (suc count) (Ok (Reaches here)) fine = fine
   walked_on_fine (suc count) (Ok (Names place)) fine = fine
@@ -286,8 +274,7 @@ module _ (world : World ℕ) (is : IsWorld nat_eq world) (task : Task ℕ)
       by : (r : Result (List ℕ) Deny)
           → Fine (then_walk (stopped_by [] r) (λ text. gone_on nat_eq sees task (walk_start task text)
           (pending_for nat_eq aim text ∷ []) (last_for nat_eq aim text)))
-      by (Ok text) =
-          gone_on_fine (pending_for nat_eq aim text ∷ []) (walk_start task text) (last_for nat_eq aim text)
+      by (Ok text) = gone_on_fine (pending_for nat_eq aim text ∷ []) (walk_start task text) (last_for nat_eq aim text)
           (start_ground world is task called task.directory text (directory_ground world is task called)) none_met
       by (Err deny) = none_met
 
@@ -310,8 +297,7 @@ module _ (world : World ℕ) (is : IsWorld nat_eq world) (task : Task ℕ)
   pub walk_met : (aim : Aim) (path : List ℕ) → AllSeen (steps_of (whole_walk nat_eq aim sees task path))
   walk_met aim path =
       let count : ℕ = length (steps_of (whole_walk nat_eq aim sees task path)) in
-      subst (λ r. AllSeen (steps_of r))
-      (all_words_are_the_walk sees task aim path count on_directories (omega arith))
+      subst (λ r. AllSeen (steps_of r)) (all_words_are_the_walk sees task aim path count on_directories (omega arith))
       (met_of (words_walked_in count world task aim path) (words_fine aim path count))
 
 pub words_meet_what_is_seen : WordsMeetWhatIsSeen

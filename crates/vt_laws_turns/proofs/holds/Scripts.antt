@@ -82,8 +82,7 @@ serves_next n world keeps = record {
         differ a b e f g = omega (arith, e, f, g)
 
 keeps_more : (n : ℕ) (world : World ℕ) → KeepsTo (is_early n) world → KeepsTo (is_early (suc n)) world
-keeps_more n world keeps renaming leaves =
-    keeps renaming (λ number is. leaves number (still_early n number is))
+keeps_more n world keeps renaming leaves = keeps renaming (λ number is. leaves number (still_early n number is))
 
 -- Queues: no fork in them names many groups
 abbrev item_few : Item → Bool
@@ -104,8 +103,7 @@ rest_few (first ∷ rest) few one m = few one (inr m)
 shortened_few : (who : Who) (queues : List Queue) → QueuesFew queues → QueuesFew (map (shortened who) queues)
 shortened_few who queues few queue m =
     let from = among-from_map (shortened who) queues queue m in
-    subst (λ (q : Queue). AreFew q.items) (sym from.2)
-    (by from.0 (same_who who from.0.who) (few from.0 from.1))
+    subst (λ (q : Queue). AreFew q.items) (sym from.2) (by from.0 (same_who who from.0.who) (few from.0 from.1))
   where
     by : (q : Queue) (b : Bool) → AreFew q.items → AreFew (cond b (record q { items = rest_of q.items }) q).items
     by q true all = rest_few q.items all
@@ -125,8 +123,7 @@ first_few queues who few line call e = by (find (λ (q : Queue). same_who who q.
 
     by : (o : Option Queue) → find (λ (q : Queue). same_who who q.who) queues ≡ o
         → first_of_list (unwrap_or (option_map (λ (q : Queue). q.items) o) [])
-        ≡ Some (record { line = line; item = Calls call })
-        → names_few_groups call ≡ true
+        ≡ Some (record { line = line; item = Calls call }) → names_few_groups call ≡ true
     by None f g = none_is_some _ g
     by (Some queue) f g =
         of_items queue.items (few queue (found_among (λ (q : Queue). same_who who q.who) queues queue f)) g
@@ -134,28 +131,22 @@ first_few queues who few line call e = by (find (λ (q : Queue). same_who who q.
 -- the queues of a script
 last_few : (queues : List Queue) (entry : Who × Queued) → QueuesFew queues → item_few entry.1.item ≡ true
     → QueuesFew (with_item_last queues entry)
-last_few [] entry few is queue m =
-    ⊎_elim
-    (λ e. subst (λ (q : Queue). AreFew q.items) (sym e)
+last_few [] entry few is queue m = ⊎_elim (λ e. subst (λ (q : Queue). AreFew q.items) (sym e)
     (λ one n. ⊎_elim (λ f. ap (λ (q : Queued). item_few q.item) f ∙ is) (λ none. absurd none) n))
     (λ none. absurd none) m
 last_few (first ∷ rest) entry few is queue m =
     by (same_who entry.0 first.who) m (last_few rest entry (λ q n. few q (inr n)) is queue)
   where
     added : AreFew (first.items ++ (entry.1 ∷ []))
-    added one n =
-        ⊎_elim (few first (inl refl) one)
+    added one n = ⊎_elim (few first (inl refl) one)
         (λ k. ⊎_elim (λ f. ap (λ (q : Queued). item_few q.item) f ∙ is) (λ none. absurd none) k)
         (among-append first.items (entry.1 ∷ []) one n)
 
-    by : (b : Bool)
-        → Among queue (cond b (record first { items = first.items ++ (entry.1 ∷ []) } ∷ rest)
+    by : (b : Bool) → Among queue (cond b (record first { items = first.items ++ (entry.1 ∷ []) } ∷ rest)
         (first ∷ with_item_last rest entry))
         → (Among queue (with_item_last rest entry) → AreFew queue.items) → AreFew queue.items
-    by true n later =
-        ⊎_elim (λ e. subst (λ (q : Queue). AreFew q.items) (sym e) added) (λ k. few queue (inr k)) n
-    by false n later =
-        ⊎_elim (λ e. subst (λ (q : Queue). AreFew q.items) (sym e) (few first (inl refl))) later n
+    by true n later = ⊎_elim (λ e. subst (λ (q : Queue). AreFew q.items) (sym e) added) (λ k. few queue (inr k)) n
+    by false n later = ⊎_elim (λ e. subst (λ (q : Queue). AreFew q.items) (sym e) (few first (inl refl))) later n
 
 abbrev EntryFew : Option (Who × Queued) → Type 0
 EntryFew None = Unit {0}
@@ -187,8 +178,7 @@ lines_few grammar [] queues few = few
 lines_few grammar (line ∷ lines) queues few =
     by (queued_line grammar line) (line_few grammar line) (lines_few grammar lines)
   where
-    by : (o : Option (Who × Queued)) → EntryFew o
-        → ((list : List Queue) → QueuesFew list
+    by : (o : Option (Who × Queued)) → EntryFew o → ((list : List Queue) → QueuesFew list
         → QueuesFew (folded with_item_last list (filter_map (queued_line grammar) lines)))
         → QueuesFew (folded with_item_last queues (cons_option o (filter_map (queued_line grammar) lines)))
     by None e others = others queues few
@@ -202,8 +192,7 @@ record IsAt (n : ℕ) (sched : Sched ℕ) : Type 0 where
   few : QueuesFew sched.queues
 
 later_on : (n : ℕ) (sched : Sched ℕ) → IsAt n sched → IsAt (suc n) sched
-later_on n sched at =
-    record { is = at.is; holds = at.holds; keeps = keeps_more n sched.world at.keeps; few = at.few }
+later_on n sched at = record { is = at.is; holds = at.holds; keeps = keeps_more n sched.world at.keeps; few = at.few }
 
 queues_few_later : (sched : Sched ℕ) (given : Turn) → QueuesFew sched.queues
     → QueuesFew (turn nat_eq sched given.0 given.1).sched.queues
@@ -213,8 +202,7 @@ queues_few_later sched given few =
     by : (items : List Queued) (turned : Turned ℕ) → Turns sched given.0 given.1 items turned
         → QueuesFew turned.sched.queues
     by [] turned goes = subst QueuesFew (sym goes.queues) few
-    by (first ∷ rest) turned is =
-        ⊎_elim (λ goes. subst QueuesFew (sym goes.queues) few)
+    by (first ∷ rest) turned is = ⊎_elim (λ goes. subst QueuesFew (sym goes.queues) few)
         (λ done. subst QueuesFew (sym done.queues) (shortened_few given.0 sched.queues few)) is
 
 after_turn : (n : ℕ) (sched : Sched ℕ) (who : Who) (refused : Bool) → IsAt n sched
@@ -248,8 +236,7 @@ after_turn n sched who refused at = record {
     by : Leaves sched given (turn nat_eq sched given.0 given.1).sched
         → KeepsTo (is_early (suc n)) (turn nat_eq sched given.0 given.1).sched.world
     by (Same same) = subst (KeepsTo (is_early (suc n))) (sym same) (keeps_more n sched.world at.keeps)
-    by (After name call fresh commits) =
-        subst (KeepsTo (is_early (suc n))) (sym commits.world)
+    by (After name call fresh commits) = subst (KeepsTo (is_early (suc n))) (sym commits.world)
         (calls_keep_to_numbers (is_early (suc n)) fresh sched.world name call (keeps_more n sched.world at.keeps)
         (λ k. subst (λ (f : Fresh ℕ). is_early (suc n) (f k) ≡ true) (is_row refused fresh commits.handed)
         (is_early_too n (numbers_for (suc n) k) (row_of n k))))
@@ -257,21 +244,17 @@ after_turn n sched who refused at = record {
 in_schedule : (lines : List (List ℕ)) (refused : List Bool) (n : ℕ) (sched : Sched ℕ) → IsAt n sched
     → HoldsWhatIsSeen (left_by sched (turns_given (suc n) lines refused))
 in_schedule [] refused n sched at = at.holds
-in_schedule (line ∷ lines) refused n sched at =
-    by (schedule_who line) refused
+in_schedule (line ∷ lines) refused n sched at = by (schedule_who line) refused
     (λ more next so. subst (λ m. HoldsWhatIsSeen (left_by next (turns_given m lines more))) (sym (add-one (suc n)))
     (in_schedule lines more (suc n) next so))
   where
-    by : (o : Option Who) (list : List Bool)
-        → ((more : List Bool) (next : Sched ℕ) → IsAt (suc n) next
-        → HoldsWhatIsSeen (left_by next (turns_given (suc n + 1) lines more)))
-        → HoldsWhatIsSeen (left_by sched
+    by : (o : Option Who) (list : List Bool) → ((more : List Bool) (next : Sched ℕ) → IsAt (suc n) next
+        → HoldsWhatIsSeen (left_by next (turns_given (suc n + 1) lines more))) → HoldsWhatIsSeen (left_by sched
         (turn_given o (handed (suc n) list) ++ turns_given (suc n + 1) lines (later list)))
     by None list rest = rest (later list) sched (later_on n sched at)
     by (Some who) [] rest =
         rest [] (turn nat_eq sched who (Some (numbers_for (suc n)))).sched (after_turn n sched who false at)
-    by (Some who) (true ∷ list) rest =
-        rest list (turn nat_eq sched who None).sched (after_turn n sched who true at)
+    by (Some who) (true ∷ list) rest = rest list (turn nat_eq sched who None).sched (after_turn n sched who true at)
     by (Some who) (false ∷ list) rest =
         rest list (turn nat_eq sched who (Some (numbers_for (suc n)))).sched (after_turn n sched who false at)
 
@@ -280,8 +263,7 @@ schedules_of_scripts_hold_what_is_seen version refused script schedule =
     in_schedule (lines_of schedule) refused 0 (first_sched (whole version) script) (record {
       is = (opening_is_a_world (λ place. place) (λ j k e. e)).0;
       holds = schedulers_begin_so first_world (queues_of (whole version) script);
-      keeps =
-          opening_keeps_to_four (is_early 0) (λ place. place) (first 0 (omega arith)) (first 1 (omega arith))
+      keeps = opening_keeps_to_four (is_early 0) (λ place. place) (first 0 (omega arith)) (first 1 (omega arith))
           (first 2 (omega arith)) (first 3 (omega arith));
       few = lines_few (whole version) (counted_from 1 (lines_of script)) [] (λ queue m. absurd m);
     })

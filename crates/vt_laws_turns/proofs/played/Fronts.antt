@@ -26,8 +26,7 @@ abbrev items : Option Queue → List Queued
 items o = unwrap_or (option_map (λ (q : Queue). q.items) o) []
 
 -- a queue's items once another, or it, is shortened
-pub shorter : (who other : Who) (queues : List Queue)
-    → queue_of (map (shortened who) queues) other
+pub shorter : (who other : Who) (queues : List Queue) → queue_of (map (shortened who) queues) other
     ≡ cond (same_who other who) (rest_of (queue_of queues other)) (queue_of queues other)
 shorter who other [] = grind (arith, common_steps)
 shorter who other (queue ∷ queues) =
@@ -58,21 +57,15 @@ step : (sched : Sched ℕ) (given : Turn) (other : Who) (list : List Queued) →
     → items_of other (option_to_list (commit_by given.0 given.1 (first_of_list list) turned.reply))
     ++ queue_of turned.sched.queues other ≡ queue_of sched.queues other
 step sched given other [] e turned goes = ap (λ q. queue_of q other) goes.queues
-step sched given other (first ∷ rest) e turned is =
-    ⊎_elim
-    (λ goes.
+step sched given other (first ∷ rest) e turned is = ⊎_elim (λ goes.
     ap (λ r. items_of other (option_to_list
-    (commit_by given.0 given.1 (Some first) r)) ++ queue_of turned.sched.queues other)
-    goes.reply
-    ∙ ap (λ q. queue_of q other) goes.queues)
-    (λ done.
+    (commit_by given.0 given.1 (Some first) r)) ++ queue_of turned.sched.queues other) goes.reply
+    ∙ ap (λ q. queue_of q other) goes.queues) (λ done.
     ap (λ r. items_of other (option_to_list
-    (commit_by given.0 given.1 (Some first) r)) ++ queue_of turned.sched.queues other)
-    done.reply
+    (commit_by given.0 given.1 (Some first) r)) ++ queue_of turned.sched.queues other) done.reply
     ∙ ap (λ q. cond (same_who other given.0) (first ∷ []) [] ++ queue_of q other) done.queues
     ∙ ap (λ l. cond (same_who other given.0) (first ∷ []) [] ++ l) (shorter given.0 other sched.queues)
-    ∙ by (same_who other given.0) refl)
-    is
+    ∙ by (same_who other given.0) refl) is
   where
     by : (b : Bool) → same_who other given.0 ≡ b
         → cond b (first ∷ []) [] ++ cond b (rest_of (queue_of sched.queues other)) (queue_of sched.queues other)

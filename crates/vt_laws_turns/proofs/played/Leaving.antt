@@ -49,15 +49,14 @@ module _ (sched : Sched ℕ) (given : Turn) where
     run : (who : Who) (line : ℕ) (item : Item) (new : Option (Fresh ℕ)) → given.0 ≡ who → given.1 ≡ new
         → first_of_list (queue_of sched.queues given.0) ≡ Some (record { line = line; item = item })
         → Answers sched who (record { line = line; item = item }) new turned → Leaves turned.sched
-    run (Someone name) line (Calls call) (Some fresh) w f first done =
-        After name call fresh (record {
-          who = w;
-          handed = f;
-          line = line;
-          first = first;
-          world = done.world;
-          under_way = called name line call fresh turned w first done shape;
-        })
+    run (Someone name) line (Calls call) (Some fresh) w f first done = After name call fresh (record {
+      who = w;
+      handed = f;
+      line = line;
+      first = first;
+      world = done.world;
+      under_way = called name line call fresh turned w first done shape;
+    })
     run (Someone name) line (Calls call) None w f first done = Same done.world
     run Nobody line (Calls call) new w f first done = Same done.world
     run (Someone name) line (Asks directive) (Some fresh) w f first done =
@@ -72,11 +71,9 @@ module _ (sched : Sched ℕ) (given : Turn) where
     by_items : (items : List Queued) → queue_of sched.queues given.0 ≡ items
         → Turns sched given.0 given.1 items turned → Leaves turned.sched
     by_items [] e goes = Same goes.world
-    by_items (first ∷ rest) e is =
-        ⊎_elim (λ goes. Same goes.world)
+    by_items (first ∷ rest) e is = ⊎_elim (λ goes. Same goes.world)
         (λ done. run given.0 first.line first.item given.1 refl refl (ap first_of_list e) done) is
 
   pub turn_leaves : Leaves (turn nat_eq sched given.0 given.1).sched
-  turn_leaves =
-      by_items (turn nat_eq sched given.0 given.1) (turn_shape sched given.0 given.1)
+  turn_leaves = by_items (turn nat_eq sched given.0 given.1) (turn_shape sched given.0 given.1)
       (queue_of sched.queues given.0) refl (turn_is sched given.0 given.1)

@@ -14,11 +14,10 @@ use Rattle.vt_laws_turns.proofs.played.Turning.{replies_are_of_commits}
 more_texts : (ones others : List Reply)
     → text_of_replies (ones ++ others) ≡ text_of_replies ones ++ text_of_replies others
 more_texts [] others = refl
-more_texts (reply ∷ ones) others =
-    cc (
-      more_texts ones others,
-      append_assoc (reply_line reply.line reply.answer) (text_of_replies ones) (text_of_replies others),
-    )
+more_texts (reply ∷ ones) others = cc (
+  more_texts ones others,
+  append_assoc (reply_line reply.line reply.answer) (text_of_replies ones) (text_of_replies others),
+)
 
 text_of_one : (reply : Option Reply) → reply_text reply ≡ text_of_replies (option_to_list reply)
 text_of_one None = refl
@@ -38,18 +37,16 @@ plays number sched (line ∷ lines) refused =
         ++ played (number + 1) (turn_of_line sched who fresh).sched lines (later refused)
         ≡ text_of_replies (replies sched (turn_given who fresh ++ turns_given (number + 1) lines (later refused)))
     by None fresh rest = rest sched
-    by (Some who) fresh rest =
-        cc (
-          text_of_one (turn nat_eq sched who fresh).reply,
-          rest (turn nat_eq sched who fresh).sched,
-          more_texts (option_to_list (turn nat_eq sched who fresh).reply) (replies (turn nat_eq sched who
-              fresh).sched (turns_given (number + 1) lines (later refused))),
-        )
+    by (Some who) fresh rest = cc (
+      text_of_one (turn nat_eq sched who fresh).reply,
+      rest (turn nat_eq sched who fresh).sched,
+      more_texts (option_to_list (turn nat_eq sched who fresh).reply) (replies (turn nat_eq sched who
+          fresh).sched (turns_given (number + 1) lines (later refused))),
+    )
 
 pub texts_are_of_commits : TextsAreOfCommits
 unfolding turns_text
-texts_are_of_commits version refused script schedule =
-    cc (
-      plays 1 (first_sched (whole version) script) (lines_of schedule) refused,
-      (replies_are_of_commits (first_sched (whole version) script) (turns_given 1 (lines_of schedule) refused)).0,
-    )
+texts_are_of_commits version refused script schedule = cc (
+  plays 1 (first_sched (whole version) script) (lines_of schedule) refused,
+  (replies_are_of_commits (first_sched (whole version) script) (turns_given 1 (lines_of schedule) refused)).0,
+)

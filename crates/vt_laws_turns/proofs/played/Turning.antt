@@ -69,8 +69,7 @@ module _ (sched : Sched ℕ) (name : TaskName) (line : ℕ) (call : Call) (given
   later_by : (stale : Bool) (task : Task ℕ) (progress : Progress ℕ) → task.name ≡ name → progress.task ≡ name
       → Done (later_turn nat_eq stale sched task line call given progress)
   later_by true task progress e f = again (nat_le most_restarts progress.restarts) task progress e
-  later_by false task progress e f =
-      next progress (routes nat_eq (looks_of nat_eq sched.world) task call)
+  later_by false task progress e f = next progress (routes nat_eq (looks_of nat_eq sched.world) task call)
       (slice_get (words_of (routes nat_eq (looks_of nat_eq sched.world) task call)) progress.walked) f
 
   under_way_by : (task : Task ℕ) (progress : Option (Progress ℕ)) → task.name ≡ name
@@ -82,8 +81,7 @@ module _ (sched : Sched ℕ) (name : TaskName) (line : ℕ) (call : Call) (given
   called : (task : Option (Task ℕ)) → ((t : Task ℕ) → task ≡ Some t → t.name ≡ name)
       → Done (call_turn_of nat_eq sched name line call given task)
   called None e = whole
-  called (Some t) e =
-      under_way_by t (find (λ progress. same_name name progress.task) sched.under_way) (e t refl)
+  called (Some t) e = under_way_by t (find (λ progress. same_name name progress.task) sched.under_way) (e t refl)
       (λ p h. sym (same_task_name name p.task
       (found_passes (λ progress. same_name name progress.task) sched.under_way p h)))
 
@@ -98,8 +96,7 @@ module _ (sched : Sched ℕ) where
       ⊎ Answers sched (Someone name) (record { line = line; item = Calls call }) fresh
       (call_turn nat_eq sched name line call fresh)
   task_of_call name line call None = inr (record { reply = refl; world = refl; queues = refl })
-  task_of_call name line call (Some given) =
-      called sched name line call given (task_called sched.world name)
+  task_of_call name line call (Some given) = called sched name line call given (task_called sched.world name)
       (λ t h. sym (same_task_name name t.name
       (found_passes (λ (task : Task ℕ). same_name name task.name) sched.world.tasks t h)))
 
@@ -130,24 +127,19 @@ step : (sched : Sched ℕ) (given : Turn) (items : List Queued) (turned : Turned
     → Turns sched given.0 given.1 items turned
     → let made : List Commit = option_to_list (commit_by given.0 given.1 (first_of_list items) turned.reply) in
     (option_to_list turned.reply ≡ replies_of sched.world made) × (turned.sched.world ≡ world_after sched.world made)
-step sched given [] turned goes =
-    (ap option_to_list goes.reply, goes.world)
-step sched given (first ∷ rest) turned is =
-    ⊎_elim
-    (λ goes.
+step sched given [] turned goes = (ap option_to_list goes.reply, goes.world)
+step sched given (first ∷ rest) turned is = ⊎_elim (λ goes.
     let none : commit_by given.0 given.1 (Some first) turned.reply ≡ None =
     ap (commit_by given.0 given.1 (Some first)) goes.reply in (
       ap option_to_list goes.reply ∙ sym (ap (λ c. replies_of sched.world (option_to_list c)) none),
       goes.world ∙ sym (ap (λ c. world_after sched.world (option_to_list c)) none),
-    ))
-    (λ done.
+    )) (λ done.
     let one : commit_by given.0 given.1 (Some first) turned.reply
     ≡ Some (record { who = given.0; queued = first; fresh = given.1 }) =
     ap (commit_by given.0 given.1 (Some first)) done.reply in (
       ap option_to_list done.reply ∙ sym (ap (λ c. replies_of sched.world (option_to_list c)) one),
       done.world ∙ sym (ap (λ c. world_after sched.world (option_to_list c)) one),
-    ))
-    is
+    )) is
 
 -- commits one after the other
 more_replies : (world : World ℕ) (ones others : List Commit)
@@ -169,8 +161,7 @@ replies_are_of_commits sched (given ∷ rest) =
     let made : List Commit = option_to_list (commit_of sched given) in
     let now = step sched given (queue_of sched.queues given.0) turned (turn_is sched given.0 given.1) in
     let then = replies_are_of_commits turned.sched rest in (
-      ap (λ l. l ++ replies turned.sched rest) now.0
-          ∙ ap (λ l. replies_of sched.world made ++ l) (then.0
+      ap (λ l. l ++ replies turned.sched rest) now.0 ∙ ap (λ l. replies_of sched.world made ++ l) (then.0
           ∙ ap (λ w. replies_of w (commits turned.sched rest)) now.1)
           ∙ sym (more_replies sched.world made (commits turned.sched rest)),
       then.1 ∙ ap (λ w. world_after w (commits turned.sched rest)) now.1
@@ -185,8 +176,7 @@ unanswered_turns_change_nothing sched given none =
     by : (items : List Queued) (turned : Turned ℕ) → Turns sched given.0 given.1 items turned → turned.reply ≡ None
         → (turned.sched.world ≡ sched.world) × (turned.sched.queues ≡ sched.queues)
     by [] turned goes e = (goes.world, goes.queues)
-    by (first ∷ rest) turned is e =
-        ⊎_elim (λ goes. (goes.world, goes.queues))
+    by (first ∷ rest) turned is e = ⊎_elim (λ goes. (goes.world, goes.queues))
         (λ done. none_is_some _ (sym e ∙ done.reply)) is
 
 -- a turn in which an allocation fails
@@ -204,8 +194,7 @@ failed_allocations_answer_s5 sched who first e run = by (queue_of sched.queues w
     item (Someone name) line (Refused deny) r = absurd (true≢false (sym r))
     item Nobody line (Refused deny) r = absurd (true≢false (sym r))
 
-    by : (items : List Queued) → first_of_list items ≡ Some first
-        → ((queue_turn nat_eq sched who items None).reply
+    by : (items : List Queued) → first_of_list items ≡ Some first → ((queue_turn nat_eq sched who items None).reply
         ≡ Some (record { line = first.line; answer = Err (denial S5) }))
         × ((queue_turn nat_eq sched who items None).sched.world ≡ sched.world)
     by [] f = none_is_some first f

@@ -33,15 +33,14 @@ module _ (sched : Sched ℕ) (task : Task ℕ) (line : ℕ) (call : Call) (fresh
   walked_at : (before : Progress ℕ) → before.task ≡ task.name → IsWalked sched task line call fresh before turned
       → IsAnsweredOrAt turned task.name before.restarts (before.walked + 1)
   walked_at before e (inl whole) = inl (ap (λ (t : Turned ℕ). is_some t.reply) whole)
-  walked_at before e (inr further) =
-      inr (
-        one_further nat_eq sched.world further.met before,
-        ap (λ (t : Turned ℕ). under_way_of t.sched.under_way task.name) further.is
-            ∙ found_first task.name (one_further nat_eq sched.world further.met before)
-            (without_progress before.task sched.under_way) e,
-        refl,
-        refl,
-      )
+  walked_at before e (inr further) = inr (
+    one_further nat_eq sched.world further.met before,
+    ap (λ (t : Turned ℕ). under_way_of t.sched.under_way task.name) further.is
+        ∙ found_first task.name (one_further nat_eq sched.world further.met before)
+        (without_progress before.task sched.under_way) e,
+    refl,
+    refl,
+  )
 
   begin : under_way_of sched.under_way task.name ≡ None → TurnKind sched task line call fresh turned
       → IsAnsweredOrAt turned task.name 0 1
@@ -56,8 +55,7 @@ module _ (sched : Sched ℕ) (task : Task ℕ) (line : ℕ) (call : Call) (fresh
   one_found p q e f = ap (λ o. unwrap_or o p) (sym e ∙ f)
 
   is_named : (p : Progress ℕ) → under_way_of sched.under_way task.name ≡ Some p → p.task ≡ task.name
-  is_named p e =
-      sym (same_task_name task.name p.task
+  is_named p e = sym (same_task_name task.name p.task
       (found_passes (λ (q : Progress ℕ). same_name task.name q.task) sched.under_way p e))
 
   go_on : (p : Progress ℕ) → IsUnderWay sched task p false → TurnKind sched task line call fresh turned
@@ -76,20 +74,17 @@ module _ (sched : Sched ℕ) (task : Task ℕ) (line : ℕ) (call : Call) (fresh
   restart : (p : Progress ℕ) → IsUnderWay sched task p true → p.restarts < most_restarts
       → TurnKind sched task line call fresh turned → IsAnsweredOrAt turned task.name (p.restarts + 1) 1
   restart p at few (Begins e walked) = none_is_some p (sym e ∙ at.under_way)
-  restart p at few (GoesOn q found current walked) =
-      absurd (true≢false (sym at.numbers
+  restart p at few (GoesOn q found current walked) = absurd (true≢false (sym at.numbers
       ∙ ap (is_overtaken nat_eq sched.world task) (one_found p q at.under_way found) ∙ current))
   restart p at few (Restarts q found stale fewer walked) =
-      subst (λ (r : Progress ℕ). IsAnsweredOrAt turned task.name (r.restarts + 1) 1)
-      (one_found q p found at.under_way)
+      subst (λ (r : Progress ℕ). IsAnsweredOrAt turned task.name (r.restarts + 1) 1) (one_found q p found at.under_way)
       (walked_at (first_progress nat_eq sched.world task (q.restarts + 1)) refl walked)
   restart p at few (Whole q found stale many is) = inl (ap (λ (t : Turned ℕ). is_some t.reply) is)
 
   run_whole_then : (p : Progress ℕ) → IsUnderWay sched task p true → most_restarts ≤ p.restarts
       → TurnKind sched task line call fresh turned → is_some turned.reply ≡ true
   run_whole_then p at many (Begins e walked) = none_is_some p (sym e ∙ at.under_way)
-  run_whole_then p at many (GoesOn q found current walked) =
-      absurd (true≢false (sym at.numbers
+  run_whole_then p at many (GoesOn q found current walked) = absurd (true≢false (sym at.numbers
       ∙ ap (is_overtaken nat_eq sched.world task) (one_found p q at.under_way found) ∙ current))
   run_whole_then p at many (Restarts q found stale fewer walked) = grind (arith, common_steps, one_found)
   run_whole_then p at many (Whole q found stale more is) = ap (λ (t : Turned ℕ). is_some t.reply) is
@@ -152,25 +147,21 @@ module _ (sched : Sched ℕ) (is : IsSched sched) (name : TaskName) where
 
   -- the task's own turn
   own_turn : (fresh : Option (Fresh ℕ)) (turned : Turned ℕ) → turned.reply ≡ None
-      → Shape sched (Someone name) fresh turned
-      → restarts_of (under_way_of sched.under_way name) + cond finds 1 0
+      → Shape sched (Someone name) fresh turned → restarts_of (under_way_of sched.under_way name) + cond finds 1 0
       ≤ restarts_of (under_way_of turned.sched.under_way name)
   own_turn fresh turned none (Idle e idle) =
       subst (λ (t : Turned ℕ). restarts_of (under_way_of sched.under_way name) + cond finds 1 0
-      ≤ restarts_of (under_way_of t.sched.under_way name)) (sym idle)
-      (by (under_way_of sched.under_way name) refl)
+      ≤ restarts_of (under_way_of t.sched.under_way name)) (sym idle) (by (under_way_of sched.under_way name) refl)
     where
       by : (found : Option (Progress ℕ)) → under_way_of sched.under_way name ≡ found
           → restarts_of (under_way_of sched.under_way name) + cond finds 1 0
           ≤ restarts_of (under_way_of sched.under_way name)
-      by None f =
-          subst (λ b. restarts_of (under_way_of sched.under_way name) + cond b 1 0
+      by None f = subst (λ b. restarts_of (under_way_of sched.under_way name) + cond b 1 0
           ≤ restarts_of (under_way_of sched.under_way name)) (sym (none_found f)) (omega arith)
       by (Some p) f =
           let same : name ≡ p.task = same_task_name name p.task
           (found_passes (λ (q : Progress ℕ). same_name name q.task) sched.under_way p f) in
-          let first : has_call_first sched.queues p.task ≡ true =
-          is.first p (contains_from_among sched.under_way p
+          let first : has_call_first sched.queues p.task ≡ true = is.first p (contains_from_among sched.under_way p
           (found_among (λ (q : Progress ℕ). same_name name q.task) sched.under_way p f)) in
           absurd (true≢false (sym (ap (has_call_first sched.queues) same ∙ first)
           ∙ ap (λ items. holds_of (λ (queued : Queued). is_call queued.item) (first_of_list items)) e))
@@ -185,8 +176,7 @@ module _ (sched : Sched ℕ) (is : IsSched sched) (name : TaskName) where
       ap (λ (t : Turned ℕ). restarts_of (under_way_of t.sched.under_way name)) further.is
       ∙ ap restarts_of (found_first name (one_further nat_eq sched.world further.met before)
       (without_progress before.task sched.under_way) (named sched task before at ∙ sym same)) in
-      subst (λ n. restarts_of (under_way_of sched.under_way name) + cond finds 1 0 ≤ n) (sym after)
-      (by same called at)
+      subst (λ n. restarts_of (under_way_of sched.under_way name) + cond finds 1 0 ≤ n) (sym after) (by same called at)
     where
       name_in : Who → TaskName
       name_in (Someone n) = n
@@ -206,14 +196,12 @@ module _ (sched : Sched ℕ) (is : IsSched sched) (name : TaskName) where
       by same called (Again p found stale few e) =
           let here : under_way_of sched.under_way name ≡ Some p = ap (under_way_of sched.under_way) same ∙ found in
           subst (λ n. n + cond finds 1 0 ≤ before.restarts) (sym (ap restarts_of here))
-          (subst (λ b. p.restarts + cond b 1 0 ≤ before.restarts)
-          (sym (some_found task p true called here stale))
+          (subst (λ b. p.restarts + cond b 1 0 ≤ before.restarts) (sym (some_found task p true called here stale))
           (subst (λ (q : Progress ℕ). p.restarts + 1 ≤ q.restarts) (sym e) (omega arith)))
 
   -- the turn of another
   other_turn : (who : Who) (fresh : Option (Fresh ℕ)) (turned : Turned ℕ) → same_who (Someone name) who ≡ false
-      → Shape sched who fresh turned
-      → under_way_of turned.sched.under_way name ≡ under_way_of sched.under_way name
+      → Shape sched who fresh turned → under_way_of turned.sched.under_way name ≡ under_way_of sched.under_way name
   other_turn who fresh turned apart (Idle e idle) = ap (λ (t : Turned ℕ). under_way_of t.sched.under_way name) idle
   other_turn who fresh turned apart (OtherDone first f plain outcome e) =
       ap (λ (t : Turned ℕ). under_way_of t.sched.under_way name) e
@@ -235,12 +223,10 @@ module _ (sched : Sched ℕ) (is : IsSched sched) (name : TaskName) where
       unanswered items None f e w = e
       unanswered None (Some reply) f e w =
           grind (arith, common_steps, Shape, Idle, OtherDone, none_is_some, CallDone, Further)
-      unanswered (Some first) (Some reply) f e w =
-          absurd (not_none
+      unanswered (Some first) (Some reply) f e w = absurd (not_none
           (sym (ap (λ o. items_of (Someone name) (option_to_list (commit_by who fresh o turned.reply))) f
           ∙ ap (λ r. items_of (Someone name) (option_to_list (commit_by who fresh (Some first) r))) e
-          ∙ ap (λ b. cond b (first ∷ []) []) (ap (same_who (Someone name)) w ∙ itself (Someone name)))
-          ∙ none))
+          ∙ ap (λ b. cond b (first ∷ []) []) (ap (same_who (Someone name)) w ∙ itself (Someone name))) ∙ none))
         where
           filled : List Queued → Bool
           filled [] = false
@@ -256,8 +242,7 @@ module _ (sched : Sched ℕ) (is : IsSched sched) (name : TaskName) where
           let w : who ≡ Someone name = sym (same_whos (Someone name) who e) in
           own_turn fresh turned (unanswered (first_of_list (queue_of sched.queues who)) turned.reply refl refl w)
           (subst (λ one. Shape sched one fresh turned) w shape)
-      by false e =
-          subst (λ found. restarts_of (under_way_of sched.under_way name) + 0 ≤ restarts_of found)
+      by false e = subst (λ found. restarts_of (under_way_of sched.under_way name) + 0 ≤ restarts_of found)
           (sym (other_turn who fresh turned e shape)) (omega arith)
 
 -- nothing was committed of either part

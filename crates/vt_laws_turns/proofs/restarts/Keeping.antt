@@ -36,8 +36,7 @@ other_first who queues name e h = cc (shorter who (Someone name) queues)
 -- what goes on is of the task
 pub named : (sched : Sched ℕ) (task : Task ℕ) (before : Progress ℕ) → Before sched task before → before.task ≡ task.name
 named sched task before (AtStart none e) = ap (λ (p : Progress ℕ). p.task) e
-named sched task before (OnWay found current) =
-    sym (same_task_name task.name before.task (found_passes
+named sched task before (OnWay found current) = sym (same_task_name task.name before.task (found_passes
     (λ (p : Progress ℕ). same_name task.name p.task) sched.under_way before found))
 named sched task before (Again progress found stale few e) = ap (λ (p : Progress ℕ). p.task) e
 
@@ -54,17 +53,15 @@ module _ (sched : Sched ℕ) (is : IsSched sched) where
       turned false e = refl
 
   -- a call is answered
-  call_done : (name : TaskName) (world : World ℕ)
-      → IsSched (record {
-        world = world;
-        queues = map (shortened (Someone name)) sched.queues;
-        under_way = without_progress name sched.under_way;
-      })
+  call_done : (name : TaskName) (world : World ℕ) → IsSched (record {
+    world = world;
+    queues = map (shortened (Someone name)) sched.queues;
+    under_way = without_progress name sched.under_way;
+  })
   call_done name world = record {
     one = λ other.
         let less = shrinks (λ (p : Progress ℕ). same_name other p.task)
-        (λ (p : Progress ℕ). not (same_name name p.task))
-        sched.under_way in
+        (λ (p : Progress ℕ). not (same_name name p.task)) sched.under_way in
         let most = is.one other in
         omega (arith, less, most);
     first = λ progress c.
@@ -93,15 +90,13 @@ module _ (sched : Sched ℕ) (is : IsSched sched) where
           let same : Someone progress.task ≡ who = same_whos (Someone progress.task) who e in
           let found : first_of_list (queue_of sched.queues (Someone progress.task)) ≡ Some first =
           ap (λ w. first_of_list (queue_of sched.queues w)) same ∙ f in
-          absurd (true≢false (sym (is.first progress c)
-          ∙ ap (holds_of (λ (queued : Queued). is_call queued.item)) found
+          absurd (true≢false (sym (is.first progress c) ∙ ap (holds_of (λ (queued : Queued). is_call queued.item)) found
           ∙ ap (λ w. is_task_call w first.item) same ∙ none))
 
   -- the number of restarts of what goes on is within the limit
   few : (task : Task ℕ) (before : Progress ℕ) → Before sched task before → before.restarts ≤ most_restarts
   few task before (AtStart none e) = subst (λ (p : Progress ℕ). p.restarts ≤ most_restarts) (sym e) (omega arith)
-  few task before (OnWay found current) =
-      is.restarts before (contains_from_among sched.under_way before
+  few task before (OnWay found current) = is.restarts before (contains_from_among sched.under_way before
       (found_among (λ (p : Progress ℕ). same_name task.name p.task) sched.under_way before found))
   few task before (Again progress found stale fewer e) = grind (arith, common_steps)
 
@@ -111,13 +106,10 @@ module _ (sched : Sched ℕ) (is : IsSched sched) where
       → IsSched (record sched { under_way = progress ∷ without_progress progress.task sched.under_way })
   goes_on name progress e less h = record {
     one = λ other. by other (same_name other progress.task) refl;
-    first = λ p c.
-        ⊎_elim (λ same. ap (λ (q : Progress ℕ). has_call_first sched.queues q.task) same
-        ∙ ap (has_call_first sched.queues) e ∙ h)
-        (λ m. is.first p (kept_among progress.task p m).0)
+    first = λ p c. ⊎_elim (λ same. ap (λ (q : Progress ℕ). has_call_first sched.queues q.task) same
+        ∙ ap (has_call_first sched.queues) e ∙ h) (λ m. is.first p (kept_among progress.task p m).0)
         (among_from_contains (progress ∷ without_progress progress.task sched.under_way) p c);
-    restarts = λ p c.
-        ⊎_elim (λ same. subst (λ (q : Progress ℕ). q.restarts ≤ most_restarts) (sym same) less)
+    restarts = λ p c. ⊎_elim (λ same. subst (λ (q : Progress ℕ). q.restarts ≤ most_restarts) (sym same) less)
         (λ m. is.restarts p (kept_among progress.task p m).0)
         (among_from_contains (progress ∷ without_progress progress.task sched.under_way) p c);
   }

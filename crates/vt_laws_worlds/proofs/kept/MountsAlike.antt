@@ -1,7 +1,6 @@
 -- Worlds with the same mounts and masters, as changes of files and of tasks leave them.
-use Rattle.std.proofs.Common.{arith}
+use Rattle.std.proofs.Common.{arith, ◌≡◌, refl, ap, ◌∙◌, sym, true, false, nat_eq, ℕ, Bool, List, [], ◌∷◌}
 use Rattle.std.proofs.lemmas.Grind.{common_steps}
-use Rattle.std.proofs.Common.{◌≡◌, refl, ap, ◌∙◌, sym, true, false, nat_eq, ℕ, Bool, List, [], ◌∷◌}
 use Rattle.vt_spec.specs.Language.Changes.{Change}
 use Rattle.vt_spec.specs.Language.Changes.Change.{CopyUp, SetBytes}
 use Rattle.vt_spec.specs.Machine.Filesystems.{with_change}
@@ -48,14 +47,12 @@ module _ (fresh : Fresh ℕ) (world : World ℕ) where
       → IsOfFiles world (with_change nat_eq fresh world location change)
   change_of_files location change = grind (arith, common_steps, itself_of_files)
 
-  pub copy_of_files : (copies : Bool) (file : Location ℕ)
-      → IsOfFiles world (with_copy nat_eq copies fresh world file)
+  pub copy_of_files : (copies : Bool) (file : Location ℕ) → IsOfFiles world (with_copy nat_eq copies fresh world file)
   copy_of_files true file = change_of_files file (CopyUp file.node)
   copy_of_files false file = itself_of_files world
 
   pub writing_of_files : (file : Location ℕ) (offset : ℕ) (bytes : List ℕ)
       → IsOfFiles world (pwritten nat_eq fresh world file offset bytes)
   writing_of_files file offset [] = itself_of_files world
-  writing_of_files file offset (byte ∷ bytes) =
-      change_of_files file (SetBytes file.node
+  writing_of_files file offset (byte ∷ bytes) = change_of_files file (SetBytes file.node
       (overwritten offset (byte ∷ bytes) (bytes_in (node_at nat_eq world file))))

@@ -46,11 +46,9 @@ module _ (world : World ℕ) (fresh : Fresh ℕ) (task : Task ℕ) (serves : Ser
   of_tasks other mounts master = same_mounts world other (sym mounts) (sym master) kept
 
   mounts_kept_by : (permit : Permit ℕ) → NamesWhatIsThere world task permit → MountInvariants nat_eq (after permit)
-  mounts_kept_by (ToChange location change) fits =
-      mounts_of_files world (after (ToChange location change))
+  mounts_kept_by (ToChange location change) fits = mounts_of_files world (after (ToChange location change))
       (change_of_files fresh world location change) kept
-  mounts_kept_by (ToMake directory name node) fits =
-      mounts_of_files world (after (ToMake directory name node))
+  mounts_kept_by (ToMake directory name node) fits = mounts_of_files world (after (ToMake directory name node))
       (change_of_files (odds fresh) world directory (Make directory.node name (evens fresh 0) node)) kept
   mounts_kept_by (ToRemoveDirectory parent name directory) fits =
       let left = without_mounts_on nat_eq world directory in
@@ -66,11 +64,9 @@ module _ (world : World ℕ) (fresh : Fresh ℕ) (task : Task ℕ) (serves : Ser
       let same = copy_of_files fresh world (is_copied_up nat_eq world file access) file in
       of_tasks (after (ToOpen file access)) same.mounts same.master
   mounts_kept_by (ToOpenNew directory name node access) fits =
-      let same =
-      change_of_files (odds fresh) world directory (Make directory.node name (evens fresh 0) node) in
+      let same = change_of_files (odds fresh) world directory (Make directory.node name (evens fresh 0) node) in
       of_tasks (after (ToOpenNew directory name node access)) same.mounts same.master
-  mounts_kept_by (ToWritePart file offset bytes) fits =
-      mounts_of_files world (after (ToWritePart file offset bytes))
+  mounts_kept_by (ToWritePart file offset bytes) fits = mounts_of_files world (after (ToWritePart file offset bytes))
       (writing_of_files fresh world file offset bytes) kept
   mounts_kept_by (ToClose descriptor) fits = of_tasks (after (ToClose descriptor)) refl refl
   mounts_kept_by (ToSetDirectory directory) fits = of_tasks (after (ToSetDirectory directory)) refl refl
@@ -80,8 +76,7 @@ module _ (world : World ℕ) (fresh : Fresh ℕ) (task : Task ℕ) (serves : Ser
   mounts_kept_by (ToFork credentials) fits = of_tasks (after (ToFork credentials)) refl refl
   mounts_kept_by ToExit fits =
       ended_namespaces_keep_mounts (without_task world task.name) (of_tasks (without_task world task.name) refl refl)
-  mounts_kept_by ToUnshare fits =
-      ended_namespaces_keep_mounts (unshared nat_eq world fresh task)
+  mounts_kept_by ToUnshare fits = ended_namespaces_keep_mounts (unshared nat_eq world fresh task)
       (unshare_keeps_mounts world fresh task serves kept)
   mounts_kept_by (ToEnterNamespace namespace) fits =
       ended_namespaces_keep_mounts (namespace_entered nat_eq world task namespace)
@@ -91,9 +86,7 @@ module _ (world : World ℕ) (fresh : Fresh ℕ) (task : Task ℕ) (serves : Ser
   mounts_kept_by (ToBind source place recursive) fits =
       bind_kept world task place fits.2 fresh source recursive serves kept
   mounts_kept_by (ToMove mount place) fits = move_kept world task mount place fresh fits serves kept
-  mounts_kept_by (ToUnmount mount) fits =
-      unmount_keeps_mounts world mount kept
-      (or_parts (has_child nat_eq world mount)
+  mounts_kept_by (ToUnmount mount) fits = unmount_keeps_mounts world mount kept (or_parts (has_child nat_eq world mount)
       (is_used nat_eq world (going nat_eq world (mount_numbered nat_eq world mount))) fits.2).0
   mounts_kept_by (ToUnmountLazily mount) fits = lazy_unmount_keeps_mounts world mount kept
   mounts_kept_by (ToSetFlags mount flags) fits = flags_keep_mounts world (at_root_of world mount) flags kept

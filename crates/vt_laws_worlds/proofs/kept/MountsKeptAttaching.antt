@@ -42,23 +42,14 @@ module _ (world : World ℕ) (fresh : Fresh ℕ) (serves : Serves nat_eq world f
   -- what is in use with the new filesystem was so before, or is a number of its own
   used_with : (number : ℕ) → Among number in_use_with_new
       → Among number (numbers_in_use world) ⊎ Among number (used_by_filesystem new)
-  used_with number m =
-      ⊎_elim
-      (λ l.
-      ⊎_elim
-      (λ of. inl (among-append_left (of_mounts ++ of_filesystems) of_namespaces number
-      (among-append_left of_mounts of_filesystems number of)))
-      (λ of.
+  used_with number m = ⊎_elim (λ l.
+      ⊎_elim (λ of. inl (among-append_left (of_mounts ++ of_filesystems) of_namespaces number
+      (among-append_left of_mounts of_filesystems number of))) (λ of.
       let from = among-from_flat_map used_by_filesystem (world.filesystems ++ (new ∷ [])) number of in
-      ⊎_elim
-      (λ old. inl (among-append_left (of_mounts ++ of_filesystems) of_namespaces number
+      ⊎_elim (λ old. inl (among-append_left (of_mounts ++ of_filesystems) of_namespaces number
       (among-append_right of_mounts of_filesystems number
-      (among-flat_map used_by_filesystem world.filesystems from.0 number old from.2))))
-      (λ last.
-      ⊎_elim
-      (λ same. inr (subst (λ f. Among number (used_by_filesystem f)) same from.2))
-      (λ none. absurd none)
-      last)
+      (among-flat_map used_by_filesystem world.filesystems from.0 number old from.2)))) (λ last. ⊎_elim
+      (λ same. inr (subst (λ f. Among number (used_by_filesystem f)) same from.2)) (λ none. absurd none) last)
       (among-append world.filesystems (new ∷ []) from.0 from.1))
       (among-append of_mounts (flat_map used_by_filesystem (world.filesystems ++ (new ∷ []))) number l))
       (λ r. inl (among-append_right (of_mounts ++ of_filesystems) of_namespaces number r))
@@ -67,34 +58,23 @@ module _ (world : World ℕ) (fresh : Fresh ℕ) (serves : Serves nat_eq world f
   pub serves_with_new : Serves nat_eq (with_new_filesystem world (plain_filesystem nat_eq fresh)) (odds fresh)
   serves_with_new = record {
     unused = λ k. false_from_ne_true (is_among nat_eq (odds fresh k) in_use_with_new) (λ is.
-        ⊎_elim
-        (λ old.
-        true≢false
-        (sym (is_among_numbers (numbers_in_use world) (odds fresh k) old) ∙ serves.unused (2 * k + 1)))
-        (own k)
-        (used_with (odds fresh k) (among_numbers in_use_with_new (odds fresh k) is)));
+        ⊎_elim (λ old.
+        true≢false (sym (is_among_numbers (numbers_in_use world) (odds fresh k) old) ∙ serves.unused (2 * k + 1)))
+        (own k) (used_with (odds fresh k) (among_numbers in_use_with_new (odds fresh k) is)));
     apart = λ j k e.
         let same : 2 * j + 1 ≡ 2 * k + 1 = serves.apart (2 * j + 1) (2 * k + 1) e in
         omega (arith, same);
   }
     where
       own : (k : ℕ) → Among (odds fresh k) (used_by_filesystem new) → ⊥
-      own k m =
-          ⊎_elim
-          (λ e. let same : 2 * k + 1 ≡ 2 * 0 = served-distinct world fresh serves (2 * k + 1) (2 * 0) e in
-          omega (arith, same))
-          (λ later.
-          ⊎_elim
+      own k m = ⊎_elim (λ e. let same : 2 * k + 1 ≡ 2 * 0 = served-distinct world fresh serves (2 * k + 1) (2 * 0) e in
+          omega (arith, same)) (λ later. ⊎_elim
           (λ e. let same : 2 * k + 1 ≡ 2 * 1 = served-distinct world fresh serves (2 * k + 1) (2 * 1) e in
-          omega (arith, same))
-          (λ none. none)
-          later)
-          m
+          omega (arith, same)) (λ none. none) later) m
 
 module _ (world : World ℕ) (task : Task ℕ) (place : Location ℕ) (destination : IsDestination world task place) where
   pub destination_there : is_mount world place.mount ≡ true
-  destination_there =
-      (and_parts (is_mount world place.mount)
+  destination_there = (and_parts (is_mount world place.mount)
       (is_there nat_eq world (mount_at nat_eq world place).filesystem place.node) destination.directory.reached.there).0
 
   attached : IsAttachedAt world place
@@ -132,8 +112,7 @@ module _ (world : World ℕ) (task : Task ℕ) (place : Location ℕ) (destinati
 
 -- a mount of a namespace is there
 pub own_there : (world : World ℕ) (task : Task ℕ) (mount : ℕ) → IsOwn world task mount → is_mount world mount ≡ true
-own_there world task mount own =
-    ⊎_elim
+own_there world task mount own = ⊎_elim
     (λ there. subst (λ n. is_mount world n ≡ true) (number-mount_in world.mounts mount)
     (is_among_numbers (numbers_of world.mounts) (mount_numbered nat_eq world mount).number
     (among-map (λ (x : Mount ℕ). x.number) world.mounts (mount_numbered nat_eq world mount) there)))

@@ -1,7 +1,6 @@
 -- Namespaces that end with their last tasks, after an exit, an unshare or an entry.
-use Rattle.std.proofs.Common.{arith}
+use Rattle.std.proofs.Common.{arith, ◌≡◌, refl, sym, ap, subst, ◌∙◌, inl, ⊎_elim, ℕ, nat_eq, Bool, true, false, true≢false, List, [], ◌∷◌, ◌++◌, Some, eqb-true, filter, flat_map, length, map, not, ◌&&◌}
 use Rattle.std.proofs.lemmas.Grind.{common_steps}
-use Rattle.std.proofs.Common.{◌≡◌, refl, sym, ap, subst, ◌∙◌, inl, ⊎_elim, ℕ, nat_eq, Bool, true, false, true≢false, List, [], ◌∷◌, ◌++◌, Some, eqb-true, filter, flat_map, length, map, not, ◌&&◌}
 use Rattle.std.specs.List.{list_any}
 use Rattle.std.specs.Prelude.{unwrap_or}
 use Rattle.std.proofs.lemmas.Bool.{and_parts, false_from_ne_true, not-false}
@@ -27,8 +26,7 @@ use Rattle.vt_laws_worlds.proofs.kept.NamespacesListed.{AreListed, AreNamespaces
 use Rattle.vt_laws_worlds.proofs.kept.NamespacesTasks.{replaced_listed}
 
 abbrev HaveRoots : World ℕ → Type 0
-HaveRoots world =
-    (namespace : Namespace ℕ) → Among namespace world.namespaces → HasOneRoot world namespace
+HaveRoots world = (namespace : Namespace ℕ) → Among namespace world.namespaces → HasOneRoot world namespace
 
 module _ (world : World ℕ) where
   abbrev in_ended : List (Mount ℕ)
@@ -51,8 +49,7 @@ module _ (world : World ℕ) where
 
   -- a mount that is left in a namespace was in it, and stays
   abbrev IsLeftFrom : Mount ℕ → ℕ → Type 0
-  IsLeftFrom mount number =
-      (old : Mount ℕ) × Among old world.mounts × (old.namespace ≡ Some number)
+  IsLeftFrom mount number = (old : Mount ℕ) × Among old world.mounts × (old.namespace ≡ Some number)
       × (is_going nat_eq gone old.number ≡ false)
 
   left_from : (mount : Mount ℕ) → Among mount ended.mounts → (number : ℕ) → mount.namespace ≡ Some number
@@ -75,12 +72,9 @@ module _ (world : World ℕ) where
   stays_listed : (old : Mount ℕ) (number : ℕ) → Among old world.mounts → old.namespace ≡ Some number
       → is_going nat_eq gone old.number ≡ false → IsListedIn ended.namespaces number
   stays_listed old number m e stays =
-      let outside : is_in_ended nat_eq world old ≡ false =
-      false_from_ne_true (is_in_ended nat_eq world old) (λ is.
-      true≢false (sym (is_among_numbers gone old.number
-      (among-map (λ (x : Mount ℕ). x.number) in_ended old
-      (among-filter (is_in_ended nat_eq world) world.mounts old m is)))
-      ∙ stays)) in
+      let outside : is_in_ended nat_eq world old ≡ false = false_from_ne_true (is_in_ended nat_eq world old) (λ is.
+      true≢false (sym (is_among_numbers gone old.number (among-map (λ (x : Mount ℕ). x.number) in_ended old
+      (among-filter (is_in_ended nat_eq world) world.mounts old m is))) ∙ stays)) in
       let kept : list_any (is_kept number) world.namespaces ≡ true =
       not-false (list_any (is_kept number) world.namespaces)
       (ap (holds_of (λ n. not (list_any (is_kept n) world.namespaces))) (sym e) ∙ outside) in
@@ -108,8 +102,7 @@ module _ (world : World ℕ) where
     roots = λ namespace m.
         let before = among-from_filter (has_tasks nat_eq world) world.namespaces namespace m in
         ended_namespaces_keep_roots world namespace one
-        (contains_from_among world.namespaces namespace before.0) before.1
-        ∙ roots namespace before.0;
+        (contains_from_among world.namespaces namespace before.0) before.1 ∙ roots namespace before.0;
     live = λ namespace m.
         let before = among-from_filter (has_tasks nat_eq world) world.namespaces namespace m in
         let task = tasks_in world namespace before.1 in
@@ -119,31 +112,25 @@ module _ (world : World ℕ) where
 -- an exit
 pub exit_namespaces : (world : World ℕ) (task : Task ℕ) → OneNumberEach world → AreNamespaces world
     → AreNamespaces (namespaces_ended nat_eq (without_task world task.name))
-exit_namespaces world task one are =
-    ended_are_namespaces (without_task world task.name) one
-    (record {
-      apart = are.listed.apart;
-      of_mounts = are.listed.of_mounts;
-      of_tasks = λ other m.
-          are.listed.of_tasks other
-          (among-from_filter (λ (x : Task ℕ). not (same_name task.name x.name)) world.tasks other m).0;
-    })
-    are.roots
+exit_namespaces world task one are = ended_are_namespaces (without_task world task.name) one (record {
+  apart = are.listed.apart;
+  of_mounts = are.listed.of_mounts;
+  of_tasks = λ other m. are.listed.of_tasks other
+      (among-from_filter (λ (x : Task ℕ). not (same_name task.name x.name)) world.tasks other m).0;
+}) are.roots
 
 -- an entry
 pub entry_namespaces : (world : World ℕ) (task : Task ℕ) (namespace : ℕ) → OneNumberEach world → AreNamespaces world
     → IsListedIn world.namespaces namespace
     → AreNamespaces (namespaces_ended nat_eq (namespace_entered nat_eq world task namespace))
 entry_namespaces world task namespace one are at =
-    ended_are_namespaces (namespace_entered nat_eq world task namespace) one
-    (record {
+    ended_are_namespaces (namespace_entered nat_eq world task namespace) one (record {
       apart = are.listed.apart;
       of_mounts = are.listed.of_mounts;
       of_tasks = replaced_listed world.namespaces
           (entered_at task namespace (unwrap_or (namespace_root nat_eq world namespace) task.root)) world.tasks at
           are.listed.of_tasks;
-    })
-    are.roots
+    }) are.roots
 
 -- an unshare
 module _ (world : World ℕ) (fresh : Fresh ℕ) (task : Task ℕ) (serves : Serves nat_eq world fresh)
@@ -159,8 +146,7 @@ module _ (world : World ℕ) (fresh : Fresh ℕ) (task : Task ℕ) (serves : Ser
 
   another : (namespace : Namespace ℕ) → Among namespace world.namespaces
       → nat_eq namespace.number (evens fresh 0) ≡ false
-  another namespace m =
-      false_from_ne_true (nat_eq namespace.number (evens fresh 0)) (λ same.
+  another namespace m = false_from_ne_true (nat_eq namespace.number (evens fresh 0)) (λ same.
       true≢false (sym (is_among_numbers (numbers_in_use world) (evens fresh 0)
       (subst (λ n. Among n (numbers_in_use world)) (eqb-true namespace.number (evens fresh 0) same)
       (among-append_right (flat_map used_by_mount world.mounts ++ flat_map used_by_filesystem world.filesystems)
@@ -178,9 +164,7 @@ module _ (world : World ℕ) (fresh : Fresh ℕ) (task : Task ℕ) (serves : Ser
     apart = pair-append (λ (a b : Namespace ℕ). nat_eq a.number b.number) world.namespaces (new ∷ [])
         are.listed.apart refl (λ a b m n.
         ⊎_elim (λ e. ap (λ (x : Namespace ℕ). nat_eq a.number x.number) e ∙ another a m) (λ none. absurd none) n);
-    of_mounts = λ mount m number e.
-        ⊎_elim
-        (λ old. still_listed number (are.listed.of_mounts mount old number e))
+    of_mounts = λ mount m number e. ⊎_elim (λ old. still_listed number (are.listed.of_mounts mount old number e))
         (λ copy.
         let from = among-from_map copies copied mount copy in
         subst (IsListedIn after.namespaces)
@@ -195,21 +179,15 @@ module _ (world : World ℕ) (fresh : Fresh ℕ) (task : Task ℕ) (serves : Ser
       copies mount = copied_mount (numbers_by nat_eq (odds fresh) copied) (evens fresh 0) mount
 
   unshared_roots : HaveRoots after
-  unshared_roots namespace m =
-      ⊎_elim
-      (λ old.
+  unshared_roots namespace m = ⊎_elim (λ old.
       ap (λ mounts. length (filter (is_root_mount nat_eq) mounts))
-      (unshare_leaves_namespaces world fresh task namespace.number (another namespace old))
-      ∙ are.roots namespace old)
+      (unshare_leaves_namespaces world fresh task namespace.number (another namespace old)) ∙ are.roots namespace old)
       (λ last.
-      ⊎_elim
-      (λ e.
+      ⊎_elim (λ e.
       let own = are.listed.of_tasks task there in
       ap (λ (x : Namespace ℕ). root_mounts_in after x.number) e
       ∙ (unshare_keeps_counts world fresh task (new_namespace_is_empty world fresh serves is.mounts_listed)).roots
-      ∙ ap (root_mounts_in world) own.2 ∙ are.roots own.0 own.1)
-      (λ none. absurd none)
-      last)
+      ∙ ap (root_mounts_in world) own.2 ∙ are.roots own.0 own.1) (λ none. absurd none) last)
       (among-append world.namespaces (new ∷ []) namespace m)
 
   pub unshare_namespaces : OneNumberEach (unshared nat_eq world fresh task)

@@ -1,9 +1,10 @@
 -- Each permit that fits keeps the invariants of namespaces.
-use Rattle.std.proofs.Common.{◌≡◌, refl, sym, ap, subst, None, Option, Some, filter, flat_map, length, map, nat_eq, ℕ, ◌+◌}
+use Rattle.std.proofs.Common.{arith, ◌≡◌, refl, sym, ap, subst, None, Option, Some, flat_map, map, nat_eq, ℕ, ◌+◌}
+use Rattle.std.proofs.lemmas.Grind.{common_steps}
 use Rattle.vt_spec.specs.Machine.Apply.{apply}
 use Rattle.vt_spec.specs.Language.Changes.Change.{Make, Move, Remove}
 use Rattle.vt_spec.specs.Machine.Detach.{mounts_on, without_mounts_on, without_replaced}
-use Rattle.vt_spec.specs.Lists.{Fresh, evens, holds_of, odds}
+use Rattle.vt_spec.specs.Lists.{Fresh, evens, odds}
 use Rattle.vt_spec.specs.Machine.Mounts.{Location, Mount, mount_tree}
 use Rattle.vt_spec.specs.Machine.Descriptors.{is_copied_up, with_descriptor, without_descriptor}
 use Rattle.vt_spec.specs.Machine.NewMounts.{plain_filesystem}
@@ -12,7 +13,7 @@ use Rattle.vt_spec.specs.Machine.Permits.{Permit}
 use Rattle.vt_spec.specs.Machine.Permits.Permit.{ToBind, ToChange, ToClose, ToEnterNamespace, ToExit, ToFork, ToMake, ToMountOverlay, ToMountPlain, ToMove, ToOpen, ToOpenNew, ToPivot, ToRemoveDirectory, ToRename, ToSetCredentials, ToSetDirectory, ToSetFlags, ToSetRoot, ToSetType, ToSetUmask, ToUnmount, ToUnmountLazily, ToUnshare, ToWritePart}
 use Rattle.vt_spec.specs.Machine.Run.{Serves}
 use Rattle.vt_spec.specs.Machine.World.{Task, World, mount_at, mount_numbered, replaced_if_called}
-use Rattle.vt_spec.specs.Machine.Invariants.{IsWorld, NamespaceInvariants, is_root_mount}
+use Rattle.vt_spec.specs.Machine.Invariants.{IsWorld, NamespaceInvariants}
 use Rattle.vt_spec.proofs.Lists.{Among}
 use Rattle.vt_laws_mounts.proofs.ends.EndingCounts.{points_keep_roots, points_take_none_in, unmount_keeps_roots, unmount_takes_none_in}
 use Rattle.vt_laws_mounts.proofs.ends.EndingLazyCounts.{lazy_unmount_keeps_roots, lazy_unmount_takes_none_in}
@@ -36,19 +37,7 @@ use Rattle.vt_laws_trees.proofs.trees.TreesTasks.{called_there}
 -- Mounts and namespaces as they were, and tasks in the namespaces in which some were
 same_mounts_stay : (before after : World ℕ) → after.namespaces ≡ before.namespaces → after.mounts ≡ before.mounts
     → TasksStay before.tasks after.tasks → AreNamespaces before → AreNamespaces after
-same_mounts_stay before after namespaces mounts tasks are =
-    namespaces_stay before after
-    (record {
-      namespaces = namespaces;
-      mounts = λ mount m number e. (mount, subst (Among mount) mounts m, e);
-      roots = λ namespace.
-          ap
-          (λ these. length (filter (is_root_mount nat_eq)
-          (filter (λ (mount : Mount ℕ). holds_of (nat_eq namespace) mount.namespace) these)))
-          mounts;
-      tasks = tasks;
-    })
-    are
+same_mounts_stay before after namespaces mounts tasks are = grind (arith, common_steps, are, namespaces_stay)
 
 same_tasks : (before after : World ℕ) → after.tasks ≡ before.tasks → TasksStay before.tasks after.tasks
 same_tasks before after same = subst (TasksStay before.tasks) (sym same) (same_tasks_stay before.tasks)
@@ -72,9 +61,7 @@ module _ (world : World ℕ) (fresh : Fresh ℕ) (task : Task ℕ) (serves : Ser
   points : (directory : Location ℕ) → AreNamespaces (without_mounts_on nat_eq world directory)
   points directory =
       let left = without_mounts_on nat_eq world directory in
-      let others =
-      all_but_mounts world
-      (map (λ (mount : Mount ℕ). mount.number)
+      let others = all_but_mounts world (map (λ (mount : Mount ℕ). mount.number)
       (flat_map (mount_tree nat_eq world.mounts) (mounts_on nat_eq world directory))) in
       becomes left (record {
         namespaces = others.namespaces;
@@ -98,8 +85,7 @@ module _ (world : World ℕ) (fresh : Fresh ℕ) (task : Task ℕ) (serves : Ser
   namespaces_kept_by : (permit : Permit ℕ) → NamesWhatIsThere world task permit → AreNamespaces (after permit)
   namespaces_kept_by (ToChange location change) fits =
       files_stay world (after (ToChange location change)) (change_of_files fresh world location change) are
-  namespaces_kept_by (ToMake directory name node) fits =
-      files_stay world (after (ToMake directory name node))
+  namespaces_kept_by (ToMake directory name node) fits = files_stay world (after (ToMake directory name node))
       (change_of_files (odds fresh) world directory (Make directory.node name (evens fresh 0) node)) are
   namespaces_kept_by (ToRemoveDirectory parent name directory) fits =
       let left = without_mounts_on nat_eq world directory in
@@ -108,22 +94,19 @@ module _ (world : World ℕ) (fresh : Fresh ℕ) (task : Task ℕ) (serves : Ser
   namespaces_kept_by (ToRename from old to new object replaced) fits =
       let left = without_replaced nat_eq world replaced in
       files_stay left (after (ToRename from old to new object replaced))
-      (change_of_files fresh left from (Move from.node old to.node new object.node))
-      (replaced_points replaced)
+      (change_of_files fresh left from (Move from.node old to.node new object.node)) (replaced_points replaced)
   namespaces_kept_by (ToOpen file access) fits =
       let same = copy_of_files fresh world (is_copied_up nat_eq world file access) file in
       let new = with_descriptor task file access in
       changed_task (after (ToOpen file access)) new same.namespaces same.mounts
       (ap (map (replaced_if_called new)) same.tasks) refl refl
   namespaces_kept_by (ToOpenNew directory name node access) fits =
-      let same =
-      change_of_files (odds fresh) world directory (Make directory.node name (evens fresh 0) node) in
+      let same = change_of_files (odds fresh) world directory (Make directory.node name (evens fresh 0) node) in
       let file : Location ℕ = record { mount = directory.mount; node = evens fresh 0 } in
       let new = with_descriptor task file access in
       changed_task (after (ToOpenNew directory name node access)) new same.namespaces same.mounts
       (ap (map (replaced_if_called new)) same.tasks) refl refl
-  namespaces_kept_by (ToWritePart file offset bytes) fits =
-      files_stay world (after (ToWritePart file offset bytes))
+  namespaces_kept_by (ToWritePart file offset bytes) fits = files_stay world (after (ToWritePart file offset bytes))
       (writing_of_files fresh world file offset bytes) are
   namespaces_kept_by (ToClose descriptor) fits =
       changed_task (after (ToClose descriptor)) (without_descriptor task descriptor) refl refl refl refl refl
@@ -141,8 +124,7 @@ module _ (world : World ℕ) (fresh : Fresh ℕ) (task : Task ℕ) (serves : Ser
       same_mounts_stay world (after (ToFork credentials)) refl refl
       (forked_stays world task is.tasks.one_task there new (child_of task credentials) refl refl refl) are
   namespaces_kept_by ToExit fits = exit_namespaces world task is.mounts.one_number are
-  namespaces_kept_by ToUnshare fits =
-      unshare_namespaces world fresh task serves is.namespaces are there
+  namespaces_kept_by ToUnshare fits = unshare_namespaces world fresh task serves is.namespaces are there
       (unshare_keeps_mounts world fresh task serves is.mounts).one_number
   namespaces_kept_by (ToEnterNamespace namespace) fits =
       entry_namespaces world task namespace is.mounts.one_number are (listed_in world namespace fits)

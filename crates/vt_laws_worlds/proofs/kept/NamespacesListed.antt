@@ -1,4 +1,5 @@
 -- Namespaces of a world with their mounts and tasks, as facts on what stands in its lists.
+use Rattle.std.proofs.lemmas.Grind.{common_steps}
 use Rattle.std.proofs.Common.{◌≡◌, refl, sym, ap, subst, ◌∙◌, ℕ, nat_eq, Bool, true, false, List, [], ◌∷◌, Option, Some, None, arith, eq-eqb, eqb-true, inl, is_some, length, map, true≢false, ⊎_elim, ◌&&◌}
 use Rattle.std.specs.Prelude.{Contains, option_to_list}
 use Rattle.std.specs.List.{list_all}
@@ -49,8 +50,7 @@ listed_in world number is =
 
 is_listed_in : (world : World ℕ) (number : ℕ) → IsListedIn world.namespaces number
     → is_listed nat_eq world number ≡ true
-is_listed_in world number at =
-    is_among_numbers (map number_of world.namespaces) number
+is_listed_in world number at = is_among_numbers (map number_of world.namespaces) number
     (subst (λ n. Among n (map number_of world.namespaces)) (sym at.2) (among-map number_of world.namespaces at.0 at.1))
 
 pub tasks_in : (world : World ℕ) (namespace : Namespace ℕ) → has_tasks nat_eq world namespace ≡ true
@@ -69,26 +69,7 @@ abbrev has_its_namespace : World ℕ → Option ℕ → Bool
 has_its_namespace world namespace = list_all (is_listed nat_eq world) (option_to_list namespace)
 
 pub are_namespaces : (world : World ℕ) → NamespaceInvariants nat_eq world → AreNamespaces world
-are_namespaces world is = record {
-  listed = record {
-    apart = is.one_namespace;
-    of_mounts = λ mount m number e.
-        listed_in world number
-        (and_parts (is_listed nat_eq world number) true
-        (ap (has_its_namespace world) (sym e)
-        ∙ among_from_list_all (λ (x : Mount ℕ). has_its_namespace world x.namespace) world.mounts is.mounts_listed
-        mount m)).0;
-    of_tasks = λ task m.
-        listed_in world task.namespace
-        (among_from_list_all (λ (x : Task ℕ). is_listed nat_eq world x.namespace) world.tasks is.tasks_listed task m);
-  };
-  roots = λ namespace m.
-      eqb-true (root_mounts_in world namespace.number) 1
-      (among_from_list_all (has_one_root nat_eq world) world.namespaces is.root_mounts namespace m);
-  live = λ namespace m.
-      tasks_in world namespace
-      (among_from_list_all (has_tasks nat_eq world) world.namespaces is.namespaces_live namespace m);
-}
+are_namespaces world is = grind (arith, common_steps, listed_in, and_parts, among_from_list_all, eqb-true, tasks_in)
 
 pub from_namespaces : (world : World ℕ) → AreNamespaces world → has_too_many nat_eq world ≡ false
     → NamespaceInvariants nat_eq world
@@ -114,8 +95,7 @@ from_namespaces world are few = record {
 
 -- a mount of a namespace comes from one of that namespace
 abbrev pub MountsStay : World ℕ → World ℕ → Type 0
-MountsStay before after =
-    (mount : Mount ℕ) → Among mount after.mounts → (number : ℕ) → mount.namespace ≡ Some number
+MountsStay before after = (mount : Mount ℕ) → Among mount after.mounts → (number : ℕ) → mount.namespace ≡ Some number
     → (old : Mount ℕ) × Among old before.mounts × (old.namespace ≡ Some number)
 
 -- the tasks are in the namespaces in which some were
@@ -139,8 +119,7 @@ namespaces_stay before after keeps are = record {
         still number (are.listed.of_mounts from.0 from.1 number from.2);
     of_tasks = λ task m.
         let from = keeps.tasks.come task m in
-        still task.namespace
-        (subst (IsListedIn before.namespaces) (sym from.2) (are.listed.of_tasks from.0 from.1));
+        still task.namespace (subst (IsListedIn before.namespaces) (sym from.2) (are.listed.of_tasks from.0 from.1));
   };
   roots = λ namespace m.
       keeps.roots namespace.number ∙ are.roots namespace (subst (Among namespace) keeps.namespaces m);
@@ -155,8 +134,7 @@ namespaces_stay before after keeps are = record {
 
 -- Mounts, by what is known of a change
 pub taken_stay : (before after : World ℕ) → TakesNoMountsIn before after → MountsStay before after
-taken_stay before after takes mount m number e =
-    ⊎_elim
+taken_stay before after takes mount m number e = ⊎_elim
     (λ none. absurd (true≢false (sym (ap is_some e) ∙ ap is_some none)))
     (λ old. (old.0, among_from_contains before.mounts old.0 old.1, sym old.3 ∙ e))
     (among_from_all (IsOutOrStays before) after.mounts takes mount m)
@@ -167,8 +145,7 @@ attached_stay before after stays mount m number e =
     (old.0, among_from_contains before.mounts old.0 old.1, old.2)
   where
     Stays : Mount ℕ → Type 0
-    Stays one =
-        (namespace : ℕ) → one.namespace ≡ Some namespace
+    Stays one = (namespace : ℕ) → one.namespace ≡ Some namespace
         → (old : Mount ℕ) × Contains before.mounts old × (old.namespace ≡ Some namespace)
 
 -- a namespace that has as many mounts has some
@@ -178,8 +155,7 @@ pub counted_stay : (before after : World ℕ)
 counted_stay before after counts mount m number e =
     let lies_in = λ (x : Mount ℕ). holds_of (nat_eq number) x.namespace in
     let there : lies_in mount ≡ true = ap (holds_of (nat_eq number)) e ∙ eq-eqb number number refl in
-    let one =
-    some_of (mounts_of nat_eq after number) (mounts_of nat_eq before number) mount
+    let one = some_of (mounts_of nat_eq after number) (mounts_of nat_eq before number) mount
     (among-filter lies_in after.mounts mount m there) (counts number) in
     let old = among-from_filter lies_in before.mounts one.0 one.1 in
     (one.0, old.0, inside one.0.namespace old.1)
@@ -199,9 +175,4 @@ same_tasks_stay tasks = record { come = λ task m. (task, m, refl); stay = λ ol
 
 pub mapped_tasks_stay : (f : Task ℕ → Task ℕ) (tasks : List (Task ℕ))
     → ((task : Task ℕ) → Among task tasks → (f task).namespace ≡ task.namespace) → TasksStay tasks (map f tasks)
-mapped_tasks_stay f tasks same = record {
-  come = λ task m.
-      let from = among-from_map f tasks task m in
-      (from.0, from.1, ap (λ (x : Task ℕ). x.namespace) from.2 ∙ same from.0 from.1);
-  stay = λ old m. (f old, among-map f tasks old m, sym (same old m));
-}
+mapped_tasks_stay f tasks same = grind (arith, common_steps, among-from_map, among-map)

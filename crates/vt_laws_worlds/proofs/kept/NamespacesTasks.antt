@@ -1,7 +1,6 @@
 -- Tasks that change, fork and end, and the namespaces that they are in.
-use Rattle.std.proofs.Common.{arith}
+use Rattle.std.proofs.Common.{arith, ◌≡◌, refl, sym, ap, ◌∙◌, ⊎_elim, ℕ, nat_eq, Bool, true, false, cond, true≢false, List, [], ◌∷◌, ◌++◌, map}
 use Rattle.std.proofs.lemmas.Grind.{common_steps}
-use Rattle.std.proofs.Common.{◌≡◌, refl, sym, ap, ◌∙◌, ⊎_elim, ℕ, nat_eq, Bool, true, false, cond, true≢false, List, [], ◌∷◌, ◌++◌, map}
 use Rattle.std.specs.List.{list_any}
 use Rattle.std.specs.Cmp.Lexicographic.{bytes_decides}
 use Rattle.std.proofs.lemmas.Bool.{or_parts}
@@ -18,23 +17,18 @@ use Rattle.vt_laws_worlds.proofs.TasksNamed.{AreNamedApart}
 one_of_its_name : (tasks : List (Task ℕ)) → AreNamedApart tasks → (a b : Task ℕ) → Among a tasks → Among b tasks
     → a.name ≡ b.name → a ≡ b
 one_of_its_name [] apart a b m n same = absurd m
-one_of_its_name (first ∷ rest) apart a b m n same =
-    ⊎_elim
+one_of_its_name (first ∷ rest) apart a b m n same = ⊎_elim
     (λ e. ⊎_elim (λ f. e ∙ sym f) (λ later. absurd (not_both b later (ap (λ (x : Task ℕ). x.name) (sym e) ∙ same))) n)
     (λ before.
-    ⊎_elim
-    (λ f. absurd (not_both a before (ap (λ (x : Task ℕ). x.name) (sym f) ∙ sym same)))
-    (λ later. one_of_its_name rest parts.1 a b before later same)
-    n)
-    m
+    ⊎_elim (λ f. absurd (not_both a before (ap (λ (x : Task ℕ). x.name) (sym f) ∙ sym same)))
+    (λ later. one_of_its_name rest parts.1 a b before later same) n) m
   where
     parts : (list_any (λ (x : Task ℕ). same_name first.name x.name) rest ≡ false) × AreNamedApart rest
     parts = or_parts (list_any (λ (x : Task ℕ). same_name first.name x.name) rest)
         (any_pair (λ (x y : Task ℕ). same_name x.name y.name) rest) apart
 
     not_both : (other : Task ℕ) → Among other rest → first.name ≡ other.name → ⊥
-    not_both other there e =
-        true≢false (sym ((bytes_decides first.name other.name).1 e)
+    not_both other there e = true≢false (sym ((bytes_decides first.name other.name).1 e)
         ∙ none_among (λ (x : Task ℕ). same_name first.name x.name) rest parts.0 other there)
 
 module _ (world : World ℕ) (task : Task ℕ) (apart : AreNamedApart world.tasks) (there : Among task world.tasks) where
@@ -60,13 +54,8 @@ module _ (world : World ℕ) (task : Task ℕ) (apart : AreNamedApart world.task
       let others = replaced_stays new name namespace in
       let these = map (replaced_if_called new) world.tasks in
       record {
-        come = λ other m.
-            ⊎_elim (others.come other)
-            (λ last.
-            ⊎_elim
-            (λ e. (task, there, ap (λ (x : Task ℕ). x.namespace) e ∙ inside))
-            (λ none. absurd none)
-            last)
+        come = λ other m. ⊎_elim (others.come other) (λ last.
+            ⊎_elim (λ e. (task, there, ap (λ (x : Task ℕ). x.namespace) e ∙ inside)) (λ none. absurd none) last)
             (among-append these (child ∷ []) other m);
         stay = λ old m.
             let now = others.stay old m in
@@ -80,8 +69,7 @@ pivoted_stay namespace root new tasks = grind (arith, common_steps, mapped_tasks
 
 -- a task that is in another namespace of the list, in the place of the one of its name
 pub replaced_listed : (namespaces : List (Namespace ℕ)) (new : Task ℕ) (tasks : List (Task ℕ))
-    → IsListedIn namespaces new.namespace
-    → ((task : Task ℕ) → Among task tasks → IsListedIn namespaces task.namespace)
+    → IsListedIn namespaces new.namespace → ((task : Task ℕ) → Among task tasks → IsListedIn namespaces task.namespace)
     → (task : Task ℕ) → Among task (map (replaced_if_called new) tasks) → IsListedIn namespaces task.namespace
 replaced_listed namespaces new tasks at old task m =
     let from = among-from_map (replaced_if_called new) tasks task m in grind (arith, common_steps)

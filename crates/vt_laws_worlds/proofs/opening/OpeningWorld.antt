@@ -1,19 +1,18 @@
 -- The opening world has the invariants.
-use Rattle.std.proofs.Common.{◌≡◌, refl, sym, ap, ◌∙◌, ℕ, nat_eq, eq-eqb, true, false, cond, [], ◌∷◌, ◌||◌, ◌&&◌, Some, None, filter, is_some}
-use Rattle.std.specs.Prelude.{length, nat_lt, option_to_list, unwrap_or, ◌==◌}
-use Rattle.std.specs.List.{list_all, list_any}
+use Rattle.std.proofs.Common.{arith, ◌≡◌, refl, sym, ap, ◌∙◌, ℕ, nat_eq, eq-eqb, true, false, cond, [], ◌∷◌, ◌||◌, ◌&&◌, Some, None, is_some}
+use Rattle.std.proofs.lemmas.Grind.{common_steps}
+use Rattle.std.specs.Prelude.{option_to_list, unwrap_or, ◌==◌}
+use Rattle.std.specs.List.{list_all}
 use Rattle.std.proofs.lemmas.Bool.{and_from}
 use Rattle.std.proofs.lemmas.List.Elements.{All-cons, All-head, All-nil, All-weaker}
-use Rattle.vt_spec.specs.Language.Limits.{most_mounts}
 use Rattle.vt_spec.specs.Lists.{Fresh}
 use Rattle.vt_spec.specs.Machine.Mounts.{Mount, no_mount, root_of}
-use Rattle.vt_spec.specs.Machine.Settled.{has_layer_on, is_mounted}
 use Rattle.vt_spec.specs.Machine.World.{Filesystem, World, filesystem_numbered, first_mount, first_location, is_directory_at, mount_at, mount_numbered, new_plain, node_at, opening}
-use Rattle.vt_spec.specs.Machine.Invariants.{ListsNumbers, MountInvariants, NamespaceInvariants, Stands, TaskInvariants, TreeInvariants, is_root_mount}
+use Rattle.vt_spec.specs.Machine.Invariants.{ListsNumbers, MountInvariants, NamespaceInvariants, Stands, TaskInvariants, TreeInvariants}
 use Rattle.vt_spec.specs.Machine.Invariants.Stands.{at_root}
 use Rattle.vt_spec.specs.Tree.{is_directory_node}
 use Rattle.vt_spec.specs.TreeInvariant.{HasOwnParents, IsTree}
-use Rattle.vt_laws_mounts.specs.LettingGo.InUse.{AllInUse, is_inode_used}
+use Rattle.vt_laws_mounts.specs.LettingGo.InUse.{AllInUse}
 use Rattle.vt_laws_mounts.proofs.letting_go.sweeps.InUse.{nothing_goes}
 use Rattle.vt_laws_mounts.proofs.letting_go.Lists.{or_first}
 use Rattle.vt_laws_trees.specs.Trees.{IsFileTree}
@@ -79,61 +78,30 @@ module _ (fresh : Fresh ℕ) where
   }
 
   namespaces : NamespaceInvariants nat_eq first_world
-  namespaces = record {
-    one_namespace = refl;
-    mounts_listed = ap (λ b. ((b || false) && true) && true) (itself 1);
-    tasks_listed = ap (λ b. (b || false) && true) (itself 1);
-    root_mounts = ap (λ b. (length (filter (is_root_mount nat_eq) (cond b (the_mount ∷ []) [])) == 1) && true)
-        (itself 1);
-    namespaces_live = ap (λ b. (b || false) && true) (itself 1);
-    few_mounts = ap (λ b. nat_lt most_mounts (length (cond b (the_mount ∷ []) [])) || false) (itself 1);
-  }
+  namespaces = grind (arith, common_steps, itself)
 
   located : (nat_eq (fresh 0) (fresh 0) || false) && is_some (node_at nat_eq first_world (first_location nat_eq fresh))
       ≡ true
-  located =
-      and_from (nat_eq (fresh 0) (fresh 0)
-      || false) (is_some (node_at nat_eq first_world (first_location nat_eq fresh)))
-      (ap (λ b. b || false) (itself 0))
+  located = and_from (nat_eq (fresh 0) (fresh 0)
+      || false) (is_some (node_at nat_eq first_world (first_location nat_eq fresh))) (ap (λ b. b || false) (itself 0))
       (directory_is_there (node_at nat_eq first_world (first_location nat_eq fresh)) root_is_directory)
 
-  seen : is_directory_at nat_eq first_world (first_location nat_eq fresh)
-      && list_all (nat_eq (fresh 1)) (option_to_list
+  seen : is_directory_at nat_eq first_world (first_location nat_eq fresh) && list_all (nat_eq (fresh 1)) (option_to_list
       (mount_at nat_eq first_world (first_location nat_eq fresh)).namespace) ≡ true
-  seen =
-      and_from (is_directory_at nat_eq first_world (first_location nat_eq fresh)) _ root_is_directory
+  seen = and_from (is_directory_at nat_eq first_world (first_location nat_eq fresh)) _ root_is_directory
       (ap (λ (m : Mount ℕ). list_all (nat_eq (fresh 1)) (option_to_list m.namespace)) found_mount
       ∙ ap (λ b. b && true) (itself 1))
 
   tasks : TaskInvariants nat_eq first_world
-  tasks = record {
-    one_task = refl;
-    small_tasks = opening_has_small_tasks fresh;
-    forks_counted = opening_counts_forks fresh;
-    locations_live = ap (λ b. b && (b && true)) located;
-    directories = ap (λ b. (b && b) && true) seen;
-    open_files = refl;
-  }
+  tasks = grind (arith, common_steps, opening_has_small_tasks, opening_counts_forks, located, seen)
 
   roots : MountsShow first_world
-  roots =
-      ap (λ b. (b && true) && true)
-      (ap (λ (m : Mount ℕ). is_directory_node
+  roots = ap (λ b. (b && true) && true) (ap (λ (m : Mount ℕ). is_directory_node
       ((filesystem_numbered nat_eq first_world m.filesystem).files.tree.node (fresh 3))) (sym found_mount)
       ∙ root_is_directory)
 
   in_use : AllInUse first_world
-  in_use = record {
-    mounts = refl;
-    filesystems = ap (λ b. ((b || false)
-        || list_any (λ merged. has_layer_on nat_eq (fresh 2) merged && is_mounted nat_eq first_world merged.number)
-        first_world.filesystems) && true) (itself 2);
-    inodes = All-cons (λ (f : Filesystem ℕ). list_all (is_inode_used first_world f) f.files.numbers ≡ true)
-        the_filesystem []
-        (ap (λ b. b && true) (or_first (nat_eq (fresh 3) (fresh 3)) _ (itself 3)))
-        (All-nil (λ (f : Filesystem ℕ). list_all (is_inode_used first_world f) f.files.numbers ≡ true));
-    groups = λ group none. refl;
-  }
+  in_use = grind (arith, common_steps, mounts, itself, or_first)
 
 pub opening_is_a_world : OpeningIsAWorld
 opening_is_a_world fresh apart = (

@@ -1,5 +1,6 @@
 -- What a permit changes is no overlay without an upper layer.
-use Rattle.std.proofs.Common.{Bool, List, None, Option, Some, [], ap, false, is_some, nat_eq, not, refl, subst, sym, true, true≢false, ℕ, ◌&&◌, ◌==◌, ◌∙◌, ◌∷◌, ◌≡◌}
+use Rattle.std.proofs.Common.{arith, Bool, List, None, Option, Some, [], ap, false, is_some, nat_eq, not, refl, subst, sym, true, true≢false, ℕ, ◌&&◌, ◌==◌, ◌∙◌, ◌∷◌, ◌≡◌}
+use Rattle.std.proofs.lemmas.Grind.{common_steps}
 use Rattle.std.proofs.lemmas.Bool.{or_parts}
 use Rattle.std.specs.List.{list_all}
 use Rattle.std.specs.Prelude.{⊤}
@@ -47,19 +48,13 @@ module _ (world : World ℕ) (task : Task ℕ) (fresh : Fresh ℕ) where
   -- open(2) of a file that exists
   opened : (file : Location ℕ) (access : Access) → (opens_for_writing access && has_no_upper looks file) ≡ false
       → HasLayer (change_asked fresh world (ToOpen file access))
-  opened file access refused = by (is_copied_up nat_eq world file access) refl
-    where
-      by : (b : Bool) → is_copied_up nat_eq world file access ≡ b → HasLayer (when b (file, CopyUp file.node))
-      by true e =
-          ap (λ writes. writes && has_no_upper looks file) (sym (and_true_left (opens_for_writing access) _ e)) ∙ refused
-      by false e = tt
+  opened file access refused = grind (arith, common_steps, and_true_left)
 
   -- a descriptor that is open for writing
   written : (number : ℕ) (descriptor : Descriptor ℕ) → list_all (writes_to_a_layer world) task.descriptors ≡ true
       → descriptor_numbered task number ≡ Some descriptor → descriptor.writes ≡ true
       → has_no_upper looks descriptor.location ≡ false
-  written number descriptor well found writes =
-      by (has_no_upper looks descriptor.location)
+  written number descriptor well found writes = by (has_no_upper looks descriptor.location)
       (ap (λ b. not (b && has_no_upper looks descriptor.location)) (sym writes)
       ∙ among_from_list_all (writes_to_a_layer world) task.descriptors well descriptor
       (found_among (λ (d : Descriptor ℕ). number == d.number) task.descriptors descriptor found))
@@ -78,8 +73,7 @@ module _ (world : World ℕ) (task : Task ℕ) (fresh : Fresh ℕ) where
   granted_has_layer : (call : Call) (permit : Permit ℕ) → list_all (writes_to_a_layer world) task.descriptors ≡ true
       → IsGranted nat_eq looks (overfills nat_eq fresh world task) task call permit
       → HasLayer (change_asked fresh world permit)
-  granted_has_layer call permit well (overwrites_file path bytes place file end named there passed) =
-      passed.1.1.1.1.0
+  granted_has_layer call permit well (overwrites_file path bytes place file end named there passed) = passed.1.1.1.1.0
   granted_has_layer call permit well (writes_new_file path bytes place end named missing fits passed) = passed.1.0
   granted_has_layer call permit well (makes_directory path mode place end passed) = passed.1.1.1.0
   granted_has_layer call permit well (makes_symlink text path place fits end passed) = passed.1.1.1.0
@@ -112,8 +106,7 @@ caller_has_layers world fresh task permit well given =
     (called_there world.tasks task.name task given.called)
 
 pub changes_have_layers : ChangesHaveLayers
-changes_have_layers world fresh task permit location change well given asks =
-    subst (HasLayer world task fresh) asks
+changes_have_layers world fresh task permit location change well given asks = subst (HasLayer world task fresh) asks
     (granted_has_layer world task fresh given.call permit (caller_has_layers world fresh task permit well given)
     (calls_are_granted nat_eq (looks_of nat_eq world) (overfills nat_eq fresh world task) task given.call permit
     given.judged))
@@ -121,19 +114,12 @@ changes_have_layers world fresh task permit location change well given asks =
 -- a call that is not the mount of an overlay
 to_task : (fresh : Fresh ℕ) (world : World ℕ) (task : Task ℕ) (permit : Permit ℕ) → IsGiven fresh world task permit
     → IsGivenToTask fresh world task permit
-to_task fresh world task permit given = record {
-  serves = given.serves;
-  called = given.called;
-  call = given.call;
-  few_groups = given.few_groups;
-  judged = given.judged;
-}
+to_task fresh world task permit given = grind (arith, common_steps)
 
 -- where no overlay has an upper layer, one with an upper layer is none
 plain_there : (world : World ℕ) (location : Location ℕ) → OverlaysHaveNoUpper world
     → has_no_upper (looks_of nat_eq world) location ≡ false → is_overlay (filesystem_at nat_eq world location) ≡ false
-plain_there world location none layer =
-    by (filesystem_at nat_eq world location).overlay
+plain_there world location none layer = by (filesystem_at nat_eq world location).overlay
     (numbered_anyhow (λ (f : Filesystem ℕ). of_overlay false (λ overlay. is_some overlay.upper) f ≡ false)
     (mount_at nat_eq world location).filesystem world.filesystems none refl) layer
   where
@@ -153,8 +139,7 @@ asked_so fresh world (ToOpen file access) made e = none_is_some made e
 asked_so fresh world permit made e = e
 
 pub plain_ones_are_changed : PlainOnesAreChanged
-plain_ones_are_changed world fresh task permit location change none well given asks =
-    plain_there world location none
+plain_ones_are_changed world fresh task permit location change none well given asks = plain_there world location none
     (changes_have_layers world fresh task permit location change well (to_task fresh world task permit given)
     (asked_so fresh world permit (location, change) asks))
 
@@ -167,12 +152,9 @@ opens_copy_nothing world fresh task file access none well given = by (is_copied_
     overlaid (Some overlay) test e = refl
 
     by : (b : Bool) → is_copied_up nat_eq world file access ≡ b → b ≡ false
-    by true e =
-        absurd (true≢false
+    by true e = absurd (true≢false
         (sym (overlaid (filesystem_at nat_eq world file).overlay (λ overlay. lies_only_in_lowers overlay file.node)
-        (and_true_right (opens_for_writing access) _ e))
-        ∙ plain_there world file none
+        (and_true_right (opens_for_writing access) _ e)) ∙ plain_there world file none
         (changes_have_layers world fresh task (ToOpen file access) file (CopyUp file.node) well
-        (to_task fresh world task (ToOpen file access) given)
-        (ap (λ copied. when copied (file, CopyUp file.node)) e))))
+        (to_task fresh world task (ToOpen file access) given) (ap (λ copied. when copied (file, CopyUp file.node)) e))))
     by false e = refl

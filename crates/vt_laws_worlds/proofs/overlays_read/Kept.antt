@@ -1,10 +1,10 @@
 -- A permit leaves no descriptor open for writing in an overlay without an upper layer.
-use Rattle.std.proofs.Common.{Bool, List, None, Ok, Option, Some, [], ap, cond, false, inr, is_some, map, nat_eq, not, option_map, refl, subst, sym, true, ⊎_elim, ℕ, ◌&&◌, ◌+◌, ◌++◌, ◌==◌, ◌∙◌, ◌∷◌, ◌≡◌}
+use Rattle.std.proofs.Common.{arith, Bool, List, None, Ok, Option, Some, [], ap, false, inr, is_some, map, nat_eq, not, option_map, refl, subst, sym, true, ⊎_elim, ℕ, ◌&&◌, ◌+◌, ◌++◌, ◌==◌, ◌∙◌, ◌∷◌, ◌≡◌}
+use Rattle.std.proofs.lemmas.Grind.{common_steps}
 use Rattle.std.proofs.lemmas.Bool.{and_parts}
 use Rattle.std.specs.Prelude.{⊤}
 use Rattle.vt_laws_trees.proofs.calls.tasks.TasksLeft.{left_tasks, tasks_left}
 use Rattle.vt_laws_worlds.specs.Given.LeftWorlds.{IsGivenToTask}
-use Rattle.vt_laws_mounts.specs.Mounts.Attaching.{is_mount}
 use Rattle.vt_laws_worlds.proofs.overlay_permits.kept.KeptOverlays.{permits_make_their_change}
 use Rattle.vt_laws_worlds.proofs.overlay_permits.worlds.EveryCall.{LeavesFilesystems, unchanged}
 use Rattle.vt_laws_worlds.proofs.overlay_permits.worlds.EveryCall.LeavesFilesystems.{as_they_were, with_overlay, with_plain}
@@ -34,12 +34,12 @@ use Rattle.vt_spec.specs.Lists.{Fresh, evens, odds}
 use Rattle.vt_spec.specs.Machine.Apply.{apply, overfills}
 use Rattle.vt_spec.specs.Machine.Descriptors.{with_descriptor, without_descriptor}
 use Rattle.vt_spec.specs.Machine.Filesystems.{raised, with_change}
-use Rattle.vt_spec.specs.Machine.Invariants.{IsWorld, is_located_well, is_there}
+use Rattle.vt_spec.specs.Machine.Invariants.{IsWorld, is_located_well}
 use Rattle.vt_spec.specs.Machine.Judge.{judge_in}
 use Rattle.vt_spec.specs.Machine.Locked.{overlay_or}
 use Rattle.vt_spec.specs.Machine.Looks.{Looks, looks_of}
 use Rattle.vt_spec.specs.Machine.Mounts.{Location, Mount}
-use Rattle.vt_spec.specs.Machine.Namespaces.{pivoted_location, pivoted_task}
+use Rattle.vt_spec.specs.Machine.Namespaces.{pivoted_task}
 use Rattle.vt_spec.specs.Machine.NewMounts.{overlay_filesystem, plain_filesystem}
 use Rattle.vt_spec.specs.Machine.Outcomes.{Outcome, after as outcome_after}
 use Rattle.vt_spec.specs.Machine.Permits.{Permit}
@@ -49,7 +49,7 @@ use Rattle.vt_spec.specs.Machine.Rules.Conditions.{has_no_upper}
 use Rattle.vt_spec.specs.Machine.Rules.Mounting.{overlay_at}
 use Rattle.vt_spec.specs.Machine.Settled.{settled}
 use Rattle.vt_spec.specs.Machine.Tasks.{child_of}
-use Rattle.vt_spec.specs.Machine.World.{Descriptor, Filesystem, Overlay, Task, World, all_locations, filesystem_numbered, locations_of, mount_at, mount_numbered, replaced_if_called}
+use Rattle.vt_spec.specs.Machine.World.{Descriptor, Filesystem, Overlay, Task, World, all_locations, locations_of, mount_at, mount_numbered, replaced_if_called}
 
 -- Whether there is an upper layer is told by the layers
 abbrev lacking : Option Layers → Bool
@@ -74,13 +74,7 @@ module _ (fresh : Fresh ℕ) (world later : World ℕ) (task : Task ℕ)
   Left tasks = (other : Task ℕ) → Among other tasks → writes later other ≡ true
 
   replaced : (new : Task ℕ) → writes later new ≡ true → Left (map (replaced_if_called new) world.tasks)
-  replaced new well other m =
-      let from = among-from_map (replaced_if_called new) world.tasks other m in
-      ap (writes later) from.2 ∙ by (same_name new.name from.0.name) from.0 (all from.0 from.1)
-    where
-      by : (b : Bool) (old : Task ℕ) → writes later old ≡ true → writes later (cond b new old) ≡ true
-      by true old e = well
-      by false old e = e
+  replaced new well other m = grind (arith, common_steps, among-from_map, writes)
 
   opened_well : (file : Location ℕ) (access : Access)
       → not (opens_for_writing access && has_no_upper (looks_of nat_eq later) file) ≡ true
@@ -98,17 +92,7 @@ module _ (fresh : Fresh ℕ) (world later : World ℕ) (task : Task ℕ)
       (among-from_filter (λ (d : Descriptor ℕ). not (number == d.number)) task.descriptors descriptor m).0)
 
   pivoted : (root top : Mount ℕ) → Left (map (pivoted_task nat_eq task.namespace root top) world.tasks)
-  pivoted root top other m =
-      let from = among-from_map (pivoted_task nat_eq task.namespace root top) world.tasks other m in
-      ap (writes later) from.2 ∙ by (nat_eq task.namespace from.0.namespace) from.0 (all from.0 from.1)
-    where
-      by : (b : Bool) (old : Task ℕ) → writes later old ≡ true
-          → writes later (cond b (record old {
-            root = pivoted_location nat_eq root top old.root;
-            directory = pivoted_location nat_eq root top old.directory;
-          }) old) ≡ true
-      by true old e = e
-      by false old e = e
+  pivoted root top other m = grind (arith, common_steps, among-from_map, writes)
 
   pub left_well : (permit : Permit ℕ) → OpensForLayer permit → Left (left_tasks fresh world task permit)
   left_well (ToOpen file access) may = replaced (with_descriptor task file access) (opened_well file access may)
@@ -125,8 +109,7 @@ module _ (fresh : Fresh ℕ) (world later : World ℕ) (task : Task ℕ)
   left_well (ToSetRoot root) may = replaced (record task { root = root }) own
   left_well (ToSetUmask umask) may = replaced (record task { umask = umask }) own
   left_well (ToSetCredentials credentials) may = replaced (record task { credentials = credentials }) own
-  left_well (ToFork credentials) may = λ other m.
-      ⊎_elim (replaced (record task { forks = task.forks + 1 }) own other)
+  left_well (ToFork credentials) may = λ other m. ⊎_elim (replaced (record task { forks = task.forks + 1 }) own other)
       (λ new. ⊎_elim (λ e. ap (writes later) e) (λ none. absurd none) new)
       (among-append (map (replaced_if_called (record task { forks = task.forks + 1 })) world.tasks)
       (child_of task credentials ∷ []) other m)
@@ -134,8 +117,7 @@ module _ (fresh : Fresh ℕ) (world later : World ℕ) (task : Task ℕ)
       all other (among-from_filter (λ (x : Task ℕ). not (same_name task.name x.name)) world.tasks other m).0
   left_well ToUnshare may = replaced _ own
   left_well (ToEnterNamespace namespace) may = replaced _ own
-  left_well (ToPivot new put) may =
-      pivoted (mount_at nat_eq world task.root) (mount_numbered nat_eq world new)
+  left_well (ToPivot new put) may = pivoted (mount_at nat_eq world task.root) (mount_numbered nat_eq world new)
   left_well permit may = all
 
 module _ (world : World ℕ) (fresh : Fresh ℕ) (task : Task ℕ) (permit : Permit ℕ) (is : IsWorld nat_eq world)
@@ -147,19 +129,16 @@ module _ (world : World ℕ) (fresh : Fresh ℕ) (task : Task ℕ) (permit : Per
   looks = looks_of nat_eq world
 
   granted : IsGranted nat_eq looks (overfills nat_eq fresh world task) task given.call permit
-  granted =
-      calls_are_granted nat_eq looks (overfills nat_eq fresh world task) task given.call permit given.judged
+  granted = calls_are_granted nat_eq looks (overfills nat_eq fresh world task) task given.call permit given.judged
 
   -- mounts stay, and show what they showed
   seen_by : (call : Call) (made : Permit ℕ) → judge_in nat_eq fresh world task call ≡ Ok made
       → IsGranted nat_eq looks (overfills nat_eq fresh world task) task call made
       → KeepsWhatIsSeen world (apply nat_eq fresh world task made).world
-  seen_by call made judged
-      (mounts_overlayfs path words flags here stack admin end walked layered passed) =
+  seen_by call made judged (mounts_overlayfs path words flags here stack admin end walked layered passed) =
       mounted_seen world (odds fresh) here.location
       (overlay_filesystem nat_eq (evens fresh) world (overlay_at looks task stack)) flags
-  seen_by call made judged way =
-      permits_keep_what_is_seen world fresh task is given.serves made
+  seen_by call made judged way = permits_keep_what_is_seen world fresh task is given.serves made
       (all_permits_fit world fresh task call made is given.serves given.called refl judged).names
 
   seen : KeepsWhatIsSeen world later
@@ -184,8 +163,7 @@ module _ (world : World ℕ) (fresh : Fresh ℕ) (task : Task ℕ) (permit : Per
       by : (o : Option (Location ℕ × Change ℕ)) → change_asked fresh world permit ≡ o
           → layers_at later number ≡ layers_at world number
       by None e = as_left (unchanged world fresh task permit e)
-      by (Some made) e =
-          ap (λ (f : Filesystem ℕ). option_map layers f.overlay)
+      by (Some made) e = ap (λ (f : Filesystem ℕ). option_map layers f.overlay)
           (same_filesystem (with_change nat_eq (numbers_left fresh permit) world made.0 made.1) later number
           (permits_make_their_change world fresh task permit made.0 made.1 e))
           ∙ changed_layers (numbers_left fresh permit) world made.0 made.1 number
@@ -194,17 +172,10 @@ module _ (world : World ℕ) (fresh : Fresh ℕ) (task : Task ℕ) (permit : Per
   upper_stays : (location : Location ℕ) → is_located_well nat_eq world location ≡ true
       → has_no_upper (looks_of nat_eq later) location ≡ has_no_upper looks location
   upper_stays location there =
-      let own = (mount_at nat_eq world location).filesystem in
-      ap (λ n. lacks_upper (filesystem_numbered nat_eq later n))
-      (seen.views location.mount (mount_of_located world later seen location there)).filesystem
-      ∙ lacks_by_layers (filesystem_numbered nat_eq later own).overlay
-      ∙ ap lacking (layers_stay own location.node
-      (and_parts (is_mount world location.mount) (is_there nat_eq world own location.node) there).1)
-      ∙ sym (lacks_by_layers (filesystem_numbered nat_eq world own).overlay)
+      grind (arith, common_steps, lacks_upper, seen, mount_of_located, lacks_by_layers, layers_stay, and_parts)
 
   kept : (other : Task ℕ) → Among other world.tasks → writes later other ≡ true
-  kept other m =
-      list_all_from_among (writes_to_a_layer later) other.descriptors (λ descriptor d.
+  kept other m = list_all_from_among (writes_to_a_layer later) other.descriptors (λ descriptor d.
       writes_still world later descriptor
       (λ layer. upper_stays descriptor.location (located other m descriptor d) ∙ layer)
       (among_from_list_all (writes_to_a_layer world) other.descriptors
@@ -214,8 +185,7 @@ module _ (world : World ℕ) (fresh : Fresh ℕ) (task : Task ℕ) (permit : Per
           → is_located_well nat_eq world descriptor.location ≡ true
       located t n descriptor d =
           among_from_list_all (is_located_well nat_eq world) (all_locations world) is.tasks.locations_live
-          descriptor.location
-          (among-flat_map locations_of world.tasks t descriptor.location n
+          descriptor.location (among-flat_map locations_of world.tasks t descriptor.location n
           (inr (inr (among-map (λ (x : Descriptor ℕ). x.location) t.descriptors descriptor d))))
 
   -- a file that is opened for writing has an upper layer: F2
@@ -231,16 +201,14 @@ module _ (world : World ℕ) (fresh : Fresh ℕ) (task : Task ℕ) (permit : Per
   opens_well : (call : Call) (made : Permit ℕ) → judge_in nat_eq fresh world task call ≡ Ok made
       → IsGranted nat_eq looks (overfills nat_eq fresh world task) task call made
       → OpensForLayer fresh world later task kept caller_kept made
-  opens_well call made judged (opens path access here room end passed) =
-      opened_there here.location access
+  opens_well call made judged (opens path access here room end passed) = opened_there here.location access
       (all_permits_fit world fresh task call made is given.serves given.called refl judged).names.reached.there
       passed.1.1.1.0
   opens_well call made judged (opens_existing path access mode place file room end named there passed) =
       opened_there file access
       (all_permits_fit world fresh task call made is given.serves given.called refl judged).names.reached.there
       passed.1.1.1.0
-  opens_well call made judged (creates path access mode place room end named missing passed) =
-      upper_stays place.parent
+  opens_well call made judged (creates path access mode place room end named missing passed) = upper_stays place.parent
       (all_permits_fit world fresh task call made is given.serves given.called refl judged).names.0.reached.there
       ∙ passed.1.0
   opens_well call made judged (creates_exclusively path access mode place room end named passed) =
@@ -250,8 +218,7 @@ module _ (world : World ℕ) (fresh : Fresh ℕ) (task : Task ℕ) (permit : Per
   opens_well call made judged way = tt
 
   pub applied_well : WritersHaveLayers later
-  applied_well =
-      list_all_from_among (writes later) later.tasks (λ other m.
+  applied_well = list_all_from_among (writes later) later.tasks (λ other m.
       left_well fresh world later task kept caller_kept permit (opens_well given.call permit given.judged granted) other
       (subst (Among other) (tasks_left fresh world task permit) m))
 
@@ -263,19 +230,13 @@ permits_keep_writers world fresh task permit is well given =
 -- Change numbers that are raised
 raised_well : (before : World ℕ) (name : TaskName) (changed : List ℕ) (world : World ℕ) → WritersHaveLayers world
     → WritersHaveLayers (numbers_raised nat_eq before name changed world)
-raised_well before name changed world =
-    writers_alike world (numbers_raised nat_eq before name changed world)
+raised_well before name changed world = writers_alike world (numbers_raised nat_eq before name changed world)
     (λ location. ap (overlay_or false (λ overlay. not (is_some overlay.upper)))
     (raised_overlay before name changed world (mount_at nat_eq world location).filesystem))
     (λ test. all_write_alike test (raised_task name) same world.tasks)
   where
     same : (task : Task ℕ) → (raised_task name task).descriptors ≡ task.descriptors
-    same task = by (same_name name task.name)
-      where
-        by : (b : Bool)
-            → (cond b (record task { change = raised task.change }) task).descriptors ≡ task.descriptors
-        by true = refl
-        by false = refl
+    same task = grind (arith, common_steps)
 
 pub every_call_keeps_writers : EveryCallKeepsWriters
 every_call_keeps_writers world fresh name call is serves few well =
@@ -292,7 +253,5 @@ every_call_keeps_writers world fresh name call is serves few well =
   where
     applied : (task : Task ℕ) (permit : Permit ℕ) → judge_in nat_eq fresh world task call ≡ Ok permit
         → (call_outcome nat_eq fresh world task call).world ≡ (apply nat_eq fresh world task permit).world
-    applied task permit judged =
-        ap (λ (o : Outcome ℕ). o.world)
-        (call_is_judged_then_applied fresh world task call
+    applied task permit judged = ap (λ (o : Outcome ℕ). o.world) (call_is_judged_then_applied fresh world task call
         ∙ ap (λ j. outcome_after world j (apply nat_eq fresh world task)) judged)

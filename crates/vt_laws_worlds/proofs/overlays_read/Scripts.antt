@@ -22,8 +22,7 @@ abbrev Holds : World ℕ → Type 0
 Holds world = IsWorld nat_eq world × WritersHaveLayers world
 
 request_keeps : (world : World ℕ) (fresh : Fresh ℕ) → Holds world → Serves nat_eq world fresh
-    → (request : Option Request) → request_names_few request ≡ true
-    → Holds (requested nat_eq world request fresh).world
+    → (request : Option Request) → request_names_few request ≡ true → Holds (requested nat_eq world request fresh).world
 request_keeps world fresh is serves None few = is
 request_keeps world fresh is serves (Some (Calling name call)) few = (
   every_call_keeps_worlds world fresh name call is.0 serves few,

@@ -1,5 +1,6 @@
 -- Whether an overlay has an upper layer is as it was after the sweep, and where worlds are the same.
-use Rattle.std.proofs.Common.{Bool, List, None, Option, Some, [], ap, cond, eqb-true, false, filter, find, inr, is_some, map, nat_eq, not, option_map, refl, sym, true, true≢false, ℕ, ◌&&◌, ◌||◌, ◌∙◌, ◌∷◌, ◌≡◌}
+use Rattle.std.proofs.Common.{arith, Bool, List, None, Some, [], ap, cond, eqb-true, false, filter, find, inr, is_some, map, nat_eq, not, refl, sym, true, true≢false, ℕ, ◌&&◌, ◌||◌, ◌∙◌, ◌∷◌, ◌≡◌}
+use Rattle.std.proofs.lemmas.Grind.{common_steps}
 use Rattle.std.specs.List.{list_all, list_any}
 use Rattle.std.specs.Prelude.{unwrap_or}
 use Rattle.vt_laws_worlds.specs.OverlaysRead.Writers.{PlainWorldsHaveLayers, SameWorldsHaveLayersAlike, SweepsKeepWriters, WritersHaveLayers, writes_to_a_layer}
@@ -10,11 +11,11 @@ use Rattle.vt_spec.proofs.Worlds.{number-only_used}
 use Rattle.vt_spec.specs.Lists.{is_among}
 use Rattle.vt_spec.specs.Machine.Locked.{of_overlay, overlay_or}
 use Rattle.vt_spec.specs.Machine.Looks.{looks_of}
-use Rattle.vt_spec.specs.Machine.Mounts.{Location, Mount, mount_in, no_mount}
+use Rattle.vt_spec.specs.Machine.Mounts.{Location, Mount, mount_in}
 use Rattle.vt_spec.specs.Machine.Rules.Conditions.{has_no_upper}
 use Rattle.vt_spec.specs.Machine.SameWorlds.{SameFilesystems}
-use Rattle.vt_spec.specs.Machine.Settled.{has_layer_on, is_located, is_mounted, mount_lives, only_used, only_used_by, real_among, settled, used_in, without_dead_filesystems, without_dead_in, without_dead_mounts}
-use Rattle.vt_spec.specs.Machine.World.{Descriptor, Filesystem, Overlay, Task, World, all_locations, filesystem_numbered, is_overlay, locations_of, mount_at, no_filesystem}
+use Rattle.vt_spec.specs.Machine.Settled.{has_layer_on, is_mounted, only_used, only_used_by, settled, used_in, without_dead_filesystems, without_dead_in, without_dead_mounts}
+use Rattle.vt_spec.specs.Machine.World.{Descriptor, Filesystem, Task, World, all_locations, filesystem_numbered, is_overlay, locations_of, mount_at, no_filesystem}
 
 -- the filesystem is an overlay without an upper layer
 abbrev pub lacks_upper : Filesystem ℕ → Bool
@@ -29,22 +30,11 @@ pub writes_still : (one other : World ℕ) (descriptor : Descriptor ℕ)
     → (has_no_upper (looks_of nat_eq one) descriptor.location ≡ false
     → has_no_upper (looks_of nat_eq other) descriptor.location ≡ false)
     → writes_to_a_layer one descriptor ≡ true → writes_to_a_layer other descriptor ≡ true
-writes_still one other descriptor =
-    by descriptor.writes (has_no_upper (looks_of nat_eq one) descriptor.location)
-    (has_no_upper (looks_of nat_eq other) descriptor.location)
-  where
-    by : (w a b : Bool) → (a ≡ false → b ≡ false) → not (w && a) ≡ true → not (w && b) ≡ true
-    by true true b still e = absurd (true≢false (sym e))
-    by true false b still e = ap not (still refl)
-    by false a b still e = refl
+writes_still one other descriptor = grind (arith, common_steps, true≢false)
 
 pub writes_there : (world : World ℕ) (descriptor : Descriptor ℕ)
     → has_no_upper (looks_of nat_eq world) descriptor.location ≡ false → writes_to_a_layer world descriptor ≡ true
-writes_there world descriptor layer = ap (λ b. not (descriptor.writes && b)) layer ∙ by descriptor.writes
-  where
-    by : (w : Bool) → not (w && false) ≡ true
-    by true = refl
-    by false = refl
+writes_there world descriptor layer = grind (arith, common_steps)
 
 -- Tasks that keep their descriptors
 pub all_write_alike : (test : List (Descriptor ℕ) → Bool) (change : Task ℕ → Task ℕ)
@@ -52,8 +42,7 @@ pub all_write_alike : (test : List (Descriptor ℕ) → Bool) (change : Task ℕ
     → list_all (λ (task : Task ℕ). test task.descriptors) (map change tasks)
     ≡ list_all (λ (task : Task ℕ). test task.descriptors) tasks
 all_write_alike test change same [] = refl
-all_write_alike test change same (task ∷ tasks) =
-    λ i. test (same task i) && all_write_alike test change same tasks i
+all_write_alike test change same (task ∷ tasks) = λ i. test (same task i) && all_write_alike test change same tasks i
 
 -- Lists of filesystems
 
@@ -105,64 +94,32 @@ module _ {A : Type 0} (test wanted : A → Bool) where
     where
       by : (b : Bool) → test first ≡ b → (c : Bool) → wanted first ≡ c
           → find wanted (filter test list) ≡ find wanted list
-          → find wanted (cond b (first ∷ filter test list) (filter test list))
-          ≡ cond c (Some first) (find wanted list)
-      by true e true f later =
-          ap (λ c. cond c (Some first) (find wanted (filter test list))) f
-      by true e false f later =
-          ap (λ c. cond c (Some first) (find wanted (filter test list))) f ∙ later
+          → find wanted (cond b (first ∷ filter test list) (filter test list)) ≡ cond c (Some first) (find wanted list)
+      by true e true f later = ap (λ c. cond c (Some first) (find wanted (filter test list))) f
+      by true e false f later = ap (λ c. cond c (Some first) (find wanted (filter test list))) f ∙ later
       by false e true f later = absurd (true≢false (sym (all first f) ∙ e))
       by false e false f later = later
 
-  found_never : (list : List A) → ((a : A) → wanted a ≡ true → test a ≡ false)
-      → find wanted (filter test list) ≡ None
+  found_never : (list : List A) → ((a : A) → wanted a ≡ true → test a ≡ false) → find wanted (filter test list) ≡ None
   found_never [] none = refl
   found_never (first ∷ list) none = by (test first) refl (found_never list none)
     where
       by : (b : Bool) → test first ≡ b → find wanted (filter test list) ≡ None
           → find wanted (cond b (first ∷ filter test list) (filter test list)) ≡ None
-      by true e later =
-          ap (λ c. cond c (Some first) (find wanted (filter test list))) (unwanted (wanted first) refl) ∙ later
-        where
-          unwanted : (c : Bool) → wanted first ≡ c → wanted first ≡ false
-          unwanted true f = absurd (true≢false (sym e ∙ none first f))
-          unwanted false f = f
-      by false e later = later
+      by b e later = grind (arith, common_steps, true≢false)
 
 -- filesystems go by their numbers
 lacks_filtered : (lives : ℕ → Bool) (number : ℕ) (list : List (Filesystem ℕ))
     → lacks_upper (numbered number list) ≡ false
     → lacks_upper (numbered number (filter (λ f. lives f.number) list)) ≡ false
-lacks_filtered lives number list layer = by (lives number) refl
-  where
-    same : (f : Filesystem ℕ) → nat_eq number f.number ≡ true → lives f.number ≡ lives number
-    same f e = ap lives (sym (eqb-true number f.number e))
-
-    by : (b : Bool) → lives number ≡ b
-        → lacks_upper (numbered number (filter (λ f. lives f.number) list)) ≡ false
-    by true e =
-        ap (λ o. lacks_upper (unwrap_or o (no_filesystem number)))
-        (found_still (λ (f : Filesystem ℕ). lives f.number) (λ f. nat_eq number f.number) list
-        (λ f there. same f there ∙ e)) ∙ layer
-    by false e =
-        ap (λ o. lacks_upper (unwrap_or o (no_filesystem number)))
-        (found_never (λ (f : Filesystem ℕ). lives f.number) (λ f. nat_eq number f.number) list
-        (λ f there. same f there ∙ e))
+lacks_filtered lives number list layer = grind (arith, common_steps, lives, eqb-true, found_still, found_never)
 
 -- The sweep
 
 lacks_by : (used : List ℕ) (b : Bool) (f : Filesystem ℕ) → lacks_upper (only_used_by nat_eq b used f) ≡ lacks_upper f
-lacks_by used true f = refl
-lacks_by used false f = by f.overlay
-  where
-    by : (o : Option (Overlay ℕ))
-        → overlay_or false (λ overlay. not (is_some overlay.upper)) (option_map (real_among nat_eq used) o)
-        ≡ overlay_or false (λ overlay. not (is_some overlay.upper)) o
-    by None = refl
-    by (Some overlay) = refl
+lacks_by used b f = grind (arith, common_steps)
 
-lacks_less : (world : World ℕ) (b : Bool) (f : Filesystem ℕ)
-    → lacks_upper (only_used nat_eq world b f) ≡ lacks_upper f
+lacks_less : (world : World ℕ) (b : Bool) (f : Filesystem ℕ) → lacks_upper (only_used nat_eq world b f) ≡ lacks_upper f
 lacks_less world true f =
     lacks_by (used_in nat_eq world f) (list_all (λ n. is_among nat_eq n (used_in nat_eq world f)) f.files.numbers) f
 lacks_less world false f = refl
@@ -184,52 +141,29 @@ module _ (world : World ℕ) where
   -- a mount on which a location is stays
   mount_stays : (location : Location ℕ) → Among location (all_locations world)
       → mount_at nat_eq (settled nat_eq world) location ≡ mount_at nat_eq world location
-  mount_stays location m =
-      ap (λ o. unwrap_or o (no_mount location.mount))
-      (found_still (mount_lives nat_eq world) (λ (mount : Mount ℕ). nat_eq location.mount mount.number) world.mounts
-      lives)
-    where
-      located : is_located nat_eq world location.mount ≡ true
-      located =
-          any_from_among (λ (other : Location ℕ). nat_eq location.mount other.mount) (all_locations world) location m
-          (nat_eq_itself location.mount)
-
-      lives : (mount : Mount ℕ) → nat_eq location.mount mount.number ≡ true → mount_lives nat_eq world mount ≡ true
-      lives mount e =
-          ap (λ n. is_some mount.namespace || is_located nat_eq world n) (sym (eqb-true location.mount mount.number e))
-          ∙ ap (λ b. is_some mount.namespace || b) located ∙ either (is_some mount.namespace)
-        where
-          either : (b : Bool) → (b || true) ≡ true
-          either true = refl
-          either false = refl
+  mount_stays location m = grind (arith, common_steps, found_still, any_from_among, nat_eq_itself, eqb-true)
 
   abbrev lives_numbered : ℕ → Bool
-  lives_numbered number =
-      is_mounted nat_eq mounted number
+  lives_numbered number = is_mounted nat_eq mounted number
       || list_any (λ merged. has_layer_on nat_eq number merged && is_mounted nat_eq mounted merged.number)
       world.filesystems
 
   upper_stays : (number : ℕ) → lacks_upper (filesystem_numbered nat_eq world number) ≡ false
       → lacks_upper (filesystem_numbered nat_eq (settled nat_eq world) number) ≡ false
-  upper_stays number layer =
-      lacks_in (λ f. not (is_overlay f)) (without_dead_in nat_eq is_overlay living) number
-      ∙ lacks_in is_overlay living number
-      ∙ lacks_filtered lives_numbered number world.filesystems layer
+  upper_stays number layer = lacks_in (λ f. not (is_overlay f)) (without_dead_in nat_eq is_overlay living) number
+      ∙ lacks_in is_overlay living number ∙ lacks_filtered lives_numbered number world.filesystems layer
 
   swept_layer : (location : Location ℕ) → Among location (all_locations world)
       → has_no_upper (looks_of nat_eq world) location ≡ false
       → has_no_upper (looks_of nat_eq (settled nat_eq world)) location ≡ false
   swept_layer location m layer =
       ap (λ (mount : Mount ℕ). lacks_upper (filesystem_numbered nat_eq (settled nat_eq world) mount.filesystem))
-      (mount_stays location m)
-      ∙ upper_stays (mount_at nat_eq world location).filesystem layer
+      (mount_stays location m) ∙ upper_stays (mount_at nat_eq world location).filesystem layer
 
 pub sweeps_keep_writers : SweepsKeepWriters
-sweeps_keep_writers world well =
-    list_all_from_among (writes (settled nat_eq world)) world.tasks (λ task m.
+sweeps_keep_writers world well = list_all_from_among (writes (settled nat_eq world)) world.tasks (λ task m.
     list_all_from_among (writes_to_a_layer (settled nat_eq world)) task.descriptors (λ descriptor d.
-    writes_still world (settled nat_eq world) descriptor
-    (swept_layer world descriptor.location
+    writes_still world (settled nat_eq world) descriptor (swept_layer world descriptor.location
     (among-flat_map locations_of world.tasks task descriptor.location m
     (inr (inr (among-map (λ (x : Descriptor ℕ). x.location) task.descriptors descriptor d)))))
     (among_from_list_all (writes_to_a_layer world) task.descriptors
@@ -238,39 +172,28 @@ sweeps_keep_writers world well =
 -- Worlds
 
 pub plain_worlds_have_layers : PlainWorldsHaveLayers
-plain_worlds_have_layers world plain =
-    list_all_from_among (writes world) world.tasks (λ task m.
+plain_worlds_have_layers world plain = list_all_from_among (writes world) world.tasks (λ task m.
     list_all_from_among (writes_to_a_layer world) task.descriptors (λ descriptor d.
     writes_there world descriptor
     (numbered_anyhow (λ f. lacks_upper f ≡ false) (mount_at nat_eq world descriptor.location).filesystem
-    world.filesystems
-    (all_from_among (λ f. lacks_upper f ≡ false) world.filesystems (λ f n.
+    world.filesystems (all_from_among (λ f. lacks_upper f ≡ false) world.filesystems (λ f n.
     has_one f (among_from_all (λ g. is_overlay g ≡ false) world.filesystems plain f n))) refl)))
   where
     has_one : (f : Filesystem ℕ) → is_overlay f ≡ false → lacks_upper f ≡ false
-    has_one f e = by f.overlay e
-      where
-        by : (o : Option (Overlay ℕ)) → is_some o ≡ false
-            → overlay_or false (λ overlay. not (is_some overlay.upper)) o ≡ false
-        by None h = refl
-        by (Some overlay) h = absurd (true≢false h)
+    has_one f e = grind (arith, common_steps, true≢false)
 
 -- where layers and descriptors are the same
-pub writers_alike : (one other : World ℕ)
-    → ((location : Location ℕ) → has_no_upper (looks_of nat_eq other) location
+pub writers_alike : (one other : World ℕ) → ((location : Location ℕ) → has_no_upper (looks_of nat_eq other) location
     ≡ has_no_upper (looks_of nat_eq one) location)
     → ((test : List (Descriptor ℕ) → Bool) → list_all (λ (task : Task ℕ). test task.descriptors) other.tasks
-    ≡ list_all (λ (task : Task ℕ). test task.descriptors) one.tasks)
-    → WritersHaveLayers one → WritersHaveLayers other
-writers_alike one other layers tasks well =
-    tasks (list_all (writes_to_a_layer other))
+    ≡ list_all (λ (task : Task ℕ). test task.descriptors) one.tasks) → WritersHaveLayers one → WritersHaveLayers other
+writers_alike one other layers tasks well = tasks (list_all (writes_to_a_layer other))
     ∙ (λ i. list_all (λ (task : Task ℕ). list_all
     (λ (descriptor : Descriptor ℕ). not (descriptor.writes && layers descriptor.location i)) task.descriptors) one.tasks)
     ∙ well
 
 pub same_worlds_have_layers_alike : SameWorldsHaveLayersAlike
-same_worlds_have_layers_alike one other same =
-    writers_alike one other layers tasks
+same_worlds_have_layers_alike one other same = writers_alike one other layers tasks
   where
     layers : (location : Location ℕ) → has_no_upper (looks_of nat_eq other) location
         ≡ has_no_upper (looks_of nat_eq one) location
@@ -280,7 +203,6 @@ same_worlds_have_layers_alike one other same =
 
     tasks : (test : List (Descriptor ℕ) → Bool) → list_all (λ (task : Task ℕ). test task.descriptors) other.tasks
         ≡ list_all (λ (task : Task ℕ). test task.descriptors) one.tasks
-    tasks test =
-        sym (all_write_alike test (λ (task : Task ℕ). record task { change = 0 }) (λ task. refl) other.tasks)
+    tasks test = sym (all_write_alike test (λ (task : Task ℕ). record task { change = 0 }) (λ task. refl) other.tasks)
         ∙ ap (list_all (λ (task : Task ℕ). test task.descriptors)) (sym same.tasks)
         ∙ all_write_alike test (λ (task : Task ℕ). record task { change = 0 }) (λ task. refl) one.tasks

@@ -1,7 +1,6 @@
 -- Mounts and namespaces where what nothing uses goes.
-use Rattle.std.proofs.Common.{arith}
+use Rattle.std.proofs.Common.{arith, ◌≡◌, sym, ap, ◌∙◌, ℕ, nat_eq, true, List, Some, filter, is_some}
 use Rattle.std.proofs.lemmas.Grind.{common_steps}
-use Rattle.std.proofs.Common.{◌≡◌, sym, ap, ◌∙◌, ℕ, nat_eq, true, List, Some, filter, is_some}
 use Rattle.std.specs.Prelude.{length, nat_lt, option_to_list, ◌==◌}
 use Rattle.std.specs.List.{list_all, list_any}
 use Rattle.vt_spec.specs.Language.Limits.{most_mounts}
@@ -28,21 +27,18 @@ module _ (world : World ℕ) (unsettled : IsUnderWay world) where
   -- a mount that is found with a place is in a namespace
   found_attached : (number : ℕ) (place : Location ℕ) → (mount_numbered nat_eq world number).mount_point ≡ Some place
       → is_some (mount_numbered nat_eq world number).namespace ≡ true
-  found_attached number place e =
-      placed_attached world unsettled (mount_numbered nat_eq world number)
+  found_attached number place e = placed_attached world unsettled (mount_numbered nat_eq world number)
       (placed_there world.mounts number (ap is_some e)) (ap is_some e)
 
   -- A mount with a place is in a namespace, and so are those below it, so none of them goes
   stands_still : (number : ℕ) → Stands nat_eq world number
-      → mount_lives nat_eq world (mount_numbered nat_eq world number) ≡ true
-      → Stands nat_eq later number
+      → mount_lives nat_eq world (mount_numbered nat_eq world number) ≡ true → Stands nat_eq later number
   stands_still number (at_root it e) lives =
       at_root it (ap (λ (m : Mount ℕ). m.mount_point) (found_still world unsettled it lives) ∙ e)
   stands_still number (on_parent it place e f stands) lives =
       let below_lives : mount_lives nat_eq world (mount_at nat_eq world place) ≡ true =
       attached_lives world unsettled (mount_at nat_eq world place) (ap is_some (sym f) ∙ found_attached it place e) in
-      on_parent it place
-      (ap (λ (m : Mount ℕ). m.mount_point) (found_still world unsettled it lives) ∙ e)
+      on_parent it place (ap (λ (m : Mount ℕ). m.mount_point) (found_still world unsettled it lives) ∙ e)
       (ap (λ (m : Mount ℕ). m.namespace) (found_still world unsettled it lives) ∙ f
       ∙ ap (λ (m : Mount ℕ). m.namespace) (sym (found_still world unsettled place.mount below_lives)))
       (stands_still place.mount stands below_lives)
@@ -86,8 +82,7 @@ module _ (world : World ℕ) (unsettled : IsUnderWay world) where
     tasks_listed = unsettled.namespaces.tasks_listed;
     root_mounts = ap (λ (mounts : MountsBy). list_all
         (λ (n : Namespace ℕ). length (filter (is_root_mount nat_eq) (mounts n.number)) == 1) world.namespaces)
-        same_mounts
-        ∙ unsettled.namespaces.root_mounts;
+        same_mounts ∙ unsettled.namespaces.root_mounts;
     namespaces_live = unsettled.namespaces.namespaces_live;
     few_mounts = ap (λ (mounts : MountsBy). list_any
         (λ (n : Namespace ℕ). nat_lt most_mounts (length (mounts n.number))) world.namespaces) same_mounts

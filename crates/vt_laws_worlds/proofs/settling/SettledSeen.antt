@@ -1,13 +1,11 @@
 -- What is seen where tasks are, at the roots of mounts and at their places stays where what nothing uses goes.
-use Rattle.std.proofs.Common.{arith}
+use Rattle.std.proofs.Common.{arith, ◌≡◌, refl, sym, ap, ◌∙◌, ℕ, nat_eq, eqb-true, eq-eqb, Bool, true, false, not, List, [], ◌∷◌, ◌++◌, find, map, filter, is_some, true≢false}
 use Rattle.std.proofs.lemmas.Grind.{common_steps}
-use Rattle.std.proofs.Common.{◌≡◌, refl, sym, ap, ◌∙◌, ℕ, nat_eq, eqb-true, eq-eqb, Bool, true, false, not, List, [], ◌∷◌, ◌++◌, find, map, filter, is_some, true≢false}
 use Rattle.std.specs.Prelude.{filter_map, unwrap_or}
 use Rattle.vt_spec.specs.Lists.{is_among}
 use Rattle.vt_spec.specs.Machine.Mounts.{Location, Mount, root_of}
 use Rattle.vt_spec.specs.Machine.Settled.{filesystem_lives, is_located, is_mounted, located_in, mount_lives, only_used, settled, without_dead_filesystems, without_dead_in, without_dead_mounts}
 use Rattle.vt_spec.specs.Machine.World.{Filesystem, World, all_locations, filesystem_numbered, is_overlay, mount_at, mount_numbered, no_filesystem, node_at}
-use Rattle.vt_spec.specs.Machine.Invariants.{is_nowhere_or_attached}
 use Rattle.vt_laws_mounts.proofs.letting_go.Lists.{Among, among-filter, among-map, any_passes, is_among_numbers, or_first, or_second, passes}
 use Rattle.vt_laws_mounts.proofs.letting_go.leaving.PlacesLeft.{found_in_filter, found_itself, nowhere_parts}
 use Rattle.vt_laws_trees.proofs.trees.TreesForgotten.{among_located, used_stays}
@@ -25,15 +23,14 @@ node_kept : (stays : Filesystem ℕ → Bool) (change : Filesystem ℕ → Files
     (no_filesystem number)).files.tree.node object
     ≡ (unwrap_or (find (λ f. nat_eq number f.number) list) (no_filesystem number)).files.tree.node object
 node_kept stays change same number object [] stay keep = refl
-node_kept stays change same number object (filesystem ∷ list) stay keep =
-    grind (
-      arith,
-      common_steps,
-      stays filesystem,
-      node_kept stays change same number object list stay keep,
-      eqb-true,
-      true≢false,
-    )
+node_kept stays change same number object (filesystem ∷ list) stay keep = grind (
+  arith,
+  common_steps,
+  stays filesystem,
+  node_kept stays change same number object list stay keep,
+  eqb-true,
+  true≢false,
+)
 
 located_kept : (world : World ℕ) (chosen : Bool) (filesystem : Filesystem ℕ) (object : ℕ)
     → is_among nat_eq object (located_in nat_eq world filesystem.number) ≡ true
@@ -62,31 +59,22 @@ module _ (world : World ℕ) (unsettled : IsUnderWay world) where
   -- a mount that lives is found as it was
   pub found_still : (number : ℕ) → mount_lives nat_eq world (mount_numbered nat_eq world number) ≡ true
       → mount_numbered nat_eq settled_world number ≡ mount_numbered nat_eq world number
-  found_still number lives =
-      found_in_filter (mount_lives nat_eq world) world.mounts number
+  found_still number lives = found_in_filter (mount_lives nat_eq world) world.mounts number
       (λ mount m e. ap (mount_lives nat_eq world) (sym (itself mount m) ∙ ap (mount_numbered nat_eq world) e) ∙ lives)
 
   pub attached_lives : (mount : Mount ℕ) → is_some mount.namespace ≡ true → mount_lives nat_eq world mount ≡ true
   attached_lives mount e = or_first (is_some mount.namespace) (is_located nat_eq world mount.number) e
 
   pub located_lives : (location : Location ℕ) → Among location (all_locations world) → (mount : Mount ℕ)
-      → mount.number ≡ location.mount
-      → mount_lives nat_eq world mount ≡ true
-  located_lives location m mount e =
-      or_second (is_some mount.namespace) (is_located nat_eq world mount.number)
+      → mount.number ≡ location.mount → mount_lives nat_eq world mount ≡ true
+  located_lives location m mount e = or_second (is_some mount.namespace) (is_located nat_eq world mount.number)
       (any_passes (λ l. nat_eq mount.number l.mount) (all_locations world) location m
       (eq-eqb mount.number location.mount e))
 
   -- what has a place is in a namespace
   pub placed_attached : (mount : Mount ℕ) → Among mount world.mounts → is_some mount.mount_point ≡ true
       → is_some mount.namespace ≡ true
-  placed_attached mount m placed = by (is_some mount.namespace) refl
-    where
-      by : (b : Bool) → is_some mount.namespace ≡ b → is_some mount.namespace ≡ true
-      by true e = e
-      by false e =
-          absurd (true≢false (sym placed ∙ (nowhere_parts mount
-          (passes is_nowhere_or_attached world.mounts unsettled.mounts.nowhere mount m) e).0))
+  placed_attached mount m placed = grind (arith, common_steps, true≢false, nowhere_parts, passes)
 
   -- Locations
   abbrev pub used_locations : List (Location ℕ)
@@ -100,18 +88,14 @@ module _ (world : World ℕ) (unsettled : IsUnderWay world) where
       ≡ (filesystem_numbered nat_eq world number).files.tree.node object
   node_stays number object shown located =
       ap (λ filesystems. (unwrap_or (find (λ f. nat_eq number f.number) filesystems)
-      (no_filesystem number)).files.tree.node object)
-      (map_twice second first living.filesystems)
+      (no_filesystem number)).files.tree.node object) (map_twice second first living.filesystems)
       ∙ node_kept (filesystem_lives nat_eq mounted) (λ f. second (first f))
       (λ f. number-only_used first_round (not (is_overlay (first f))) (first f)
-      ∙ number-only_used living (is_overlay f) f)
-      number object world.filesystems
-      (λ f e. or_first (is_mounted nat_eq mounted f.number) _ (ap (is_mounted nat_eq mounted) e ∙ shown))
-      (λ f e.
+      ∙ number-only_used living (is_overlay f) f) number object world.filesystems
+      (λ f e. or_first (is_mounted nat_eq mounted f.number) _ (ap (is_mounted nat_eq mounted) e ∙ shown)) (λ f e.
       located_kept first_round (not (is_overlay (first f))) (first f) object
       (ap (λ n. is_among nat_eq object (located_in nat_eq mounted n)) (number-only_used living (is_overlay f) f ∙ e)
-      ∙ located)
-      ∙ located_kept living (is_overlay f) f object
+      ∙ located) ∙ located_kept living (is_overlay f) f object
       (ap (λ n. is_among nat_eq object (located_in nat_eq mounted n)) e ∙ located))
     where
       first : Filesystem ℕ → Filesystem ℕ
@@ -125,22 +109,14 @@ module _ (world : World ℕ) (unsettled : IsUnderWay world) where
       → Among (mount_at nat_eq world location) world.mounts
       → mount_lives nat_eq world (mount_at nat_eq world location) ≡ true
       → node_at nat_eq settled_world location ≡ node_at nat_eq world location
-  seen_stays location used there lives =
-      ap (λ (m : Mount ℕ). (filesystem_numbered nat_eq settled_world m.filesystem).files.tree.node location.node)
-      (found_still location.mount lives)
-      ∙ node_stays shown location.node is_shown
-      (is_among_numbers location.node (located_in nat_eq mounted shown)
-      (among-map (λ l. l.node) (filter (λ l. nat_eq shown (mount_at nat_eq mounted l).filesystem) used_locations)
-      location
-      (among-filter (λ l. nat_eq shown (mount_at nat_eq mounted l).filesystem) used_locations location used
-      (eq-eqb shown (mount_at nat_eq mounted location).filesystem
-      (ap (λ (m : Mount ℕ). m.filesystem) (sym (found_still location.mount lives)))))))
-    where
-      shown : ℕ
-      shown = (mount_at nat_eq world location).filesystem
-
-      is_shown : is_mounted nat_eq mounted shown ≡ true
-      is_shown =
-          any_passes (λ (m : Mount ℕ). nat_eq shown m.filesystem) mounted.mounts (mount_at nat_eq world location)
-          (among-filter (mount_lives nat_eq world) world.mounts (mount_at nat_eq world location) there lives)
-          (eq-eqb shown shown refl)
+  seen_stays location used there lives = grind (
+    arith,
+    common_steps,
+    found_still,
+    node_stays,
+    is_among_numbers,
+    among-map,
+    among-filter,
+    eq-eqb,
+    any_passes,
+  )

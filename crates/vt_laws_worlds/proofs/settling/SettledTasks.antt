@@ -1,5 +1,6 @@
 -- Tasks, and what mounts show, where what nothing uses goes.
-use Rattle.std.proofs.Common.{◌≡◌, refl, sym, ap, subst, ◌∙◌, not, inl, inr, ℕ, nat_eq, Bool, true, false, List, ◌++◌, Option, Some, None, filter, is_some, map, true≢false, ◌&&◌}
+use Rattle.std.proofs.Common.{arith, ◌≡◌, refl, sym, ap, subst, ◌∙◌, not, inl, inr, ℕ, nat_eq, Bool, true, false, List, ◌++◌, Option, Some, None, filter, is_some, map, true≢false, ◌&&◌}
+use Rattle.std.proofs.lemmas.Grind.{common_steps}
 use Rattle.std.specs.Prelude.{All, filter_map, option_to_list}
 use Rattle.std.specs.List.{list_all}
 use Rattle.std.proofs.lemmas.Bool.{and_from, and_parts}
@@ -41,21 +42,18 @@ module _ (world : World ℕ) (unsettled : IsUnderWay world) where
   -- Where tasks are
   located_there : (location : Location ℕ) → Among location (all_locations world)
       → Among (mount_at nat_eq world location) world.mounts
-  located_there location m =
-      mount_in-among world.mounts location.mount
+  located_there location m = mount_in-among world.mounts location.mount
       (and_parts (is_among nat_eq location.mount (map (λ (mount : Mount ℕ). mount.number) world.mounts)) _
       (passes (is_located_well nat_eq world) (all_locations world) unsettled.tasks.locations_live location m)).0
 
   mount_lives_at : (location : Location ℕ) → Among location (all_locations world)
       → mount_lives nat_eq world (mount_at nat_eq world location) ≡ true
-  mount_lives_at location m =
-      located_lives world unsettled location m (mount_at nat_eq world location)
+  mount_lives_at location m = located_lives world unsettled location m (mount_at nat_eq world location)
       (number-mount_in world.mounts location.mount)
 
   pub still_there : (location : Location ℕ) → Among location (all_locations world) → node_at nat_eq after location
       ≡ node_at nat_eq world location
-  still_there location m =
-      seen_stays world unsettled location
+  still_there location m = seen_stays world unsettled location
       (among-append_left (all_locations world ++ map root_of live_mounts)
       (filter_map (λ mount. mount.mount_point) live_mounts) location
       (among-append_left (all_locations world) (map root_of live_mounts) location m))
@@ -75,20 +73,17 @@ module _ (world : World ℕ) (unsettled : IsUnderWay world) where
       ∙ is_among_numbers (mount_at nat_eq world location).number (map (λ (mount : Mount ℕ). mount.number) live_mounts)
       (among-map (λ (mount : Mount ℕ). mount.number) live_mounts (mount_at nat_eq world location)
       (among-filter (mount_lives nat_eq world) world.mounts (mount_at nat_eq world location)
-      (located_there location m) (mount_lives_at location m))))
-      (ap is_some (still_there location m)
+      (located_there location m) (mount_lives_at location m)))) (ap is_some (still_there location m)
       ∙ (and_parts (is_among nat_eq location.mount (map (λ (mount : Mount ℕ). mount.number) world.mounts)) _
       (passes (is_located_well nat_eq world) (all_locations world) unsettled.tasks.locations_live location m)).1)
 
   pub task_location : (task : Task ℕ) → Among task world.tasks → (location : Location ℕ)
-      → Among location (locations_of task)
-      → Among location (all_locations world)
+      → Among location (locations_of task) → Among location (all_locations world)
   task_location task m location l = among-flat_map locations_of world.tasks task location m l
 
   on_directories : (task : Task ℕ) → Among task world.tasks → stands_on_directories nat_eq after task
       ≡ stands_on_directories nat_eq world task
-  on_directories task m = λ i.
-      (is_directory_node (still_there task.root root i)
+  on_directories task m = λ i. (is_directory_node (still_there task.root root i)
       && list_all (nat_eq task.namespace) (option_to_list (same_mount task.root root i).namespace))
       && (is_directory_node (still_there task.directory directory i)
       && list_all (nat_eq task.namespace) (option_to_list (same_mount task.directory directory i).namespace))
@@ -103,10 +98,8 @@ module _ (world : World ℕ) (unsettled : IsUnderWay world) where
       → has_regular_files_open nat_eq after task ≡ true
   files_open task m h =
       all_pass (λ (descriptor : Descriptor ℕ). is_kind_in File (node_at nat_eq after descriptor.location))
-      task.descriptors
-      (λ descriptor d.
-      ap (is_kind_in File) (still_there descriptor.location
-      (task_location task m descriptor.location
+      task.descriptors (λ descriptor d.
+      ap (is_kind_in File) (still_there descriptor.location (task_location task m descriptor.location
       (inr (inr (among-map (λ (x : Descriptor ℕ). x.location) task.descriptors descriptor d)))))
       ∙ passes (λ (x : Descriptor ℕ). is_kind_in File (node_at nat_eq world x.location)) task.descriptors h
       descriptor d)
@@ -153,21 +146,18 @@ module _ (world : World ℕ) (unsettled : IsUnderWay world) where
 
       same_root : (filesystem_numbered nat_eq after mount.filesystem).files.tree.node mount.root
           ≡ (filesystem_numbered nat_eq world mount.filesystem).files.tree.node mount.root
-      same_root =
-          ap (λ (x : Mount ℕ). (filesystem_numbered nat_eq after x.filesystem).files.tree.node mount.root)
+      same_root = ap (λ (x : Mount ℕ). (filesystem_numbered nat_eq after x.filesystem).files.tree.node mount.root)
           (sym (found_still world unsettled mount.number found_lives ∙ found))
           ∙ seen_stays world unsettled (root_of mount)
           (among-append_left (all_locations world ++ map root_of live_mounts)
           (filter_map (λ x. x.mount_point) live_mounts) (root_of mount)
           (among-append_right (all_locations world) (map root_of live_mounts) (root_of mount)
-          (among-map root_of live_mounts mount live)))
-          (subst (λ x. Among x world.mounts) (sym found) m) found_lives
+          (among-map root_of live_mounts mount live))) (subst (λ x. Among x world.mounts) (sym found) m) found_lives
           ∙ ap (λ (x : Mount ℕ). (filesystem_numbered nat_eq world x.filesystem).files.tree.node mount.root) found
 
       below_attached : (place : Location ℕ) → mount.mount_point ≡ Some place
           → is_some (mount_at nat_eq world place).namespace ≡ true
-      below_attached place e =
-          by mount.number (among_from_all
+      below_attached place e = by mount.number (among_from_all
           (λ (x : Mount ℕ). Stands nat_eq world x.number) world.mounts unsettled.mounts.standing mount m) found
         where
           by : (number : ℕ) → Stands nat_eq world number → mount_numbered nat_eq world number ≡ mount
@@ -175,16 +165,14 @@ module _ (world : World ℕ) (unsettled : IsUnderWay world) where
           by number (at_root it f) same =
               absurd (true≢false (sym (ap is_some e) ∙ ap (λ (x : Mount ℕ). is_some x.mount_point) (sym same)
               ∙ ap is_some f))
-          by number (on_parent it at f g stands) same =
-              ap (λ l. is_some (mount_at nat_eq world l).namespace)
+          by number (on_parent it at f g stands) same = ap (λ l. is_some (mount_at nat_eq world l).namespace)
               (same_Some place at (sym e ∙ ap (λ (x : Mount ℕ). x.mount_point) (sym same) ∙ f))
               ∙ ap is_some (sym g) ∙ ap (λ (x : Mount ℕ). is_some x.namespace) same
               ∙ placed_attached world unsettled mount m (ap is_some e)
 
       same_place : (place : Location ℕ) → mount.mount_point ≡ Some place → node_at nat_eq after place
           ≡ node_at nat_eq world place
-      same_place place e =
-          seen_stays world unsettled place
+      same_place place e = seen_stays world unsettled place
           (among-append_right (all_locations world ++ map root_of live_mounts)
           (filter_map (λ x. x.mount_point) live_mounts) place
           (among-filter_map (λ (x : Mount ℕ). x.mount_point) live_mounts mount place live e))
@@ -192,8 +180,7 @@ module _ (world : World ℕ) (unsettled : IsUnderWay world) where
           (attached_lives world unsettled (mount_at nat_eq world place) (below_attached place e))
 
   pub settled_roots : MountsShow after
-  settled_roots =
-      all_pass (has_its_root nat_eq after) live_mounts (λ mount m.
+  settled_roots = all_pass (has_its_root nat_eq after) live_mounts (λ mount m.
       let was = among-from_filter (mount_lives nat_eq world) world.mounts mount m in shows mount was.0 was.1)
 
   -- Trees
@@ -204,11 +191,7 @@ module _ (world : World ℕ) (unsettled : IsUnderWay world) where
   first_round = without_dead_in nat_eq is_overlay living
 
   pub trees_under_way : All (λ f. IsFileTree f.files) world.filesystems
-  trees_under_way = all_from_among (λ f. IsFileTree f.files) world.filesystems (λ f m. record {
-    tree = among_from_all (λ g. IsTree g.files.tree) world.filesystems unsettled.files.trees f m;
-    numbers = among_from_all (λ g. ListsNumbers nat_eq g.files) world.filesystems unsettled.files.numbers f m;
-    own_parents = among_from_all (λ g. HasOwnParents g.files.tree) world.filesystems unsettled.files.own_parents f m;
-  })
+  trees_under_way = grind (arith, common_steps, all_from_among, among_from_all)
 
   pub settled_trees : TreeInvariants nat_eq after
   settled_trees =
@@ -220,8 +203,7 @@ module _ (world : World ℕ) (unsettled : IsUnderWay world) where
             (λ f is. is.own_parents) after.filesystems trees;
         numbers = All-weaker (λ f. IsFileTree f.files) (λ f. ListsNumbers nat_eq f.files)
             (λ f is. is.numbers) after.filesystems trees;
-        one_filesystem =
-            same_numbers first_round (λ f. not (is_overlay f)) (same_numbers living is_overlay
+        one_filesystem = same_numbers first_round (λ f. not (is_overlay f)) (same_numbers living is_overlay
             (pair-filter (λ (a b : Filesystem ℕ). nat_eq a.number b.number)
             (filesystem_lives nat_eq (without_dead_mounts nat_eq world)) world.filesystems
             unsettled.files.one_filesystem));
@@ -232,33 +214,19 @@ module _ (world : World ℕ) (unsettled : IsUnderWay world) where
           → any_pair (λ (a b : Filesystem ℕ). nat_eq a.number b.number) w.filesystems ≡ false
           → any_pair (λ (a b : Filesystem ℕ). nat_eq a.number b.number)
           (without_dead_in nat_eq chosen w).filesystems ≡ false
-      same_numbers w chosen apart =
-          pair-map (λ (a b : Filesystem ℕ). nat_eq a.number b.number) (λ (a b : Filesystem ℕ). nat_eq a.number b.number)
-          (λ f. only_used nat_eq w (chosen f) f) w.filesystems
-          (λ a b m n e. ap (λ k. nat_eq k (only_used nat_eq w (chosen b) b).number) (number-only_used w (chosen a) a)
-          ∙ ap (nat_eq a.number) (number-only_used w (chosen b) b) ∙ e)
-          apart
+      same_numbers w chosen apart = grind (arith, common_steps, pair-map, number-only_used)
 
   pub listed_trees : All (λ f. IsListedTree f.files) world.filesystems
-  listed_trees =
-      All-weaker (λ f. IsFileTree f.files) (λ f. IsListedTree f.files)
-      (λ f is. record { tree = is.tree; numbers = is.numbers })
-      world.filesystems trees_under_way
+  listed_trees = All-weaker (λ f. IsFileTree f.files) (λ f. IsListedTree f.files)
+      (λ f is. record { tree = is.tree; numbers = is.numbers }) world.filesystems trees_under_way
 
 -- In a world of plain filesystems
 pub under_way : (world : World ℕ) → IsWorldButForUse world → IsUnderWay world
-under_way world unsettled = record {
-  files = unsettled.files;
-  mounts = unsettled.mounts;
-  namespaces = unsettled.namespaces;
-  tasks = unsettled.tasks;
-  roots = unsettled.roots;
-}
+under_way world unsettled = grind (arith, common_steps)
 
 module _ (world : World ℕ) (unsettled : IsWorldButForUse world) where
   pub same_node : (location : Location ℕ) → Among location (all_locations world)
-      → node_at nat_eq (settled nat_eq world) location
-      ≡ node_at nat_eq world location
+      → node_at nat_eq (settled nat_eq world) location ≡ node_at nat_eq world location
   same_node = still_there world (under_way world unsettled)
 
   pub of_task : (task : Task ℕ) → Among task world.tasks → (location : Location ℕ) → Among location (locations_of task)
@@ -269,8 +237,7 @@ module _ (world : World ℕ) (unsettled : IsWorldButForUse world) where
   file_trees = trees_under_way world (under_way world unsettled)
 
   settled_plain : IsPlain (settled nat_eq world)
-  settled_plain =
-      without_dead_plain (λ f. not (is_overlay f)) (first_round world (under_way world unsettled))
+  settled_plain = without_dead_plain (λ f. not (is_overlay f)) (first_round world (under_way world unsettled))
       (without_dead_plain is_overlay (living world (under_way world unsettled))
       (All-filter (filesystem_lives nat_eq (without_dead_mounts nat_eq world))
       (λ f. is_overlay f ≡ false) world.filesystems unsettled.plain))

@@ -1,8 +1,9 @@
 -- Where the invariants of mounts hold, they hold on the way, so that one sweep serves for several.
-use Rattle.std.proofs.Common.{ℕ, nat_eq, refl, List, [], ◌∷◌}
+use Rattle.std.proofs.Common.{arith, ℕ, nat_eq, List, [], ◌∷◌}
+use Rattle.std.proofs.lemmas.Grind.{common_steps}
 use Rattle.vt_spec.specs.Language.Calls.{TaskName}
 use Rattle.vt_spec.specs.Machine.Detach.{unmounted_if_there}
-use Rattle.vt_spec.specs.Machine.Invariants.{MountInvariants, Stands}
+use Rattle.vt_spec.specs.Machine.Invariants.{MountInvariants}
 use Rattle.vt_spec.specs.Machine.Mounts.{Mount}
 use Rattle.vt_spec.specs.Machine.World.{World, without_task}
 use Rattle.vt_spec.proofs.Lists.{all_from_among, among_from_all}
@@ -18,15 +19,7 @@ use Rattle.vt_laws_worlds.specs.Worlds.Swept.{ExitsAreSweptOnce, LazyUnmountsAre
 -- without a task mounts are as they were
 fewer_tasks_keep_mounts : (world : World ℕ) (name : TaskName) → MountInvariants nat_eq world
     → MountInvariants nat_eq (without_task world name)
-fewer_tasks_keep_mounts world name kept = record {
-  one_number = kept.one_number;
-  one_child = kept.one_child;
-  standing = all_from_among (λ (mount : Mount ℕ). Stands nat_eq (without_task world name) mount.number) world.mounts
-      (λ mount m. stands_alike world (without_task world name) (λ number. refl) mount.number
-      (among_from_all (λ (x : Mount ℕ). Stands nat_eq world x.number) world.mounts kept.standing mount m));
-  nowhere = kept.nowhere;
-  groups = kept.groups;
-}
+fewer_tasks_keep_mounts world name kept = grind (arith, common_steps, all_from_among, stands_alike, among_from_all)
 
 exits_keep : (world : World ℕ) (names : List TaskName) → MountInvariants nat_eq world
     → KeepsMounts ended_task world names
@@ -42,13 +35,11 @@ exits_are_swept_once world names trees uppers reals kept =
     one_sweep_for_all_exits_with_overlays world names trees uppers reals (exits_keep world names kept)
 
 events_keep : (start : World ℕ) (kept : MountInvariants nat_eq start) (one : ℕ) (world : World ℕ)
-    (left : List (Mount ℕ)) → IsUnderWay start kept one world left
-    → KeepsMounts (unmounted_if_there nat_eq) world left
+    (left : List (Mount ℕ)) → IsUnderWay start kept one world left → KeepsMounts (unmounted_if_there nat_eq) world left
 events_keep start kept one world [] way = way.kept
 events_keep start kept one world (mount ∷ left) way = (
   way.kept,
-  events_keep start kept one (unmounted_if_there nat_eq world mount) left
-      (next start kept one world mount left way),
+  events_keep start kept one (unmounted_if_there nat_eq world mount) left (next start kept one world mount left way),
 )
 
 pub lazy_unmounts_are_swept_once : LazyUnmountsAreSweptOnce

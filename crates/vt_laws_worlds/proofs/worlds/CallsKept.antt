@@ -52,8 +52,7 @@ use Rattle.vt_spec.proofs.Options.{none_from_not_some}
 -- a task goes by the name that it is found by
 pub name_found : (world : World ℕ) (name : TaskName) (task : Task ℕ) → task_called world name ≡ Some task
     → name ≡ task.name
-name_found world name task e =
-    (bytes_eq-Decides name task.name).0
+name_found world name task e = (bytes_eq-Decides name task.name).0
     (found_passes (λ (other : Task ℕ). same_name name other.name) world.tasks task e)
 
 -- numbers that are not in use are of no inode
@@ -68,16 +67,12 @@ new_numbers world fresh is serves =
     none : (f : Filesystem ℕ) → Among f world.filesystems → (k : ℕ) (b : Bool)
         → is_among nat_eq (fresh k) f.files.numbers ≡ b → b ≡ false
     none f m k false e = refl
-    none f m k true e =
-        absurd (true≢false
-        (sym (is_among_numbers (fresh k) (numbers_in_use world)
+    none f m k true e = absurd (true≢false (sym (is_among_numbers (fresh k) (numbers_in_use world)
         (among-append_left (flat_map used_by_mount world.mounts ++ flat_map used_by_filesystem world.filesystems)
         (map (λ namespace. namespace.number) world.namespaces) (fresh k)
         (among-append_right (flat_map used_by_mount world.mounts) (flat_map used_by_filesystem world.filesystems)
-        (fresh k)
-        (among-flat_map used_by_filesystem world.filesystems f (fresh k) m
-        (inr (among_numbers (fresh k) f.files.numbers e))))))
-        ∙ serves.unused k))
+        (fresh k) (among-flat_map used_by_filesystem world.filesystems f (fresh k) m
+        (inr (among_numbers (fresh k) f.files.numbers e)))))) ∙ serves.unused k))
 
 -- a world of plain filesystems that has the invariants
 abbrev pub Kept : World ℕ → Type 0
@@ -85,8 +80,7 @@ Kept world = IsWorld nat_eq world × IsPlain world
 
 -- a granted call, before what nothing uses goes
 module _ (world : World ℕ) (fresh : Fresh ℕ) (task : Task ℕ) (call : Call) (permit : Permit ℕ)
-    (is : IsWorld nat_eq world) (plain : IsPlain world)
-    (serves : Serves nat_eq world fresh)
+    (is : IsWorld nat_eq world) (plain : IsPlain world) (serves : Serves nat_eq world fresh)
     (found : task_called world task.name ≡ Some task) (other : mounts_overlay call ≡ false)
     (few : names_few_groups call ≡ true) (granted : judge_in nat_eq fresh world task call ≡ Ok permit) where
   abbrev pub after_call : World ℕ
@@ -105,14 +99,12 @@ module _ (world : World ℕ) (fresh : Fresh ℕ) (task : Task ℕ) (call : Call)
   fits = permits_fit world fresh task call permit is plain serves found other granted
 
   within : is_within_limits task ≡ true
-  within =
-      found_all (λ (t : Task ℕ). is_within_limits t ≡ true) (λ t. same_name task.name t.name) world.tasks task
+  within = found_all (λ (t : Task ℕ). is_within_limits t ≡ true) (λ t. same_name task.name t.name) world.tasks task
       (all_from_among (λ (t : Task ℕ). is_within_limits t ≡ true) world.tasks
       (passes is_within_limits world.tasks is.tasks.small_tasks)) found
 
   trees : IsWorldOfTrees after_call
-  trees =
-      outcome_keeps fresh world task
+  trees = outcome_keeps fresh world task
       (record { plain = plain; trees = file_trees world (unsettled_of world is plain) })
       (worlds_are_standing world is) (new_numbers world fresh is serves) call other
 
@@ -133,13 +125,11 @@ module _ (world : World ℕ) (fresh : Fresh ℕ) (task : Task ℕ) (call : Call)
           (permits_keep_filesystem_numbers world fresh task permit is plain serves found fits);
       fit_filesystems = sizes.fit;
     };
-    mounts = kept_by_call (MountInvariants nat_eq)
-        (mounts_kept world fresh task permit is plain serves found fits);
+    mounts = kept_by_call (MountInvariants nat_eq) (mounts_kept world fresh task permit is plain serves found fits);
     namespaces = kept_by_call (NamespaceInvariants nat_eq)
         (namespaces_kept world fresh task permit is plain serves found fits);
     tasks = record {
-      one_task = kept_by_call OneTaskAName
-          (permits_keep_names world fresh task permit is plain serves found fits);
+      one_task = kept_by_call OneTaskAName (permits_keep_names world fresh task permit is plain serves found fits);
       small_tasks = outcome_small fresh world task is.tasks.small_tasks within call few;
       forks_counted = kept_by_call ForksAreCounted
           (permits_keep_counting_forks world fresh task permit is plain serves found fits);
@@ -161,14 +151,12 @@ module _ (world : World ℕ) (fresh : Fresh ℕ) (task : Task ℕ) (call : Call)
       raising_numbers_keeps_world world name changed (settled nat_eq after_call) left.0 left.1
 
 module _ (world : World ℕ) (fresh : Fresh ℕ) (name : TaskName) (call : Call)
-    (is : IsWorld nat_eq world) (plain : IsPlain world)
-    (serves : Serves nat_eq world fresh)
+    (is : IsWorld nat_eq world) (plain : IsPlain world) (serves : Serves nat_eq world fresh)
     (other : mounts_overlay call ≡ false) (few : names_few_groups call ≡ true) where
   unchanged : (policy nat_eq fresh world name call).world ≡ world → Kept (policy nat_eq fresh world name call).world
   unchanged same = subst Kept (sym same) (is, plain)
 
-  refused : (answer : Result Answer Deny) → (policy nat_eq fresh world name call).answer ≡ answer
-      → is_ok answer ≡ false
+  refused : (answer : Result Answer Deny) → (policy nat_eq fresh world name call).answer ≡ answer → is_ok answer ≡ false
       → Kept (policy nat_eq fresh world name call).world
   refused (Ok a) e denied = absurd (true≢false denied)
   refused (Err deny) e denied = unchanged (denial_changes_nothing fresh world name call deny e)
@@ -184,8 +172,7 @@ module _ (world : World ℕ) (fresh : Fresh ℕ) (name : TaskName) (call : Call)
       outcome = call_outcome nat_eq fresh world task call
 
       it_is : policy nat_eq fresh world name call ≡ finished nat_eq world name call changed outcome
-      it_is = ap (λ o. after world (ok_or o (denial S2))
-          (λ t. finished nat_eq world name call
+      it_is = ap (λ o. after world (ok_or o (denial S2)) (λ t. finished nat_eq world name call
           (filesystems_changed_by nat_eq world (judge_in nat_eq fresh world t call))
           (call_outcome nat_eq fresh world t call))) found
 
@@ -208,14 +195,11 @@ module _ (world : World ℕ) (fresh : Fresh ℕ) (name : TaskName) (call : Call)
 
           judged : (judgement : Judgement ℕ) → judge_in nat_eq fresh world task call ≡ judgement
               → Kept (policy nat_eq fresh world name call).world
-          judged (Err deny) f =
-              absurd (true≢false
-              (sym (ap (λ (o : Outcome ℕ). not (is_ok o.answer))
+          judged (Err deny) f = absurd (true≢false (sym (ap (λ (o : Outcome ℕ). not (is_ok o.answer))
               (call_is_judged_then_applied fresh world task call
               ∙ ap (λ j. after world j (apply nat_eq fresh world task)) f))
               ∙ (or_parts (only_looks call) (not (is_ok outcome.answer)) e).1))
-          judged (Ok permit) f =
-              subst Kept (sym (ap (λ (o : Outcome ℕ). o.world) same))
+          judged (Ok permit) f = subst Kept (sym (ap (λ (o : Outcome ℕ). o.world) same))
               (finished_keeps world fresh task call permit is plain serves
               (ap (task_called world) (sym (name_found world name task found)) ∙ found) other few f name changed)
 
@@ -223,10 +207,7 @@ pub calls_keep_worlds : CallsKeepWorlds
 calls_keep_worlds world fresh name call is plain serves other few = by (task_called world name) refl
   where
     by : (o : Option (Task ℕ)) → task_called world name ≡ o → Kept (policy nat_eq fresh world name call).world
-    by None e =
-        unchanged world fresh name call is plain serves other few
-        (ap (λ o. (after world (ok_or o (denial S2))
-        (λ t. finished nat_eq world name call
-        (filesystems_changed_by nat_eq world (judge_in nat_eq fresh world t call))
+    by None e = unchanged world fresh name call is plain serves other few (ap (λ o. (after world (ok_or o (denial S2))
+        (λ t. finished nat_eq world name call (filesystems_changed_by nat_eq world (judge_in nat_eq fresh world t call))
         (call_outcome nat_eq fresh world t call))).world) e)
     by (Some task) e = called world fresh name call is plain serves other few task e

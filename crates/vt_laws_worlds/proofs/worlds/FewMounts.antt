@@ -29,8 +29,7 @@ mapped_no_more f (first ∷ rest) h number =
     by (is_in number (f first)) (is_in number first) still (mapped_no_more f rest (λ mount m. h mount (inr m)) number)
   where
     still : is_in number (f first) ≡ true → is_in number first ≡ true
-    still is =
-        ⊎_elim (λ same. ap (holds_of (nat_eq number)) (sym same) ∙ is)
+    still is = ⊎_elim (λ same. ap (holds_of (nat_eq number)) (sym same) ∙ is)
         (λ none. absurd (true≢false (sym is ∙ ap (holds_of (nat_eq number)) none))) (h first (inl refl))
 
     by : (b c : Bool) → (b ≡ true → c ≡ true) → count_in (map f rest) number ≤ count_in rest number
@@ -46,8 +45,7 @@ filtered_no_more test [] = omega arith
 filtered_no_more test (first ∷ rest) = grind (arith, common_steps, filtered_no_more test rest)
 
 pub none_counted : (mounts : List (Mount ℕ)) (number : ℕ) → ((mount : Mount ℕ) → Among mount mounts
-    → is_in number mount ≡ false)
-    → count_in mounts number ≡ 0
+    → is_in number mount ≡ false) → count_in mounts number ≡ 0
 none_counted [] number h = refl
 none_counted (first ∷ rest) number h =
     ap (λ b. length (cond b (first ∷ filter (is_in number) rest) (filter (is_in number) rest))) (h first (inl refl))
@@ -58,8 +56,7 @@ pub not_too_many : (a b : ℕ) → a ≤ b → nat_lt most_mounts b ≡ false �
 not_too_many a b le few = grind (arith, common_steps, le-ltb, ltb-false most_mounts b few)
 
 pub few_of : (world : World ℕ) → has_too_many nat_eq world ≡ false → (namespace : Namespace ℕ)
-    → Among namespace world.namespaces
-    → nat_lt most_mounts (count_in world.mounts namespace.number) ≡ false
+    → Among namespace world.namespaces → nat_lt most_mounts (count_in world.mounts namespace.number) ≡ false
 few_of world few namespace m =
     none_among (λ (n : Namespace ℕ). nat_lt most_mounts (count_in world.mounts n.number)) world.namespaces few
     namespace m
@@ -71,8 +68,7 @@ few_after world after no_more within few =
     none_from_among (λ (n : Namespace ℕ). nat_lt most_mounts (count_in after.mounts n.number)) after.namespaces
     (λ namespace m.
     not_too_many (count_in after.mounts namespace.number) (count_in world.mounts namespace.number)
-    (no_more namespace.number)
-    (few_of world few namespace (within namespace m)))
+    (no_more namespace.number) (few_of world few namespace (within namespace m)))
 
 -- a world with the same namespaces, none of which has more mounts
 abbrev pub Shrinks : World ℕ → World ℕ → Type 0
@@ -110,15 +106,14 @@ taken_shrinks world gone =
 lazily_folded : (mounts : List (Mount ℕ)) (world : World ℕ) → Shrinks (folded
     (unmounted_if_there nat_eq) world mounts) world
 lazily_folded [] world = shrinks_itself world
-lazily_folded (mount ∷ mounts) world =
-    grind (
-      arith,
-      common_steps,
-      shrinks_then,
-      lazily_folded mounts (unmounted_if_there nat_eq world mount),
-      taken_shrinks,
-      shrinks_itself,
-    )
+lazily_folded (mount ∷ mounts) world = grind (
+  arith,
+  common_steps,
+  shrinks_then,
+  lazily_folded mounts (unmounted_if_there nat_eq world mount),
+  taken_shrinks,
+  shrinks_itself,
+)
 
 pub lazily_shrinks : (world : World ℕ) (number : ℕ) → Shrinks (lazily_unmounted nat_eq world number) world
 lazily_shrinks world number =
@@ -128,7 +123,6 @@ lazily_shrinks world number =
 -- Namespaces that end
 pub ended_few : (world : World ℕ) → has_too_many nat_eq world ≡ false → has_too_many nat_eq
     (namespaces_ended nat_eq world) ≡ false
-ended_few world few =
-    few_after world (namespaces_ended nat_eq world)
+ended_few world few = few_after world (namespaces_ended nat_eq world)
     (taken_shrinks world (map (λ (mount : Mount ℕ). mount.number) (filter (is_in_ended nat_eq world) world.mounts))).0
     (λ namespace m. (among-from_filter (has_tasks nat_eq world) world.namespaces namespace m).0) few

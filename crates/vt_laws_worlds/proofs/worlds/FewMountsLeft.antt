@@ -1,6 +1,6 @@
 -- Permits that attach nothing leave no namespace with too many mounts.
 use Rattle.std.proofs.lemmas.Grind.{common_steps}
-use Rattle.std.proofs.Common.{◌≡◌, refl, sym, ap, ◌∙◌, true≢false, arith, inl, inr, ⊎_elim, ◌⊎◌, eqb-true, eq-eqb, ℕ, nat_eq, nat_lt, Bool, true, false, List, [], ◌∷◌, ◌++◌, ◌+◌, ◌≤◌, ◌&&◌, filter, map, length, Option, Some, None}
+use Rattle.std.proofs.Common.{◌≡◌, refl, ap, ◌∙◌, true≢false, arith, ◌⊎◌, eqb-true, eq-eqb, ℕ, nat_eq, nat_lt, Bool, true, false, List, [], ◌∷◌, ◌++◌, ◌+◌, ◌≤◌, ◌&&◌, filter, map, length, Option, Some, None}
 use Rattle.std.proofs.lemmas.List.{length-append, length-map}
 use Rattle.std.proofs.lemmas.List.Elements.{filter-append}
 use Rattle.vt_spec.specs.Machine.Apply.{apply}
@@ -61,8 +61,7 @@ module _ (world : World ℕ) where
       (pivoted_mount nat_eq root new put) mount
   pivot_stays root new put mount = grind (arith, common_steps)
 
-  copy_shrinks : (b : Bool) (fresh : Fresh ℕ) (file : Location ℕ)
-      → Shrinks (with_copy nat_eq b fresh world file) world
+  copy_shrinks : (b : Bool) (fresh : Fresh ℕ) (file : Location ℕ) → Shrinks (with_copy nat_eq b fresh world file) world
   copy_shrinks true fresh file = change_shrinks fresh world file (CopyUp file.node)
   copy_shrinks false fresh file = shrinks_itself world
 
@@ -89,24 +88,22 @@ module _ (fresh : Fresh ℕ) (world : World ℕ) (whole : IsWorld nat_eq world) 
 
   -- no mount is in it yet
   none_in : (mount : Mount ℕ) → Among mount world.mounts → is_in new mount ≡ false
-  none_in mount m =
-      grind (
-        arith,
-        common_steps,
-        among_from_list_all,
-        is_among_numbers,
-        among_numbers,
-        among-append_right,
-        new,
-        true≢false,
-        and_first,
-        eqb-true,
-      )
+  none_in mount m = grind (
+    arith,
+    common_steps,
+    among_from_list_all,
+    is_among_numbers,
+    among_numbers,
+    among-append_right,
+    new,
+    true≢false,
+    and_first,
+    eqb-true,
+  )
 
   counts : (number : ℕ) → count_in (world.mounts ++ copies) number
       ≡ count_in world.mounts number + count_in copies number
-  counts number =
-      ap length (filter-append (is_in number) world.mounts copies)
+  counts number = ap length (filter-append (is_in number) world.mounts copies)
       ∙ length-append (filter (is_in number) world.mounts) (filter (is_in number) copies)
 
   copy_is_new : (number : ℕ) → nat_eq number new ≡ false → (mount : Mount ℕ) → Among mount copies
@@ -120,16 +117,13 @@ module _ (fresh : Fresh ℕ) (world : World ℕ) (whole : IsWorld nat_eq world) 
       let from = among-from_map (λ (n : Namespace ℕ). n.number) world.namespaces task.namespace
       (among_numbers (map (λ (n : Namespace ℕ). n.number) world.namespaces) task.namespace
       (among_from_list_all (λ (t : Task ℕ). is_listed nat_eq world t.namespace) world.tasks
-      whole.namespaces.tasks_listed task
-      (called_there world.tasks task.name task called))) in
+      whole.namespaces.tasks_listed task (called_there world.tasks task.name task called))) in
       ap (λ n. nat_lt most_mounts (count_in world.mounts n)) from.2
       ∙ few_of world whole.namespaces.few_mounts from.0 from.1
 
   in_new : (number : ℕ) → nat_eq number new ≡ true → nat_lt most_mounts (count_in (world.mounts ++ copies) number)
       ≡ false
-  in_new number e =
-      not_too_many (count_in (world.mounts ++ copies) number) (length own)
-      (bound (counts number)
+  in_new number e = not_too_many (count_in (world.mounts ++ copies) number) (length own) (bound (counts number)
       (ap (count_in world.mounts) (eqb-true number new e) ∙ none_counted world.mounts new none_in)
       (filtered_no_more (is_in number) copies)
       (length-map own (copied_mount (numbers_by nat_eq (odds fresh) own) new))) few_own
@@ -145,8 +139,7 @@ module _ (fresh : Fresh ℕ) (world : World ℕ) (whole : IsWorld nat_eq world) 
       grind (arith, common_steps, counts number, none_counted copies number (copy_is_new number other))
 
   unshared_few : has_too_many nat_eq (unshared nat_eq world fresh task) ≡ false
-  unshared_few =
-      none_from_among (λ (n : Namespace ℕ). nat_lt most_mounts (count_in (world.mounts ++ copies) n.number))
+  unshared_few = none_from_among (λ (n : Namespace ℕ). nat_lt most_mounts (count_in (world.mounts ++ copies) n.number))
       (world.namespaces ++ (record { number = new; change = 0 } ∷ [])) (λ namespace m.
       by namespace (nat_eq namespace.number new) refl
       (among-append world.namespaces (record { number = new; change = 0 } ∷ []) namespace m))
@@ -154,14 +147,7 @@ module _ (fresh : Fresh ℕ) (world : World ℕ) (whole : IsWorld nat_eq world) 
       by : (namespace : Namespace ℕ) (b : Bool) → nat_eq namespace.number new ≡ b
           → Among namespace world.namespaces ⊎ Among namespace (record { number = new; change = 0 } ∷ [])
           → nat_lt most_mounts (count_in (world.mounts ++ copies) namespace.number) ≡ false
-      by namespace true e m = in_new namespace.number e
-      by namespace false e (inl m) =
-          not_too_many (count_in (world.mounts ++ copies) namespace.number) (count_in world.mounts namespace.number)
-          (in_old namespace.number e) (few_of world whole.namespaces.few_mounts namespace m)
-      by namespace false e (inr m) =
-          ⊎_elim (λ same. absurd (true≢false (sym (eq-eqb namespace.number new
-          (ap (λ (n : Namespace ℕ). n.number) same)) ∙ e)))
-          (λ none. absurd none) m
+      by namespace b e m = grind (arith, common_steps, in_new, not_too_many, in_old, few_of, true≢false, eq-eqb)
 
   -- each permit
   abbrev after : Permit ℕ → World ℕ
@@ -205,22 +191,18 @@ module _ (fresh : Fresh ℕ) (world : World ℕ) (whole : IsWorld nat_eq world) 
       (taken_shrinks world _) whole.namespaces.few_mounts
   few_left (ToUnmountLazily mount) other = shrinks_few world (after (ToUnmountLazily mount))
       (lazily_shrinks world mount) whole.namespaces.few_mounts
-  few_left (ToSetFlags mount flags) other =
-      shrinks_few world (after (ToSetFlags mount flags)) (
-        mapped_no_more
-            (replaced_if_same nat_eq (record (mount_numbered nat_eq world mount) { flags = flags })) world.mounts
-            (flags_stay world whole mount flags),
-        refl,
-      ) whole.namespaces.few_mounts
+  few_left (ToSetFlags mount flags) other = shrinks_few world (after (ToSetFlags mount flags)) (
+    mapped_no_more (replaced_if_same nat_eq (record (mount_numbered nat_eq world mount) { flags = flags })) world.mounts
+        (flags_stay world whole mount flags),
+    refl,
+  ) whole.namespaces.few_mounts
   few_left (ToSetType mount word recursive) other =
       shrinks_few world (after (ToSetType mount word recursive)) (typed_shrinks world fresh mount word
       recursive) whole.namespaces.few_mounts
-  few_left (ToPivot root put) other =
-      shrinks_few world (after (ToPivot root put)) (
-        mapped_no_more (pivoted_mount nat_eq (mount_at nat_eq world task.root)
-            (mount_numbered nat_eq world root) put) world.mounts
-            (λ mount m. pivot_stays world (mount_at nat_eq world task.root)
-            (mount_numbered nat_eq world root) put mount),
-        refl,
-      ) whole.namespaces.few_mounts
+  few_left (ToPivot root put) other = shrinks_few world (after (ToPivot root put)) (
+    mapped_no_more (pivoted_mount nat_eq (mount_at nat_eq world task.root)
+        (mount_numbered nat_eq world root) put) world.mounts
+        (λ mount m. pivot_stays world (mount_at nat_eq world task.root) (mount_numbered nat_eq world root) put mount),
+    refl,
+  ) whole.namespaces.few_mounts
   few_left permit other = whole.namespaces.few_mounts

@@ -1,30 +1,27 @@
 -- What the walks and the rules of a call say of what its permit names.
-use Rattle.std.proofs.Common.{arith}
+use Rattle.std.proofs.Common.{arith, Bool, Ok, Option, ap, eqb-true, length, ok_or, option_map, refl, suc, sym, true≢false, zero, ◌||◌, ◌∙◌}
 use Rattle.std.proofs.lemmas.Grind.{common_steps}
-use Rattle.std.proofs.Common.{Bool, Ok, Option, ap, eqb-true, length, ok_or, option_map, refl, suc, sym, true≢false, zero, ◌||◌, ◌∙◌}
 use Rattle.std.proofs.Math.Bool.{or-false}
 use Rattle.std.proofs.lemmas.Option.{same_Some}
-use Rattle.std.specs.List.{find, list_any}
+use Rattle.std.specs.List.{list_any}
 use Rattle.std.specs.Prelude.{None, Some, false, is_some, nat_eq, option_to_list, true, unwrap_or, ℕ, ◌≡◌}
 use Rattle.vt_laws_mounts.proofs.namespaces.Topmost.{topmost_is_free}
 use Rattle.vt_spec.proofs.Found.{found_among}
 use Rattle.vt_spec.proofs.Lists.{Among, among_from_list_all}
 use Rattle.vt_spec.proofs.Nodes.{none_is_not}
-use Rattle.vt_spec.specs.Errors.{denial}
 use Rattle.vt_spec.specs.FileTree.{is_kind_in}
 use Rattle.vt_spec.specs.Language.Calls.{TaskName}
 use Rattle.vt_spec.specs.Lists.{chain, holds_of, rest_of}
 use Rattle.vt_spec.specs.Machine.Invariants.{IsWorld, is_listed}
 use Rattle.vt_spec.specs.Machine.Looks.{Looks, looks_of}
-use Rattle.vt_spec.specs.Machine.Mounts.{Location, child_at}
+use Rattle.vt_spec.specs.Machine.Mounts.{Location}
 use Rattle.vt_spec.specs.Machine.Rules.Conditions.{is_elsewhere, is_no_root}
-use Rattle.vt_spec.specs.Machine.Rules.Descriptors.{descriptor_at, descriptor_numbered}
+use Rattle.vt_spec.specs.Machine.Rules.Descriptors.{descriptor_at}
 use Rattle.vt_spec.specs.Machine.Rules.Mounting.{is_on_descendant, lies_under_location}
 use Rattle.vt_spec.specs.Machine.Walking.{Here, Place, is_special}
 use Rattle.vt_spec.specs.Machine.World.{Descriptor, Task, World, is_directory_at, mount_at, mount_numbered, node_at, task_called}
 use Rattle.vt_spec.specs.declared.attributes.Kind.TheVariants.{File, White}
 use Rattle.vt_spec.specs.declared.errors.Deny.{Deny}
-use Rattle.vt_spec.specs.declared.errors.Rule.TheVariants.{S4}
 use Rattle.vt_laws_trees.proofs.trees.TreesTasks.{called_there}
 use Rattle.vt_laws_trees.proofs.trees.TreesWalked.{not_true, ok_same}
 use Rattle.vt_laws_worlds.proofs.worlds.Reached.{directory_found, is_reached_directory, others_are_files}
@@ -76,11 +73,7 @@ module _ (world : World ℕ) (whole : IsWorld nat_eq world) (task : Task ℕ)
 
   pub destination : (here : Here ℕ) → IsTopmost world whole task called here
       → is_elsewhere nat_eq looks task here.location ≡ false → IsDestination world task here.location
-  destination here is e = record {
-    directory = reached_directory here is.0;
-    own = own_if here.location e;
-    free = ap (child_at nat_eq world.mounts) is.1.1 ∙ topmost_is_free world is.1.0 whole.mounts;
-  }
+  destination here is e = grind (arith, common_steps, reached_directory, own_if, topmost_is_free)
 
   pub parent_directory : {P : Location ℕ → Type 0} (place : Place ℕ) → IsPlaceIn world whole task called P place
       → is_special place.last ≡ false → IsReachedDirectory world task place.parent
@@ -95,23 +88,14 @@ module _ (world : World ℕ) (whole : IsWorld nat_eq world) (task : Task ℕ)
   -- a descriptor that is found is one of the task's
   pub descriptor_among : (number : ℕ) (fits : Descriptor ℕ → Bool) (descriptor : Descriptor ℕ)
       → descriptor_at task number fits ≡ Ok descriptor → Among descriptor task.descriptors
-  descriptor_among number fits descriptor e =
-      grind (
-        arith,
-        common_steps,
-        found_among fits (option_to_list (descriptor_numbered task number)) descriptor
-            (ok_or_some (find fits (option_to_list (descriptor_numbered task number))) (denial S4) descriptor e),
-        found_among,
-      )
+  descriptor_among number fits descriptor e = grind (arith, common_steps, found_among, ok_or_some)
 
   -- the place below a mount is that of the mount, whatever inode it is seen at
   pub below_at : (new : Location ℕ) → is_on_descendant nat_eq looks task.root.mount new ≡ true → (node : ℕ)
       → is_on_descendant nat_eq looks task.root.mount (record { mount = new.mount; node = node }) ≡ true
-  below_at new h node =
-      ap (list_any (λ (place : Location ℕ). nat_eq task.root.mount place.mount))
+  below_at new h node = ap (list_any (λ (place : Location ℕ). nat_eq task.root.mount place.mount))
       (rest_same (length world.mounts) (λ (place : Location ℕ). (mount_at nat_eq world place).mount_point)
-      (record { mount = new.mount; node = node }) new refl)
-      ∙ h
+      (record { mount = new.mount; node = node }) new refl) ∙ h
 
   pub under_root : (new put : Location ℕ) → lies_under_location nat_eq looks new put ≡ true
       → is_no_root nat_eq looks new ≡ false → (node : ℕ) → node ≡ (mount_numbered nat_eq world new.mount).root
@@ -119,8 +103,7 @@ module _ (world : World ℕ) (whole : IsWorld nat_eq world) (task : Task ℕ)
   under_root new put h root node e =
       ap (λ (n : ℕ). lies_under_location nat_eq looks (record { mount = new.mount; node = n }) put)
       (e ∙ sym (eqb-true new.node (mount_numbered nat_eq world new.mount).root
-      (not_true (nat_eq new.node (mount_numbered nat_eq world new.mount).root) root)))
-      ∙ h
+      (not_true (nat_eq new.node (mount_numbered nat_eq world new.mount).root) root))) ∙ h
 
   -- setns(2)
   pub namespace_listed : (name : TaskName) (namespace : ℕ)
@@ -131,8 +114,6 @@ module _ (world : World ℕ) (whole : IsWorld nat_eq world) (task : Task ℕ)
       by : (found : Option (Task ℕ)) → task_called world name ≡ found → (namespace : ℕ)
           → option_map (λ (t : Task ℕ). t.namespace) found ≡ Some namespace → is_listed nat_eq world namespace ≡ true
       by None f namespace e = none_is_not None namespace refl e
-      by (Some target) f namespace e =
-          ap (is_listed nat_eq world) (sym (same_Some target.namespace namespace e))
+      by (Some target) f namespace e = ap (is_listed nat_eq world) (sym (same_Some target.namespace namespace e))
           ∙ among_from_list_all (λ (t : Task ℕ). is_listed nat_eq world t.namespace) world.tasks
-          whole.namespaces.tasks_listed target
-          (called_there world.tasks name target f)
+          whole.namespaces.tasks_listed target (called_there world.tasks name target f)

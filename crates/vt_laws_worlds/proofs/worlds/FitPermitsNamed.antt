@@ -1,7 +1,6 @@
 -- Whatever is permitted in a world that has the invariants fits it.
-use Rattle.std.proofs.Common.{arith}
+use Rattle.std.proofs.Common.{arith, Bool, Ok, not, option_map, refl, sym, true≢false, ◌∙◌}
 use Rattle.std.proofs.lemmas.Grind.{common_steps}
-use Rattle.std.proofs.Common.{Bool, Ok, not, option_map, refl, sym, true≢false, ◌∙◌}
 use Rattle.std.proofs.lemmas.Bool.{or_parts}
 use Rattle.std.specs.Prelude.{List, Some, false, is_some, nat_eq, true, ℕ, ◌≡◌}
 use Rattle.vt_laws_rules.proofs.given.Inversion.{calls_are_granted}
@@ -186,10 +185,8 @@ module _ (fresh : Fresh ℕ) (world : World ℕ) (whole : IsWorld nat_eq world) 
         destination = destination world whole task called here (topmost_is path here end) own.1;
         own = own_if world whole task called from.location own.0;
         placed = not_true (is_some (mount_at nat_eq world from.location).mount_point) passed.1.1.1.1.1.1.0;
-        unshared_parent =
-            any_of_option (λ (at : Location ℕ). is_shared (mount_at nat_eq world at).propagation)
-            (mount_at nat_eq world from.location).mount_point
-            ∙ passed.1.0;
+        unshared_parent = any_of_option (λ (at : Location ℕ). is_shared (mount_at nat_eq world at).propagation)
+            (mount_at nat_eq world from.location).mount_point ∙ passed.1.0;
         no_unbindable = passed.1.1.0;
         not_inside = passed.1.1.1.0;
       }
@@ -233,8 +230,7 @@ module _ (fresh : Fresh ℕ) (world : World ℕ) (whole : IsWorld nat_eq world) 
       → mounts_overlay call ≡ false → too_many permit ≡ false
   granted_leaves_room call permit (mounts_tmpfs path flags here admin end passed) is plain = passed.1.0
   granted_leaves_room call permit (mounts_overlayfs path words flags here layers admin end walked layered passed) is
-      plain =
-      absurd (true≢false plain)
+      plain = absurd (true≢false plain)
   granted_leaves_room call permit (binds source path recursive from here admin from_end end passed) is plain =
       passed.1.1.0
   granted_leaves_room call permit (moves_mount source path from here admin from_end end passed) is plain =

@@ -32,8 +32,7 @@ use Rattle.vt_spec.proofs.Worlds.{filesystems-taken_away, filesystems-without_re
 pub data FilesystemsGoOn (before : List (Filesystem ℕ)) : List (Filesystem ℕ) → Type 0 where
   same_ones : (after : List (Filesystem ℕ)) → after ≡ before → FilesystemsGoOn before after
   one_changed : (new : Filesystem ℕ) (after : List (Filesystem ℕ)) → is_overlay new ≡ false
-      → after ≡ map (replaced_if_numbered nat_eq new) before
-      → FilesystemsGoOn before after
+      → after ≡ map (replaced_if_numbered nat_eq new) before → FilesystemsGoOn before after
   one_more : (new : Filesystem ℕ) (after : List (Filesystem ℕ)) → is_overlay new ≡ false
       → ((old : Filesystem ℕ) → Among old before → nat_eq old.number new.number ≡ false)
       → after ≡ before ++ (new ∷ []) → FilesystemsGoOn before after
@@ -66,16 +65,13 @@ appended_apart (first ∷ rest) new e differ =
     (none_from_among (λ (b : Filesystem ℕ). nat_eq first.number b.number) (rest ++ (new ∷ [])) (λ b m.
     ⊎_elim (none_among (λ (x : Filesystem ℕ). nat_eq first.number x.number) rest parts.0 b)
     (λ r. ⊎_elim (λ same. ap (λ (x : Filesystem ℕ). nat_eq first.number x.number) same ∙ differ first (inl refl))
-    (λ none. absurd none) r)
-    (among-append rest (new ∷ []) b m)))
+    (λ none. absurd none) r) (among-append rest (new ∷ []) b m)))
     ∙ appended_apart rest new parts.1 (λ old m. differ old (inr m))
 
 go_on_apart : (before after : List (Filesystem ℕ)) → FilesystemsGoOn before after → AreApart before → AreApart after
 go_on_apart before after (same_ones list e) apart_all = subst AreApart (sym e) apart_all
-go_on_apart before after (one_changed new list one e) apart_all =
-    subst AreApart (sym e)
-    (pair_by_numbers (map (replaced_if_numbered nat_eq new) before)
-    ∙ ap (any_pair nat_eq) (numbers-replaced new before)
+go_on_apart before after (one_changed new list one e) apart_all = subst AreApart (sym e)
+    (pair_by_numbers (map (replaced_if_numbered nat_eq new) before) ∙ ap (any_pair nat_eq) (numbers-replaced new before)
     ∙ sym (pair_by_numbers before) ∙ apart_all)
 go_on_apart before after (one_more new list one differ e) apart_all =
     subst AreApart (sym e) (appended_apart before new apart_all differ)
@@ -90,8 +86,7 @@ module _ (world : World ℕ) (fresh : Fresh ℕ) (task : Task ℕ) (plain : IsPl
 
   -- a change is of one filesystem
   changing : (supply : Fresh ℕ) (middle : World ℕ) → IsPlain middle → middle.filesystems ≡ world.filesystems
-      → (location : Location ℕ) (change : Change ℕ)
-      → FilesystemsGoOn world.filesystems
+      → (location : Location ℕ) (change : Change ℕ) → FilesystemsGoOn world.filesystems
       (with_change nat_eq supply middle location change).filesystems
   changing supply middle also same location change =
       let new = changed_one supply middle also location change in
@@ -106,8 +101,7 @@ module _ (world : World ℕ) (fresh : Fresh ℕ) (task : Task ℕ) (plain : IsPl
   copying true file = changing fresh world plain refl file (CopyUp file.node)
   copying false file = same_ones world.filesystems refl
 
-  writing : (file : Location ℕ) (offset : ℕ) (bytes : List ℕ)
-      → FilesystemsGoOn world.filesystems
+  writing : (file : Location ℕ) (offset : ℕ) (bytes : List ℕ) → FilesystemsGoOn world.filesystems
       (pwritten nat_eq fresh world file offset bytes).filesystems
   writing file offset [] = same_ones world.filesystems refl
   writing file offset (byte ∷ bytes) = changing fresh world plain refl file _
@@ -121,8 +115,7 @@ module _ (world : World ℕ) (fresh : Fresh ℕ) (task : Task ℕ) (plain : IsPl
       (filesystems-taken_away world (gone_on world directory)) parent (Remove parent.node name directory.node)
   filesystems_go_on (ToRename from old to new object replaced) fits =
       changing fresh (without_replaced nat_eq world replaced) (replaced_plain world replaced plain)
-      (filesystems-without_replaced world replaced) from
-      (Move from.node old to.node new object.node)
+      (filesystems-without_replaced world replaced) from (Move from.node old to.node new object.node)
   filesystems_go_on (ToOpen file access) fits = copying (is_copied_up nat_eq world file access) file
   filesystems_go_on (ToOpenNew directory name node access) fits =
       changing (odds fresh) world plain refl directory (Make directory.node name (evens fresh 0) node)
@@ -131,16 +124,14 @@ module _ (world : World ℕ) (fresh : Fresh ℕ) (task : Task ℕ) (plain : IsPl
       (filesystems-taken_away (without_task world task.name) _)
   filesystems_go_on ToUnshare fits = same_ones (after ToUnshare).filesystems
       (filesystems-taken_away (unshared nat_eq world fresh task) _)
-  filesystems_go_on (ToEnterNamespace namespace) fits =
-      same_ones (after (ToEnterNamespace namespace)).filesystems
+  filesystems_go_on (ToEnterNamespace namespace) fits = same_ones (after (ToEnterNamespace namespace)).filesystems
       (filesystems-taken_away (namespace_entered nat_eq world task namespace) _)
   filesystems_go_on (ToMountPlain place flags) fits =
       one_more (plain_filesystem nat_eq fresh) (after (ToMountPlain place flags)).filesystems refl
       (λ old m. nat_eq_false_turned (evens fresh 0) old.number
       (unused_by_filesystem world fresh serves 0 old m old.number (inl refl))) refl
   filesystems_go_on (ToMountOverlay place overlay flags) fits = absurd fits
-  filesystems_go_on (ToUnmount mount) fits =
-      same_ones (after (ToUnmount mount)).filesystems
+  filesystems_go_on (ToUnmount mount) fits = same_ones (after (ToUnmount mount)).filesystems
       (filesystems-taken_away world (going nat_eq world (mount_numbered nat_eq world mount)))
   filesystems_go_on (ToUnmountLazily mount) fits =
       same_ones (after (ToUnmountLazily mount)).filesystems (lazy_is_of_mounts world mount).filesystems

@@ -47,16 +47,14 @@ same_tasks world a b same = subst (ArePlaced world) (sym same)
 
 -- a task with a further file open
 opened_placed : (world : World ℕ) (task : Task ℕ) (file : Location ℕ) (access : Access) → IsPlaced world task
-    → OpensAt world file
-    → IsPlaced world (with_descriptor task file access)
-opened_placed world task file access at opens =
-    record {
-      root = at.root;
-      directory = at.directory;
-      files = λ descriptor m.
-          ⊎_elim (λ e. subst (λ (d : Descriptor ℕ). OpensAt world d.location) (sym e) opens) (at.files descriptor)
-          (among-inserted _ task.descriptors descriptor m);
-    }
+    → OpensAt world file → IsPlaced world (with_descriptor task file access)
+opened_placed world task file access at opens = record {
+  root = at.root;
+  directory = at.directory;
+  files = λ descriptor m.
+      ⊎_elim (λ e. subst (λ (d : Descriptor ℕ). OpensAt world d.location) (sym e) opens) (at.files descriptor)
+      (among-inserted _ task.descriptors descriptor m);
+}
 
 -- A new file is made where there is a layer to write to: EROFS of open(2)
 abbrev pub HasLayerToWrite : World ℕ → Permit ℕ → Type 0
@@ -85,8 +83,7 @@ module _ (world : World ℕ) (fresh : Fresh ℕ) (task : Task ℕ) (is : IsWorld
   -- the tasks are those that were there
   unchanged : (permit : Permit ℕ) → Fits permit → (after permit).tasks ≡ world.tasks
       → ArePlaced (after permit) (after permit).tasks
-  unchanged permit fits same =
-      same_tasks (after permit) (after permit).tasks world.tasks same
+  unchanged permit fits same = same_tasks (after permit) (after permit).tasks world.tasks same
       (all_placed_after world (after permit) (seen permit fits) world.tasks all_placed)
 
   -- one task is another
@@ -104,8 +101,7 @@ module _ (world : World ℕ) (fresh : Fresh ℕ) (task : Task ℕ) (is : IsWorld
   -- namespaces end after the tasks changed
   ended : (middle : World ℕ) → ArePlaced middle middle.tasks
       → ArePlaced (namespaces_ended nat_eq middle) (namespaces_ended nat_eq middle).tasks
-  ended middle at =
-      same_tasks (namespaces_ended nat_eq middle) (namespaces_ended nat_eq middle).tasks middle.tasks
+  ended middle at = same_tasks (namespaces_ended nat_eq middle) (namespaces_ended nat_eq middle).tasks middle.tasks
       (tasks-taken_away middle _)
       (all_placed_after middle (namespaces_ended nat_eq middle) (namespaces_ended_seen middle) middle.tasks at)
 
@@ -133,20 +129,16 @@ module _ (world : World ℕ) (fresh : Fresh ℕ) (task : Task ℕ) (is : IsWorld
       → ArePlaced (after permit) (after permit).tasks
   permits_keep_tasks_placed (ToChange location change) fits writes =
       unchanged (ToChange location change) fits (tasks-with_change fresh world location change)
-  permits_keep_tasks_placed (ToMake directory name node) fits writes =
-      unchanged (ToMake directory name node) fits
-      (tasks-with_change (odds fresh) world directory
-      (Make directory.node name (evens fresh 0) node))
+  permits_keep_tasks_placed (ToMake directory name node) fits writes = unchanged (ToMake directory name node) fits
+      (tasks-with_change (odds fresh) world directory (Make directory.node name (evens fresh 0) node))
   permits_keep_tasks_placed (ToRemoveDirectory parent name directory) fits writes =
       unchanged (ToRemoveDirectory parent name directory) fits
       (tasks-with_change fresh (without_mounts_on nat_eq world directory) parent
-      (Remove parent.node name directory.node)
-      ∙ tasks-taken_away world (gone_on world directory))
+      (Remove parent.node name directory.node) ∙ tasks-taken_away world (gone_on world directory))
   permits_keep_tasks_placed (ToRename from old to new object replaced) fits writes =
       unchanged (ToRename from old to new object replaced) fits
       (tasks-with_change fresh (without_replaced nat_eq world replaced) from
-      (Move from.node old to.node new object.node)
-      ∙ tasks-without_replaced world replaced)
+      (Move from.node old to.node new object.node) ∙ tasks-without_replaced world replaced)
   permits_keep_tasks_placed (ToOpen file access) fits writes =
       let permit = ToOpen file access in
       changed_task permit fits (with_descriptor task file access)
@@ -159,8 +151,7 @@ module _ (world : World ℕ) (fresh : Fresh ℕ) (task : Task ℕ) (is : IsWorld
       let permit = ToOpenNew directory name node access in
       let file : Location ℕ = record { mount = directory.mount; node = evens fresh 0 } in
       changed_task permit fits (with_descriptor task file access)
-      (ap (map (replaced_if_called (with_descriptor task file access)))
-      (tasks-with_change (odds fresh) world directory
+      (ap (map (replaced_if_called (with_descriptor task file access))) (tasks-with_change (odds fresh) world directory
       (Make directory.node name (evens fresh 0) node)))
       (opened_placed (after permit) task file access (placed_still permit fits)
       (new_file_opens directory name node access fits writes))
@@ -169,8 +160,7 @@ module _ (world : World ℕ) (fresh : Fresh ℕ) (task : Task ℕ) (is : IsWorld
   permits_keep_tasks_placed (ToClose descriptor) fits writes =
       let permit = ToClose descriptor in
       let still = placed_still permit fits in
-      changed_task permit fits (without_descriptor task descriptor) refl
-      (record {
+      changed_task permit fits (without_descriptor task descriptor) refl (record {
         root = still.root;
         directory = still.directory;
         files = λ d m. still.files d
@@ -179,8 +169,7 @@ module _ (world : World ℕ) (fresh : Fresh ℕ) (task : Task ℕ) (is : IsWorld
   permits_keep_tasks_placed (ToSetDirectory directory) fits writes =
       let permit = ToSetDirectory directory in
       let still = placed_still permit fits in
-      changed_task permit fits (record task { directory = directory }) refl
-      (record {
+      changed_task permit fits (record task { directory = directory }) refl (record {
         root = still.root;
         directory = stands_after world (after permit) (seen permit fits) task.namespace directory
             (reached_stands world task directory fits);
@@ -189,8 +178,7 @@ module _ (world : World ℕ) (fresh : Fresh ℕ) (task : Task ℕ) (is : IsWorld
   permits_keep_tasks_placed (ToSetRoot root) fits writes =
       let permit = ToSetRoot root in
       let still = placed_still permit fits in
-      changed_task permit fits (record task { root = root }) refl
-      (record {
+      changed_task permit fits (record task { root = root }) refl (record {
         root = stands_after world (after permit) (seen permit fits) task.namespace root
             (reached_stands world task root fits);
         directory = still.directory;
@@ -212,12 +200,8 @@ module _ (world : World ℕ) (fresh : Fresh ℕ) (task : Task ℕ) (is : IsWorld
       let parents = placed_with (after permit) parent world.tasks
       (all_placed_after world (after permit) (seen permit fits) world.tasks all_placed)
       (record { root = still.root; directory = still.directory; files = still.files }) in
-      λ other m.
-      ⊎_elim (parents other)
-      (λ new. ⊎_elim
-      (λ e. subst (IsPlaced (after permit)) (sym e)
-      (record { root = still.root; directory = still.directory; files = λ d n. absurd n }))
-      (λ none. absurd none) new)
+      λ other m. ⊎_elim (parents other) (λ new. ⊎_elim (λ e. subst (IsPlaced (after permit)) (sym e)
+      (record { root = still.root; directory = still.directory; files = λ d n. absurd n })) (λ none. absurd none) new)
       (among-append (map (replaced_if_called parent) world.tasks) (child ∷ []) other m)
   permits_keep_tasks_placed ToExit fits writes =
       let left = without_task world task.name in
@@ -226,8 +210,7 @@ module _ (world : World ℕ) (fresh : Fresh ℕ) (task : Task ℕ) (is : IsWorld
       (among-from_filter (λ (x : Task ℕ). not (same_name task.name x.name)) world.tasks other m).0)
   permits_keep_tasks_placed ToUnshare fits writes =
       let copied = unshared nat_eq world fresh task in
-      ended copied
-      (placed_with copied (unshared_task nat_eq (mounts_of nat_eq world task.namespace)
+      ended copied (placed_with copied (unshared_task nat_eq (mounts_of nat_eq world task.namespace)
       (numbers_by nat_eq (odds fresh) (mounts_of nat_eq world task.namespace)) (evens fresh 0) task) world.tasks
       (all_placed_after world copied (unshared_seen world fresh task) world.tasks all_placed)
       (unshared_placed world fresh task is serves placed))
@@ -238,8 +221,7 @@ module _ (world : World ℕ) (fresh : Fresh ℕ) (task : Task ℕ) (is : IsWorld
       let at = stands_after world entered same_world namespace root
       (namespace_root_stands world is namespace task fits) in
       let still = placed_after world entered same_world task placed in
-      ended entered
-      (placed_with entered (entered_at task namespace root) world.tasks
+      ended entered (placed_with entered (entered_at task namespace root) world.tasks
       (all_placed_after world entered same_world world.tasks all_placed)
       (record { root = at; directory = at; files = still.files }))
   permits_keep_tasks_placed (ToMountPlain place flags) fits writes = unchanged (ToMountPlain place flags) fits refl
@@ -270,8 +252,7 @@ module _ (world : World ℕ) (fresh : Fresh ℕ) (task : Task ℕ) (is : IsWorld
 -- So the invariants of locations, of where tasks stand, and of open files are kept.
 module _ (world : World ℕ) (fresh : Fresh ℕ) (task : Task ℕ) (permit : Permit ℕ) (is : IsWorld nat_eq world)
     (serves : Serves nat_eq world fresh) (called : task_called world task.name ≡ Some task)
-    (fits : IsFitPermit fresh world task permit)
-    (writes : HasLayerToWrite world permit) where
+    (fits : IsFitPermit fresh world task permit) (writes : HasLayerToWrite world permit) where
   placed_later : ArePlaced (after world fresh task is serves called permit)
       (after world fresh task is serves called permit).tasks
   placed_later = permits_keep_tasks_placed world fresh task is serves called permit fits.names writes

@@ -1,10 +1,11 @@
 -- A permit that fits keeps what is seen.
-use Rattle.std.proofs.Common.{◌≡◌, refl, sym, subst, ◌∙◌, ℕ, nat_eq, Bool, true, false, filter, flat_map, List, [], ◌∷◌, Option, Some, None, map}
+use Rattle.std.proofs.Common.{arith, ◌≡◌, refl, sym, subst, ◌∙◌, ℕ, nat_eq, Bool, true, false, filter, flat_map, List, [], ◌∷◌, Option, Some, None, map}
+use Rattle.std.proofs.lemmas.Grind.{common_steps}
 use Rattle.std.specs.Prelude.{All}
 use Rattle.vt_spec.specs.Machine.Apply.{apply}
 use Rattle.vt_spec.specs.Machine.Attach.{bind_tree}
 use Rattle.vt_spec.specs.Language.Changes.{Change}
-use Rattle.vt_spec.specs.Language.Changes.Change.{AddName, CopyUp, Make, Move, Remove, SetAttr, SetBytes, SetMark}
+use Rattle.vt_spec.specs.Language.Changes.Change.{CopyUp, Make, Move, Remove}
 use Rattle.vt_spec.specs.Machine.Filesystems.{with_change}
 use Rattle.vt_spec.specs.Machine.Detach.{going, mounts_on, taken_away, without_mounts_on, without_replaced}
 use Rattle.vt_spec.specs.Lists.{Fresh, evens, odds}
@@ -29,14 +30,7 @@ use Rattle.vt_spec.proofs.Worlds.{filesystems-taken_away, filesystems-without_re
 -- what a permit sets or names makes nothing
 pub makes_none : (world : World ℕ) (location : Location ℕ) (change : Change ℕ) → SetsBytesOfFiles world location change
     → MakesNew (files_at nat_eq world location) change
-makes_none world location (Make directory name number node) sets = absurd sets
-makes_none world location (AddName directory name object) sets = tt
-makes_none world location (Remove directory name object) sets = tt
-makes_none world location (Move from old to new object) sets = tt
-makes_none world location (SetBytes file bytes) sets = tt
-makes_none world location (SetAttr object attr) sets = tt
-makes_none world location (SetMark directory opaque) sets = tt
-makes_none world location (CopyUp object) sets = tt
+makes_none world location change sets = grind (arith, common_steps)
 
 pub taken_plain : (world : World ℕ) (gone : List ℕ) → IsPlain world → IsPlain (taken_away nat_eq world gone)
 taken_plain world gone plain = subst (All (λ filesystem. is_overlay filesystem ≡ false))
@@ -44,8 +38,7 @@ taken_plain world gone plain = subst (All (λ filesystem. is_overlay filesystem 
 
 -- the mounts on a directory go
 abbrev pub gone_on : World ℕ → Location ℕ → List ℕ
-gone_on world location =
-    map (λ (mount : Mount ℕ). mount.number)
+gone_on world location = map (λ (mount : Mount ℕ). mount.number)
     (flat_map (mount_tree nat_eq world.mounts) (mounts_on nat_eq world location))
 
 pub point_removed_seen : (world : World ℕ) (location : Location ℕ)
@@ -85,8 +78,7 @@ change_seen_in fresh world middle elsewhere are_new same location change =
 
 module _ (fresh : Fresh ℕ) (world : World ℕ) (elsewhere : UppersAreElsewhere world)
     (are_new : AreNewInodes fresh world) where
-  pub copy_seen : (b : Bool) (file : Location ℕ)
-      → KeepsWhatIsSeen world (with_copy nat_eq b fresh world file)
+  pub copy_seen : (b : Bool) (file : Location ℕ) → KeepsWhatIsSeen world (with_copy nat_eq b fresh world file)
   copy_seen true file = change_keeps_seen fresh world elsewhere are_new file (CopyUp file.node) tt
   copy_seen false file = same_seen world
 
@@ -124,8 +116,7 @@ module _ (world : World ℕ) (fresh : Fresh ℕ) (task : Task ℕ) (is : IsWorld
       let middle_one = without_mounts_on nat_eq world directory in
       seen_on world middle_one (after (ToRemoveDirectory parent name directory)) (point_removed_seen world directory)
       (change_seen_in fresh world middle_one elsewhere are_new
-      (filesystems-taken_away world (gone_on world directory)) parent
-      (Remove parent.node name directory.node) tt)
+      (filesystems-taken_away world (gone_on world directory)) parent (Remove parent.node name directory.node) tt)
   permits_keep_what_is_seen (ToRename from old to new object replaced) names =
       let middle_one = without_replaced nat_eq world replaced in
       seen_on world middle_one (after (ToRename from old to new object replaced)) (replaced_seen world replaced)
@@ -166,8 +157,7 @@ module _ (world : World ℕ) (fresh : Fresh ℕ) (task : Task ℕ) (is : IsWorld
   permits_keep_what_is_seen (ToMountOverlay place overlay flags) names = absurd names
   permits_keep_what_is_seen (ToBind source place recursive) names =
       attached_seen world fresh place (bind_tree nat_eq world source recursive)
-  permits_keep_what_is_seen (ToMove mount place) names =
-      moved_seen world fresh mount place is.mounts.one_number
+  permits_keep_what_is_seen (ToMove mount place) names = moved_seen world fresh mount place is.mounts.one_number
       (λ one m. among_from_all (λ (x : Mount ℕ). Stands nat_eq world x.number) world.mounts is.mounts.standing one m)
       (names.own ∙ sym names.destination.own)
   permits_keep_what_is_seen (ToUnmount mount) names =

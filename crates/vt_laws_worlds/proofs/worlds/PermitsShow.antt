@@ -1,5 +1,6 @@
 -- A permit that fits leaves each mount with a root and a place that are directories.
-use Rattle.std.proofs.Common.{◌≡◌, refl, ℕ, nat_eq, Bool, true, false, List, [], ◌∷◌, Option, Some, None, is_some}
+use Rattle.std.proofs.Common.{arith, ◌≡◌, refl, ℕ, nat_eq, Bool, true, false, List, [], ◌∷◌, Option, Some, None}
+use Rattle.std.proofs.lemmas.Grind.{common_steps}
 use Rattle.std.proofs.lemmas.Bool.{and_parts}
 use Rattle.vt_spec.specs.Machine.Apply.{apply}
 use Rattle.vt_spec.specs.Language.Changes.Change.{CopyUp, Make, Move, Remove}
@@ -13,9 +14,8 @@ use Rattle.vt_spec.specs.Machine.Descriptors.{is_copied_up, pwritten, with_copy}
 use Rattle.vt_spec.specs.Machine.Permits.{Permit}
 use Rattle.vt_spec.specs.Machine.Permits.Permit.{ToBind, ToChange, ToClose, ToEnterNamespace, ToExit, ToFork, ToMake, ToMountOverlay, ToMountPlain, ToMove, ToOpen, ToOpenNew, ToPivot, ToRemoveDirectory, ToRename, ToSetCredentials, ToSetDirectory, ToSetFlags, ToSetRoot, ToSetType, ToSetUmask, ToUnmount, ToUnmountLazily, ToUnshare, ToWritePart}
 use Rattle.vt_spec.specs.Machine.Run.{Serves}
-use Rattle.vt_spec.specs.Machine.World.{Task, World, mount_at, mount_numbered, node_at, without_task}
+use Rattle.vt_spec.specs.Machine.World.{Task, World, mount_at, mount_numbered, without_task}
 use Rattle.vt_spec.specs.Machine.Invariants.{IsWorld}
-use Rattle.vt_laws_mounts.specs.Mounts.Attaching.{is_mount}
 use Rattle.vt_laws_worlds.specs.Worlds.Kept.{KeptByAllPermits, KeptByPermits, MountsShow}
 use Rattle.vt_laws_worlds.specs.Worlds.Permits.{IsReachedDirectory, NamesWhatIsThere}
 use Rattle.vt_laws_worlds.proofs.worlds.PermitsSeen.{are_new, change_seen_in, copy_seen, elsewhere, gone_on, makes_none, new_at, odds_are_new, permits_keep_what_is_seen, written_seen}
@@ -35,16 +35,10 @@ module _ (world : World ℕ) (fresh : Fresh ℕ) (task : Task ℕ) (is : IsWorld
   shows = world_shows world is
 
   reached_place : (location : Location ℕ) → IsReachedDirectory world task location → IsPlace world location
-  reached_place location at =
-      record {
-        listed = (and_parts (is_mount world location.mount)
-            (is_some (node_at nat_eq world location)) at.reached.there).0;
-        directory = at.directory;
-      }
+  reached_place location at = grind (arith, common_steps, and_parts)
 
   -- a change of a tree
-  changing : (supply : Fresh ℕ) (middle : World ℕ) → AllShow middle
-      → (location : Location ℕ) (change : Change ℕ)
+  changing : (supply : Fresh ℕ) (middle : World ℕ) → AllShow middle → (location : Location ℕ) (change : Change ℕ)
       → KeepsWhatIsSeen middle (with_change nat_eq supply middle location change)
       → AllShow (with_change nat_eq supply middle location change)
   changing supply middle show location change seen =
@@ -56,11 +50,9 @@ module _ (world : World ℕ) (fresh : Fresh ℕ) (task : Task ℕ) (is : IsWorld
       (copy_seen fresh world (elsewhere world fresh task is serves) (are_new world fresh task is serves) true file)
   copying false file = shows
 
-  writing : (file : Location ℕ) (offset : ℕ) (bytes : List ℕ)
-      → AllShow (pwritten nat_eq fresh world file offset bytes)
+  writing : (file : Location ℕ) (offset : ℕ) (bytes : List ℕ) → AllShow (pwritten nat_eq fresh world file offset bytes)
   writing file offset [] = shows
-  writing file offset (byte ∷ bytes) =
-      changing fresh world shows file _
+  writing file offset (byte ∷ bytes) = changing fresh world shows file _
       (written_seen fresh world (elsewhere world fresh task is serves) (are_new world fresh task is serves) file offset
       (byte ∷ bytes))
 
@@ -75,41 +67,34 @@ module _ (world : World ℕ) (fresh : Fresh ℕ) (task : Task ℕ) (is : IsWorld
       (seen_alike before later mounts filesystems) mounts
 
   pub permits_keep_all_shown : (permit : Permit ℕ) → NamesWhatIsThere world task permit → AllShow (after permit)
-  permits_keep_all_shown (ToChange location change) fits =
-      changing fresh world shows location change
+  permits_keep_all_shown (ToChange location change) fits = changing fresh world shows location change
       (change_keeps_seen fresh world (elsewhere world fresh task is serves)
       (are_new world fresh task is serves) location change (makes_none world location change fits.1))
   permits_keep_all_shown (ToMake directory name node) fits =
       changing (odds fresh) world shows directory (Make directory.node name (evens fresh 0) node)
       (change_keeps_seen (odds fresh) world (elsewhere world fresh task is serves)
-      (odds_are_new world fresh task is serves) directory
-      (Make directory.node name (evens fresh 0) node)
+      (odds_are_new world fresh task is serves) directory (Make directory.node name (evens fresh 0) node)
       (new_at world fresh task is serves directory))
   permits_keep_all_shown (ToRemoveDirectory parent name directory) fits =
       changing fresh (without_mounts_on nat_eq world directory)
-      (taken_show world (gone_on world directory) shows) parent
-      (Remove parent.node name directory.node)
+      (taken_show world (gone_on world directory) shows) parent (Remove parent.node name directory.node)
       (change_seen_in fresh world (without_mounts_on nat_eq world directory) (elsewhere world fresh task is serves)
-      (are_new world fresh task is serves)
-      (filesystems-taken_away world (gone_on world directory)) parent
+      (are_new world fresh task is serves) (filesystems-taken_away world (gone_on world directory)) parent
       (Remove parent.node name directory.node) tt)
   permits_keep_all_shown (ToRename from old to new object replaced) fits =
       changing fresh (without_replaced nat_eq world replaced) (replacing replaced) from
       (Move from.node old to.node new object.node)
       (change_seen_in fresh world (without_replaced nat_eq world replaced) (elsewhere world fresh task is serves)
-      (are_new world fresh task is serves)
-      (filesystems-without_replaced world replaced) from
+      (are_new world fresh task is serves) (filesystems-without_replaced world replaced) from
       (Move from.node old to.node new object.node) tt)
   permits_keep_all_shown (ToOpen file access) fits =
-      alike (with_copy nat_eq (is_copied_up nat_eq world file access) fresh world file)
-      (after (ToOpen file access))
+      alike (with_copy nat_eq (is_copied_up nat_eq world file access) fresh world file) (after (ToOpen file access))
       refl refl (copying (is_copied_up nat_eq world file access) file)
   permits_keep_all_shown (ToOpenNew directory name node access) fits =
       alike (after (ToMake directory name node)) (after (ToOpenNew directory name node access)) refl refl
       (changing (odds fresh) world shows directory (Make directory.node name (evens fresh 0) node)
       (change_keeps_seen (odds fresh) world (elsewhere world fresh task is serves)
-      (odds_are_new world fresh task is serves) directory
-      (Make directory.node name (evens fresh 0) node)
+      (odds_are_new world fresh task is serves) directory (Make directory.node name (evens fresh 0) node)
       (new_at world fresh task is serves directory)))
   permits_keep_all_shown (ToWritePart file offset bytes) fits = writing file offset bytes
   permits_keep_all_shown (ToClose descriptor) fits = alike world (after (ToClose descriptor)) refl refl shows

@@ -1,7 +1,6 @@
 -- Where tasks stand, and what they have open, is there in each world that keeps what is seen.
-use Rattle.std.proofs.Common.{arith}
+use Rattle.std.proofs.Common.{arith, ◌≡◌, refl, ap, ◌∙◌, ◌⊎◌, inl, inr, ⊎_elim, ℕ, nat_eq, true, List, [], ◌∷◌, map}
 use Rattle.std.proofs.lemmas.Grind.{common_steps}
-use Rattle.std.proofs.Common.{◌≡◌, refl, ap, ◌∙◌, ◌⊎◌, inl, inr, ⊎_elim, ℕ, nat_eq, true, List, [], ◌∷◌, map}
 use Rattle.std.proofs.lemmas.Bool.{and_from, and_parts}
 use Rattle.vt_spec.specs.declared.attributes.Kind.TheVariants.{File}
 use Rattle.vt_spec.specs.FileTree.{is_kind_in}
@@ -43,20 +42,17 @@ module _ (before after : World ℕ) (seen : KeepsWhatIsSeen before after) where
       }
 
   pub opens_after : (location : Location ℕ) → OpensAt before location → OpensAt after location
-  opens_after location at =
-      record {
-        located = located_after before after seen location at.located;
-        regular = file_after before after seen location
-            (mount_of_located before after seen location at.located) at.regular;
-      }
+  opens_after location at = record {
+    located = located_after before after seen location at.located;
+    regular = file_after before after seen location (mount_of_located before after seen location at.located) at.regular;
+  }
 
   pub placed_after : (task : Task ℕ) → IsPlaced before task → IsPlaced after task
-  placed_after task at =
-      record {
-        root = stands_after task.namespace task.root at.root;
-        directory = stands_after task.namespace task.directory at.directory;
-        files = λ descriptor m. opens_after descriptor.location (at.files descriptor m);
-      }
+  placed_after task at = record {
+    root = stands_after task.namespace task.root at.root;
+    directory = stands_after task.namespace task.directory at.directory;
+    files = λ descriptor m. opens_after descriptor.location (at.files descriptor m);
+  }
 
   -- tasks that were there
   pub all_placed_after : (tasks : List (Task ℕ)) → ArePlaced before tasks → ArePlaced after tasks
@@ -64,8 +60,7 @@ module _ (before after : World ℕ) (seen : KeepsWhatIsSeen before after) where
 
 -- The invariants say that all tasks are placed
 pub all_are_placed : (world : World ℕ) → LocationsAreThere world → TasksStandOnDirectories world
-    → OpenFilesAreRegular world
-    → ArePlaced world world.tasks
+    → OpenFilesAreRegular world → ArePlaced world world.tasks
 all_are_placed world there directories files task m =
     let on = and_parts (is_directory_seen_in nat_eq world task.namespace task.root)
     (is_directory_seen_in nat_eq world task.namespace task.directory)
@@ -77,8 +72,7 @@ all_are_placed world there directories files task m =
     record {
       root = record { located = located task.root (inl refl); directory = root.0; inside = root.1 };
       directory = record {
-        located = located task.directory
-            (inr (inl refl));
+        located = located task.directory (inr (inl refl));
         directory = directory.0;
         inside = directory.1;
       };
@@ -93,29 +87,24 @@ all_are_placed world there directories files task m =
   where
     located : (location : Location ℕ) → Among location (locations_of task)
         → is_located_well nat_eq world location ≡ true
-    located location n =
-        among_from_list_all (is_located_well nat_eq world) (all_locations world) there location
+    located location n = among_from_list_all (is_located_well nat_eq world) (all_locations world) there location
         (among-flat_map locations_of world.tasks task location m n)
 
 module _ (world : World ℕ) (placed : ArePlaced world world.tasks) where
   pub locations_are_there : LocationsAreThere world
-  locations_are_there =
-      list_all_from_among (is_located_well nat_eq world) (all_locations world) (λ location m.
+  locations_are_there = list_all_from_among (is_located_well nat_eq world) (all_locations world) (λ location m.
       let from = among-from_flat_map locations_of world.tasks location m in
       of_task from.0 (placed from.0 from.1) location from.2)
     where
       of_task : (task : Task ℕ) → IsPlaced world task → (location : Location ℕ) → Among location (locations_of task)
           → is_located_well nat_eq world location ≡ true
-      of_task task at location m =
-          ⊎_elim (λ e. ap (is_located_well nat_eq world) e ∙ at.root.located)
-          (λ later. ⊎_elim (λ e. ap (is_located_well nat_eq world) e ∙ at.directory.located)
-          (λ opened.
+      of_task task at location m = ⊎_elim (λ e. ap (is_located_well nat_eq world) e ∙ at.root.located)
+          (λ later. ⊎_elim (λ e. ap (is_located_well nat_eq world) e ∙ at.directory.located) (λ opened.
           let from = among-from_map (λ (d : Descriptor ℕ). d.location) task.descriptors location opened in
           ap (is_located_well nat_eq world) from.2 ∙ (at.files from.0 from.1).located) later) m
 
   pub tasks_stand_on_directories : TasksStandOnDirectories world
-  tasks_stand_on_directories =
-      list_all_from_among (stands_on_directories nat_eq world) world.tasks (λ task m.
+  tasks_stand_on_directories = list_all_from_among (stands_on_directories nat_eq world) world.tasks (λ task m.
       let at = placed task m in
       and_from (is_directory_seen_in nat_eq world task.namespace task.root)
       (is_directory_seen_in nat_eq world task.namespace task.directory)
@@ -125,8 +114,7 @@ module _ (world : World ℕ) (placed : ArePlaced world world.tasks) where
       (is_in task.namespace (mount_at nat_eq world task.directory)) at.directory.directory at.directory.inside))
 
   pub open_files_are_regular : OpenFilesAreRegular world
-  open_files_are_regular =
-      list_all_from_among (has_regular_files_open nat_eq world) world.tasks (λ task m.
+  open_files_are_regular = list_all_from_among (has_regular_files_open nat_eq world) world.tasks (λ task m.
       list_all_from_among (λ (d : Descriptor ℕ). is_kind_in File (node_at nat_eq world d.location)) task.descriptors
       (λ descriptor n. ((placed task m).files descriptor n).regular))
 
@@ -137,7 +125,6 @@ placed_with world new tasks placed at task m =
     let from = among-from_map (replaced_if_called new) tasks task m in grind (arith, common_steps)
 
 pub among-inserted : (new : Descriptor ℕ) (list : List (Descriptor ℕ)) (descriptor : Descriptor ℕ)
-    → Among descriptor (inserted new list)
-    → (descriptor ≡ new) ⊎ Among descriptor list
+    → Among descriptor (inserted new list) → (descriptor ≡ new) ⊎ Among descriptor list
 among-inserted new [] descriptor m = ⊎_elim inl (λ none. absurd none) m
 among-inserted new (first ∷ rest) descriptor m = grind (arith, common_steps, among-inserted new rest descriptor)

@@ -1,7 +1,6 @@
 -- Where one step of a walk leads: to what is there, on a mount of the task's namespace or on one that is in none.
-use Rattle.std.proofs.Common.{arith}
+use Rattle.std.proofs.Common.{arith, ◌≡◌, refl, sym, ap, subst, ◌∙◌, true≢false, ⊎_elim, ℕ, nat_eq, Bool, true, false, not, cond, List, [], ◌∷◌, ◌&&◌, ◌||◌, length, Option, Some, None, is_some, option_map, ok_or, Ok, Err}
 use Rattle.std.proofs.lemmas.Grind.{common_steps}
-use Rattle.std.proofs.Common.{◌≡◌, refl, sym, ap, subst, ◌∙◌, true≢false, ⊎_elim, ℕ, nat_eq, Bool, true, false, not, cond, List, [], ◌∷◌, ◌&&◌, ◌||◌, length, Option, Some, None, is_some, option_map, ok_or, Ok, Err}
 use Rattle.std.specs.Prelude.{option_to_list}
 use Rattle.std.specs.List.{list_all}
 use Rattle.std.proofs.lemmas.Bool.{and_from}
@@ -55,8 +54,7 @@ namespace_below world number place (on_parent it on e same stands) f =
 module _ (world : World ℕ) (whole : IsWorld nat_eq world) (task : Task ℕ) where
   -- a mount of the task's namespace, or one that is in none
   abbrev pub IsOn : ℕ → Type 0
-  IsOn number =
-      (is_among nat_eq number (numbers_of world.mounts) ≡ true)
+  IsOn number = (is_among nat_eq number (numbers_of world.mounts) ≡ true)
       × (list_all (nat_eq task.namespace) (option_to_list (mount_numbered nat_eq world number).namespace) ≡ true)
 
   abbrev pub IsThere : Location ℕ → Type 0
@@ -88,8 +86,7 @@ module _ (world : World ℕ) (whole : IsWorld nat_eq world) (task : Task ℕ) wh
   directory_end location is = (directory_found location is, directory_no_link (node_at nat_eq world location) is.1)
 
   pub is_reached : (location : Location ℕ) → IsFound location → IsReached world task location
-  is_reached location is =
-      record { there = and_from _ _ is.0.0 is.1; seen = is.0.1 }
+  is_reached location is = record { there = and_from _ _ is.0.0 is.1; seen = is.0.1 }
 
   pub is_reached_directory : (location : Location ℕ) → IsFound location → IsDirectory location
       → IsReachedDirectory world task location
@@ -109,8 +106,7 @@ module _ (world : World ℕ) (whole : IsWorld nat_eq world) (task : Task ℕ) wh
           let itself = found_itself world.mounts whole.mounts.one_number mount found.0 in
           let below = namespace_below world mount.number a
           (among_from_all (λ (m : Mount ℕ). Stands nat_eq world m.number) world.mounts whole.mounts.standing mount
-          found.0)
-          (ap (λ (m : Mount ℕ). m.mount_point) itself ∙ stands_there a mount found.1) in
+          found.0) (ap (λ (m : Mount ℕ). m.mount_point) itself ∙ stands_there a mount found.1) in
           subst IsFoundDirectory (same_Some (root_of mount) b h) (
             (
               is_one_of world.mounts mount found.0,
@@ -121,13 +117,11 @@ module _ (world : World ℕ) (whole : IsWorld nat_eq world) (task : Task ℕ) wh
           )
 
   pub topmost_found : (location : Location ℕ) → IsFound location → IsFound (topmost nat_eq world.mounts location)
-  topmost_found location is =
-      chain_ends IsFound (λ here. option_map root_of (child_at nat_eq world.mounts here))
+  topmost_found location is = chain_ends IsFound (λ here. option_map root_of (child_at nat_eq world.mounts here))
       (λ a b found e. directory_found b (child_found a b found.0 e)) (length world.mounts) location location is
 
   pub topmost_end : (location : Location ℕ) → IsEnd location → IsEnd (topmost nat_eq world.mounts location)
-  topmost_end location is =
-      chain_ends IsEnd (λ here. option_map root_of (child_at nat_eq world.mounts here))
+  topmost_end location is = chain_ends IsEnd (λ here. option_map root_of (child_at nat_eq world.mounts here))
       (λ a b end e. directory_end b (child_found a b end.0.0 e)) (length world.mounts) location location is
 
   pub topmost_directory : (location : Location ℕ) → IsFoundDirectory location
@@ -138,30 +132,25 @@ module _ (world : World ℕ) (whole : IsWorld nat_eq world) (task : Task ℕ) wh
 
   -- mounts outside every namespace stand nowhere
   nowhere_unplaced : (mount : Mount ℕ) → Among mount world.mounts → (place : Location ℕ)
-      → mount.mount_point ≡ Some place
-      → mount.namespace ≡ None → ⊥
-  nowhere_unplaced mount m place e none =
-      true≢false
+      → mount.mount_point ≡ Some place → mount.namespace ≡ None → ⊥
+  nowhere_unplaced mount m place e none = true≢false
       (sym (among_from_list_all is_nowhere_or_attached world.mounts whole.mounts.nowhere mount m)
       ∙ ap (λ n. is_some n || (not (is_some mount.mount_point) && is_private mount.propagation)) none
       ∙ ap (λ q. not (is_some q) && is_private mount.propagation) e)
 
   -- the place of a mount
   pub place_found : (number : ℕ) (place : Location ℕ) → IsOn number → (mount_numbered nat_eq world
-      number).mount_point ≡ Some place
-      → IsFoundDirectory place
+      number).mount_point ≡ Some place → IsFoundDirectory place
   place_found number place on e =
       let mount = mount_numbered nat_eq world number in
       let there : Among mount world.mounts = placed_among world.mounts number place e in
       let same : mount.number ≡ number = number-mount_in world.mounts number in
       let below : mount.namespace ≡ (mount_numbered nat_eq world place.mount).namespace =
-      namespace_below world number place
-      (subst (Stands nat_eq world) same
+      namespace_below world number place (subst (Stands nat_eq world) same
       (among_from_all (λ (m : Mount ℕ). Stands nat_eq world m.number) world.mounts whole.mounts.standing mount
       there)) e in (
         (
-          ⊎_elim
-              (λ found. subst (λ n. is_among nat_eq n (numbers_of world.mounts) ≡ true)
+          ⊎_elim (λ found. subst (λ n. is_among nat_eq n (numbers_of world.mounts) ≡ true)
               (number-mount_in world.mounts place.mount)
               (is_one_of world.mounts (mount_numbered nat_eq world place.mount) found))
               (λ none. absurd (nowhere_unplaced mount there place e (below ∙ ap (λ (m : Mount ℕ). m.namespace) none)))
@@ -190,14 +179,11 @@ module _ (world : World ℕ) (whole : IsWorld nat_eq world) (task : Task ℕ) wh
   no_denial deny a e = grind (arith, common_steps, true≢false)
 
   up_found : (location reached : Location ℕ) → IsFoundDirectory location
-      → up_from nat_eq world task location ≡ Ok reached
-      → IsFound reached
+      → up_from nat_eq world task location ≡ Ok reached → IsFound reached
   up_found location reached is e = by (is_top nat_eq world task location) (is_lost nat_eq world location) e
     where
-      by : (p q : Bool)
-          → cond p (Ok location) (unless ((q, W8) ∷ []) (Ok (topmost nat_eq world.mounts
-          (parent_location nat_eq world location)))) ≡ Ok reached
-          → IsFound reached
+      by : (p q : Bool) → cond p (Ok location) (unless ((q, W8) ∷ []) (Ok (topmost nat_eq world.mounts
+          (parent_location nat_eq world location)))) ≡ Ok reached → IsFound reached
       by true q h = subst IsFound (ok_same location reached (Ok location) refl h) (directory_found location is)
       by false true h = absurd (no_denial (denial W8) reached h)
       by false false h =
@@ -212,26 +198,22 @@ module _ (world : World ℕ) (whole : IsWorld nat_eq world) (task : Task ℕ) wh
       by : (o : Option ℕ) → entry_named name (entries_in (node_at nat_eq world here)) ≡ o
           → option_map (λ number. record { mount = here.mount; node = number }) o ≡ Some object → IsFound object
       by None f h = none_is_not None object refl h
-      by (Some number) f h =
-          subst IsFound (same_Some _ object h) (
-            is.0,
-            (directory_in_tree world whole.files.trees here is.1).alive
-                here.node name number f,
-          )
+      by (Some number) f h = subst IsFound (same_Some _ object h) (
+        is.0,
+        (directory_in_tree world whole.files.trees here is.1).alive here.node name number f,
+      )
 
   -- one word
   pub step_found : (here : Location ℕ) (word : LastWord) (reached : Location ℕ) → IsFoundDirectory here
       → stepped nat_eq world task here word ≡ Ok reached → IsFound reached
   step_found here NoWord reached is e = subst IsFound (ok_same here reached (Ok here) refl e) (directory_found here is)
   step_found here Dot reached is e = subst IsFound (ok_same here reached (Ok here) refl e) (directory_found here is)
-  step_found here DotDot reached is e =
-      up_found (last_or here (hops nat_eq world task here)) reached
+  step_found here DotDot reached is e = up_found (last_or here (hops nat_eq world task here)) reached
       (chain_ends IsFoundDirectory (hop nat_eq world task) hop_found (length world.mounts) here here is) e
   step_found here (Named name) reached is e = by (entry_location nat_eq world here name) refl e
     where
       by : (o : Option (Location ℕ)) → entry_location nat_eq world here name ≡ o
           → ok_or (option_map (topmost nat_eq world.mounts) o) (denial W6) ≡ Ok reached → IsFound reached
       by None f h = absurd (no_denial (denial W6) reached h)
-      by (Some object) f h =
-          subst IsFound (ok_same (topmost nat_eq world.mounts object) reached _ refl h)
+      by (Some object) f h = subst IsFound (ok_same (topmost nat_eq world.mounts object) reached _ refl h)
           (topmost_found object (entry_found here name object is f))

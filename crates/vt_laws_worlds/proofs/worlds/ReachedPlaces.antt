@@ -1,7 +1,6 @@
 -- Where walks to a name end: at a directory that is there, and at what has the name in it; and those of mount calls.
-use Rattle.std.proofs.Common.{arith}
+use Rattle.std.proofs.Common.{arith, ◌≡◌, refl, sym, ap, subst, ◌∙◌, true≢false, ℕ, zero, suc, nat_eq, Bool, true, false, not, List, [], ◌∷◌, ◌&&◌, ◌||◌, ◌+◌, reverse, Option, Some, None, is_some, Ok, Err, Result}
 use Rattle.std.proofs.lemmas.Grind.{common_steps}
-use Rattle.std.proofs.Common.{◌≡◌, refl, sym, ap, subst, ◌∙◌, true≢false, ℕ, zero, suc, nat_eq, Bool, true, false, not, List, [], ◌∷◌, ◌&&◌, ◌||◌, ◌+◌, reverse, Option, Some, None, is_some, Ok, Err, Result}
 use Rattle.std.proofs.lemmas.Option.{same_Some}
 use Rattle.vt_spec.specs.declared.errors.Deny.{Deny}
 use Rattle.vt_spec.specs.declared.errors.Rule.TheVariants.{W3, W6, W8}
@@ -32,8 +31,7 @@ module _ (world : World ℕ) (whole : IsWorld nat_eq world) (task : Task ℕ)
 
   -- a directory that is there, if the last word is a name, and what has that name
   abbrev pub IsPlaceIn : (Location ℕ → Type 0) → Place ℕ → Type 0
-  IsPlaceIn P place =
-      Found world whole task called place.parent
+  IsPlaceIn P place = Found world whole task called place.parent
       × (is_special place.last ≡ false → IsDirectory world whole task place.parent)
       × ((object : Location ℕ) → place.object ≡ Some object → P object)
 
@@ -48,27 +46,22 @@ module _ (world : World ℕ) (whole : IsWorld nat_eq world) (task : Task ℕ)
   placed_found here is NoWord slash = (
     is.0,
     λ plain. absurd (true≢false plain),
-    λ object e. subst (Found world whole task called)
-        (same_Some here.location object e) is.0,
+    λ object e. subst (Found world whole task called) (same_Some here.location object e) is.0,
   )
   placed_found here is Dot slash =
       ends_step IsFoundPlace (steps_at nat_eq world task here Dot) (search_rules nat_eq world task here.location)
-      (object_named nat_eq world task here.location Dot) _
-      (λ passed object e. (
+      (object_named nat_eq world task here.location Dot) _ (λ passed object e. (
         is.0,
         λ plain. absurd (true≢false plain),
-        λ other f.
-            subst (Found world whole task called) (same_Some here.location other
+        λ other f. subst (Found world whole task called) (same_Some here.location other
             (ok_same (Some here.location) object _ refl e ∙ f)) is.0,
       ))
   placed_found here is DotDot slash =
       ends_step IsFoundPlace (steps_at nat_eq world task here DotDot) (search_rules nat_eq world task here.location)
-      (object_named nat_eq world task here.location DotDot) _
-      (λ passed object e. (
+      (object_named nat_eq world task here.location DotDot) _ (λ passed object e. (
         is.0,
         λ plain. absurd (true≢false plain),
-        λ other f.
-            by (stepped nat_eq world task here.location DotDot) refl object e other f
+        λ other f. by (stepped nat_eq world task here.location DotDot) refl object e other f
             (is.0.0, not_true (is_directory_at nat_eq world here.location) passed.0),
       ))
     where
@@ -76,25 +69,21 @@ module _ (world : World ℕ) (whole : IsWorld nat_eq world) (task : Task ℕ)
           → (object : Option (Location ℕ))
           → and_then r (λ parent. Ok (Some parent)) ≡ Ok object → (other : Location ℕ) → object ≡ Some other
           → FoundDirectory world whole task called here.location → Found world whole task called other
-      by (Ok parent) g object e other f directory =
-          step_found world whole task here.location DotDot other directory
+      by (Ok parent) g object e other f directory = step_found world whole task here.location DotDot other directory
           (g ∙ ap Ok (same_Some parent other (ok_same (Some parent) object _ refl e ∙ f)))
       by (Err deny) g object e other f directory = absurd (no_answer deny object e)
-  placed_found here is (Named name) slash =
-      ends_step IsFoundPlace (steps_at nat_eq world task here (Named name))
+  placed_found here is (Named name) slash = ends_step IsFoundPlace (steps_at nat_eq world task here (Named name))
       (search_rules nat_eq world task here.location) (object_named nat_eq world task here.location (Named name)) _
       (λ passed object e.
       let directory = not_true (is_directory_at nat_eq world here.location) passed.0 in (
         is.0,
         λ plain. directory,
-        λ other f.
-            entry_found world whole task here.location name other (is.0.0, directory)
+        λ other f. entry_found world whole task here.location name other (is.0.0, directory)
             (ok_same (entry_location nat_eq world here.location name) object _ refl e ∙ f),
       ))
 
   pub place_walk_found : (path : List ℕ) → Ends IsFoundPlace (place_walk nat_eq world task path)
-  place_walk_found path =
-      ends_next IsFoundPlace (path_text path) _ (λ text.
+  place_walk_found path = ends_next IsFoundPlace (path_text path) _ (λ text.
       ends_then HereEnd IsFoundPlace
       (prefix_walked nat_eq world task (followed nat_eq world task) (walk_start task text) (reverse (words text))) _
       (front_end world whole task called (walk_start task text) (walk_start_end world whole task called text)
@@ -124,24 +113,17 @@ module _ (world : World ℕ) (whole : IsWorld nat_eq world) (task : Task ℕ)
   IsOldPlace place = IsFoundPlace place × (is_some place.object ≡ true)
 
   pub old_walk_found : (path : List ℕ) → Ends IsOldPlace (old_walk nat_eq world task path)
-  old_walk_found path =
-      ends_then IsFoundPlace IsOldPlace (place_walk nat_eq world task path) _ (place_walk_found path)
+  old_walk_found path = ends_then IsFoundPlace IsOldPlace (place_walk nat_eq world task path) _ (place_walk_found path)
       (λ place is. ends_unless IsOldPlace place.steps ((not (is_some place.object), W6) ∷ []) place
       (λ passed. (is, not_true (is_some place.object) passed.0)))
 
   pub old_leaf_walk_found : (path : List ℕ) → Ends IsOldPlace (old_leaf_walk nat_eq world task path)
   old_leaf_walk_found path =
-      ends_then IsOldPlace IsOldPlace (old_walk nat_eq world task path) _ (old_walk_found path)
-      (λ place is. ends_unless IsOldPlace place.steps ((
-        place.slash && not
-            (is_directory_there nat_eq world place),
-        W3,
-      ) ∷ []) place (λ passed. is))
+      grind (arith, common_steps, ends_then, old_walk, old_walk_found, ends_unless, is_directory_there)
 
   -- files
   no_link_there : (place : Place ℕ) → symlink_there nat_eq world place ≡ None → (object : Location ℕ)
-      → place.object ≡ Some object
-      → symlink_text (node_at nat_eq world object) ≡ None
+      → place.object ≡ Some object → symlink_text (node_at nat_eq world object) ≡ None
   no_link_there place none object e =
       ap (λ o. then_some o (λ at. symlink_text (node_at nat_eq world at))) (sym e) ∙ none
 
@@ -165,16 +147,13 @@ module _ (world : World ℕ) (whole : IsWorld nat_eq world) (task : Task ℕ)
   file_walked_end zero start is text slash = tt
   file_walked_end (suc depth) start is text slash =
       ends_then HereEnd IsEndPlace (prefix_walked nat_eq world task (followed nat_eq world task) start
-      (reverse (words text))) _
-      (front_end world whole task called start is (reverse (words text))) (λ here end.
+      (reverse (words text))) _ (front_end world whole task called start is (reverse (words text))) (λ here end.
       ends_then IsFoundPlace IsEndPlace (placed nat_eq world task here (final_word (reverse (words text)))
-      (slash || ends_in_slash text))
-      (λ place. file_or_symlink nat_eq world place (symlink_there nat_eq world place)
+      (slash || ends_in_slash text)) (λ place. file_or_symlink nat_eq world place (symlink_there nat_eq world place)
       (linked_file depth text slash here place))
       (placed_found here end (final_word (reverse (words text))) (slash || ends_in_slash text)) (λ place place_is.
       file_or_link_end place (linked_file depth text slash here place) place_is (λ inner.
-      ends_then HereEnd IsEndPlace
-      (walk_unless place.steps (follow_rules nat_eq world (symlink_of here place) inner)
+      ends_then HereEnd IsEndPlace (walk_unless place.steps (follow_rules nat_eq world (symlink_of here place) inner)
       (symlink_start nat_eq world task here.location (symlink_of here place) inner))
       (λ next. file_walked nat_eq depth world task next inner (slash || ends_in_slash text))
       (ends_unless HereEnd place.steps (follow_rules nat_eq world (symlink_of here place) inner)
@@ -184,21 +163,18 @@ module _ (world : World ℕ) (whole : IsWorld nat_eq world) (task : Task ℕ)
       (symlink_there nat_eq world place) refl))
 
   pub file_walk_end : (path : List ℕ) → Ends IsEndPlace (file_walk nat_eq world task path)
-  file_walk_end path =
-      ends_next IsEndPlace (path_text path) _ (λ text.
+  file_walk_end path = ends_next IsEndPlace (path_text path) _ (λ text.
       ends_then IsEndPlace IsEndPlace (file_walked nat_eq (most_symlinks + 1) world task
       (walk_start task text) text false) _
       (file_walked_end (most_symlinks + 1) (walk_start task text) (walk_start_end world whole task called text) text
-      false) (λ place is.
-      ends_unless IsEndPlace place.steps (new_name_rules nat_eq world place) place (λ passed. is)))
+      false) (λ place is. ends_unless IsEndPlace place.steps (new_name_rules nat_eq world place) place (λ passed. is)))
 
   -- mount calls
   abbrev pub HereDirectory : Here ℕ → Type 0
   HereDirectory here = FoundDirectory world whole task called here.location
 
   pub source_walk_end : (path : List ℕ) → Ends HereDirectory (source_walk nat_eq world task path)
-  source_walk_end path =
-      ends_then HereDirectory HereDirectory (directory_walk nat_eq world task path) _
+  source_walk_end path = ends_then HereDirectory HereDirectory (directory_walk nat_eq world task path) _
       (directory_walk_end world whole task called path)
       (λ here is. ends_unless HereDirectory here.steps ((is_removed_at nat_eq world here.location, W8) ∷ []) here
       (λ passed. is))
@@ -211,6 +187,5 @@ module _ (world : World ℕ) (whole : IsWorld nat_eq world) (task : Task ℕ)
   destination_walk_end path =
       ends_then HereDirectory IsTopmost (source_walk nat_eq world task path) _ (source_walk_end path) (λ here is.
       ends_unless IsTopmost here.steps ((is_removed_at nat_eq world (topmost nat_eq world.mounts here.location), W8)
-      ∷ [])
-      (record here { location = topmost nat_eq world.mounts here.location })
+      ∷ []) (record here { location = topmost nat_eq world.mounts here.location })
       (λ passed. (topmost_directory world whole task here.location is, (here.location, refl))))

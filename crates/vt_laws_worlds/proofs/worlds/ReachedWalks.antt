@@ -1,7 +1,6 @@
 -- Where the walks of a task end: at what is there, on a mount of the task's namespace or on one that is in none.
-use Rattle.std.proofs.Common.{arith}
+use Rattle.std.proofs.Common.{arith, ◌≡◌, refl, ℕ, zero, suc, nat_eq, Bool, true, false, not, cond, List, [], ◌∷◌, ◌+◌, reverse, Option, Some, None, Ok, Result, inl, inr}
 use Rattle.std.proofs.lemmas.Grind.{common_steps}
-use Rattle.std.proofs.Common.{◌≡◌, refl, ℕ, zero, suc, nat_eq, Bool, true, false, not, cond, List, [], ◌∷◌, ◌+◌, reverse, Option, Some, None, Ok, Result, inl, inr}
 use Rattle.std.proofs.lemmas.Bool.{and_parts}
 use Rattle.vt_spec.specs.declared.errors.Rule.TheVariants.{W3}
 use Rattle.vt_spec.specs.PathText.{ends_in_slash, is_absolute, words}
@@ -72,8 +71,7 @@ module _ (world : World ℕ) (whole : IsWorld nat_eq world) (task : Task ℕ)
   -- one word
   word_found : (here : Here ℕ) (word : LastWord) → Found here.location → EndsFound
       (word_walked nat_eq world task here word)
-  word_found here word is =
-      ends_step (λ next. Found next.location) (steps_with nat_eq world task here word)
+  word_found here word is = ends_step (λ next. Found next.location) (steps_with nat_eq world task here word)
       (search_rules nat_eq world task here.location) (stepped nat_eq world task here.location word)
       (λ reached. Ok (record { location = reached; left = here.left; steps = steps_with nat_eq world task here word }))
       (λ passed reached e. step_found world whole task here.location word reached
@@ -94,8 +92,7 @@ module _ (world : World ℕ) (whole : IsWorld nat_eq world) (task : Task ℕ)
   words_end : (follow : Follow ℕ) → FollowEnds follow → (here : Here ℕ) → End here.location → (list : List (List ℕ))
       → EndsAtEnd (words_walked nat_eq world task follow here list)
   words_end follow goes here is [] = is
-  words_end follow goes here is (word ∷ front) =
-      ends_then (λ reached. End reached.location) (λ next. End next.location)
+  words_end follow goes here is (word ∷ front) = ends_then (λ reached. End reached.location) (λ next. End next.location)
       (words_walked nat_eq world task follow here front) _ (words_end follow goes here is front) (λ reached end.
       ends_then (λ next. Found next.location) (λ next. End next.location)
       (word_walked nat_eq world task reached (last_word word)) _ (word_found reached (last_word word) end.0)
@@ -106,13 +103,10 @@ module _ (world : World ℕ) (whole : IsWorld nat_eq world) (task : Task ℕ)
   link_end : (depth : ℕ) → FollowEnds
       (λ directory link text. symlink_walked nat_eq depth world task directory link text)
   link_end zero directory link text is = tt
-  link_end (suc depth) directory link text is =
-      ends_then (λ start. End start.location) (λ next. End next.location)
+  link_end (suc depth) directory link text is = ends_then (λ start. End start.location) (λ next. End next.location)
       (walk_unless link.steps (follow_rules nat_eq world link text) (symlink_start nat_eq world task directory link
-      text)) _
-      (ends_unless (λ start. End start.location) link.steps (follow_rules nat_eq world link text)
-      (symlink_start nat_eq world task directory link text)
-      (λ passed. start_end directory text is)) (λ start start_is.
+      text)) _ (ends_unless (λ start. End start.location) link.steps (follow_rules nat_eq world link text)
+      (symlink_start nat_eq world task directory link text) (λ passed. start_end directory text is)) (λ start start_is.
       ends_then (λ reached. End reached.location) (λ next. End next.location)
       (words_walked nat_eq world task (λ inside next inner. symlink_walked nat_eq depth world task inside next inner)
       start (reverse (words text))) _
@@ -125,8 +119,7 @@ module _ (world : World ℕ) (whole : IsWorld nat_eq world) (task : Task ℕ)
   followed_end directory link text is = link_end (most_symlinks + 1) directory link text is
 
   path_end : (path : List ℕ) → EndsAtEnd (path_walked nat_eq world task path)
-  path_end path =
-      ends_next (λ here. End here.location) (path_text path) _ (λ text.
+  path_end path = ends_next (λ here. End here.location) (path_text path) _ (λ text.
       words_end (followed nat_eq world task) followed_end (walk_start task text) (walk_start_end text)
       (reverse (words text)))
 
@@ -141,15 +134,12 @@ module _ (world : World ℕ) (whole : IsWorld nat_eq world) (task : Task ℕ)
   EndsAtDirectory walk = Ends (λ here. FoundDirectory here.location) walk
 
   pub directory_walk_end : (path : List ℕ) → EndsAtDirectory (directory_walk nat_eq world task path)
-  directory_walk_end path =
-      ends_then (λ here. End here.location) (λ here. FoundDirectory here.location)
+  directory_walk_end path = ends_then (λ here. End here.location) (λ here. FoundDirectory here.location)
       (path_walked nat_eq world task path) _ (path_end path) (λ here end.
       ends_unless (λ next. FoundDirectory next.location) here.steps ((
-        not
-            (is_directory_at nat_eq world here.location),
+        not (is_directory_at nat_eq world here.location),
         W3,
-      ) ∷ []) here
-      (λ passed. (end.0.0, not_true (is_directory_at nat_eq world here.location) passed.0)))
+      ) ∷ []) here (λ passed. (end.0.0, not_true (is_directory_at nat_eq world here.location) passed.0)))
 
   pub front_end : (here : Here ℕ) → End here.location → (list : List (List ℕ))
       → EndsAtEnd (prefix_walked nat_eq world task (followed nat_eq world task) here list)
@@ -165,8 +155,7 @@ module _ (world : World ℕ) (whole : IsWorld nat_eq world) (task : Task ℕ)
 
   link_walk_by_found : (b : Bool) (path : List ℕ) → EndsFound (symlink_walk_by nat_eq b world task path)
   link_walk_by_found true path = grind (arith, common_steps, object_end path)
-  link_walk_by_found false path =
-      ends_next (λ here. Found here.location) (path_text path) _ (λ text.
+  link_walk_by_found false path = ends_next (λ here. Found here.location) (path_text path) _ (λ text.
       ends_then (λ here. End here.location) (λ here. Found here.location)
       (prefix_walked nat_eq world task (followed nat_eq world task) (walk_start task text) (reverse (words text))) _
       (front_end (walk_start task text) (walk_start_end text) (reverse (words text))) (λ here end.

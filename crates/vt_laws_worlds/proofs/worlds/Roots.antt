@@ -1,7 +1,8 @@
 -- Directories at which a task may come to stand: the root of a mount of its namespace, also through mounts over it,
 -- and the
 -- copies of where it stood.
-use Rattle.std.proofs.Common.{◌≡◌, refl, sym, ap, subst, ◌∙◌, inl, inr, ⊎_elim, ℕ, zero, suc, nat_eq, eqb-true, eq-eqb, Bool, true, false, cond, true≢false, find, filter, length, List, [], ◌∷◌, ◌==◌, Option, Some, None, is_some, map, option_map}
+use Rattle.std.proofs.Common.{arith, ◌≡◌, refl, sym, ap, subst, ◌∙◌, inl, inr, ⊎_elim, ℕ, zero, suc, nat_eq, eqb-true, eq-eqb, Bool, true, false, cond, true≢false, find, filter, length, List, [], ◌∷◌, ◌==◌, Option, Some, None, is_some, map, option_map}
+use Rattle.std.proofs.lemmas.Grind.{common_steps}
 use Rattle.std.specs.Prelude.{if◌then◌else◌, option_to_list, unwrap_or}
 use Rattle.std.specs.List.{list_all}
 use Rattle.std.proofs.lemmas.Bool.{and_from, and_parts}
@@ -9,7 +10,7 @@ use Rattle.vt_spec.specs.Lists.{Fresh, chain, evens, holds_of, last_or, odds}
 use Rattle.vt_spec.specs.Machine.Mounts.{Location, Mount, child_at, numbers_by, root_of, stands_at, topmost}
 use Rattle.vt_spec.specs.Machine.Namespaces.{copied_mount, is_copied, location_on_copy, moved_location, namespace_root, pivoted_location, pivoted_task, unshared, unshared_task}
 use Rattle.vt_spec.specs.Machine.World.{Namespace, Task, World, filesystem_numbered, is_directory_at, mount_at, mount_numbered, mounts_of, node_at, root_mount}
-use Rattle.vt_spec.specs.Machine.Invariants.{IsWorld, Stands, has_its_root, has_one_root, is_listed, is_root_mount}
+use Rattle.vt_spec.specs.Machine.Invariants.{IsWorld, Stands, has_one_root, is_listed, is_root_mount}
 use Rattle.vt_spec.specs.Machine.Invariants.Stands.{at_root, on_parent}
 use Rattle.vt_spec.specs.Tree.{is_directory_node}
 use Rattle.vt_spec.proofs.Lists.{Among, among-append_right, among-filter, among-from_filter, among-from_map, among-map, among_from_all, among_from_list_all, among_numbers, any_among, chain_ends, chain_goes_on, is_among_numbers, none_among}
@@ -47,8 +48,7 @@ found_some {A = A} test (first ∷ rest) x m e = by (test first) refl (found_som
         → (Among x rest → test x ≡ true → (y : A) × (find test rest ≡ Some y) × Among y rest)
         → (y : A) × (find test (first ∷ rest) ≡ Some y) × Among y (first ∷ rest)
     by true h later = (first, ap (λ b. cond b (Some first) (find test rest)) h, inl refl)
-    by false h later =
-        ⊎_elim (λ same. absurd (true≢false (sym e ∙ ap test same ∙ h)))
+    by false h later = ⊎_elim (λ same. absurd (true≢false (sym e ∙ ap test same ∙ h)))
         (λ l. let t : (y : A) × (find test rest ≡ Some y) × Among y rest = later l e in
         (t.0, ap (λ b. cond b (Some first) (find test rest)) h ∙ t.1, inr t.2)) m
 
@@ -64,8 +64,7 @@ module _ (world : World ℕ) (is : IsWorld nat_eq world) where
   -- a mount that is in a namespace is there
   pub own_there : (mount own : ℕ) → (mount_numbered nat_eq world mount).namespace ≡ Some own
       → Among (mount_numbered nat_eq world mount) world.mounts
-  own_there mount own e =
-      ⊎_elim (λ m. m) (λ none. absurd
+  own_there mount own e = ⊎_elim (λ m. m) (λ none. absurd
       (true≢false (sym (ap is_some e) ∙ ap (λ (x : Mount ℕ). is_some x.namespace) none)))
       (found_or_none world.mounts mount)
 
@@ -78,12 +77,7 @@ module _ (world : World ℕ) (is : IsWorld nat_eq world) where
 
   pub root_is_directory : (mount : Mount ℕ) → Among mount world.mounts
       → is_directory_at nat_eq world (root_of mount) ≡ true
-  root_is_directory mount m =
-      ap (λ (x : Mount ℕ). is_directory_node
-      ((filesystem_numbered nat_eq world x.filesystem).files.tree.node mount.root)) (itself mount m)
-      ∙ (and_parts (is_directory_node ((filesystem_numbered nat_eq world mount.filesystem).files.tree.node mount.root))
-      (list_all (is_directory_at nat_eq world) (option_to_list mount.mount_point))
-      (among_from_list_all (has_its_root nat_eq world) world.mounts is.roots mount m)).0
+  root_is_directory mount m = grind (arith, common_steps, itself, and_parts, among_from_list_all)
 
   -- the root of a mount of the namespace
   pub root_stands : (own : ℕ) (mount : Mount ℕ) → Among mount world.mounts → is_in own mount ≡ true
@@ -92,16 +86,14 @@ module _ (world : World ℕ) (is : IsWorld nat_eq world) where
       let directory = root_is_directory mount m in
       record {
         located = and_from (is_mount world mount.number) (is_some (node_at nat_eq world (root_of mount)))
-            (is_numbered mount m)
-            (directory_is_there (node_at nat_eq world (root_of mount)) directory);
+            (is_numbered mount m) (directory_is_there (node_at nat_eq world (root_of mount)) directory);
         directory = directory;
         inside = ap (is_in own) (itself mount m) ∙ inside;
       }
 
   -- what stands over a place is in its namespace
   pub child_in : (own : ℕ) (child : Mount ℕ) → Among child world.mounts → (here : Location ℕ)
-      → child.mount_point ≡ Some here
-      → is_in own (mount_at nat_eq world here) ≡ true → is_in own child ≡ true
+      → child.mount_point ≡ Some here → is_in own (mount_at nat_eq world here) ≡ true → is_in own child ≡ true
   child_in own child m here at inside =
       by (among_from_all (λ (x : Mount ℕ). Stands nat_eq world x.number) world.mounts is.mounts.standing child m)
       (itself child m)
@@ -112,8 +104,7 @@ module _ (world : World ℕ) (is : IsWorld nat_eq world) where
           ∙ ap is_some e))
       by (on_parent number place e namespace later) same =
           let it : Some place ≡ Some here = sym e ∙ ap (λ (x : Mount ℕ). x.mount_point) same ∙ at in
-          ap (is_in own) (sym same)
-          ∙ ap (λ o. list_all (nat_eq own) (option_to_list o)) namespace
+          ap (is_in own) (sym same) ∙ ap (λ o. list_all (nat_eq own) (option_to_list o)) namespace
           ∙ ap (λ o. list_all (nat_eq own) (option_to_list (mount_at nat_eq world (unwrap_or o here)).namespace)) it
           ∙ inside
 
@@ -136,11 +127,9 @@ module _ (world : World ℕ) (is : IsWorld nat_eq world) where
               (root_stands own child t.0 (child_in own child t.0 a (stands_there a child t.1) stands.inside))
 
   found_root : (own : ℕ) (default : Location ℕ) (found : Option (Mount ℕ)) (mount : Mount ℕ) → found ≡ Some mount
-      → StandsAt world own (topmost nat_eq world.mounts (root_of mount))
-      → StandsAt world own
+      → StandsAt world own (topmost nat_eq world.mounts (root_of mount)) → StandsAt world own
       (unwrap_or (option_map (λ (m : Mount ℕ). topmost nat_eq world.mounts (root_of m)) found) default)
-  found_root own default found mount e =
-      subst (λ o. StandsAt world own
+  found_root own default found mount e = subst (λ o. StandsAt world own
       (unwrap_or (option_map (λ (m : Mount ℕ). topmost nat_eq world.mounts (root_of m)) o) default)) (sym e)
 
   -- the root of a namespace that is there
@@ -158,8 +147,7 @@ module _ (world : World ℕ) (is : IsWorld nat_eq world) where
       let mount = among-from_filter
       (λ (m : Mount ℕ). holds_of (nat_eq namespace) m.namespace) world.mounts found.0 found.2 in
       found_root namespace task.root (root_mount nat_eq world namespace) found.0 found.1
-      (over_stands namespace (root_of found.0)
-      (root_stands namespace found.0 mount.0
+      (over_stands namespace (root_of found.0) (root_stands namespace found.0 mount.0
       (in_own namespace found.0 (held_number namespace found.0.namespace mount.1))))
 
 -- A pivot
@@ -177,13 +165,10 @@ module _ (world : World ℕ) (after : World ℕ) (seen : KeepsWhatIsSeen world a
       → IsPlaced after (pivoted_task nat_eq namespace root new task)
   pivoted_placed task at = by (nat_eq namespace task.namespace) refl
     where
-      by : (b : Bool) → nat_eq namespace task.namespace ≡ b
-          → IsPlaced after (if b then
-          (record task {
-            root = pivoted_location nat_eq root new task.root;
-            directory = pivoted_location nat_eq root new
-                task.directory;
-          }) else task)
+      by : (b : Bool) → nat_eq namespace task.namespace ≡ b → IsPlaced after (if b then (record task {
+        root = pivoted_location nat_eq root new task.root;
+        directory = pivoted_location nat_eq root new task.directory;
+      }) else task)
       by true e =
           let own : namespace ≡ task.namespace = eqb-true namespace task.namespace e in
           record {
@@ -193,12 +178,11 @@ module _ (world : World ℕ) (after : World ℕ) (seen : KeepsWhatIsSeen world a
                 (pivoted_stands task.directory (subst (λ n. StandsAt world n task.directory) (sym own) at.directory));
             files = λ descriptor m. opens_after world after seen descriptor.location (at.files descriptor m);
           }
-      by false e =
-          record {
-            root = stands_after world after seen task.namespace task.root at.root;
-            directory = stands_after world after seen task.namespace task.directory at.directory;
-            files = λ descriptor m. opens_after world after seen descriptor.location (at.files descriptor m);
-          }
+      by false e = record {
+        root = stands_after world after seen task.namespace task.root at.root;
+        directory = stands_after world after seen task.namespace task.directory at.directory;
+        files = λ descriptor m. opens_after world after seen descriptor.location (at.files descriptor m);
+      }
 
 -- Copies of a namespace's mounts
 module _ (world : World ℕ) (fresh : Fresh ℕ) (task : Task ℕ) (is : IsWorld nat_eq world)
@@ -213,22 +197,17 @@ module _ (world : World ℕ) (fresh : Fresh ℕ) (task : Task ℕ) (is : IsWorld
   after = unshared nat_eq world fresh task
 
   copy_there : (mount : Mount ℕ) → Among mount copied → Among (copied_mount copy (evens fresh 0) mount) after.mounts
-  copy_there mount m =
-      among-append_right world.mounts (map (copied_mount copy (evens fresh 0)) copied)
-      (copied_mount copy (evens fresh 0) mount)
-      (among-map (copied_mount copy (evens fresh 0)) copied mount m)
+  copy_there mount m = among-append_right world.mounts (map (copied_mount copy (evens fresh 0)) copied)
+      (copied_mount copy (evens fresh 0) mount) (among-map (copied_mount copy (evens fresh 0)) copied mount m)
 
   pub found_copy : (mount : Mount ℕ) → Among mount copied
       → mount_numbered nat_eq after (copy mount.number) ≡ copied_mount copy (evens fresh 0) mount
-  found_copy mount m =
-      found_itself after.mounts (unshare_keeps_numbers world fresh task serves is.mounts.one_number)
+  found_copy mount m = found_itself after.mounts (unshare_keeps_numbers world fresh task serves is.mounts.one_number)
       (copied_mount copy (evens fresh 0) mount) (copy_there mount m)
 
   copied_mount_found : (mount : Mount ℕ) → Among mount copied → (location : Location ℕ) → location.mount ≡ mount.number
       → mount_at nat_eq world location ≡ mount
-  copied_mount_found mount m location same =
-      ap (mount_numbered nat_eq world) same
-      ∙ itself world is mount
+  copied_mount_found mount m location same = ap (mount_numbered nat_eq world) same ∙ itself world is mount
       (among-from_filter (λ (x : Mount ℕ). holds_of (nat_eq task.namespace) x.namespace) world.mounts mount m).0
 
   pub copy_stands : (location : Location ℕ) → StandsAt world task.namespace location → (mount : Mount ℕ)
@@ -245,8 +224,7 @@ module _ (world : World ℕ) (fresh : Fresh ℕ) (task : Task ℕ) (is : IsWorld
       ∙ at.directory in
       record {
         located = and_from (is_mount after (copy location.mount))
-            (is_some (node_at nat_eq after (location_on_copy copy location)))
-            (ap (is_mount after) number
+            (is_some (node_at nat_eq after (location_on_copy copy location))) (ap (is_mount after) number
             ∙ is_among_numbers (numbers_of after.mounts) (copy mount.number)
             (among-map (λ (x : Mount ℕ). x.number) after.mounts (copied_mount copy (evens fresh 0) mount)
             (copy_there mount m)))
@@ -286,15 +264,13 @@ module _ (world : World ℕ) (fresh : Fresh ℕ) (task : Task ℕ) (is : IsWorld
       by true e =
           let one = any_among (λ (x : Mount ℕ). nat_eq location.mount x.number) copied e in
           copy_stands location at one.0 one.1 (eqb-true location.mount one.0.number one.2)
-      by false e =
-          stands_after world after (unshared_seen world fresh task) (evens fresh 0) location
+      by false e = stands_after world after (unshared_seen world fresh task) (evens fresh 0) location
           (record { located = at.located; directory = at.directory; inside = alone e })
 
   pub unshared_placed : IsPlaced world task → IsPlaced after (unshared_task nat_eq copied copy (evens fresh 0) task)
-  unshared_placed at =
-      record {
-        root = moved_stands task.root at.root;
-        directory = moved_stands task.directory at.directory;
-        files = λ descriptor m. opens_after world after (unshared_seen world fresh task) descriptor.location
-            (at.files descriptor m);
-      }
+  unshared_placed at = record {
+    root = moved_stands task.root at.root;
+    directory = moved_stands task.directory at.directory;
+    files = λ descriptor m. opens_after world after (unshared_seen world fresh task) descriptor.location
+        (at.files descriptor m);
+  }

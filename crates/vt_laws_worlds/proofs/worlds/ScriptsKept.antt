@@ -16,8 +16,7 @@ use Rattle.vt_laws_worlds.proofs.opening.OpeningWorld.{opening_is_a_world}
 use Rattle.vt_laws_worlds.proofs.worlds.WordsFew.{lines_name_few, request_names_few}
 
 request_keeps : (world : World ℕ) (fresh : Fresh ℕ) → Kept world → Serves nat_eq world fresh
-    → (request : Option Request)
-    → asks_for_overlay request ≡ false → request_names_few request ≡ true
+    → (request : Option Request) → asks_for_overlay request ≡ false → request_names_few request ≡ true
     → Kept (requested nat_eq world request fresh).world
 request_keeps world fresh kept serves None plain few = kept
 request_keeps world fresh kept serves (Some (Calling name call)) plain few =
@@ -34,8 +33,7 @@ line_keeps false false grammar world line fresh kept serves plain =
     request_keeps world fresh kept serves (request_of grammar line) plain (lines_name_few grammar line)
 
 lines_keep : (grammar : Grammar) (world : World ℕ) (lines : List (List ℕ)) (refused : List Bool) (left : World ℕ)
-    → Kept world
-    → HasNoOverlays grammar lines → LeadsTo grammar world lines refused left → Kept left
+    → Kept world → HasNoOverlays grammar lines → LeadsTo grammar world lines refused left → Kept left
 lines_keep grammar world [] refused left kept plain leads = subst Kept (sym leads) kept
 lines_keep grammar world (line ∷ lines) [] left kept plain leads = absurd leads
 lines_keep grammar world (line ∷ lines) (true ∷ refused) left kept plain leads =

@@ -1,22 +1,21 @@
 -- What a change of a world keeps of what is seen: mounts stay and show what they showed, in their namespace or in
 -- none, and
 -- inodes stay and keep their kind.
-use Rattle.std.proofs.Common.{arith}
+use Rattle.std.proofs.Common.{arith, ◌≡◌, refl, sym, ap, ◌∙◌, ℕ, nat_eq, Bool, true, ◌&&◌, Option, Some, None, is_some}
 use Rattle.std.proofs.lemmas.Grind.{common_steps}
-use Rattle.std.proofs.Common.{◌≡◌, refl, sym, ap, subst, ◌∙◌, ℕ, nat_eq, Bool, true, ◌&&◌, Option, Some, None, is_some}
 use Rattle.std.specs.Prelude.{option_to_list}
 use Rattle.std.specs.List.{list_all}
 use Rattle.std.proofs.lemmas.Bool.{and_parts}
 use Rattle.vt_spec.specs.declared.attributes.Kind.{Kind}
 use Rattle.vt_spec.specs.declared.attributes.Kind.TheVariants.{File}
 use Rattle.vt_spec.specs.FileTree.{is_kind, is_kind_in}
-use Rattle.vt_spec.specs.Lists.{holds_of, is_among}
-use Rattle.vt_spec.specs.Machine.Mounts.{Location, Mount, mount_in}
+use Rattle.vt_spec.specs.Lists.{holds_of}
+use Rattle.vt_spec.specs.Machine.Mounts.{Location, Mount}
 use Rattle.vt_spec.specs.Machine.World.{World, is_directory_at, mount_at, mount_numbered, node_at}
 use Rattle.vt_spec.specs.Machine.Invariants.{is_located_well, is_there}
 use Rattle.vt_spec.specs.Rights.{is_directory}
 use Rattle.vt_spec.specs.Tree.{Node, is_directory_node, kind_of}
-use Rattle.vt_laws_mounts.specs.Mounts.Attaching.{is_mount, numbers_of}
+use Rattle.vt_laws_mounts.specs.Mounts.Attaching.{is_mount}
 use Rattle.vt_laws_trees.specs.Trees.Settling.{inode_in}
 
 abbrev pub kind_seen : Option (Node ℕ) → Option Kind
@@ -75,30 +74,13 @@ pub same_view : (mount : Mount ℕ) → KeepsView mount mount
 same_view mount = record { filesystem = refl; root = refl; namespace = λ own e. e }
 
 pub views_on : (a b c : Mount ℕ) → KeepsView a b → KeepsView b c → KeepsView a c
-views_on a b c r s =
-    record {
-      filesystem = s.filesystem ∙ r.filesystem;
-      root = s.root ∙ r.root;
-      namespace = λ own e. s.namespace own (r.namespace own e);
-    }
+views_on a b c r s = grind (arith, common_steps)
 
 pub same_seen : (world : World ℕ) → KeepsWhatIsSeen world world
-same_seen world =
-    record {
-      listed = λ number is. is;
-      views = λ number is. same_view (mount_numbered nat_eq world number);
-      nodes = λ filesystem number test e. e;
-    }
+same_seen world = grind (arith, common_steps, same_view)
 
 pub seen_on : (a b c : World ℕ) → KeepsWhatIsSeen a b → KeepsWhatIsSeen b c → KeepsWhatIsSeen a c
-seen_on a b c r s =
-    record {
-      listed = λ number is. s.listed number (r.listed number is);
-      views = λ number is.
-          views_on (mount_numbered nat_eq a number) (mount_numbered nat_eq b number) (mount_numbered nat_eq c number)
-          (r.views number is) (s.views number (r.listed number is));
-      nodes = λ filesystem number test e. s.nodes filesystem number test (r.nodes filesystem number test e);
-    }
+seen_on a b c r s = grind (arith, common_steps, views_on)
 
 -- a world with the mounts and filesystems of another
 pub seen_alike : (before after : World ℕ) → after.mounts ≡ before.mounts → after.filesystems ≡ before.filesystems
@@ -111,27 +93,13 @@ pub seen_by_mounts : (before after : World ℕ) → after.filesystems ≡ before
     → ((number : ℕ) → is_mount before number ≡ true
     → KeepsView (mount_numbered nat_eq before number) (mount_numbered nat_eq after number))
     → KeepsWhatIsSeen before after
-seen_by_mounts before after same listed views =
-    record {
-      listed = listed;
-      views = views;
-      nodes = λ filesystem number.
-          same_kind (inode_in before filesystem number) (inode_in after filesystem number)
-          (ap (λ list. kind_seen (inode_in (record before { filesystems = list }) filesystem number)) same);
-    }
+seen_by_mounts before after same listed views = grind (arith, common_steps, same_kind)
 
 -- filesystems changed, and mounts as they were
 pub seen_by_nodes : (before after : World ℕ) → after.mounts ≡ before.mounts
     → ((filesystem number : ℕ) → KeepsKind (inode_in before filesystem number) (inode_in after filesystem number))
     → KeepsWhatIsSeen before after
-seen_by_nodes before after same nodes =
-    record {
-      listed = λ number is. ap (λ ms. is_among nat_eq number (numbers_of ms)) same ∙ is;
-      views = λ number is.
-          subst (λ ms. KeepsView (mount_numbered nat_eq before number) (mount_in nat_eq ms number)) (sym same)
-          (same_view (mount_numbered nat_eq before number));
-      nodes = nodes;
-    }
+seen_by_nodes before after same nodes = grind (arith, common_steps, same_view)
 
 -- Locations
 module _ (before after : World ℕ) (seen : KeepsWhatIsSeen before after) where
@@ -147,8 +115,7 @@ module _ (before after : World ℕ) (seen : KeepsWhatIsSeen before after) where
 
   pub mount_of_located : (location : Location ℕ) → is_located_well nat_eq before location ≡ true
       → is_mount before location.mount ≡ true
-  mount_of_located location e =
-      (and_parts (is_mount before location.mount)
+  mount_of_located location e = (and_parts (is_mount before location.mount)
       (is_there nat_eq before (mount_at nat_eq before location).filesystem location.node) e).0
 
   pub located_after : (location : Location ℕ) → is_located_well nat_eq before location ≡ true
@@ -165,7 +132,6 @@ module _ (before after : World ℕ) (seen : KeepsWhatIsSeen before after) where
       directory_kept (node_at nat_eq before location) (node_at nat_eq after location) (node_kept location is)
 
   pub file_after : (location : Location ℕ) → is_mount before location.mount ≡ true
-      → is_kind_in File (node_at nat_eq before location) ≡ true
-      → is_kind_in File (node_at nat_eq after location) ≡ true
+      → is_kind_in File (node_at nat_eq before location) ≡ true → is_kind_in File (node_at nat_eq after location) ≡ true
   file_after location is =
       kind_kept (node_at nat_eq before location) (node_at nat_eq after location) (node_kept location is) File

@@ -16,7 +16,7 @@ use Rattle.vt_spec.specs.Machine.Locked.{of_overlay, overlay_or}
 use Rattle.vt_spec.specs.Machine.Mounts.{Location, Mount, mount_in}
 use Rattle.vt_spec.specs.Machine.Run.{Serves}
 use Rattle.vt_spec.specs.Machine.World.{Filesystem, Layer, Overlay, World, files_at, filesystem_at, filesystem_numbered, is_directory_at, is_overlay, layers_of, mount_at, node_at, replaced_if_numbered, with_filesystem}
-use Rattle.vt_spec.specs.Tree.{Node, entries_in, entry_named, is_directory_node, kind_of, node_with_bytes}
+use Rattle.vt_spec.specs.Tree.{Node, entries_in, entry_named, kind_of, node_with_bytes}
 use Rattle.vt_spec.proofs.Lists.{Among, all_from_among, among_from_list_all}
 use Rattle.vt_laws_trees.proofs.trees.ChangesNodes.{part_stays}
 use Rattle.vt_laws_trees.proofs.trees.TreesOfWorlds.{number_numbered, numbered, numbered_all}
@@ -59,8 +59,7 @@ module _ (merge : Merge ℕ) (object copy : ℕ) (node : Node ℕ) (vacant : IsV
   abbrev copied_node : Node ℕ
   copied_node = record {
     attr = node.attr;
-    content = copied_content
-        (copy_parent merge copy (a_name nat_eq merge.files object)) node.content;
+    content = copied_content (copy_parent merge copy (a_name nat_eq merge.files object)) node.content;
   }
 
   abbrev with_copy : FileTree ℕ
@@ -71,16 +70,14 @@ module _ (merge : Merge ℕ) (object copy : ℕ) (node : Node ℕ) (vacant : IsV
   named_kinds (Some name) k = kinds-with_name with_copy (upper_of merge name.0) name.1 copy k
 
   copy_keeps : Keeps merge.upper (copy_of_node nat_eq merge object copy node).upper
-  copy_keeps =
-      keeps_both merge.upper with_copy (copy_of_node nat_eq merge object copy node).upper
+  copy_keeps = keeps_both merge.upper with_copy (copy_of_node nat_eq merge object copy node).upper
       (keeps-with_inode merge.upper copy copied_node vacant)
       (keeps_kinds with_copy (copy_of_node nat_eq merge object copy node).upper
       (named_kinds (a_name nat_eq merge.files object)))
 
   copy_vacant : (number : ℕ) → number ≢ copy → IsVacant merge.upper number
       → IsVacant (copy_of_node nat_eq merge object copy node).upper number
-  copy_vacant number differ e =
-      vacant_kinds with_copy (copy_of_node nat_eq merge object copy node).upper
+  copy_vacant number differ e = vacant_kinds with_copy (copy_of_node nat_eq merge object copy node).upper
       (named_kinds (a_name nat_eq merge.files object)) number
       (vacant_inode merge.upper copy copied_node number differ e)
 
@@ -92,8 +89,7 @@ record IsCopied (fresh : Fresh ℕ) (before after : Merge ℕ) : Type 0 where
   vacant : (number : ℕ) → ((j : ℕ) → number ≢ fresh j) → IsVacant before.upper number → IsVacant after.upper number
 
 copied_once : (fresh : Fresh ℕ) (k : ℕ) (merge : Merge ℕ) (object : ℕ) (o : Option (Node ℕ)) (b : Bool)
-    → IsVacant merge.upper (fresh k)
-    → ((copy_of nat_eq merge object (fresh k) o b).files ≡ merge.files)
+    → IsVacant merge.upper (fresh k) → ((copy_of nat_eq merge object (fresh k) o b).files ≡ merge.files)
     × Keeps merge.upper (copy_of nat_eq merge object (fresh k) o b).upper
     × ((number : ℕ) → number ≢ fresh k → IsVacant merge.upper number
     → IsVacant (copy_of nat_eq merge object (fresh k) o b).upper number)
@@ -158,8 +154,7 @@ kinds_moved files from old to name object k =
     ∙ kinds-without_parent files (entry_named name (entries_in (files.tree.node to))) k
 
 left_keeps : (b : Bool) (fresh : Fresh ℕ) (stack : Stack ℕ) (files : FileTree ℕ) (directory : ℕ) (name : List ℕ)
-    → IsVacant files (fresh 0)
-    → Keeps files (name_left_by nat_eq b fresh stack files directory name)
+    → IsVacant files (fresh 0) → Keeps files (name_left_by nat_eq b fresh stack files directory name)
 left_keeps true fresh stack files directory name vacant =
     let first = with_inode nat_eq files (fresh 0) (whiteout_of stack.mounter) in
     keeps_both files first (with_name nat_eq first directory name (fresh 0))
@@ -175,8 +170,7 @@ module _ (fresh : Fresh ℕ) (stack : Stack ℕ) (merge : Merge ℕ) (vacant : I
   made_keeps directory name number node =
       let inode : Node ℕ = record {
         attr = node.attr;
-        content = content_with_parent
-            (upper_of merge directory) node.content;
+        content = content_with_parent (upper_of merge directory) node.content;
       } in
       let first = with_inode nat_eq merge.upper (fresh 0) inode in
       let second = with_name nat_eq first (upper_of merge directory) name (fresh 0) in
@@ -188,15 +182,7 @@ module _ (fresh : Fresh ℕ) (stack : Stack ℕ) (merge : Merge ℕ) (vacant : I
 
   removed_keeps : (directory : ℕ) (name : List ℕ) (object : ℕ)
       → Keeps merge.upper (merge_without_name nat_eq fresh stack merge directory name object).upper
-  removed_keeps directory name object =
-      let left = name_left_by nat_eq (is_some
-      (shown_in_lowers_at nat_eq stack merge directory name)) fresh stack merge.upper
-      (upper_of merge directory) name in
-      let last = (merge_without_name nat_eq fresh stack merge directory name object).upper in
-      keeps_both merge.upper left last
-      (left_keeps (is_some (shown_in_lowers_at nat_eq stack merge directory name)) fresh stack merge.upper
-      (upper_of merge directory) name vacant)
-      (keeps_kinds left last (kinds_emptied left (upper_directory_named merge directory name)))
+  removed_keeps directory name object = grind (arith, common_steps, keeps_both, left_keeps, keeps_kinds, kinds_emptied)
 
   moved_keeps : (from : ℕ) (old : List ℕ) (to : ℕ) (name : List ℕ) (object : ℕ)
       → Keeps merge.upper (merge_with_moved nat_eq fresh stack merge from old to name object).upper
@@ -209,8 +195,7 @@ module _ (fresh : Fresh ℕ) (stack : Stack ℕ) (merge : Merge ℕ) (vacant : I
       let gone_kinds = kinds_moved base (upper_of merge from) old (upper_of merge to) name (upper_of merge object) in
       let last = (merge_with_moved nat_eq fresh stack merge from old to name object).upper in
       keeps_both merge.upper base last (keeps_kinds merge.upper base base_kinds)
-      (keeps_both base gone last (keeps_kinds base gone gone_kinds)
-      (keeps_both gone left last
+      (keeps_both base gone last (keeps_kinds base gone gone_kinds) (keeps_both gone left last
       (left_keeps (is_some (shown_in_lowers_at nat_eq stack merge from old)) fresh stack gone (upper_of merge from) old
       (vacant_kinds base gone gone_kinds (fresh 0) (vacant_kinds merge.upper base base_kinds (fresh 0) vacant)))
       (keeps_kinds left last (kinds_marked (hides_directory nat_eq stack merge to name) left (upper_of merge object)))))
@@ -274,8 +259,7 @@ module _ (fresh : Fresh ℕ) (distinct : (i j : ℕ) → fresh i ≡ fresh j →
             (keeps_both mid.upper last.upper
             (merge_changed nat_eq fresh stack merge (Move from old to name object)).upper two.keeps
             (moved_keeps (odds (odds fresh)) stack last
-            (two.vacant (odds (odds fresh) 0) (last_apart 0) (odd_vacant object 1))
-            from old to name object)),
+            (two.vacant (odds (odds fresh) 0) (last_apart 0) (odd_vacant object 1)) from old to name object)),
       )
   merge_keeps (SetBytes file bytes) new =
       let one = up_copied fresh distinct merge file vacant in
@@ -307,8 +291,7 @@ module _ (fresh : Fresh ℕ) (distinct : (i j : ℕ) → fresh i ≡ fresh j →
 
 -- no upper layer is in its own overlay
 abbrev pub UppersAreElsewhere : World ℕ → Type 0
-UppersAreElsewhere world =
-    (number : ℕ) (overlay : Overlay ℕ) (upper : Layer ℕ)
+UppersAreElsewhere world = (number : ℕ) (overlay : Overlay ℕ) (upper : Layer ℕ)
     → (filesystem_numbered nat_eq world number).overlay ≡ Some overlay
     → overlay.upper ≡ Some upper → upper.filesystem ≢ number
 
@@ -346,9 +329,7 @@ module _ (fresh : Fresh ℕ) (world : World ℕ) (elsewhere : UppersAreElsewhere
       over : (overlay : Overlay ℕ) → old.overlay ≡ Some overlay → (upper : Option (Layer ℕ)) → overlay.upper ≡ upper
           → KeepsWhatIsSeen world (overlay_changed nat_eq fresh world old overlay upper change)
       over overlay e None f = same_seen world
-      over overlay e (Some upper) f =
-          seen_on world middle _
-          (one_seen world merged (at_old merge.files
+      over overlay e (Some upper) f = seen_on world middle _ (one_seen world merged (at_old merge.files
           (subst (Keeps old.files) (sym kept.0) (changes_keep_kinds old.files change new))))
           (one_seen middle changed_upper (λ k.
           subst (λ (x : Filesystem ℕ). KeepsKind (x.files.tree.node k) (merge.upper.tree.node k)) (sym upper_still)
@@ -360,10 +341,8 @@ module _ (fresh : Fresh ℕ) (world : World ℕ) (elsewhere : UppersAreElsewhere
 
           kept : (merge.files ≡ changed nat_eq old.files change)
               × Keeps (filesystem_numbered nat_eq world upper.filesystem).files merge.upper
-          kept =
-              merge_keeps fresh are_new.distinct (stack_of nat_eq world overlay upper)
-              (merge_of nat_eq world old overlay upper)
-              (λ j. are_new.vacant upper.filesystem j) change new
+          kept = merge_keeps fresh are_new.distinct (stack_of nat_eq world overlay upper)
+              (merge_of nat_eq world old overlay upper) (λ j. are_new.vacant upper.filesystem j) change new
 
           merged : Filesystem ℕ
           merged = record old { files = merge.files; overlay = Some (record overlay { real = merge.real }) }
@@ -379,10 +358,8 @@ module _ (fresh : Fresh ℕ) (world : World ℕ) (elsewhere : UppersAreElsewhere
 
           upper_still : numbered changed_upper.number middle.filesystems
               ≡ filesystem_numbered nat_eq world upper.filesystem
-          upper_still =
-              ap (λ n. numbered n middle.filesystems) upper_number
-              ∙ found_other merged world.filesystems upper.filesystem
-              (ne_eqb old.number upper.filesystem (λ same.
+          upper_still = ap (λ n. numbered n middle.filesystems) upper_number
+              ∙ found_other merged world.filesystems upper.filesystem (ne_eqb old.number upper.filesystem (λ same.
               elsewhere (mount_at nat_eq world location).filesystem overlay upper e f (sym same ∙ number_is)))
 
       by : (o : Option (Overlay ℕ)) → old.overlay ≡ o
@@ -428,18 +405,7 @@ module _ (fresh : Fresh ℕ) (world : World ℕ) (elsewhere : UppersAreElsewhere
   there_in : (new : Filesystem ℕ) → new.number ≡ place → new.files ≡ changed nat_eq before_it.files Made
       → kind_seen ((numbered place (map (replaced_if_numbered nat_eq new) world.filesystems)).files.tree.node number)
       ≡ Some (kind_of node.content)
-  there_in new same files =
-      ap (λ n. kind_seen ((numbered n
-      (map (replaced_if_numbered nat_eq new) world.filesystems)).files.tree.node number)) (sym same)
-      ∙ ⊎_elim
-      (λ found. ap (λ (f : Filesystem ℕ). kind_seen (f.files.tree.node number)) found
-      ∙ ap (λ (files : FileTree ℕ). kind_seen (files.tree.node number)) files
-      ∙ made_kind before_it.files location.node name number node)
-      (λ none. absurd (true≢false
-      (sym is_directory
-      ∙ ap (λ n. is_directory_node ((numbered n world.filesystems).files.tree.node location.node)) (sym same)
-      ∙ ap (λ (f : Filesystem ℕ). is_directory_node (f.files.tree.node location.node)) none.1)))
-      (found_new new world.filesystems)
+  there_in new same files = grind (arith, common_steps, kind_seen, numbered, made_kind, true≢false, found_new)
 
   abbrev Is : World ℕ → Type 0
   Is later = kind_seen (inode_in later place number) ≡ Some (kind_of node.content)
@@ -451,11 +417,9 @@ module _ (fresh : Fresh ℕ) (world : World ℕ) (elsewhere : UppersAreElsewhere
           → overlay.upper ≡ upper → not (is_some upper) ≡ false
           → Is (overlay_changed nat_eq fresh world before_it overlay upper Made)
       over overlay e None f w = absurd (true≢false w)
-      over overlay e (Some upper) f w =
-          ap (λ (x : Filesystem ℕ). kind_seen (x.files.tree.node number))
+      over overlay e (Some upper) f w = ap (λ (x : Filesystem ℕ). kind_seen (x.files.tree.node number))
           (found_other changed_upper (map (replaced_if_numbered nat_eq merged) world.filesystems) place
-          (ne_eqb changed_upper.number place
-          (λ same. elsewhere place overlay upper e f
+          (ne_eqb changed_upper.number place (λ same. elsewhere place overlay upper e f
           (sym (number_numbered upper.filesystem world.filesystems) ∙ same))))
           ∙ there_in merged before_number (merge_keeps fresh are_new.distinct (stack_of nat_eq world overlay upper)
           (merge_of nat_eq world before_it overlay upper) (λ j. are_new.vacant upper.filesystem j) Made unused).0
@@ -480,25 +444,21 @@ module _ (fresh : Fresh ℕ) (world : World ℕ) (elsewhere : UppersAreElsewhere
   pub new_inode_seen : kind_seen
       (node_at nat_eq (with_change nat_eq fresh world location Made) (record { mount = location.mount; node = number }))
       ≡ Some (kind_of node.content)
-  new_inode_seen =
-      ap (λ (mounts : List (Mount ℕ)). kind_seen (inode_in (with_change nat_eq fresh world location Made)
-      (mount_in nat_eq mounts location.mount).filesystem number))
-      (change_keeps_mounts fresh world location Made)
+  new_inode_seen = ap (λ (mounts : List (Mount ℕ)). kind_seen (inode_in (with_change nat_eq fresh world location Made)
+      (mount_in nat_eq mounts location.mount).filesystem number)) (change_keeps_mounts fresh world location Made)
       ∙ is_made
 
 -- Upper layers are in plain trees; so they are in worlds with the same filesystems, and no number that is handed in is
 -- an inode's
 pub uppers_elsewhere : (world : World ℕ) → OverlayInvariants nat_eq world → UppersAreElsewhere world
-uppers_elsewhere world is number overlay upper e f same =
-    ⊎_elim
+uppers_elsewhere world is number overlay upper e f same = ⊎_elim
     (λ all. absurd (true≢false (sym (plain_there (among_from_list_all (is_plain_layer nat_eq world) (layers_of overlay)
     (sym (ap (overlay_or true (λ (o : Overlay ℕ). list_all (is_plain_layer nat_eq world) (layers_of o))) e) ∙ all) upper
     (subst (λ o. Among upper (option_to_list o ++ option_to_list overlay.work ++ overlay.lowers)) (sym f) (inl refl))))
     ∙ ap (λ n. not (is_some (filesystem_numbered nat_eq world n).overlay)) same ∙ ap (λ o. not (is_some o)) e)))
     (λ none. absurd (true≢false (sym (ap is_some e) ∙ ap (λ (x : Filesystem ℕ). is_some x.overlay) none.0)))
     (numbered_all (λ (x : Filesystem ℕ). of_overlay true (λ o. list_all (is_plain_layer nat_eq world) (layers_of o)) x
-    ≡ true) number world.filesystems
-    (all_from_among (λ (x : Filesystem ℕ). of_overlay true
+    ≡ true) number world.filesystems (all_from_among (λ (x : Filesystem ℕ). of_overlay true
     (λ o. list_all (is_plain_layer nat_eq world) (layers_of o)) x ≡ true) world.filesystems
     (λ x m. among_from_list_all (of_overlay true
     (λ o. list_all (is_plain_layer nat_eq world) (layers_of o))) world.filesystems is.plain_layers x m)))
@@ -513,18 +473,15 @@ elsewhere_in a b same is = subst (λ fs. UppersAreElsewhere (record a { filesyst
 
 pub new_in : (fresh : Fresh ℕ) (a b : World ℕ) → a.filesystems ≡ b.filesystems → AreNewInodes fresh b
     → AreNewInodes fresh a
-new_in fresh a b same is =
-    subst (λ fs. AreNewInodes fresh (record a { filesystems = fs })) (sym same)
+new_in fresh a b same is = subst (λ fs. AreNewInodes fresh (record a { filesystems = fs })) (sym same)
     (record { distinct = is.distinct; vacant = λ f k. is.vacant f k })
 
 pub served_new : (world : World ℕ) (fresh : Fresh ℕ) → Serves nat_eq world fresh
     → All (λ filesystem. ListsNumbers nat_eq filesystem.files) world.filesystems → AreNewInodes fresh world
-served_new world fresh serves lists =
-    record {
-      distinct = λ i j e. serves.apart i j (eq-eqb (fresh i) (fresh j) e);
-      vacant = λ f k.
-          unused_inode world fresh serves lists k f;
-    }
+served_new world fresh serves lists = record {
+  distinct = λ i j e. serves.apart i j (eq-eqb (fresh i) (fresh j) e);
+  vacant = λ f k. unused_inode world fresh serves lists k f;
+}
 
 pub odds_new : (world : World ℕ) (fresh : Fresh ℕ) → AreNewInodes fresh world → AreNewInodes (odds fresh) world
 odds_new world fresh is = record {

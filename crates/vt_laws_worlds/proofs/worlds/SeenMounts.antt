@@ -1,7 +1,6 @@
 -- Changes of mounts keep what is seen: mounts that are taken away, attached, moved, copied or changed.
-use Rattle.std.proofs.Common.{arith}
+use Rattle.std.proofs.Common.{arith, ◌≡◌, refl, sym, ap, subst, ◌∙◌, inl, inr, ⊎_elim, ℕ, zero, suc, nat_eq, eqb-true, Bool, true, false, true≢false, length, List, [], ◌∷◌, ◌++◌, map}
 use Rattle.std.proofs.lemmas.Grind.{common_steps}
-use Rattle.std.proofs.Common.{◌≡◌, refl, sym, ap, subst, ◌∙◌, inl, inr, ⊎_elim, ℕ, zero, suc, nat_eq, eqb-true, Bool, true, false, true≢false, length, List, [], ◌∷◌, ◌++◌, map}
 use Rattle.vt_spec.specs.Machine.Attach.{Copies, attach, copy_at, graft_of, parts_of, twig_of}
 use Rattle.vt_spec.specs.Language.Calls.{MountFlags, TypeWord}
 use Rattle.vt_spec.specs.Machine.Detach.{deepest_first, lazily_unmounted, taken_away, unmounted_if_there}
@@ -33,10 +32,8 @@ module _ (world : World ℕ) (gone : List ℕ) where
   taken_view number = grind (arith, common_steps, taken_are_detached, others_are_kept)
 
   pub taken_seen : KeepsWhatIsSeen world (taken_away nat_eq world gone)
-  taken_seen =
-      seen_by_mounts world (taken_away nat_eq world gone) (filesystems-taken_away world gone)
-      (λ number is. ap (is_among nat_eq number) (numbers_taken world gone) ∙ is)
-      (λ number is. taken_view number)
+  taken_seen = seen_by_mounts world (taken_away nat_eq world gone) (filesystems-taken_away world gone)
+      (λ number is. ap (is_among nat_eq number) (numbers_taken world gone) ∙ is) (λ number is. taken_view number)
 
 lazy_step : (world : World ℕ) (mount : Mount ℕ) → KeepsWhatIsSeen world (unmounted_if_there nat_eq world mount)
 lazy_step world mount = grind (arith, common_steps, taken_seen, same_seen)
@@ -46,8 +43,7 @@ lazy_steps : (mounts : List (Mount ℕ)) (world : World ℕ)
 lazy_steps [] world = same_seen world
 lazy_steps (mount ∷ mounts) world =
     let next = unmounted_if_there nat_eq world mount in
-    seen_on world next (folded (unmounted_if_there nat_eq) next mounts) (lazy_step world mount)
-    (lazy_steps mounts next)
+    seen_on world next (folded (unmounted_if_there nat_eq) next mounts) (lazy_step world mount) (lazy_steps mounts next)
 
 pub lazy_seen : (world : World ℕ) (number : ℕ) → KeepsWhatIsSeen world (lazily_unmounted nat_eq world number)
 lazy_seen world number =
@@ -65,8 +61,7 @@ pub attached_seen : (world : World ℕ) (fresh : Fresh ℕ) (place : Location �
     → KeepsWhatIsSeen world (attach nat_eq world fresh place false mounts)
 attached_seen world fresh place mounts =
     let new = supplied world fresh place mounts in
-    seen_by_mounts world (attach nat_eq world fresh place false mounts) refl
-    (λ number is.
+    seen_by_mounts world (attach nat_eq world fresh place false mounts) refl (λ number is.
     ap (is_among nat_eq number) (numbers_attached world new place false mounts)
     ∙ is_among_left number (numbers_of world.mounts) (numbers_of (others world new place false mounts)) is)
     (λ number is.
@@ -80,37 +75,31 @@ attached_seen world fresh place mounts =
 
 -- a filesystem is added
 module _ (filesystem : Filesystem ℕ) where
-  added_keeps : (list : List (Filesystem ℕ)) (number k : ℕ)
-      → KeepsKind ((numbered number list).files.tree.node k)
+  added_keeps : (list : List (Filesystem ℕ)) (number k : ℕ) → KeepsKind ((numbered number list).files.tree.node k)
       ((numbered number (list ++ (filesystem ∷ []))).files.tree.node k)
   added_keeps [] number k test e = absurd (true≢false (sym e))
   added_keeps (first ∷ rest) number k test e = grind (arith, common_steps, added_keeps rest number k test)
 
   pub added_seen : (world : World ℕ) → KeepsWhatIsSeen world (with_new_filesystem world filesystem)
-  added_seen world =
-      record {
-        listed = λ number is. is;
-        views = λ number is. same_view (mount_numbered nat_eq world number);
-        nodes = added_keeps world.filesystems;
-      }
+  added_seen world = record {
+    listed = λ number is. is;
+    views = λ number is. same_view (mount_numbered nat_eq world number);
+    nodes = added_keeps world.filesystems;
+  }
 
 pub mounted_seen : (world : World ℕ) (fresh : Fresh ℕ) (place : Location ℕ) (filesystem : Filesystem ℕ)
-    (flags : MountFlags)
-    → KeepsWhatIsSeen world (mounted nat_eq fresh world place filesystem flags)
+    (flags : MountFlags) → KeepsWhatIsSeen world (mounted nat_eq fresh world place filesystem flags)
 mounted_seen world fresh place filesystem flags =
     seen_on world (with_new_filesystem world filesystem) (mounted nat_eq fresh world place filesystem flags)
-    (added_seen filesystem world)
-    (attached_seen (with_new_filesystem world filesystem) fresh place
+    (added_seen filesystem world) (attached_seen (with_new_filesystem world filesystem) fresh place
     (new_mount filesystem.number filesystem.files.tree.root flags ∷ []))
 
 -- Mounts change their types or flags
 pub retyped_seen : (world : World ℕ) (fresh : Fresh ℕ) (one : ℕ) (word : TypeWord) (recursive : Bool)
     → KeepsWhatIsSeen world (with_type nat_eq fresh world one word recursive)
-retyped_seen world fresh one word recursive =
-    seen_by_mounts world (with_type nat_eq fresh world one word recursive)
+retyped_seen world fresh one word recursive = seen_by_mounts world (with_type nat_eq fresh world one word recursive)
     (types_are_of_mounts world fresh one word recursive).filesystems
-    (λ number is. ap (is_among nat_eq number) (numbers_with_type world fresh one word recursive) ∙ is)
-    (λ number is.
+    (λ number is. ap (is_among nat_eq number) (numbers_with_type world fresh one word recursive) ∙ is) (λ number is.
     let kept = type_is_all_that_changes world fresh one word recursive number in
     record {
       filesystem = kept.filesystem;
@@ -119,14 +108,12 @@ retyped_seen world fresh one word recursive =
           ap (λ n. is_in own (record (mount_numbered nat_eq world number) { namespace = n })) kept.namespace ∙ in_it;
     })
 
-pub flags_seen : (world : World ℕ) (one : ℕ) (flags : MountFlags)
-    → KeepsWhatIsSeen world
+pub flags_seen : (world : World ℕ) (one : ℕ) (flags : MountFlags) → KeepsWhatIsSeen world
     (with_mounts world (with_mount nat_eq world.mounts (record (mount_numbered nat_eq world one) { flags = flags })))
 flags_seen world one flags =
     let new = record (mount_numbered nat_eq world one) { flags = flags } in
     seen_by_mounts world (with_mounts world (with_mount nat_eq world.mounts new)) refl
-    (λ number is. ap (is_among nat_eq number) (numbers-with_mount new world.mounts) ∙ is)
-    (λ number is.
+    (λ number is. ap (is_among nat_eq number) (numbers-with_mount new world.mounts) ∙ is) (λ number is.
     related-with_mount KeepsView same_view world.mounts new
     (subst (λ n. KeepsView (mount_in nat_eq world.mounts n) new) (sym (number-mount_in world.mounts one))
     (record { filesystem = refl; root = refl; namespace = λ own in_it. in_it })) number)
@@ -138,32 +125,27 @@ module _ (root new : Mount ℕ) (put : Location ℕ) where
 
   pub pivoted_seen : (world : World ℕ) (namespace : ℕ)
       → KeepsWhatIsSeen world (pivoted nat_eq world namespace root new put)
-  pivoted_seen world namespace =
-      seen_by_mounts world (pivoted nat_eq world namespace root new put) refl
+  pivoted_seen world namespace = seen_by_mounts world (pivoted nat_eq world namespace root new put) refl
       (λ number is. ap (is_among nat_eq number)
       (numbers-map (pivoted_mount nat_eq root new put) (number-pivoted_mount root new put) world.mounts) ∙ is)
       (λ number is.
-      subst (KeepsView (mount_numbered nat_eq world number))
-      (sym (found-map_there (pivoted_mount nat_eq root new put)
-      (number-pivoted_mount root new put) world.mounts number is))
-      (pivoted_view (mount_numbered nat_eq world number)))
+      subst (KeepsView (mount_numbered nat_eq world number)) (sym (found-map_there (pivoted_mount nat_eq root new put)
+      (number-pivoted_mount root new put) world.mounts number is)) (pivoted_view (mount_numbered nat_eq world number)))
 
 -- The mounts of a namespace are copied
 pub copied_seen : (world after : World ℕ) (copies : List (Mount ℕ)) → after.mounts ≡ world.mounts ++ copies
     → after.filesystems ≡ world.filesystems → KeepsWhatIsSeen world after
-copied_seen world after copies mounts filesystems =
-    grind (
-      arith,
-      common_steps,
-      seen_on,
-      seen_by_mounts,
-      is_among_numbers,
-      among_numbers (numbers_of world.mounts),
-      found-append world.mounts copies,
-      same_view,
-      seen_alike (with_mounts world (world.mounts ++ copies)) after mounts
-          filesystems,
-    )
+copied_seen world after copies mounts filesystems = grind (
+  arith,
+  common_steps,
+  seen_on,
+  seen_by_mounts,
+  is_among_numbers,
+  among_numbers (numbers_of world.mounts),
+  found-append world.mounts copies,
+  same_view,
+  seen_alike (with_mounts world (world.mounts ++ copies)) after mounts filesystems,
+)
 
 -- A tree of mounts moves: it is all in one namespace
 module _ (world : World ℕ) (one : OneNumberAMount world.mounts)
@@ -178,8 +160,7 @@ module _ (world : World ℕ) (one : OneNumberAMount world.mounts)
           absurd (true≢false (sym on ∙ ap (holds_of (λ (place : Location ℕ). nat_eq parent place.mount))
           (ap (λ (x : Mount ℕ). x.mount_point) (sym itself) ∙ e)))
       by (on_parent number place e same later) itself =
-          let it : parent ≡ place.mount =
-          eqb-true parent place.mount
+          let it : parent ≡ place.mount = eqb-true parent place.mount
           (sym (ap (holds_of (λ (at : Location ℕ). nat_eq parent at.mount))
           (ap (λ (x : Mount ℕ). x.mount_point) (sym itself) ∙ e)) ∙ on) in
           ap (λ (x : Mount ℕ). x.namespace) (sym itself) ∙ same
@@ -188,15 +169,12 @@ module _ (world : World ℕ) (one : OneNumberAMount world.mounts)
   pub tree_namespace : (depth : ℕ) (top : Mount ℕ) → mount_numbered nat_eq world top.number ≡ top → (mount : Mount ℕ)
       → Among mount (tree_from nat_eq depth world.mounts top) → mount.namespace ≡ top.namespace
   tree_namespace zero top itself mount m = ⊎_elim (λ e. ap (λ (x : Mount ℕ). x.namespace) e) (λ none. absurd none) m
-  tree_namespace (suc depth) top itself mount m =
-      ⊎_elim (λ e. ap (λ (x : Mount ℕ). x.namespace) e)
-      (λ later.
+  tree_namespace (suc depth) top itself mount m = ⊎_elim (λ e. ap (λ (x : Mount ℕ). x.namespace) e) (λ later.
       let under = among-from_flat_map (tree_from nat_eq depth world.mounts)
       (children nat_eq world.mounts top.number) mount later in
       let child = among-from_filter (stands_on nat_eq top.number) world.mounts under.0 under.1 in
       tree_namespace depth under.0 (found_itself world.mounts one under.0 child.0) mount under.2
-      ∙ child_namespace under.0 child.0 top.number child.1
-      ∙ ap (λ (x : Mount ℕ). x.namespace) itself) m
+      ∙ child_namespace under.0 child.0 top.number child.1 ∙ ap (λ (x : Mount ℕ). x.namespace) itself) m
 
 -- the namespaces of mounts that are replaced, where each new one is in that of the old one
 namespaces_replaced : (before mounts copies : List (Mount ℕ))
@@ -206,23 +184,17 @@ namespaces_replaced : (before mounts copies : List (Mount ℕ))
     (folded (with_mount nat_eq) mounts copies) number).namespace ≡ (mount_in nat_eq before number).namespace
 namespaces_replaced before mounts [] so each number = so number
 namespaces_replaced before mounts (copy ∷ copies) so each number =
-    namespaces_replaced before (with_mount nat_eq mounts copy) copies
-    (λ n.
+    namespaces_replaced before (with_mount nat_eq mounts copy) copies (λ n.
     related-with_mount (λ (a b : Mount ℕ). b.namespace ≡ a.namespace) (λ (a : Mount ℕ). refl) mounts copy
-    (each copy (inl refl) ∙ sym (so copy.number)) n ∙ so n)
-    (λ c m. each c (inr m)) number
+    (each copy (inl refl) ∙ sym (so copy.number)) n ∙ so n) (λ c m. each c (inr m)) number
 
 pub moved_seen : (world : World ℕ) (fresh : Fresh ℕ) (mount : ℕ) (place : Location ℕ) → OneNumberAMount world.mounts
     → ((one : Mount ℕ) → Among one world.mounts → Stands nat_eq world one.number)
-    → (mount_numbered nat_eq world mount).namespace ≡ (mount_at nat_eq world place).namespace
-    → KeepsWhatIsSeen world
+    → (mount_numbered nat_eq world mount).namespace ≡ (mount_at nat_eq world place).namespace → KeepsWhatIsSeen world
     (attach nat_eq world fresh place true (mount_tree nat_eq world.mounts (mount_numbered nat_eq world mount)))
-moved_seen world fresh mount place one stand same =
-    seen_by_mounts world after refl
-    (λ number is.
+moved_seen world fresh mount place one stand same = seen_by_mounts world after refl (λ number is.
     ap (is_among nat_eq number) (numbers_attached world new place true mounts)
-    ∙ is_among_left number (numbers_of world.mounts) (numbers_of (others world new place true mounts)) is)
-    (λ number is.
+    ∙ is_among_left number (numbers_of world.mounts) (numbers_of (others world new place true mounts)) is) (λ number is.
     let kept = moved_mounts_show world fresh (record { mount = mount; node = 0 }) place number one is in
     record {
       filesystem = kept.filesystem;
@@ -246,8 +218,7 @@ moved_seen world fresh mount place one stand same =
 
     namespace : (number : ℕ) → is_mount world number ≡ true
         → (mount_numbered nat_eq after number).namespace ≡ (mount_numbered nat_eq world number).namespace
-    namespace number is =
-        ap (λ (x : Mount ℕ). x.namespace) (found_attached world new place true mounts number is)
+    namespace number is = ap (λ (x : Mount ℕ). x.namespace) (found_attached world new place true mounts number is)
         ∙ (push_keeps world new (graft_of nat_eq world new place true mounts) (parts_of nat_eq world place)
         (mount_in nat_eq (moved_ones world new place true mounts) number)).namespace
         ∙ namespaces_replaced world.mounts world.mounts (arriving world new place true mounts) (λ n. refl) each number
@@ -256,16 +227,14 @@ moved_seen world fresh mount place one stand same =
         itself = ap (mount_numbered nat_eq world) (number-mount_in world.mounts mount)
 
         found : (origin : Mount ℕ) → Among origin mounts → mount_numbered nat_eq world origin.number ≡ origin
-        found origin m =
-            ⊎_elim (λ e. ap (λ (x : Mount ℕ). mount_numbered nat_eq world x.number) e ∙ itself ∙ sym e)
+        found origin m = ⊎_elim (λ e. ap (λ (x : Mount ℕ). mount_numbered nat_eq world x.number) e ∙ itself ∙ sym e)
             (λ there. found_itself world.mounts one origin there)
             (tree_among (length world.mounts) world.mounts top origin m)
 
         each : (copy : Mount ℕ) → Among copy (arriving world new place true mounts)
             → copy.namespace ≡ (mount_in nat_eq world.mounts copy.number).namespace
         each copy m =
-            let from =
-            among-from_map (copy_at nat_eq world new (graft_of nat_eq world new place true mounts)
+            let from = among-from_map (copy_at nat_eq world new (graft_of nat_eq world new place true mounts)
             (parts_of nat_eq world place) (mount_at nat_eq world place))
             (map (twig_of new (group_of (mount_at nat_eq world place).propagation)) mounts) copy m in
             let comes = arrives world new place mounts copy m in

@@ -1,8 +1,7 @@
 -- A change of a tree keeps each inode that is there, and its kind; so do changes of filesystems in a world without
 -- overlays.
-use Rattle.std.proofs.Common.{arith}
+use Rattle.std.proofs.Common.{arith, ◌≡◌, refl, sym, ap, ◌∙◌, ◌⊎◌, inr, ℕ, nat_eq, eqb-true, eq-eqb, Bool, true, false, cond, true≢false, flat_map, List, [], ◌∷◌, ◌++◌, Option, Some, None, map}
 use Rattle.std.proofs.lemmas.Grind.{common_steps}
-use Rattle.std.proofs.Common.{◌≡◌, refl, sym, ap, ◌∙◌, ◌⊎◌, inr, ℕ, nat_eq, eqb-true, eq-eqb, Bool, true, false, cond, true≢false, flat_map, List, [], ◌∷◌, ◌++◌, Option, Some, None, map}
 use Rattle.std.specs.Prelude.{All, ⊤}
 use Rattle.vt_spec.specs.declared.attributes.Attr.{Attr}
 use Rattle.vt_spec.specs.Language.Changes.{Change, changed, node_with_attr, node_with_mark, node_with_parent, node_without_entry, with_inode, with_name, without_entry, without_name, without_parent}
@@ -102,25 +101,21 @@ changes_keep_kinds files (Make directory name number node) new k = λ test e.
     ∙ keeps-with_inode files number node new k test e
 changes_keep_kinds files (AddName directory name object) new k =
     same_kind (files.tree.node k) _ (kinds-with_name files directory name object k)
-changes_keep_kinds files (Remove directory name object) new k =
-    same_kind (files.tree.node k) _
+changes_keep_kinds files (Remove directory name object) new k = same_kind (files.tree.node k) _
     (kinds-without_parent (without_name nat_eq files directory name) (Some object) k
     ∙ kinds-without_name files directory name k)
 changes_keep_kinds files (Move from old to new_name object) new k =
     let first = without_parent nat_eq files (entry_named new_name (entries_in (files.tree.node to))) in
     let second = without_name nat_eq first from old in
     let third = with_name nat_eq second to new_name object in
-    same_kind (files.tree.node k) _
-    (part_stays third object (node_with_parent to) kind_seen (kind-with_parent to) k
-    ∙ kinds-with_name second to new_name object k
-    ∙ kinds-without_name first from old k
+    same_kind (files.tree.node k) _ (part_stays third object (node_with_parent to) kind_seen (kind-with_parent to) k
+    ∙ kinds-with_name second to new_name object k ∙ kinds-without_name first from old k
     ∙ kinds-without_parent files (entry_named new_name (entries_in (files.tree.node to))) k)
 changes_keep_kinds files (SetBytes file bytes) new k =
     same_kind (files.tree.node k) _ (part_stays files file (node_with_bytes bytes) kind_seen (kind-with_bytes bytes) k)
 changes_keep_kinds files (SetAttr object attr) new k =
     same_kind (files.tree.node k) _ (part_stays files object (node_with_attr attr) kind_seen (kind-with_attr attr) k)
-changes_keep_kinds files (SetMark directory opaque) new k =
-    same_kind (files.tree.node k) _
+changes_keep_kinds files (SetMark directory opaque) new k = same_kind (files.tree.node k) _
     (part_stays files directory (node_with_mark opaque) kind_seen (kind-with_mark opaque) k)
 changes_keep_kinds files (CopyUp object) new k = λ test e. e
 
@@ -151,8 +146,7 @@ module _ (new : Filesystem ℕ) where
       grind (arith, common_steps, number-replaced_if_numbered new first, found_other rest number other, eqb-true)
 
   -- it is found, or none was there
-  pub found_new : (list : List (Filesystem ℕ))
-      → (numbered new.number (replaced list) ≡ new)
+  pub found_new : (list : List (Filesystem ℕ)) → (numbered new.number (replaced list) ≡ new)
       ⊎ ((numbered new.number (replaced list) ≡ no_filesystem new.number)
       × (numbered new.number list ≡ no_filesystem new.number))
   found_new [] = inr (refl, refl)
@@ -165,19 +159,15 @@ module _ (new : Filesystem ℕ) where
   replaced_keeps list keeps number k test e = grind (arith, common_steps, found_new, eqb-true, found_other)
 
 -- A change at a location
-module _ (fresh : Fresh ℕ) (world : World ℕ) (plain : IsPlain world) (location : Location ℕ)
-    (change : Change ℕ) where
+module _ (fresh : Fresh ℕ) (world : World ℕ) (plain : IsPlain world) (location : Location ℕ) (change : Change ℕ) where
   abbrev old : Filesystem ℕ
   old = filesystem_at nat_eq world location
 
   abbrev pub changed_one : Filesystem ℕ
   changed_one = with_files old (changed nat_eq old.files change)
 
-  pub change_of_plain : with_change nat_eq fresh world location change
-      ≡ with_filesystem nat_eq world changed_one
-  change_of_plain =
-      ap (λ o. filesystem_changed nat_eq fresh world old o change)
-      (none_from_not_some old.overlay
+  pub change_of_plain : with_change nat_eq fresh world location change ≡ with_filesystem nat_eq world changed_one
+  change_of_plain = ap (λ o. filesystem_changed nat_eq fresh world old o change) (none_from_not_some old.overlay
       (numbered_anyhow (λ filesystem. is_overlay filesystem ≡ false)
       (mount_at nat_eq world location).filesystem world.filesystems plain refl))
 
@@ -199,8 +189,7 @@ unused_number world fresh serves k number m = none_among (nat_eq (fresh k)) (num
 
 pub unused_by_filesystem : (world : World ℕ) (fresh : Fresh ℕ) → Serves nat_eq world fresh → (k : ℕ)
     → (filesystem : Filesystem ℕ) → Among filesystem world.filesystems → (number : ℕ)
-    → Among number (used_by_filesystem filesystem)
-    → nat_eq (fresh k) number ≡ false
+    → Among number (used_by_filesystem filesystem) → nat_eq (fresh k) number ≡ false
 unused_by_filesystem world fresh serves k filesystem m number n =
     let mounts = flat_map used_by_mount world.mounts in
     let filesystems = flat_map used_by_filesystem world.filesystems in
@@ -222,6 +211,5 @@ unused_inode world fresh serves lists k filesystem =
     by : (f : Filesystem ℕ) → Among f world.filesystems → (b : Bool) → is_among nat_eq (fresh k) f.files.numbers ≡ b
         → b ≡ false
     by f m false e = refl
-    by f m true e =
-        sym (eq-eqb (fresh k) (fresh k) refl)
+    by f m true e = sym (eq-eqb (fresh k) (fresh k) refl)
         ∙ unused_by_filesystem world fresh serves k f m (fresh k) (inr (among_numbers f.files.numbers (fresh k) e))

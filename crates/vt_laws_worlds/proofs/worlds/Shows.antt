@@ -1,7 +1,6 @@
 -- What mounts show, and where they stand, stays there when mounts are taken away, changed or copied.
-use Rattle.std.proofs.Common.{arith}
+use Rattle.std.proofs.Common.{arith, ◌≡◌, refl, sym, ap, subst, ◌∙◌, ⊎_elim, ℕ, nat_eq, eqb-true, eq-eqb, Bool, true, false, true≢false, List, [], ◌∷◌, Option, Some, None, is_some, length, map, option_map}
 use Rattle.std.proofs.lemmas.Grind.{common_steps}
-use Rattle.std.proofs.Common.{◌≡◌, refl, sym, ap, subst, ◌∙◌, ⊎_elim, ℕ, nat_eq, eqb-true, eq-eqb, Bool, true, false, true≢false, List, [], ◌∷◌, Option, Some, None, is_some, length, map, option_map}
 use Rattle.std.specs.Prelude.{if◌then◌else◌, option_to_list, unwrap_or}
 use Rattle.std.specs.List.{list_all}
 use Rattle.std.proofs.lemmas.Bool.{and_from, and_parts}
@@ -47,19 +46,17 @@ AllShow world = (mount : Mount ℕ) → Among mount world.mounts → ShowsWell w
 
 module _ (before after : World ℕ) (seen : KeepsWhatIsSeen before after) where
   pub place_after : (place : Location ℕ) → IsPlace before place → IsPlace after place
-  place_after place at =
-      record {
-        listed = seen.listed place.mount at.listed;
-        directory = directory_after before after seen place at.listed at.directory;
-      }
+  place_after place at = record {
+    listed = seen.listed place.mount at.listed;
+    directory = directory_after before after seen place at.listed at.directory;
+  }
 
   pub shows_after : (mount : Mount ℕ) → ShowsWell before mount → ShowsWell after mount
-  shows_after mount shows =
-      record {
-        root = directory_kept (inode_in before mount.filesystem mount.root) (inode_in after mount.filesystem mount.root)
-            (seen.nodes mount.filesystem mount.root) shows.root;
-        mount_point = λ place e. place_after place (shows.mount_point place e);
-      }
+  shows_after mount shows = record {
+    root = directory_kept (inode_in before mount.filesystem mount.root) (inode_in after mount.filesystem mount.root)
+        (seen.nodes mount.filesystem mount.root) shows.root;
+    mount_point = λ place e. place_after place (shows.mount_point place e);
+  }
 
   -- where the mounts are those that were there
   pub all_show_after : after.mounts ≡ before.mounts → AllShow before → AllShow after
@@ -67,25 +64,21 @@ module _ (before after : World ℕ) (seen : KeepsWhatIsSeen before after) where
 
 -- a mount that shows what another does, and stands where it does
 pub shows_alike : (world : World ℕ) (one other : Mount ℕ) → other.filesystem ≡ one.filesystem → other.root ≡ one.root
-    → other.mount_point ≡ one.mount_point
-    → ShowsWell world one → ShowsWell world other
-shows_alike world one other filesystem root place shows =
-    record {
-      root = ap (λ f. is_directory_node (inode_in world f other.root)) filesystem
-          ∙ ap (λ r. is_directory_node (inode_in world one.filesystem r)) root ∙ shows.root;
-      mount_point = λ at e. shows.mount_point at (sym place ∙ e);
-    }
+    → other.mount_point ≡ one.mount_point → ShowsWell world one → ShowsWell world other
+shows_alike world one other filesystem root place shows = record {
+  root = ap (λ f. is_directory_node (inode_in world f other.root)) filesystem
+      ∙ ap (λ r. is_directory_node (inode_in world one.filesystem r)) root ∙ shows.root;
+  mount_point = λ at e. shows.mount_point at (sym place ∙ e);
+}
 
 -- The invariant says so
 pub mounts_show : (world : World ℕ) → AllShow world → MountsShow world
-mounts_show world shows =
-    list_all_from_among (has_its_root nat_eq world) world.mounts (λ mount m.
+mounts_show world shows = list_all_from_among (has_its_root nat_eq world) world.mounts (λ mount m.
     and_from (is_directory_node (inode_in world mount.filesystem mount.root))
     (list_all (is_directory_at nat_eq world) (option_to_list mount.mount_point))
     (shows mount m).root (by mount.mount_point (λ place e. ((shows mount m).mount_point place e).directory)))
   where
-    by : (o : Option (Location ℕ))
-        → ((place : Location ℕ) → o ≡ Some place → is_directory_at nat_eq world place ≡ true)
+    by : (o : Option (Location ℕ)) → ((place : Location ℕ) → o ≡ Some place → is_directory_at nat_eq world place ≡ true)
         → list_all (is_directory_at nat_eq world) (option_to_list o) ≡ true
     by None h = refl
     by (Some place) h = and_from (is_directory_at nat_eq world place) true (h place refl) refl
@@ -93,8 +86,7 @@ mounts_show world shows =
 module _ (world : World ℕ) (is : IsWorld nat_eq world) where
   -- where a mount stands is on a mount of its namespace
   pub parent_namespace : (mount : Mount ℕ) → Among mount world.mounts → (place : Location ℕ)
-      → mount.mount_point ≡ Some place
-      → mount.namespace ≡ (mount_at nat_eq world place).namespace
+      → mount.mount_point ≡ Some place → mount.namespace ≡ (mount_at nat_eq world place).namespace
   parent_namespace mount m place at =
       by (among_from_all (λ (x : Mount ℕ). Stands nat_eq world x.number) world.mounts is.mounts.standing mount m)
       (itself world is mount m)
@@ -110,21 +102,17 @@ module _ (world : World ℕ) (is : IsWorld nat_eq world) where
           ∙ ap (λ o. (mount_at nat_eq world (unwrap_or o place)).namespace) it
 
   placed_is_attached : (mount : Mount ℕ) → Among mount world.mounts → (place : Location ℕ)
-      → mount.mount_point ≡ Some place
-      → is_some mount.namespace ≡ true
+      → mount.mount_point ≡ Some place → is_some mount.namespace ≡ true
   placed_is_attached mount m place at = grind (arith, common_steps, true≢false, among_from_list_all)
 
   pub place_listed : (mount : Mount ℕ) → Among mount world.mounts → (place : Location ℕ)
-      → mount.mount_point ≡ Some place
-      → is_mount world place.mount ≡ true
+      → mount.mount_point ≡ Some place → is_mount world place.mount ≡ true
   place_listed mount m place at = by (mount_at nat_eq world place).namespace refl
     where
       by : (o : Option ℕ) → (mount_at nat_eq world place).namespace ≡ o → is_mount world place.mount ≡ true
-      by None e =
-          absurd (true≢false (sym (placed_is_attached mount m place at)
+      by None e = absurd (true≢false (sym (placed_is_attached mount m place at)
           ∙ ap is_some (parent_namespace mount m place at) ∙ ap is_some e))
-      by (Some own) e =
-          subst (λ n. is_mount world n ≡ true) (number-mount_in world.mounts place.mount)
+      by (Some own) e = subst (λ n. is_mount world n ≡ true) (number-mount_in world.mounts place.mount)
           (is_numbered world is (mount_at nat_eq world place) (own_there world is place.mount own e))
 
   pub world_shows : AllShow world
@@ -164,12 +152,10 @@ module _ (world : World ℕ) (gone : List ℕ) (shows : AllShow world) where
       left : (o : Option (Location ℕ)) → mount.mount_point ≡ o → (at : Location ℕ)
           → option_map (mount_point_left nat_eq world gone) o ≡ Some at → IsPlace world at
       left None e at f = absurd (true≢false (sym (ap is_some f)))
-      left (Some place) e at f =
-          subst (IsPlace world) (same_Some (mount_point_left nat_eq world gone place) at f)
+      left (Some place) e at f = subst (IsPlace world) (same_Some (mount_point_left nat_eq world gone place) at f)
           (left_is_place place (well.mount_point place e))
 
-      by : (b : Bool) → ShowsWell world
-          (if b then detached mount else
+      by : (b : Bool) → ShowsWell world (if b then detached mount else
           (record mount { mount_point = option_map (mount_point_left nat_eq world gone) mount.mount_point }))
       by true = record { root = well.root; mount_point = λ at f. absurd (true≢false (sym (ap is_some f))) }
       by false = record { root = well.root; mount_point = λ at f. left mount.mount_point refl at f }
@@ -180,11 +166,9 @@ module _ (world : World ℕ) (gone : List ℕ) (shows : AllShow world) where
       (map (after_going nat_eq world gone) world.mounts) mount
       (subst (Among mount) (mounts-regrouped (middle world gone)) m) in
       let old = among-from_map (after_going nat_eq world gone) world.mounts from.0 from.1 in
-      let well : ShowsWell world from.0 = subst (ShowsWell world) (sym old.2)
-      (going_shows old.0 (shows old.0 old.1)) in
+      let well : ShowsWell world from.0 = subst (ShowsWell world) (sym old.2) (going_shows old.0 (shows old.0 old.1)) in
       shows_after world (taken_away nat_eq world gone) (taken_seen world gone) mount
-      (subst (ShowsWell world) (sym from.2)
-      (record { root = well.root; mount_point = well.mount_point }))
+      (subst (ShowsWell world) (sym from.2) (record { root = well.root; mount_point = well.mount_point }))
 
 lazy_show_step : (world : World ℕ) (mount : Mount ℕ) → AllShow world → AllShow (unmounted_if_there nat_eq world mount)
 lazy_show_step world mount shows = by (is_some (mount_numbered nat_eq world mount.number).namespace)
@@ -200,13 +184,11 @@ lazy_show_steps (mount ∷ mounts) world shows =
     lazy_show_steps mounts (unmounted_if_there nat_eq world mount) (lazy_show_step world mount shows)
 
 pub lazy_show : (world : World ℕ) (number : ℕ) → AllShow world → AllShow (lazily_unmounted nat_eq world number)
-lazy_show world number =
-    lazy_show_steps (deepest_first nat_eq world
+lazy_show world number = lazy_show_steps (deepest_first nat_eq world
     (mount_tree nat_eq world.mounts (mount_numbered nat_eq world number))) world
 
 pub ended_show : (world : World ℕ) → AllShow world → AllShow (namespaces_ended nat_eq world)
-ended_show world shows =
-    all_show_after (taken_away nat_eq world _) (namespaces_ended nat_eq world)
+ended_show world shows = all_show_after (taken_away nat_eq world _) (namespaces_ended nat_eq world)
     (seen_alike (taken_away nat_eq world _) (namespaces_ended nat_eq world) refl refl) refl (taken_show world _ shows)
 
 -- Mounts change their types or flags
@@ -220,16 +202,14 @@ retyped_show world fresh one word recursive shows mount m =
     (subst (Among mount) (mounts-regrouped (between world group word named)) m) in
     let old = among-from_map change world.mounts from.0 from.1 in
     let kept = retype_keeps world group word named old.0 in
-    let well : ShowsWell world from.0 =
-    subst (ShowsWell world) (sym old.2)
+    let well : ShowsWell world from.0 = subst (ShowsWell world) (sym old.2)
     (shows_alike world old.0 (change old.0) kept.filesystem kept.root kept.mount_point (shows old.0 old.1)) in
     shows_after world (with_type nat_eq fresh world one word recursive)
     (retyped_seen world fresh one word recursive) mount
     (subst (ShowsWell world) (sym from.2) (record { root = well.root; mount_point = well.mount_point }))
 
 pub flags_show : (world : World ℕ) (one : ℕ) (flags : MountFlags) → AllShow world
-    → ShowsWell world (mount_numbered nat_eq world one)
-    → AllShow (with_mounts world
+    → ShowsWell world (mount_numbered nat_eq world one) → AllShow (with_mounts world
     (with_mount nat_eq world.mounts (record (mount_numbered nat_eq world one) { flags = flags })))
 flags_show world one flags shows well mount m =
     let new = record (mount_numbered nat_eq world one) { flags = flags } in
@@ -245,8 +225,7 @@ flags_show world one flags shows well mount m =
 
 -- The root is pivoted
 pub pivoted_show : (world : World ℕ) (namespace : ℕ) (root new : Mount ℕ) (put : Location ℕ) → AllShow world
-    → ShowsWell world root
-    → IsPlace world put → AllShow (pivoted nat_eq world namespace root new put)
+    → ShowsWell world root → IsPlace world put → AllShow (pivoted nat_eq world namespace root new put)
 pivoted_show world namespace root new put shows at_root_place at_put mount m =
     let from = among-from_map (pivoted_mount nat_eq root new put) world.mounts mount m in
     shows_after world (pivoted nat_eq world namespace root new put) (pivoted_seen root new put world namespace) mount
@@ -290,8 +269,7 @@ module _ (world : World ℕ) (fresh : Fresh ℕ) (task : Task ℕ) (is : IsWorld
       among-filter (λ (x : Mount ℕ). holds_of (nat_eq task.namespace) x.namespace) world.mounts parent
       (found_there world.mounts place.mount on.listed)
       (ap (holds_of (nat_eq task.namespace)) namespace ∙ eq-eqb task.namespace task.namespace refl) in
-      let stands = copy_stands world fresh task is serves place
-      (record {
+      let stands = copy_stands world fresh task is serves place (record {
         located = and_from (is_mount world place.mount) (is_some (node_at nat_eq world place)) on.listed
             (directory_is_there (node_at nat_eq world place) on.directory);
         directory = on.directory;
@@ -304,22 +282,18 @@ module _ (world : World ℕ) (fresh : Fresh ℕ) (task : Task ℕ) (is : IsWorld
       }
 
   pub unshared_show : AllShow after
-  unshared_show mount m =
-      ⊎_elim
-      (λ old. shows_after world after (unshared_seen world fresh task) mount (world_shows world is mount old))
-      (λ new.
+  unshared_show mount m = ⊎_elim
+      (λ old. shows_after world after (unshared_seen world fresh task) mount (world_shows world is mount old)) (λ new.
       let from = among-from_map (copied_mount copy (evens fresh 0)) copied mount new in
       subst (ShowsWell after) (sym from.2) (copy_shows from.0 from.1))
       (among-append world.mounts (map (copied_mount copy (evens fresh 0)) copied) mount m)
     where
       copy_shows : (old : Mount ℕ) → Among old copied → ShowsWell after (copied_mount copy (evens fresh 0) old)
-      copy_shows old n =
-          record {
-            root = (world_shows world is old
-                (among-from_filter (λ (x : Mount ℕ). holds_of
-                (nat_eq task.namespace) x.namespace) world.mounts old n).0).root;
-            mount_point = λ at e. by old.mount_point refl at e;
-          }
+      copy_shows old n = record {
+        root = (world_shows world is old (among-from_filter (λ (x : Mount ℕ). holds_of
+            (nat_eq task.namespace) x.namespace) world.mounts old n).0).root;
+        mount_point = λ at e. by old.mount_point refl at e;
+      }
         where
           by : (o : Option (Location ℕ)) → old.mount_point ≡ o → (at : Location ℕ)
               → option_map (location_on_copy copy) o ≡ Some at → IsPlace after at

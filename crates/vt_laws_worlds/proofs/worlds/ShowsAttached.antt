@@ -29,8 +29,7 @@ module _ (world : World ℕ) (mounts : List (Mount ℕ))
     where
       by : (o : Option (Mount ℕ)) → child_at nat_eq mounts a ≡ o → option_map root_of o ≡ Some b → IsPlace world b
       by None none f = absurd (true≢false (sym (ap is_some f)))
-      by (Some child) found f =
-          subst (IsPlace world) (same_Some (root_of child) b f)
+      by (Some child) found f = subst (IsPlace world) (same_Some (root_of child) b f)
           (roots child (found_in (stands_at nat_eq a) mounts child found).0)
 
 pub top_is_place : (world : World ℕ) (mounts : List (Mount ℕ))
@@ -50,11 +49,9 @@ module _ (world : World ℕ) (new : Copies ℕ) (place : Location ℕ) (moves : 
     → is_directory_node (inode_in world origin.filesystem origin.root) ≡ true)
     (parents : (origin : Mount ℕ) → Among origin mounts
     → is_top nat_eq (graft world new place moves mounts) origin.number ≡ false
-    → (at : Location ℕ) → origin.mount_point ≡ Some at
-    → (on : Mount ℕ) × Among on mounts × (on.number ≡ at.mount)
+    → (at : Location ℕ) → origin.mount_point ≡ Some at → (on : Mount ℕ) × Among on mounts × (on.number ≡ at.mount)
     × (is_directory_node (inode_in world on.filesystem at.node) ≡ true))
-    (moving : moves ≡ true → (origin : Mount ℕ) → Among origin mounts
-    → (is_mount world origin.number ≡ true)
+    (moving : moves ≡ true → (origin : Mount ℕ) → Among origin mounts → (is_mount world origin.number ≡ true)
     × ((mount_numbered nat_eq world origin.number).filesystem ≡ origin.filesystem)) where
   abbrev after : World ℕ
   after = attached_by nat_eq world new place moves mounts
@@ -98,13 +95,10 @@ module _ (world : World ℕ) (new : Copies ℕ) (place : Location ℕ) (moves : 
 
   -- a copy that is new is in the list, and found there
   copy_after : (part : Mount ℕ) → Among part (rest_of all_parts) ⊎ ((part ≡ destination) × (moves ≡ false))
-      → (mount : Mount ℕ)
-      → Among mount (copies part) → Among mount after.mounts
-  copy_after part (inl m) mount n =
-      among-append_right (pushed ++ added) (flat_map copies (rest_of all_parts)) mount
+      → (mount : Mount ℕ) → Among mount (copies part) → Among mount after.mounts
+  copy_after part (inl m) mount n = among-append_right (pushed ++ added) (flat_map copies (rest_of all_parts)) mount
       (among-flat_map copies (rest_of all_parts) part mount m n)
-  copy_after part (inr here) mount n =
-      among-append_left (pushed ++ added) (flat_map copies (rest_of all_parts)) mount
+  copy_after part (inr here) mount n = among-append_left (pushed ++ added) (flat_map copies (rest_of all_parts)) mount
       (among-append_right pushed added mount
       (subst (λ b. Among mount (added_mounts b (copies destination))) (sym here.1)
       (subst (λ p. Among mount (copies p)) here.0 n)))
@@ -115,8 +109,7 @@ module _ (world : World ℕ) (new : Copies ℕ) (place : Location ℕ) (moves : 
 
   -- what a copy, or what moved, shows
   copy_view : (part : Mount ℕ) → Among part all_parts → (origin : Mount ℕ) → Among origin mounts
-      → (is_mount after (copy_number nat_eq new tree part.number origin.number) ≡ true)
-      × ((mount_numbered nat_eq after
+      → (is_mount after (copy_number nat_eq new tree part.number origin.number) ≡ true) × ((mount_numbered nat_eq after
       (copy_number nat_eq new tree part.number origin.number)).filesystem ≡ origin.filesystem)
   copy_view part m origin n = ⊎_elim (λ here. at_destination moves refl here) (λ rest. as_new (inl rest)) m
     where
@@ -127,8 +120,7 @@ module _ (world : World ℕ) (new : Copies ℕ) (place : Location ℕ) (moves : 
       as_new how =
           let there = copy_after part how (copy part origin) (copy_among part origin n) in (
             listed_after (copy part origin) there,
-            ap (λ (x : Mount ℕ). x.filesystem)
-                (found_itself after.mounts one_after (copy part origin) there),
+            ap (λ (x : Mount ℕ). x.filesystem) (found_itself after.mounts one_after (copy part origin) there),
           )
 
       at_destination : (b : Bool) → moves ≡ b → part ≡ destination
@@ -144,8 +136,7 @@ module _ (world : World ℕ) (new : Copies ℕ) (place : Location ℕ) (moves : 
           (eq-eqb part.number place.mount (ap (λ (x : Mount ℕ). x.number) here
           ∙ number-mount_in world.mounts place.mount))) in
           subst (λ k. (is_mount after k ≡ true) × ((mount_numbered nat_eq after k).filesystem ≡ origin.filesystem))
-          (sym number)
-          (seen.listed origin.number old.0, (seen.views origin.number old.0).filesystem ∙ old.1)
+          (sym number) (seen.listed origin.number old.0, (seen.views origin.number old.0).filesystem ∙ old.1)
 
   -- the place seen through a part
   part_place : (part : Mount ℕ) → Among part all_parts
@@ -156,12 +147,10 @@ module _ (world : World ℕ) (new : Copies ℕ) (place : Location ℕ) (moves : 
       through : is_mount world part.number ≡ true
           → (mount_numbered nat_eq world part.number).filesystem ≡ destination.filesystem
           → IsPlace world (record { mount = part.number; node = place.node })
-      through listed same =
-          record {
-            listed = listed;
-            directory = ap (λ f. is_directory_node (inode_in world f place.node)) same
-                ∙ at_place.directory;
-          }
+      through listed same = record {
+        listed = listed;
+        directory = ap (λ f. is_directory_node (inode_in world f place.node)) same ∙ at_place.directory;
+      }
 
       here : part ≡ destination → IsPlace world (record { mount = part.number; node = place.node })
       here e =
@@ -175,10 +164,8 @@ module _ (world : World ℕ) (new : Copies ℕ) (place : Location ℕ) (moves : 
           let there = taker_there world place part n in
           let takes = (among-from_filter (takes_part nat_eq world place)
           (receivers_of nat_eq world destination) part n).1 in
-          let before_reach = (and_parts
-          (not (nat_eq place.mount part.number) && is_some part.namespace
-          && nat_eq destination.filesystem part.filesystem)
-          (reaches nat_eq world place.node part) takes).0 in
+          let before_reach = (and_parts (not (nat_eq place.mount part.number) && is_some part.namespace
+          && nat_eq destination.filesystem part.filesystem) (reaches nat_eq world place.node part) takes).0 in
           let same = (and_parts (not (nat_eq place.mount part.number) && is_some part.namespace)
           (nat_eq destination.filesystem part.filesystem) before_reach).1 in
           through (is_among_numbers (numbers_of world.mounts) part.number
@@ -188,13 +175,11 @@ module _ (world : World ℕ) (new : Copies ℕ) (place : Location ℕ) (moves : 
 
   copy_shows : (part : Mount ℕ) → Among part all_parts → (origin : Mount ℕ) → Among origin mounts
       → ShowsWell after (copy part origin)
-  copy_shows part m origin n =
-      record {
-        root = roots origin n;
-        mount_point = λ at e.
-            subst (IsPlace after) (same_Some (copy_mount_point nat_eq new tree part.number origin) at e)
-            (by (is_top nat_eq tree origin.number) refl origin.mount_point refl);
-      }
+  copy_shows part m origin n = record {
+    root = roots origin n;
+    mount_point = λ at e. subst (IsPlace after) (same_Some (copy_mount_point nat_eq new tree part.number origin) at e)
+        (by (is_top nat_eq tree origin.number) refl origin.mount_point refl);
+  }
     where
       by : (b : Bool) → is_top nat_eq tree origin.number ≡ b → (o : Option (Location ℕ)) → origin.mount_point ≡ o
           → IsPlace after (if b then record { mount = part.number; node = place.node }
@@ -205,20 +190,17 @@ module _ (world : World ℕ) (new : Copies ℕ) (place : Location ℕ) (moves : 
           let parent = parents origin n below on at in
           let view = copy_view part m parent.0 parent.1 in
           let number : copy_number nat_eq new tree part.number parent.0.number
-          ≡ copy_number nat_eq new tree part.number on.mount =
-          ap (copy_number nat_eq new tree part.number) parent.2 in
+          ≡ copy_number nat_eq new tree part.number on.mount = ap (copy_number nat_eq new tree part.number) parent.2 in
           record {
             listed = subst (λ k. is_mount after k ≡ true) number view.0;
             directory = ap (λ f. is_directory_node (inode_in after f on.node))
-                (ap (λ k. (mount_numbered nat_eq after k).filesystem) (sym number) ∙ view.1)
-                ∙ parent.3;
+                (ap (λ k. (mount_numbered nat_eq after k).filesystem) (sym number) ∙ view.1) ∙ parent.3;
           }
 
   -- what stood at a receiver goes onto a copy
   top_place : (part : Mount ℕ) → Among part (rest_of all_parts)
       → IsPlace after (top_of_copies nat_eq (copies part) place)
-  top_place part m =
-      top_is_place after (copies part) (λ mount n.
+  top_place part m = top_is_place after (copies part) (λ mount n.
       let from = copied_from part mount n in
       let there = copy_after part (inl m) mount n in
       let directory : is_directory_at nat_eq after (root_of mount) ≡ true =
@@ -258,22 +240,16 @@ module _ (world : World ℕ) (new : Copies ℕ) (place : Location ℕ) (moves : 
       (among-folded_mounts world.mounts (copies destination) mount m)
   moved_shows false mount m = old_shows mount m
 
-  added_shows : (b : Bool) (mount : Mount ℕ) → Among mount (added_mounts b (copies destination))
-      → ShowsWell after mount
+  added_shows : (b : Bool) (mount : Mount ℕ) → Among mount (added_mounts b (copies destination)) → ShowsWell after mount
   added_shows true mount m = absurd m
   added_shows false mount m = arrived_shows mount m
 
   pub attached_show : AllShow after
-  attached_show mount m =
-      ⊎_elim
-      (λ front. ⊎_elim
-      (λ old.
+  attached_show mount m = ⊎_elim (λ front. ⊎_elim (λ old.
       let from = among-from_map (push world new place moves mounts)
       (moved_ones world new place moves mounts) mount old in
       subst (ShowsWell after) (sym from.2) (push_shows from.0 (moved_shows moves from.0 from.1)))
-      (added_shows moves mount)
-      (among-append pushed added mount front))
-      (λ later.
+      (added_shows moves mount) (among-append pushed added mount front)) (λ later.
       let part = among-from_flat_map copies (rest_of all_parts) mount later in
       let from = copied_from part.0 mount part.2 in
       subst (ShowsWell after) (sym from.2) (copy_shows part.0 (inr part.1) from.0 from.1))

@@ -45,13 +45,10 @@ module _ (world : World ℕ) (is : IsWorld nat_eq world) where
   tree_parents : (depth : ℕ) (top mount : Mount ℕ) → Among mount (tree_from nat_eq depth world.mounts top)
       → (mount ≡ top) ⊎ HasParent (tree_from nat_eq depth world.mounts top) mount
   tree_parents zero top mount m = ⊎_elim inl (λ none. absurd none) m
-  tree_parents (suc depth) top mount m =
-      ⊎_elim inl
-      (λ later.
+  tree_parents (suc depth) top mount m = ⊎_elim inl (λ later.
       let below = children nat_eq world.mounts top.number in
       let from = among-from_flat_map (tree_from nat_eq depth world.mounts) below mount later in
-      inr (⊎_elim
-      (λ e. subst (HasParent (tree_from nat_eq (suc depth) world.mounts top)) (sym e)
+      inr (⊎_elim (λ e. subst (HasParent (tree_from nat_eq (suc depth) world.mounts top)) (sym e)
       (child_of top from.0 from.1 (tree_from nat_eq (suc depth) world.mounts top) (inl refl)))
       (wider (tree_from nat_eq depth world.mounts from.0) (tree_from nat_eq (suc depth) world.mounts top) mount
       (λ x n. inr (among-flat_map (tree_from nat_eq depth world.mounts) below from.0 x from.1 n)))
@@ -60,13 +57,10 @@ module _ (world : World ℕ) (is : IsWorld nat_eq world) where
   bindable_parents : (depth : ℕ) (top mount : Mount ℕ) → Among mount (bindable_tree nat_eq depth world.mounts top)
       → (mount ≡ top) ⊎ HasParent (bindable_tree nat_eq depth world.mounts top) mount
   bindable_parents zero top mount m = ⊎_elim inl (λ none. absurd none) m
-  bindable_parents (suc depth) top mount m =
-      ⊎_elim inl
-      (λ later.
+  bindable_parents (suc depth) top mount m = ⊎_elim inl (λ later.
       let below = bindable_children nat_eq world.mounts top.number in
       let from = among-from_flat_map (bindable_tree nat_eq depth world.mounts) below mount later in
-      inr (⊎_elim
-      (λ e. subst (HasParent (bindable_tree nat_eq (suc depth) world.mounts top)) (sym e)
+      inr (⊎_elim (λ e. subst (HasParent (bindable_tree nat_eq (suc depth) world.mounts top)) (sym e)
       (child_of top from.0 (bindable_child world top.number from.0 from.1)
       (bindable_tree nat_eq (suc depth) world.mounts top) (inl refl)))
       (wider (bindable_tree nat_eq depth world.mounts from.0) (bindable_tree nat_eq (suc depth) world.mounts top) mount
@@ -77,18 +71,14 @@ module _ (world : World ℕ) (is : IsWorld nat_eq world) where
       → Among mount (bind_tree nat_eq world source recursive)
       → (mount ≡ bound nat_eq world source) ⊎ HasParent (bind_tree nat_eq world source recursive) mount
   bind_parents source false mount m = ⊎_elim inl (λ none. absurd none) m
-  bind_parents source true mount m =
-      ⊎_elim inl
-      (λ later.
+  bind_parents source true mount m = ⊎_elim inl (λ later.
       let whole = bind_tree nat_eq world source true in
       let under = bindable_children nat_eq world.mounts source.mount in
       let chosen = filter (stands_under nat_eq world source) under in
       let from = among-from_flat_map (bindable_tree nat_eq (length world.mounts) world.mounts) chosen mount later in
       let child = bindable_child world source.mount from.0
       (among-from_filter (stands_under nat_eq world source) under from.0 from.1).0 in
-      inr (⊎_elim
-      (λ e. subst (HasParent whole) (sym e)
-      (child_of (bound nat_eq world source) from.0
+      inr (⊎_elim (λ e. subst (HasParent whole) (sym e) (child_of (bound nat_eq world source) from.0
       (subst (λ n. Among from.0 (children nat_eq world.mounts n))
       (sym (number-mount_in world.mounts source.mount)) child) whole (inl refl)))
       (wider (bindable_tree nat_eq (length world.mounts) world.mounts from.0) whole mount
@@ -126,26 +116,20 @@ module _ (world : World ℕ) (is : IsWorld nat_eq world) where
       → AllShow (bound_at nat_eq fresh world source place recursive)
   bound_show fresh source place recursive serves directory at =
       attached_show world (supplied world fresh place mounts) place false mounts
-      (attached_seen world fresh place mounts) (world_shows world is) at
-      is.mounts.one_number
+      (attached_seen world fresh place mounts) (world_shows world is) at is.mounts.one_number
       (binds_keep_numbers world fresh source place recursive serves is.mounts.one_number is.mounts.standing)
       (λ origin m. ⊎_elim
       (λ e. ap (λ (x : Mount ℕ). is_directory_node (inode_in world x.filesystem x.root)) e ∙ directory)
-      (λ has. (world_shows world is origin has.0).root)
-      (bind_parents source recursive origin m))
-      (λ origin m below on e. ⊎_elim
-      (λ top. absurd (true≢false (sym (top_is_top origin top) ∙ below)))
-      (λ has. stands_there_well mounts well origin has on e)
-      (bind_parents source recursive origin m))
+      (λ has. (world_shows world is origin has.0).root) (bind_parents source recursive origin m))
+      (λ origin m below on e. ⊎_elim (λ top. absurd (true≢false (sym (top_is_top origin top) ∙ below)))
+      (λ has. stands_there_well mounts well origin has on e) (bind_parents source recursive origin m))
       (λ moved. absurd (true≢false (sym moved)))
     where
       mounts : List (Mount ℕ)
       mounts = bind_tree nat_eq world source recursive
 
       well : (mount : Mount ℕ) → Among mount (bind_tree nat_eq world source recursive) → IsNumberedWell mount
-      well mount m =
-          ⊎_elim
-          (λ e. subst IsNumberedWell (sym e)
+      well mount m = ⊎_elim (λ e. subst IsNumberedWell (sym e)
           (ap (λ n. (mount_numbered nat_eq world n).filesystem) (number-mount_in world.mounts source.mount)))
           (λ has. listed_well mount has.0) (bind_parents source recursive mount m)
 
@@ -163,19 +147,15 @@ module _ (world : World ℕ) (is : IsWorld nat_eq world) where
 
   -- Moves
   pub moved_show : (fresh : Fresh ℕ) (mount : ℕ) (place : Location ℕ) → Serves nat_eq world fresh
-      → Among (mount_numbered nat_eq world mount) world.mounts
-      → KeepsWhatIsSeen world
+      → Among (mount_numbered nat_eq world mount) world.mounts → KeepsWhatIsSeen world
       (attach nat_eq world fresh place true (mount_tree nat_eq world.mounts (mount_numbered nat_eq world mount)))
-      → IsPlace world place
-      → AllShow (attach nat_eq world fresh place true
+      → IsPlace world place → AllShow (attach nat_eq world fresh place true
       (mount_tree nat_eq world.mounts (mount_numbered nat_eq world mount)))
   moved_show fresh mount place serves there seen at =
       attached_show world (supplied world fresh place mounts) place true mounts seen
-      (world_shows world is) at is.mounts.one_number
-      (moves_keep_numbers world fresh
+      (world_shows world is) at is.mounts.one_number (moves_keep_numbers world fresh
       (record { mount = mount; node = 0 }) place serves is.mounts.one_number is.mounts.standing)
-      (λ origin m. (world_shows world is origin (listed origin m)).root)
-      (λ origin m below on e. ⊎_elim
+      (λ origin m. (world_shows world is origin (listed origin m)).root) (λ origin m below on e. ⊎_elim
       (λ same. absurd (true≢false
       (sym (top_is_top (length world.mounts) origin.number (ap (λ (x : Mount ℕ). x.number) same)) ∙ below)))
       (λ has. stands_there_well mounts (λ x n. listed_well x (listed x n)) origin has on e)
@@ -189,8 +169,7 @@ module _ (world : World ℕ) (is : IsWorld nat_eq world) where
       mounts = mount_tree nat_eq world.mounts (mount_numbered nat_eq world mount)
 
       listed : (origin : Mount ℕ) → Among origin mounts → Among origin world.mounts
-      listed origin m =
-          ⊎_elim (λ e. subst (λ x. Among x world.mounts) (sym e) there) (λ l. l)
+      listed origin m = ⊎_elim (λ e. subst (λ x. Among x world.mounts) (sym e) there) (λ l. l)
           (tree_among (length world.mounts) world.mounts (mount_numbered nat_eq world mount) origin m)
 
       top_is_top : (n k : ℕ) → k ≡ (mount_numbered nat_eq world mount).number
@@ -228,10 +207,7 @@ module _ (world : World ℕ) (is : IsWorld nat_eq world) (fresh : Fresh ℕ) (se
       namespaces = map (λ namespace. namespace.number) world.namespaces
 
       unused : (k number : ℕ) → Among number (numbers_in_use larger) → nat_eq (odds fresh k) number ≡ false
-      unused k number m =
-          ⊎_elim
-          (λ front. ⊎_elim
-          (λ in_mounts. unused_number world fresh serves (2 * k + 1) number
+      unused k number m = ⊎_elim (λ front. ⊎_elim (λ in_mounts. unused_number world fresh serves (2 * k + 1) number
           (among-append_left (mounts ++ flat_map used_by_filesystem world.filesystems) namespaces number
           (among-append_left mounts (flat_map used_by_filesystem world.filesystems) number in_mounts)))
           (λ in_filesystems.
@@ -239,11 +215,9 @@ module _ (world : World ℕ) (is : IsWorld nat_eq world) (fresh : Fresh ℕ) (se
           (world.filesystems ++ (filesystem ∷ [])) number in_filesystems in
           ⊎_elim (λ old. unused_by_filesystem world fresh serves (2 * k + 1) from.0 old number from.2)
           (λ new. ⊎_elim (λ e. not_used k number (subst (λ f. Among number (used_by_filesystem f)) e from.2))
-          (λ none. absurd none) new)
-          (among-append world.filesystems (filesystem ∷ []) from.0 from.1))
+          (λ none. absurd none) new) (among-append world.filesystems (filesystem ∷ []) from.0 from.1))
           (among-append mounts (flat_map used_by_filesystem (world.filesystems ++ (filesystem ∷ []))) number front))
-          (λ in_namespaces. unused_number world fresh serves (2 * k + 1) number
-          (among-append_right (mounts
+          (λ in_namespaces. unused_number world fresh serves (2 * k + 1) number (among-append_right (mounts
           ++ flat_map used_by_filesystem world.filesystems) namespaces number in_namespaces))
           (among-append (mounts ++ flat_map used_by_filesystem
           (world.filesystems ++ (filesystem ∷ []))) namespaces number m)
@@ -252,32 +226,23 @@ module _ (world : World ℕ) (is : IsWorld nat_eq world) (fresh : Fresh ℕ) (se
   found_behind : (list : List (Filesystem ℕ))
       → ((old : Filesystem ℕ) → Among old list → nat_eq filesystem.number old.number ≡ false)
       → numbered filesystem.number (list ++ (filesystem ∷ [])) ≡ filesystem
-  found_behind [] none =
-      ap (λ b. unwrap_or (cond b (Some filesystem) None) (no_filesystem filesystem.number))
+  found_behind [] none = ap (λ b. unwrap_or (cond b (Some filesystem) None) (no_filesystem filesystem.number))
       (eq-eqb filesystem.number filesystem.number refl)
-  found_behind (first ∷ rest) none =
-      ap (λ b. unwrap_or (cond b (Some first)
+  found_behind (first ∷ rest) none = ap (λ b. unwrap_or (cond b (Some first)
       (find (λ (f : Filesystem ℕ). nat_eq filesystem.number f.number) (rest ++ (filesystem ∷ []))))
-      (no_filesystem filesystem.number))
-      (none first (inl refl))
-      ∙ found_behind rest (λ old m. none old (inr m))
+      (no_filesystem filesystem.number)) (none first (inl refl)) ∙ found_behind rest (λ old m. none old (inr m))
 
   pub mounted_show : (place : Location ℕ) (flags : MountFlags) → IsPlace world place
       → AllShow (mounted nat_eq (odds fresh) world place (plain_filesystem nat_eq fresh) flags)
-  mounted_show place flags at =
-      attached_show larger (supplied larger (odds fresh) place mounts) place false mounts
+  mounted_show place flags at = attached_show larger (supplied larger (odds fresh) place mounts) place false mounts
       (attached_seen larger (odds fresh) place mounts)
       (all_show_after world larger (added_seen filesystem world) refl (world_shows world is))
-      (record { listed = at.listed; directory = directory_in at })
-      is.mounts.one_number
+      (record { listed = at.listed; directory = directory_in at }) is.mounts.one_number
       (new_mounts_keep_numbers world (odds fresh) place filesystem flags odds_serve is.mounts.one_number)
       (λ origin m. ⊎_elim (λ e. ap (λ (x : Mount ℕ). is_directory_node (inode_in larger x.filesystem x.root)) e
-      ∙ root) (λ none. absurd none) m)
-      (λ origin m below on e. ⊎_elim
+      ∙ root) (λ none. absurd none) m) (λ origin m below on e. ⊎_elim
       (λ same. absurd (true≢false (sym (eq-eqb origin.number mount.number (ap (λ (x : Mount ℕ). x.number) same))
-      ∙ below)))
-      (λ none. absurd none) m)
-      (λ moved. absurd (true≢false (sym moved)))
+      ∙ below))) (λ none. absurd none) m) (λ moved. absurd (true≢false (sym moved)))
     where
       mount : Mount ℕ
       mount = new_mount filesystem.number filesystem.files.tree.root flags
@@ -289,10 +254,8 @@ module _ (world : World ℕ) (is : IsWorld nat_eq world) (fresh : Fresh ℕ) (se
       directory_in p = directory_after world larger (added_seen filesystem world) place p.listed p.directory
 
       root : is_directory_node (inode_in larger filesystem.number filesystem.files.tree.root) ≡ true
-      root =
-          ap (λ (f : Filesystem ℕ). is_directory_node (f.files.tree.node filesystem.files.tree.root))
+      root = ap (λ (f : Filesystem ℕ). is_directory_node (f.files.tree.node filesystem.files.tree.root))
           (found_behind world.filesystems
-          (λ old m. unused_by_filesystem world fresh serves 0 old m old.number (inl refl)))
-          ∙ ap (λ b. is_directory_node
+          (λ old m. unused_by_filesystem world fresh serves 0 old m old.number (inl refl))) ∙ ap (λ b. is_directory_node
           (cond b (Some (record { attr = root_attr; content = new_directory filesystem.files.tree.root })) None))
           (eq-eqb filesystem.files.tree.root filesystem.files.tree.root refl)

@@ -1,14 +1,13 @@
 -- The groups that a line names are at most 32.
-use Rattle.std.proofs.Common.{arith}
+use Rattle.std.proofs.Common.{arith, ◌≡◌, refl, sym, ap, ◌∙◌, ℕ, Bool, true, false, cond, List, [], ◌∷◌, Option, Some, None, option_map}
 use Rattle.std.proofs.lemmas.Grind.{common_steps}
-use Rattle.std.proofs.Common.{◌≡◌, refl, sym, ap, ◌∙◌, ℕ, Bool, true, false, cond, List, [], ◌∷◌, Option, Some, None, option_map}
-use Rattle.std.specs.Prelude.{codes, length, nat_le, unwrap_or, ⊤}
+use Rattle.std.specs.Prelude.{codes, length, nat_le, ⊤}
 use Rattle.std.specs.Str.{bytes_eq}
 use Rattle.vt_spec.specs.PathText.{parts}
-use Rattle.vt_spec.specs.Language.Calls.{Access, Call, CapabilityWord, Creation, plain_flags}
-use Rattle.vt_spec.specs.Language.Calls.Call.{Fork, Mkdir, MountOverlay, MountPlain, OpenFile}
+use Rattle.vt_spec.specs.Language.Calls.{Access, Call, CapabilityWord, Creation}
+use Rattle.vt_spec.specs.Language.Calls.Call.{Fork, Mkdir, MountOverlay, OpenFile}
 use Rattle.vt_spec.specs.Lists.{then_some, when}
-use Rattle.vt_spec.specs.Language.Script.{access_word, bytes_word, descriptor_word, flags_word, kept_or_identity, mode_word, offset_word, options_of, path_word, task_word, type_word, yes_or_no_word, Grammar, Request, Version, Who, asked_by, attribute_words, call_read, capabilities_word, call_words, chown_call, creation_words, descriptor_words, each_of, fork_words, groups_word, identity_word, may_have, mount_words, mounting_words, naming_words, no_more, request_of, request_of_texts, second_words, task_words, token_text, raw_tokens, who_of, word_then}
+use Rattle.vt_spec.specs.Language.Script.{access_word, bytes_word, descriptor_word, flags_word, kept_or_identity, mode_word, offset_word, path_word, task_word, type_word, yes_or_no_word, Grammar, Request, Version, Who, asked_by, attribute_words, call_read, capabilities_word, call_words, chown_call, creation_words, descriptor_words, each_of, fork_words, groups_word, identity_word, may_have, mount_words, mounting_words, naming_words, no_more, request_of, request_of_texts, second_words, task_words, token_text, raw_tokens, who_of, word_then}
 use Rattle.vt_spec.specs.Language.Script.Request.{Asking, Calling}
 use Rattle.vt_spec.specs.Language.Script.Version.{One, Two}
 use Rattle.vt_spec.specs.Language.Script.Who.{Nobody, Someone}
@@ -34,8 +33,7 @@ few_groups text =
     (each_has_length identity_word (parts 44 text))
   where
     by : (none few : Bool) → nat_le (length (parts 44 text)) 32 ≡ few → (each : Option (List ℕ))
-        → HasLength (length (parts 44 text)) each
-        → few_numbers (cond none (Some []) (cond few each None)) ≡ true
+        → HasLength (length (parts 44 text)) each → few_numbers (cond none (Some []) (cond few each None)) ≡ true
     by true few e each h = refl
     by false true e None h = refl
     by false true e (Some numbers) h = ap (λ n. nat_le n 32) h ∙ e
@@ -82,21 +80,16 @@ forking uid gid groups capabilities =
 few_forked : (words : List (List ℕ))
     → Few (word_then identity_word (λ uid. word_then identity_word (λ gid. word_then groups_word (λ groups.
     word_then capabilities_word (λ capabilities. no_more (forking uid gid groups capabilities))))) words)
-few_forked words =
-    few_word identity_word
-    (λ uid. word_then identity_word (λ gid. word_then groups_word (λ groups.
+few_forked words = few_word identity_word (λ uid. word_then identity_word (λ gid. word_then groups_word (λ groups.
     word_then capabilities_word (λ capabilities. no_more (forking uid gid groups capabilities))))) words
     (λ one others uid e.
-    few_word identity_word
-    (λ gid. word_then groups_word (λ groups.
+    few_word identity_word (λ gid. word_then groups_word (λ groups.
     word_then capabilities_word (λ capabilities. no_more (forking uid gid groups capabilities)))) others
     (λ two more gid f.
     few_word groups_word (λ groups. word_then capabilities_word
-    (λ capabilities. no_more (forking uid gid groups capabilities))) more
-    (λ text still groups g.
+    (λ capabilities. no_more (forking uid gid groups capabilities))) more (λ text still groups g.
     few_word capabilities_word (λ capabilities. no_more (forking uid gid groups capabilities)) still
-    (λ three last capabilities k.
-    few_end (forking uid gid groups capabilities) last (small text groups g)))))
+    (λ three last capabilities k. few_end (forking uid gid groups capabilities) last (small text groups g)))))
 
 few_fork : (words : List (List ℕ)) → Few (fork_words words)
 few_fork [] = record { passes = refl }
@@ -113,14 +106,7 @@ few_open path access None = record { passes = refl }
 few_open path access (Some how) = record { passes = refl }
 
 few_mount : (version : Version) (kind : List ℕ) (words : List (List ℕ)) → Few (mount_words version kind words)
-few_mount version kind words =
-    few_if (bytes_eq kind (codes "plain")) _ _ (few_word path_word _ words (λ one rest path e.
-    few_may_have (flags_word version) (λ given. MountPlain path (unwrap_or given plain_flags)) rest (λ o. refl)))
-    (few_if (bytes_eq kind (codes "overlay")) _ _
-    (few_word path_word _ words (λ one rest path e. few_word bytes_word _ rest (λ two more options f.
-    few_may_have (flags_word version)
-    (λ given. MountOverlay path (options_of options) (unwrap_or given plain_flags)) more (λ o. refl))))
-    none)
+few_mount version kind words = grind (arith, common_steps, few_if, few_word, few_may_have, none)
 
 -- a path, or two
 few_path : (read : List ℕ → Option (List ℕ)) (call : List ℕ → Call) (words : List (List ℕ))
@@ -130,8 +116,7 @@ few_path read call words h = few_word read _ words (λ one rest path e. few_end 
 few_paths : (read : List ℕ → Option (List ℕ)) (call : List ℕ → List ℕ → Call) (words : List (List ℕ))
     → ((first second : List ℕ) → names_few_groups (call first second) ≡ true)
     → Few (word_then read (λ first. word_then read (λ second. no_more (call first second))) words)
-few_paths read call words h =
-    few_word read _ words (λ one rest first e. few_word read _ rest
+few_paths read call words h = few_word read _ words (λ one rest first e. few_word read _ rest
     (λ two more second f. few_end (call first second) more (h first second)))
 
 few_second : (version : Version) (name : List ℕ) (words : List (List ℕ)) → Few (second_words version name words)
@@ -140,8 +125,7 @@ few_second Two name words = few_if (bytes_eq name (codes "pivot_root")) _ _
     (few_paths path_word _ words (λ first second. refl)) none
 
 few_mounting : (version : Version) (name : List ℕ) (words : List (List ℕ)) → Few (mounting_words version name words)
-few_mounting version name words =
-    few_if (bytes_eq name (codes "mount")) _ _
+few_mounting version name words = few_if (bytes_eq name (codes "mount")) _ _
     (few_word bytes_word _ words (λ one rest kind e. few_mount version kind rest))
     (few_if (bytes_eq name (codes "bind")) _ _ (few_paths path_word _ words (λ first second. refl))
     (few_if (bytes_eq name (codes "rbind")) _ _ (few_paths path_word _ words (λ first second. refl))
@@ -150,60 +134,47 @@ few_mounting version name words =
     (few_if (bytes_eq name (codes "lazy")) _ _ (few_path path_word _ words (λ path. refl))
     (few_if (bytes_eq name (codes "remount")) _ _
     (few_word path_word _ words (λ one rest path e. few_word (flags_word version) _ rest
-    (λ two more given f. few_end _ more refl)))
-    (few_if (bytes_eq name (codes "type")) _ _
-    (few_word path_word _ words (λ one rest path e. few_word type_word _ rest
-    (λ two more word f. few_end _ more refl)))
+    (λ two more given f. few_end _ more refl))) (few_if (bytes_eq name (codes "type")) _ _
+    (few_word path_word _ words (λ one rest path e. few_word type_word _ rest (λ two more word f. few_end _ more refl)))
     (few_if (bytes_eq name (codes "rtype")) _ _
-    (few_word path_word _ words (λ one rest path e. few_word type_word _ rest
-    (λ two more word f. few_end _ more refl)))
+    (few_word path_word _ words (λ one rest path e. few_word type_word _ rest (λ two more word f. few_end _ more refl)))
     (few_if (bytes_eq name (codes "mounts")) _ _ (few_end _ words refl) (few_second version name words))))))))))
 
 few_task : (version : Version) (name : List ℕ) (words : List (List ℕ)) → Few (task_words version name words)
-few_task version name words =
-    few_if (bytes_eq name (codes "chdir")) _ _ (few_path path_word _ words (λ path. refl))
+few_task version name words = few_if (bytes_eq name (codes "chdir")) _ _ (few_path path_word _ words (λ path. refl))
     (few_if (bytes_eq name (codes "chroot")) _ _ (few_path path_word _ words (λ path. refl))
     (few_if (bytes_eq name (codes "umask")) _ _ (few_word mode_word _ words (λ one rest mode e. few_end _ rest refl))
     (few_if (bytes_eq name (codes "drop")) _ _
     (few_word capabilities_word _ words (λ one rest which e. few_end _ rest refl))
     (few_if (bytes_eq name (codes "fork")) _ _ (few_fork words)
     (few_if (bytes_eq name (codes "exit")) _ _ (few_end _ words refl)
-    (few_if (bytes_eq name (codes "unshare")) _ _ (few_end _ words refl)
-    (few_if (bytes_eq name (codes "setns")) _ _
+    (few_if (bytes_eq name (codes "unshare")) _ _ (few_end _ words refl) (few_if (bytes_eq name (codes "setns")) _ _
     (few_word task_word _ words (λ one rest task e. few_end _ rest refl)) (few_mounting version name words))))))))
 
 few_descriptor : (version : Version) (name : List ℕ) (words : List (List ℕ)) → Few (descriptor_words version name words)
-few_descriptor version name words =
-    few_if (bytes_eq name (codes "open")) _ _
+few_descriptor version name words = few_if (bytes_eq name (codes "open")) _ _
     (few_word path_word _ words (λ one rest path e. few_word access_word _ rest
-    (λ two more access f. few_open path access (creation_words more))))
-    (few_if (bytes_eq name (codes "pread")) _ _
-    (few_word descriptor_word _ words
-    (λ one rest number e. few_word offset_word _ rest
+    (λ two more access f. few_open path access (creation_words more)))) (few_if (bytes_eq name (codes "pread")) _ _
+    (few_word descriptor_word _ words (λ one rest number e. few_word offset_word _ rest
     (λ two more offset f. few_word offset_word _ more (λ three last size g. few_end _ last refl))))
-    (few_if (bytes_eq name (codes "pwrite")) _ _
-    (few_word descriptor_word _ words
+    (few_if (bytes_eq name (codes "pwrite")) _ _ (few_word descriptor_word _ words
     (λ one rest number e. few_word offset_word _ rest
     (λ two more offset f. few_word bytes_word _ more (λ three last bytes g. few_end _ last refl))))
     (few_if (bytes_eq name (codes "close")) _ _
     (few_word descriptor_word _ words (λ one rest number e. few_end _ rest refl)) (few_task version name words))))
 
 few_attribute : (version : Version) (name : List ℕ) (words : List (List ℕ)) → Few (attribute_words version name words)
-few_attribute version name words =
-    few_if (bytes_eq name (codes "chmod")) _ _
-    (few_word path_word _ words (λ one rest path e. few_word mode_word _ rest
-    (λ two more mode f. few_end _ more refl)))
+few_attribute version name words = few_if (bytes_eq name (codes "chmod")) _ _
+    (few_word path_word _ words (λ one rest path e. few_word mode_word _ rest (λ two more mode f. few_end _ more refl)))
     (few_if (bytes_eq name (codes "chown")) _ _
     (few_word path_word _ words (λ one rest path e. few_word kept_or_identity _ rest
     (λ two more uid f. few_word kept_or_identity _ more (λ three last gid g. few_chown path uid gid last))))
     (few_if (bytes_eq name (codes "opaque")) _ _
     (few_word path_word _ words (λ one rest path e. few_word yes_or_no_word _ rest
-    (λ two more mark f. few_end _ more refl)))
-    (few_descriptor version name words)))
+    (λ two more mark f. few_end _ more refl))) (few_descriptor version name words)))
 
 few_naming : (version : Version) (name : List ℕ) (words : List (List ℕ)) → Few (naming_words version name words)
-few_naming version name words =
-    few_if (bytes_eq name (codes "mkdir")) _ _
+few_naming version name words = few_if (bytes_eq name (codes "mkdir")) _ _
     (few_word path_word _ words (λ one rest path e. few_may_have mode_word (Mkdir path) rest (λ o. refl)))
     (few_if (bytes_eq name (codes "symlink")) _ _ (few_paths path_word _ words (λ first second. refl))
     (few_if (bytes_eq name (codes "whiteout")) _ _ (few_path path_word _ words (λ path. refl))
@@ -214,8 +185,7 @@ few_naming version name words =
     (few_attribute version name words)))))))
 
 few_call : (version : Version) (name : List ℕ) (words : List (List ℕ)) → Few (call_words version name words)
-few_call version name words =
-    few_if (bytes_eq name (codes "ls")) _ _ (few_path path_word _ words (λ path. refl))
+few_call version name words = few_if (bytes_eq name (codes "ls")) _ _ (few_path path_word _ words (λ path. refl))
     (few_if (bytes_eq name (codes "stat")) _ _ (few_path path_word _ words (λ path. refl))
     (few_if (bytes_eq name (codes "lstat")) _ _ (few_path path_word _ words (λ path. refl))
     (few_if (bytes_eq name (codes "readlink")) _ _ (few_path path_word _ words (λ path. refl))
@@ -248,8 +218,7 @@ few_asked grammar (Some (Someone task)) (name ∷ words) =
     when_there true call h = read_few call ∙ h
     when_there false call h = refl
 
-    by : (b : Bool) (o : Option Call) → Few o
-        → request_names_few (cond b (option_map (Calling task) (then_some o
+    by : (b : Bool) (o : Option Call) → Few o → request_names_few (cond b (option_map (Calling task) (then_some o
         (λ call. when (grammar.has call) (call_read grammar.options call)))) None) ≡ true
     by true None h = refl
     by true (Some call) h = when_there (grammar.has call) call h.passes

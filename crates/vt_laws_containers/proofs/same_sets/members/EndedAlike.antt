@@ -23,7 +23,6 @@ calls_end_alike_in_same_worlds world other same is names name call fresh given e
     (sameness_is_an_equivalence.onward here.world there.world later alike.worlds left) set)) in
     record {
       answered = sym alike.answer ∙ ends.answer;
-      part =
-          subst (λ answer. SameWorlds (part_of nat_eq later (grown names name call answer))
+      part = subst (λ answer. SameWorlds (part_of nat_eq later (grown names name call answer))
           (part_of nat_eq in_part.world (grown names name call answer))) alike.answer kept;
     }

@@ -27,8 +27,7 @@ outsiders_leave_same_worlds_sealed world other same fresh names name call outsid
     let after = (policy nat_eq fresh world name call).world in
     let leaves = outsiders_leave_a_sealed_set world fresh names name call outsider in record {
       sealed_off = sym (same_worlds_are_sealed_alike after later left names) ∙ leaves.sealed_off;
-      part =
-          sameness_is_an_equivalence.onward (part_of nat_eq later names) (part_of nat_eq after names)
+      part = sameness_is_an_equivalence.onward (part_of nat_eq later names) (part_of nat_eq after names)
           (part_of nat_eq other names)
           (sameness_is_an_equivalence.back (part_of nat_eq after names) (part_of nat_eq later names)
           (same_worlds_have_same_parts after later left names))

@@ -47,8 +47,7 @@ files_among one other same test again alike = record {
     root = (same.tree i).root;
     node = λ number. cond (among number i) ((same.tree i).node number) None;
   };
-  numbers =
-      subst (IsPermutation (filter (λ number. is_among nat_eq number (filter test one.numbers)) one.numbers))
+  numbers = subst (IsPermutation (filter (λ number. is_among nat_eq number (filter test one.numbers)) one.numbers))
       (λ i. filter (λ number. among number i) other.numbers)
       (IsPermutation-filter (λ number. is_among nat_eq number (filter test one.numbers)) one.numbers other.numbers
       same.numbers);
@@ -56,8 +55,7 @@ files_among one other same test again alike = record {
   where
     among : (number : ℕ)
         → is_among nat_eq number (filter test one.numbers) ≡ is_among nat_eq number (filter again other.numbers)
-    among number =
-        list_any-IsPermutation (nat_eq number) (filter test one.numbers) (filter test other.numbers)
+    among number = list_any-IsPermutation (nat_eq number) (filter test one.numbers) (filter test other.numbers)
         (IsPermutation-filter test one.numbers other.numbers same.numbers)
         ∙ (λ i. is_among nat_eq number (filter (alike i) other.numbers))
 
@@ -67,14 +65,12 @@ module _ (one other : World ℕ) (same : Alike one (with_mounts_of one other)) (
   second = with_mounts_of one other
 
   bases_same : roots_and_directories (members one names) ≡ roots_and_directories (members second names)
-  bases_same =
-      each_flat SameTask (λ task. task.root ∷ task.directory ∷ []) (λ task. task.root ∷ task.directory ∷ [])
+  bases_same = each_flat SameTask (λ task. task.root ∷ task.directory ∷ []) (λ task. task.root ∷ task.directory ∷ [])
       (λ a b alike. ap (λ (task : Task ℕ). task.root ∷ task.directory ∷ []) alike) (members one names)
       (members second names) (members_alike one other same names)
 
   located_same : locations (members one names) ≡ locations (members second names)
-  located_same =
-      places_same one other same names (members one names) (members second names)
+  located_same = places_same one other same names (members one names) (members second names)
       (members_alike one other same names)
 
   mount_same : part_of_mount nat_eq one names ≡ part_of_mount nat_eq second names
@@ -83,8 +79,7 @@ module _ (one other : World ℕ) (same : Alike one (with_mounts_of one other)) (
       (Some mount) (when (is_at nat_eq (located_same i) mount) (seen_by_descriptor mount))
 
   master_same : part_of_master nat_eq one names ≡ part_of_master nat_eq second names
-  master_same = λ i group.
-      cond (list_any (is_member_of nat_eq group)
+  master_same = λ i group. cond (list_any (is_member_of nat_eq group)
       (filter (λ (mount : Mount ℕ). holds_of (own_same one other same names i) mount.namespace) one.mounts))
       (one.master group) None
 
@@ -99,21 +94,18 @@ module _ (one other : World ℕ) (same : Alike one (with_mounts_of one other)) (
 
   lies_same : (filesystem object : ℕ) (layer : Layer ℕ)
       → lies_in_layer nat_eq one filesystem object layer ≡ lies_in_layer nat_eq second filesystem object layer
-  lies_same filesystem object layer =
-      ap (λ b. nat_eq filesystem layer.filesystem && b)
+  lies_same filesystem object layer = ap (λ b. nat_eq filesystem layer.filesystem && b)
       (under_same _ _ (found_alike one second same filesystem).files layer.directory object)
 
   lower_same : (a b : ℕ) → a ≡ b → lies_in_own_lower nat_eq one names a ≡ lies_in_own_lower nat_eq second names b
-  lower_same a b alike =
-      (λ i object. list_any (λ layer. lies_same a object layer i) (lowers_same i))
+  lower_same a b alike = (λ i object. list_any (λ layer. lies_same a object layer i) (lowers_same i))
       ∙ ap (lies_in_own_lower nat_eq second names) alike
 
   lower_alike : (a b : Filesystem ℕ) → SameFilesystem a b
       → SameFilesystem (part_of_lower nat_eq one names a) (part_of_lower nat_eq second names b)
   lower_alike a b alike = record {
     number = alike.number;
-    files =
-        files_among a.files b.files alike.files (lies_in_own_lower nat_eq one names a.number)
+    files = files_among a.files b.files alike.files (lies_in_own_lower nat_eq one names a.number)
         (lies_in_own_lower nat_eq second names b.number) (lower_same a.number b.number alike.number);
     overlay = alike.overlay;
   }
@@ -128,8 +120,7 @@ module _ (one other : World ℕ) (same : Alike one (with_mounts_of one other)) (
 
   filesystem_alike : (a b : Filesystem ℕ) → SameFilesystem a b
       → IfAny SameFilesystem (part_of_filesystem nat_eq one names a) (part_of_filesystem nat_eq second names b)
-  filesystem_alike a b alike =
-      subst (IfAny SameFilesystem (part_of_filesystem nat_eq one names a))
+  filesystem_alike a b alike = subst (IfAny SameFilesystem (part_of_filesystem nat_eq one names a))
       (λ i. cond (is_among nat_eq (alike.number i) (used_same one other same names i)) (Some b)
       (when (list_any (λ (layer : Layer ℕ). nat_eq (alike.number i) layer.filesystem) (lowers_same i))
       (part_of_lower nat_eq second names b)))
@@ -140,8 +131,7 @@ module _ (one other : World ℕ) (same : Alike one (with_mounts_of one other)) (
   part_alike = record {
     mounts = λ i. filter_map (mount_same i) one.mounts;
     master = master_same;
-    filesystems =
-        each_filter_map SameFilesystem SameFilesystem (part_of_filesystem nat_eq one names)
+    filesystems = each_filter_map SameFilesystem SameFilesystem (part_of_filesystem nat_eq one names)
         (part_of_filesystem nat_eq second names) filesystem_alike one.filesystems other.filesystems same.filesystems;
     namespaces =
         each_filter SameNamespace (λ (namespace : Namespace ℕ). is_own_namespace nat_eq one names namespace.number)

@@ -29,12 +29,10 @@ all_named_alike one other same =
     ∙ (λ i. list_all (λ number. nat_eq number (same.tree i).root || named number i) other.numbers)
   where
     named : (number : ℕ) → is_among nat_eq number (named_in one) ≡ is_among nat_eq number (named_in other)
-    named number =
-        list_any-IsPermutation (nat_eq number) (named_in one)
+    named number = list_any-IsPermutation (nat_eq number) (named_in one)
         (flat_map (λ directory. targets_in (one.tree.node directory)) other.numbers)
         (IsPermutation-flat_map (λ directory. targets_in (one.tree.node directory)) one.numbers other.numbers
-        same.numbers)
-        ∙ (λ i. is_among nat_eq number
+        same.numbers) ∙ (λ i. is_among nat_eq number
         (flat_map (λ directory. targets_in ((same.tree i).node directory)) other.numbers))
 
 -- the overlay has this root directory of the filesystem as a lower layer
@@ -48,8 +46,7 @@ module _ (one other : World ℕ) (same : Alike one (with_mounts_of one other)) (
   second = with_mounts_of one other
 
   pub members_alike : Each SameTask (members one names) (members second names)
-  members_alike =
-      each_filter SameTask (is_member_task names) (is_member_task names)
+  members_alike = each_filter SameTask (is_member_task names) (is_member_task names)
       (λ a b alike. ap (is_member_task names) alike) one.tasks other.tasks same.tasks
 
   outsiders_alike : Each SameTask (outsiders one names) (outsiders second names)
@@ -76,12 +73,10 @@ module _ (one other : World ℕ) (same : Alike one (with_mounts_of one other)) (
 
   namespaces_of : (ones others : List (Task ℕ)) → Each SameTask ones others
       → map (λ (task : Task ℕ). task.namespace) ones ≡ map (λ (task : Task ℕ). task.namespace) others
-  namespaces_of ones others each =
-      each_to_one SameTask (λ (task : Task ℕ). task.namespace)
+  namespaces_of ones others each = each_to_one SameTask (λ (task : Task ℕ). task.namespace)
       (λ (task : Task ℕ). task.namespace) (λ a b alike. ap (λ (task : Task ℕ). task.namespace) alike) ones others each
 
-  all_by_namespace : (test : ℕ → Bool) (tasks : List (Task ℕ))
-      → list_all (λ (task : Task ℕ). test task.namespace) tasks
+  all_by_namespace : (test : ℕ → Bool) (tasks : List (Task ℕ)) → list_all (λ (task : Task ℕ). test task.namespace) tasks
       ≡ list_all test (map (λ (task : Task ℕ). task.namespace) tasks)
   all_by_namespace test [] = refl
   all_by_namespace test (task ∷ rest) = ap (λ b. test task.namespace && b) (all_by_namespace test rest)
@@ -105,21 +100,17 @@ module _ (one other : World ℕ) (same : Alike one (with_mounts_of one other)) (
       (places_same (outsiders one names) (outsiders second names) outsiders_alike i)
 
   pub directly_same : used_directly nat_eq one names ≡ used_directly nat_eq second names
-  directly_same = λ i.
-      map (λ (mount : Mount ℕ). mount.filesystem) (own_by (own_same i))
+  directly_same = λ i. map (λ (mount : Mount ℕ). mount.filesystem) (own_by (own_same i))
       ++ map (λ (location : Location ℕ). (mount_at nat_eq one location).filesystem)
       (places_same (members one names) (members second names) members_alike i)
 
   layers_at : (number : ℕ)
       → change_layers (filesystem_numbered nat_eq one number) ≡ change_layers (filesystem_numbered nat_eq second number)
-  layers_at number =
-      ap (overlay_or [] (λ (overlay : Overlay ℕ). map (λ (layer : Layer ℕ). layer.filesystem)
-      (option_to_list overlay.upper ++ option_to_list overlay.work)))
-      (found_alike one second same number).overlay
+  layers_at number = ap (overlay_or [] (λ (overlay : Overlay ℕ). map (λ (layer : Layer ℕ). layer.filesystem)
+      (option_to_list overlay.upper ++ option_to_list overlay.work))) (found_alike one second same number).overlay
 
   pub used_same : used_filesystems nat_eq one names ≡ used_filesystems nat_eq second names
-  used_same = λ i.
-      each_once nat_eq (directly_same i ++ flat_map (λ number. layers_at number i) (directly_same i))
+  used_same = λ i. each_once nat_eq (directly_same i ++ flat_map (λ number. layers_at number i) (directly_same i))
 
   no_outsider_same : (filesystem : ℕ)
       → no_outsider_on nat_eq one names filesystem ≡ no_outsider_on nat_eq second names filesystem
@@ -129,45 +120,35 @@ module _ (one other : World ℕ) (same : Alike one (with_mounts_of one other)) (
       (places_same (outsiders one names) (outsiders second names) outsiders_alike i))
 
   alone_same : (filesystem : ℕ) → used_alone nat_eq one names filesystem ≡ used_alone nat_eq second names filesystem
-  alone_same filesystem = λ i.
-      no_outsider_same filesystem i
+  alone_same filesystem = λ i. no_outsider_same filesystem i
       && each_all SameFilesystem (λ merged. not (has_layer_on nat_eq filesystem merged)
       || no_outsider_on nat_eq one names merged.number)
       (λ merged. not (has_layer_on nat_eq filesystem merged) || no_outsider_on nat_eq second names merged.number)
       (λ a b alike. λ j.
       not (overlay_or false (λ overlay. list_any (λ layer. nat_eq filesystem layer.filesystem) (layers_of overlay))
-      (alike.overlay j))
-      || (no_outsider_same a.number ∙ (λ k. no_outsider_on nat_eq second names (alike.number k))) j)
-      (overlays one) (overlays second)
-      (overlays_alike one.filesystems other.filesystems same.filesystems) i
+      (alike.overlay j)) || (no_outsider_same a.number ∙ (λ k. no_outsider_on nat_eq second names (alike.number k))) j)
+      (overlays one) (overlays second) (overlays_alike one.filesystems other.filesystems same.filesystems) i
 
-  named_same : (filesystem : ℕ)
-      → all_named nat_eq (filesystem_numbered nat_eq one filesystem).files
+  named_same : (filesystem : ℕ) → all_named nat_eq (filesystem_numbered nat_eq one filesystem).files
       ≡ all_named nat_eq (filesystem_numbered nat_eq second filesystem).files
   named_same filesystem = all_named_alike _ _ (found_alike one second same filesystem).files
 
   locked_same : (filesystem : ℕ)
       → wholly_locked nat_eq one names filesystem ≡ wholly_locked nat_eq second names filesystem
-  locked_same filesystem = λ i.
-      each_any SameFilesystem
+  locked_same filesystem = λ i. each_any SameFilesystem
       (λ merged. is_lower_root nat_eq filesystem (filesystem_numbered nat_eq one filesystem).files.tree.root merged
       && used_alone nat_eq one names merged.number)
       (λ merged. is_lower_root nat_eq filesystem (filesystem_numbered nat_eq second filesystem).files.tree.root merged
-      && used_alone nat_eq second names merged.number)
-      (λ a b alike. λ j.
+      && used_alone nat_eq second names merged.number) (λ a b alike. λ j.
       overlay_or false (λ overlay. lower_root_by filesystem
       ((found_alike one second same filesystem).files.tree j).root overlay) (alike.overlay j)
       && (alone_same a.number ∙ (λ k. used_alone nat_eq second names (alike.number k))) j)
-      (overlays one) (overlays second)
-      (overlays_alike one.filesystems other.filesystems same.filesystems) i
+      (overlays one) (overlays second) (overlays_alike one.filesystems other.filesystems same.filesystems) i
       && named_same filesystem i
 
   sealed_same : sealed nat_eq one names ≡ sealed nat_eq second names
   unfolding sealed
-  sealed_same = λ i.
-      holds_all_same i
-      && no_link_same i
-      && on_mounts_same i
+  sealed_same = λ i. holds_all_same i && no_link_same i && on_mounts_same i
       && list_all (λ filesystem. alone_same filesystem i || locked_same filesystem i) (used_same i)
 
 pub same_worlds_are_sealed_alike : SameWorldsAreSealedAlike
@@ -179,8 +160,7 @@ same_worlds_are_sealed_alike one other same names =
     alike = alike_from_same one other same
 
 pub same_worlds_give_footholds_alike : SameWorldsGiveFootholdsAlike
-same_worlds_give_footholds_alike one other same names filesystem =
-    mounts_of_one (λ world. Alike one world
+same_worlds_give_footholds_alike one other same names filesystem = mounts_of_one (λ world. Alike one world
     → used_alone nat_eq one names filesystem ≡ used_alone nat_eq world names filesystem) one other alike
     (λ alike. alone_same one other alike names filesystem) alike
   where

@@ -28,8 +28,7 @@ always call world names name fresh it few serves = (
 
 pub sealed_sets_are_answered_as_if_alone : SealedSetsAreAnsweredAsIfAlone
 sealed_sets_are_answered_as_if_alone at grammar lines stands stays =
-    sets_are_answered_as_alone at grammar lines stands stays
-    (runs_end_alike true at grammar lines
+    sets_are_answered_as_alone at grammar lines stands stays (runs_end_alike true at grammar lines
     (along_all _ (λ here name call theirs. always call) true at (map (asked grammar) lines)))
     (runs_end_alike false at grammar lines
     (along_all _ (λ here name call theirs. always call) false at (map (asked grammar) lines)))

@@ -26,8 +26,7 @@ use Rattle.vt_laws_containers.proofs.sealed_turns.members.TurnsAlike.{swapped, t
 -- what a turn that answers a call leaves
 record IsAnswered (sched : Sched ℕ) (name : TaskName) (line : ℕ) (call : Call) (fresh : Fresh ℕ) (turned : Turned ℕ)
     : Type 0 where
-  reply : turned.reply
-      ≡ Some (record { line = line; answer = (policy nat_eq fresh sched.world name call).answer })
+  reply : turned.reply ≡ Some (record { line = line; answer = (policy nat_eq fresh sched.world name call).answer })
   world : turned.sched.world ≡ (policy nat_eq fresh sched.world name call).world
   queues : turned.sched.queues ≡ map (shortened (Someone name)) sched.queues
   under_way : turned.sched.under_way ≡ without_progress name sched.under_way
@@ -54,8 +53,7 @@ module _ (sched : Sched ℕ) (name : TaskName) (line : ℕ) (call : Call) (fresh
         → (items : List Queued) → first_of_list items ≡ Some (record { line = line; item = Calls call })
         → Turns sched (Someone name) (Some fresh) items turned → IsAnswered sched name line call fresh turned
     by_items turned answers shape [] e goes = none_is_some _ e
-    by_items turned answers shape (one ∷ rest) e is =
-        ⊎_elim (λ goes. absurd (no_reply turned answers goes.reply))
+    by_items turned answers shape (one ∷ rest) e is = ⊎_elim (λ goes. absurd (no_reply turned answers goes.reply))
         (λ done.
         let same : one ≡ record { line = line; item = Calls call } = ap (λ o. unwrap_or o one) e in
         let its : Answers sched (Someone name) (record { line = line; item = Calls call }) (Some fresh) turned =
@@ -64,8 +62,7 @@ module _ (sched : Sched ℕ) (name : TaskName) (line : ℕ) (call : Call) (fresh
           world = its.world;
           queues = its.queues;
           under_way = left_under_way turned answers shape;
-        })
-        is
+        }) is
 
     answered : is_some (turn nat_eq sched (Someone name) (Some fresh)).reply ≡ true
         → IsAnswered sched name line call fresh (turn nat_eq sched (Someone name) (Some fresh))
@@ -91,8 +88,7 @@ filter_less {A} p r (x ∷ xs) less = by (p x) (r x) refl refl (filter_less p r 
 -- is one of theirs.
 calls_left_of : (names set : List TaskName) (name : TaskName) (under_way : List (Progress ℕ))
     → ((p : Progress ℕ) → Among p under_way → is_among same_name p.task set ≡ true
-    → is_among same_name p.task names ≡ true)
-    → their_calls set (without_progress name (their_calls names under_way))
+    → is_among same_name p.task names ≡ true) → their_calls set (without_progress name (their_calls names under_way))
     ≡ their_calls set (without_progress name under_way)
 calls_left_of names set name under_way were =
     let own = λ (p : Progress ℕ). is_among same_name p.task names in
@@ -106,8 +102,7 @@ sched_of world queues under_way = record { world = world; queues = queues; under
 
 same_sched : (a b : World ℕ) (q r : List Queue) (u v : List (Progress ℕ)) → a ≡ b → q ≡ r → u ≡ v
     → sched_of a q u ≡ sched_of b r v
-same_sched a b q r u v e f g =
-    ap (λ w. sched_of w q u) e ∙ ap (λ l. sched_of b l u) f ∙ ap (λ l. sched_of b r l) g
+same_sched a b q r u v e f g = ap (λ w. sched_of w q u) e ∙ ap (λ l. sched_of b l u) f ∙ ap (λ l. sched_of b r l) g
 
 pub their_answers_are_of_the_grown_part : TheirAnswersAreOfTheGrownPart
 their_answers_are_of_the_grown_part sched names name call fresh turns ends =
@@ -118,18 +113,13 @@ their_answers_are_of_the_grown_part sched names name call fresh turns ends =
     (their_turns_answer_alike sched names name (Some fresh) turns.has turns.theirs ∙ turns.answers) in
     let whole : Sched ℕ = (turn nat_eq sched (Someone name) (Some fresh)).sched in
     let in_part : Sched ℕ = (turn nat_eq part (Someone name) (Some fresh)).sched in record {
-      reply =
-          two.reply
-          ∙ ap (λ (a : Result Answer Deny). Some (reply_of turns.line a)) (sym ends.answer)
+      reply = two.reply ∙ ap (λ (a : Result Answer Deny). Some (reply_of turns.line a)) (sym ends.answer)
           ∙ sym one.reply;
-      left =
-          same_sched (part_of nat_eq in_part.world set) (part_of nat_eq whole.world set) in_part.queues whole.queues
+      left = same_sched (part_of nat_eq in_part.world set) (part_of nat_eq whole.world set) in_part.queues whole.queues
           (their_calls set in_part.under_way) (their_calls set whole.under_way)
           (ap (λ (w : World ℕ). part_of nat_eq w set) two.world ∙ sym ends.part
-          ∙ ap (λ (w : World ℕ). part_of nat_eq w set) (sym one.world))
-          (two.queues ∙ sym one.queues)
-          (ap (their_calls set) two.under_way
-          ∙ calls_left_of names set name sched.under_way (λ p m.
+          ∙ ap (λ (w : World ℕ). part_of nat_eq w set) (sym one.world)) (two.queues ∙ sym one.queues)
+          (ap (their_calls set) two.under_way ∙ calls_left_of names set name sched.under_way (λ p m.
           were_of_the_set sched.world names name call fresh turns.has.is p.task
           (turns.has.holds.there p (contains_from_among sched.under_way p m)))
           ∙ ap (their_calls set) (sym one.under_way));

@@ -77,8 +77,7 @@ module _ (world : World ℕ) (names : List TaskName) (name : TaskName) (call : C
     (is : IsWorld nat_eq world) where
   -- the tasks of the world that are of the set which an answer leaves
   abbrev pub WereOfTheSet : Result Answer Deny → Type 0
-  WereOfTheSet answer =
-      (other : TaskName) → is_some (task_called world other) ≡ true
+  WereOfTheSet answer = (other : TaskName) → is_some (task_called world other) ≡ true
       → is_among same_name other (grown names name call answer) ≡ true → is_among same_name other names ≡ true
 
   -- no task has the name of a task's next child

@@ -51,18 +51,14 @@ module _ (world : World ℕ) (names : List TaskName) (is : IsWorld nat_eq world)
 
   stood_used : (l : Location ℕ) → Among l (locations_of task) → (f : ℕ)
       → nat_eq f (mount_at nat_eq world l).filesystem ≡ true → uses f ≡ true
-  stood_used l m f e =
-      ap uses (eqb-true f (mount_at nat_eq world l).filesystem e)
+  stood_used l m f e = ap uses (eqb-true f (mount_at nat_eq world l).filesystem e)
       ∙ located_used world names is l (among-flat_map locations_of (members world names) task l member m)
 
   -- what one of their tasks sees is used
   pub seen_used : (f : ℕ) → is_seen_by world task f ≡ true → uses f ≡ true
-  seen_used f seen =
-      ⊎_elim
-      (λ both. ⊎_elim of_mount (stood_used task.root (inl refl) f)
+  seen_used f seen = ⊎_elim (λ both. ⊎_elim of_mount (stood_used task.root (inl refl) f)
       (or_cases (list_any (λ (m : Mount ℕ). nat_eq f m.filesystem) (mounts_of nat_eq world task.namespace))
-      (nat_eq f (mount_at nat_eq world task.root).filesystem) both))
-      (stood_used task.directory (inr (inl refl)) f)
+      (nat_eq f (mount_at nat_eq world task.root).filesystem) both)) (stood_used task.directory (inr (inl refl)) f)
       (or_cases (list_any (λ (m : Mount ℕ). nat_eq f m.filesystem) (mounts_of nat_eq world task.namespace)
       || nat_eq f (mount_at nat_eq world task.root).filesystem)
       (nat_eq f (mount_at nat_eq world task.directory).filesystem) seen)
@@ -73,8 +69,7 @@ module _ (world : World ℕ) (names : List TaskName) (is : IsWorld nat_eq world)
           let found = any_among (λ (m : Mount ℕ). nat_eq f m.filesystem) (mounts_of nat_eq world task.namespace) any in
           let both = among-from_filter (λ (m : Mount ℕ). holds_of (nat_eq task.namespace) m.namespace) world.mounts
           found.0 found.1 in
-          ap uses (eqb-true f found.0.filesystem found.2)
-          ∙ used_directly_used world names found.0.filesystem
+          ap uses (eqb-true f found.0.filesystem found.2) ∙ used_directly_used world names found.0.filesystem
           (among-append_left (map (λ (m : Mount ℕ). m.filesystem) (own_mounts nat_eq world names)) _ found.0.filesystem
           (among-map (λ (m : Mount ℕ). m.filesystem) (own_mounts nat_eq world names) found.0
           (among-filter (is_own_mount nat_eq world names) world.mounts found.0 both.0
@@ -83,8 +78,7 @@ module _ (world : World ℕ) (names : List TaskName) (is : IsWorld nat_eq world)
   -- the part has the numbers of what they use,
   pub filesystem_same : (f : ℕ) → uses f ≡ true → filesystem_change_of nat_eq part f
       ≡ filesystem_change_of nat_eq world f
-  filesystem_same f used =
-      ap (λ o. unwrap_or (option_map (λ (x : Filesystem ℕ). x.change) o) last_number)
+  filesystem_same f used = ap (λ o. unwrap_or (option_map (λ (x : Filesystem ℕ). x.change) o) last_number)
       (found_first numbered (filter_map shown world.filesystems)
       ∙ ap first_of_list (filter_kept shown numbered whole others world.filesystems)
       ∙ sym (found_first numbered world.filesystems))
@@ -96,22 +90,17 @@ module _ (world : World ℕ) (names : List TaskName) (is : IsWorld nat_eq world)
       shown = part_of_filesystem nat_eq world names
 
       whole : (x : Filesystem ℕ) → numbered x ≡ true → shown x ≡ Some x
-      whole x e =
-          ap (λ b. cond b (Some x)
+      whole x e = ap (λ b. cond b (Some x)
           (when (list_any (λ (layer : Layer ℕ). nat_eq x.number layer.filesystem) (own_lowers nat_eq world names))
-          (part_of_lower nat_eq world names x)))
-          (ap uses (sym (eqb-true f x.number e)) ∙ used)
+          (part_of_lower nat_eq world names x))) (ap uses (sym (eqb-true f x.number e)) ∙ used)
 
       others : (x y : Filesystem ℕ) → shown x ≡ Some y → numbered x ≡ false → numbered y ≡ false
-      others x y e fails =
-          ⊎_elim (λ same. ap numbered (sym same.0) ∙ fails)
-          (λ lower. ap numbered (sym lower.0) ∙ fails)
-          (shown_how world names x y e)
+      others x y e fails = ⊎_elim (λ same. ap numbered (sym same.0) ∙ fails)
+          (λ lower. ap numbered (sym lower.0) ∙ fails) (shown_how world names x y e)
 
   -- and of their namespaces
   pub namespace_same : namespace_change_of nat_eq part task.namespace ≡ namespace_change_of nat_eq world task.namespace
-  namespace_same =
-      ap (λ o. unwrap_or (option_map (λ (n : Namespace ℕ). n.change) o) last_number)
+  namespace_same = ap (λ o. unwrap_or (option_map (λ (n : Namespace ℕ). n.change) o) last_number)
       (found_kept (λ (n : Namespace ℕ). nat_eq task.namespace n.number)
       (λ (n : Namespace ℕ). is_own_namespace nat_eq world names n.number) world.namespaces
       (λ n e. any_from_among (λ (t : Task ℕ). nat_eq n.number t.namespace) (members world names) task member
@@ -124,8 +113,7 @@ module _ (world : World ℕ) (names : List TaskName) (is : IsWorld nat_eq world)
       → is_overtaken nat_eq part task progress ≡ is_overtaken nat_eq world task progress
   overtaken_alike progress seen =
       ap (λ n. is_stale progress.task_change task.change || is_stale progress.namespace_change n
-      || list_any (stale_in part) progress.filesystems) namespace_same
-      ∙ by (is_stale progress.task_change task.change)
+      || list_any (stale_in part) progress.filesystems) namespace_same ∙ by (is_stale progress.task_change task.change)
       (is_stale progress.namespace_change (namespace_change_of nat_eq world task.namespace)) refl refl
     where
       stale_in : World ℕ → ℕ × ℕ → Bool
@@ -137,8 +125,6 @@ module _ (world : World ℕ) (names : List TaskName) (is : IsWorld nat_eq world)
           ≡ (a || b || list_any (stale_in world) progress.filesystems)
       by true b e f = refl
       by false true e f = refl
-      by false false e f =
-          any_same (stale_in part) (stale_in world) progress.filesystems (λ held m.
-          ap (is_stale held.1)
-          (filesystem_same held.0 (seen_used held.0
+      by false false e f = any_same (stale_in part) (stale_in world) progress.filesystems (λ held m.
+          ap (is_stale held.1) (filesystem_same held.0 (seen_used held.0
           (seen (record { task_change = e; namespace_change = f }) held m))))

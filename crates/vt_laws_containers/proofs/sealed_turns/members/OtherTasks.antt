@@ -40,12 +40,9 @@ each_fork_ends_alike world names name words it fresh other = by (task_called wor
     judged task e (Ok permit) j =
         forks_end_alike world names name words it task e fresh other (child_credentials task.credentials words)
         (granted_fork fresh world task words permit j)
-    judged task e (Err deny) j =
-        denials_end_alike world names name (Fork words) it fresh other
-        (ap (λ found. is_ok (ran name (Fork words) world fresh found).answer) e
-        ∙ ap (λ judgement. is_ok
-        (run_by world names name (Fork words) it fresh other world fresh task judgement).answer)
-        j)
+    judged task e (Err deny) j = denials_end_alike world names name (Fork words) it fresh other
+        (ap (λ found. is_ok (ran name (Fork words) world fresh found).answer) e ∙ ap (λ judgement. is_ok
+        (run_by world names name (Fork words) it fresh other world fresh task judgement).answer) j)
 
     by : (found : Option (Task ℕ)) → task_called world name ≡ found
         → EndsAlike world names name (Fork words) fresh other

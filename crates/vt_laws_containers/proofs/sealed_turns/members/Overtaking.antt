@@ -21,15 +21,13 @@ their_calls_are_overtaken_alike sched names task progress has under theirs =
     let its : task.name ≡ progress.task = sym (name_found sched.world progress.task task under.called) in
     overtaken_alike sched.world names has.is task
     (among-filter (is_member_task names) sched.world.tasks task (found_among _ sched.world.tasks task under.called)
-    (ap (λ n. is_among same_name n names) its ∙ theirs))
-    progress
+    (ap (λ n. is_among same_name n names) its ∙ theirs)) progress
     (λ current held m. has.holds.seen task progress under current held
     (contains_from_among progress.filesystems held m))
 
 -- turns of outsiders are fit
 pub fit_turns : (schedule : List Turn) (sched : Sched ℕ) (names : List TaskName)
-    → AreOutsidersTurns sched names schedule
-    → AreFitTurns sched schedule
+    → AreOutsidersTurns sched names schedule → AreFitTurns sched schedule
 fit_turns [] sched names of = tt
 fit_turns (given ∷ rest) sched names of = (
   record { serves = of.0.serves; few_groups = λ line call first. of.0.few_groups call (line, first) },
@@ -42,13 +40,10 @@ outsiders_overtake_no_call_of_theirs sched names schedule task progress sealed h
     let leave = outsiders_turns_leave_it_sealed_in_turn sched names schedule sealed of in
     let held = schedules_hold_what_is_seen sched schedule sealed.is holds (fit_turns schedule sched names of) in
     let own = λ (p : Progress ℕ). is_among same_name p.task names in
-    let there : Among progress (their_calls names later.under_way) =
-    subst (Among progress) (sym leave.calls)
-    (among-filter own sched.under_way progress (among_from_contains sched.under_way progress under.under_way) theirs)
-    in
+    let there : Among progress (their_calls names later.under_way) = subst (Among progress) (sym leave.calls)
+    (among-filter own sched.under_way progress (among_from_contains sched.under_way progress under.under_way) theirs) in
     let still : IsUnderWayOf later task progress = record {
-      under_way = contains_from_among later.under_way progress
-          (among-from_filter own later.under_way progress there).0;
+      under_way = contains_from_among later.under_way progress (among-from_filter own later.under_way progress there).0;
       called =
           called_so sched.world later.world names (ap (λ (part : World ℕ). part.tasks) leave.part) progress.task theirs
           ∙ under.called;

@@ -33,16 +33,14 @@ module _ (one other : Looks ℕ) (task : Task ℕ) (Own : ℕ → Type 0) (alike
       → (here_route (symlink_walk nat_eq one task path) ∷ []) ≡ (here_route (symlink_walk nat_eq other task path) ∷ [])
   symlink path = here_same _ _ (symlink_agrees one other task Own alike directory removed path).0
 
-  directories : (path : List ℕ)
-      → (here_route (directory_walk nat_eq one task path) ∷ [])
+  directories : (path : List ℕ) → (here_route (directory_walk nat_eq one task path) ∷ [])
       ≡ (here_route (directory_walk nat_eq other task path) ∷ [])
   directories path = here_same _ _ (directory_agrees one other task Own alike directory removed path).0
 
   source : (path : List ℕ) → source_walk nat_eq one task path ≡ source_walk nat_eq other task path
   source path = (source_agrees one other task Own alike directory removed path).0
 
-  destination : (path : List ℕ)
-      → (here_route (destination_walk nat_eq one task path) ∷ [])
+  destination : (path : List ℕ) → (here_route (destination_walk nat_eq one task path) ∷ [])
       ≡ (here_route (destination_walk nat_eq other task path) ∷ [])
   destination path = here_same _ _ (destination_agrees one other task Own alike directory removed path).0
 
@@ -54,8 +52,7 @@ module _ (one other : Looks ℕ) (task : Task ℕ) (Own : ℕ → Type 0) (alike
       → (place_route (new_walk nat_eq one task path) ∷ []) ≡ (place_route (new_walk nat_eq other task path) ∷ [])
   new path = place_same _ _ (new_agrees one other task Own alike directory removed path).0
 
-  new_leaf : (path : List ℕ)
-      → (place_route (new_leaf_walk nat_eq one task path) ∷ [])
+  new_leaf : (path : List ℕ) → (place_route (new_leaf_walk nat_eq one task path) ∷ [])
       ≡ (place_route (new_leaf_walk nat_eq other task path) ∷ [])
   new_leaf path = place_same _ _ (new_leaf_agrees one other task Own alike directory removed path).0
 
@@ -67,8 +64,7 @@ module _ (one other : Looks ℕ) (task : Task ℕ) (Own : ℕ → Type 0) (alike
   old_leaf path = (old_leaf_agrees one other task Own alike directory removed path).0
 
   -- the old object of a rename is a directory in both
-  from_directory : (path : List ℕ)
-      → rename_from_directory nat_eq one (old_leaf_walk nat_eq one task path)
+  from_directory : (path : List ℕ) → rename_from_directory nat_eq one (old_leaf_walk nat_eq one task path)
       ≡ rename_from_directory nat_eq other (old_leaf_walk nat_eq other task path)
   from_directory path =
       by (old_leaf_walk nat_eq one task path) (old_leaf_agrees one other task Own alike directory removed path).1
@@ -79,11 +75,8 @@ module _ (one other : Looks ℕ) (task : Task ℕ) (Own : ℕ → Type 0) (alike
       by (Ok place) at = same_directory_there one other task Own alike directory removed place at
       by (Err stop) at = refl
 
-  renamed : (old new : List ℕ)
-      → routes nat_eq one task (Rename old new) ≡ routes nat_eq other task (Rename old new)
-  renamed old new =
-      ap (λ w. place_route w
-      ∷ place_route (rename_new_walk nat_eq one task new
+  renamed : (old new : List ℕ) → routes nat_eq one task (Rename old new) ≡ routes nat_eq other task (Rename old new)
+  renamed old new = ap (λ w. place_route w ∷ place_route (rename_new_walk nat_eq one task new
       (rename_from_directory nat_eq one (old_leaf_walk nat_eq one task old))) ∷ []) (old_leaf old)
       ∙ ap (λ b. place_route (old_leaf_walk nat_eq other task old)
       ∷ place_route (rename_new_walk nat_eq one task new b) ∷ []) (from_directory old)
@@ -94,8 +87,7 @@ module _ (one other : Looks ℕ) (task : Task ℕ) (Own : ℕ → Type 0) (alike
   layers : (options : Option OverlayWords)
       → layer_routes nat_eq one task options ≡ layer_routes nat_eq other task options
   layers None = refl
-  layers (Some words) =
-      map_alike (λ path. here_route (source_walk nat_eq one task path))
+  layers (Some words) = map_alike (λ path. here_route (source_walk nat_eq one task path))
       (λ path. here_route (source_walk nat_eq other task path))
       (words.lowers ++ option_to_list words.upper ++ option_to_list (work_walked words))
       (λ path m. ap (λ w. here_route w) (source path))
@@ -107,8 +99,7 @@ module _ (one other : Looks ℕ) (task : Task ℕ) (Own : ℕ → Type 0) (alike
   opened_alike path (Exclusive mode) = new path
 
   -- two mounts, or their places
-  from_to : (source_path path : List ℕ)
-      → (here_route (source_walk nat_eq one task source_path)
+  from_to : (source_path path : List ℕ) → (here_route (source_walk nat_eq one task source_path)
       ∷ here_route (destination_walk nat_eq one task path) ∷ [])
       ≡ (here_route (source_walk nat_eq other task source_path)
       ∷ here_route (destination_walk nat_eq other task path) ∷ [])
@@ -127,8 +118,7 @@ module _ (one other : Looks ℕ) (task : Task ℕ) (Own : ℕ → Type 0) (alike
   routes_alike (Mkdir path mode) = new path
   routes_alike (SymlinkAt text path) = new_leaf path
   routes_alike (MakeWhiteout path) = new_leaf path
-  routes_alike (LinkTo from to) =
-      ap (λ l. l ++ (place_route (new_leaf_walk nat_eq one task to) ∷ [])) (symlink from)
+  routes_alike (LinkTo from to) = ap (λ l. l ++ (place_route (new_leaf_walk nat_eq one task to) ∷ [])) (symlink from)
       ∙ ap (λ l. here_route (symlink_walk nat_eq other task from) ∷ l) (new_leaf to)
   routes_alike (Unlink path) = place_same _ _ (old_leaf path)
   routes_alike (Rmdir path) = old path

@@ -12,7 +12,7 @@ use Rattle.vt_spec.specs.Machine.Looks.{looks_of}
 use Rattle.vt_spec.specs.Machine.Sealed.{is_member_task, members, used_filesystems}
 use Rattle.vt_spec.specs.Machine.Turns.{Item, Progress, Queued, Route, Sched, Turned, call_turn, call_turn_of, entry_rules, first_progress, first_turn, first_turn_by, further, hold_one, is_failing, is_overtaken, item_turn, later_turn, next_word, one_further, queue_of, queue_turn, restarted, routes, turn, turn_under_way, went_on, without_progress, word_walked_by, words_of}
 use Rattle.vt_spec.specs.Machine.Turns.Item.{Asks, Calls, Refused}
-use Rattle.vt_spec.specs.Machine.World.{Task, World, task_called}
+use Rattle.vt_spec.specs.Machine.World.{Task, World, task_called, Filesystem}
 use Rattle.vt_spec.proofs.Found.{found_among, found_passes}
 use Rattle.vt_spec.proofs.Lists.{Among, among-filter, contains_from_among}
 use Rattle.vt_spec.proofs.Worlds.{same_task_name}
@@ -22,7 +22,6 @@ use Rattle.vt_laws_members.proofs.judging.Grounds.{theirs_from, theirs_test}
 use Rattle.vt_laws_members.proofs.judging.SeenInPart.{directory_theirs, filesystem_alike, members_see_alike}
 use Rattle.vt_laws_sealed.proofs.part.walks.WalksAgree.{Alike, each_from}
 use Rattle.vt_spec.specs.FileTree.{is_removed}
-use Rattle.vt_spec.specs.Machine.World.{Filesystem}
 use Rattle.vt_laws_turns.proofs.holds.Holding.{nth_among, word_seen}
 use Rattle.vt_laws_worlds.proofs.worlds.CallsKept.{name_found}
 use Rattle.vt_laws_containers.specs.SealedTurns.MembersTurns.{HasCallsUnderWay, TheirTurnsAnswerAlike, TheirWordsAreOfTheirPart, part_of_sched}
@@ -40,10 +39,8 @@ swapped {A} p q (a ∷ rest) = by (p a) (q a) refl refl (swapped p q rest)
     by true true e f later =
         ap (λ x. cond x (a ∷ filter p (filter q rest)) (filter p (filter q rest))) e ∙ ap (λ l. a ∷ l) later
         ∙ sym (ap (λ x. cond x (a ∷ filter q (filter p rest)) (filter q (filter p rest))) f)
-    by true false e f later =
-        later ∙ sym (ap (λ x. cond x (a ∷ filter q (filter p rest)) (filter q (filter p rest))) f)
-    by false true e f later =
-        ap (λ x. cond x (a ∷ filter p (filter q rest)) (filter p (filter q rest))) e ∙ later
+    by true false e f later = later ∙ sym (ap (λ x. cond x (a ∷ filter q (filter p rest)) (filter q (filter p rest))) f)
+    by false true e f later = ap (λ x. cond x (a ∷ filter p (filter q rest)) (filter p (filter q rest))) e ∙ later
     by false false e f later = later
 
 module _ (sched : Sched ℕ) (names : List TaskName) (has : HasCallsUnderWay sched) where
@@ -55,16 +52,14 @@ module _ (sched : Sched ℕ) (names : List TaskName) (has : HasCallsUnderWay sch
 
   -- both answer something, or both nothing: then the part of what is left is what is left in the part
   abbrev pub AlikeTurned : Turned ℕ → Turned ℕ → Type 0
-  AlikeTurned turned in_part =
-      ((is_some turned.reply ≡ true) × (is_some in_part.reply ≡ true))
+  AlikeTurned turned in_part = ((is_some turned.reply ≡ true) × (is_some in_part.reply ≡ true))
       ⊎ ((turned.reply ≡ None) × (in_part ≡ record { sched = part_of_sched names turned.sched; reply = None }))
 
   -- the call of a task of theirs
   module _ (task : Task ℕ) (called : task_called world task.name ≡ Some task)
       (theirs : is_among same_name task.name names ≡ true) (line : ℕ) (call : Call) (fresh : Fresh ℕ) where
     member : Among task (members world names)
-    member =
-        among-filter (is_member_task names) world.tasks task (found_among _ world.tasks task called) theirs
+    member = among-filter (is_member_task names) world.tasks task (found_among _ world.tasks task called) theirs
 
     abbrev ways : List (Route ℕ)
     ways = routes nat_eq (looks_of nat_eq world) task call
@@ -73,8 +68,7 @@ module _ (sched : Sched ℕ) (names : List TaskName) (has : HasCallsUnderWay sch
     walks_alike : Alike (looks_of nat_eq world) (looks_of nat_eq part.world) task
         (λ number. is_theirs world names number ≡ true)
     walks_alike =
-        let alike = members_see_alike world names task has.is (contains_from_among (members world names) task member)
-        in
+        let alike = members_see_alike world names task has.is (contains_from_among (members world names) task member) in
         record {
           root = alike.root;
           node = alike.node;
@@ -88,21 +82,17 @@ module _ (sched : Sched ℕ) (names : List TaskName) (has : HasCallsUnderWay sch
         }
 
     same_ways : ways ≡ routes nat_eq (looks_of nat_eq part.world) task call
-    same_ways =
-        routes_alike (looks_of nat_eq world) (looks_of nat_eq part.world) task
-        (λ number. is_theirs world names number ≡ true)
-        walks_alike
+    same_ways = routes_alike (looks_of nat_eq world) (looks_of nat_eq part.world) task
+        (λ number. is_theirs world names number ≡ true) walks_alike
         (theirs_test world names has.is.mounts task.directory.mount (directory_theirs world names has.is task member))
         (λ here own. ap (λ (f : Filesystem ℕ). is_removed nat_eq f.files.tree here.node)
-        (filesystem_alike world names has.is here (theirs_from world names has.is.mounts here.mount own)))
-        call
+        (filesystem_alike world names has.is here (theirs_from world names has.is.mounts here.mount own))) call
 
     held_same : (met : List ℕ) (list : List (ℕ × ℕ))
         → ((f : ℕ) → Among f met → is_among nat_eq f (used_filesystems nat_eq world names) ≡ true)
         → folded (hold_one nat_eq part.world) list met ≡ folded (hold_one nat_eq world) list met
     held_same [] list used = refl
-    held_same (f ∷ met) list used =
-        ap (λ n. folded (hold_one nat_eq part.world)
+    held_same (f ∷ met) list used = ap (λ n. folded (hold_one nat_eq part.world)
         (cond (list_any (λ (other : ℕ × ℕ). nat_eq f other.0) list) list (list ++ ((f, n) ∷ []))) met)
         (filesystem_same world names has.is task member f (used f (inl refl)))
         ∙ held_same met (hold_one nat_eq world list f) (λ g m. used g (inr m))
@@ -112,13 +102,11 @@ module _ (sched : Sched ℕ) (names : List TaskName) (has : HasCallsUnderWay sch
         → AlikeTurned (word_walked_by nat_eq fails sched line call fresh before met)
         (word_walked_by nat_eq fails part line call fresh before met)
     word true before met its used = inl (refl, refl)
-    word false before met its used =
-        inr (
-          refl,
-          ap (λ (held : List (ℕ × ℕ)). went_on part (record before { walked = before.walked + 1; filesystems = held }))
-              (held_same met before.filesystems used)
-              ∙ ap goes (sym calls),
-        )
+    word false before met its used = inr (
+      refl,
+      ap (λ (held : List (ℕ × ℕ)). went_on part (record before { walked = before.walked + 1; filesystems = held }))
+          (held_same met before.filesystems used) ∙ ap goes (sym calls),
+    )
       where
         goes : List (Progress ℕ) → Turned ℕ
         goes list = record { sched = record part { under_way = list }; reply = None }
@@ -131,8 +119,7 @@ module _ (sched : Sched ℕ) (names : List TaskName) (has : HasCallsUnderWay sch
 
         calls : their_calls names (next ∷ without_progress next.task sched.under_way)
             ≡ next ∷ without_progress next.task (their_calls names sched.under_way)
-        calls =
-            ap (λ b. cond b (next ∷ their_calls names (without_progress next.task sched.under_way))
+        calls = ap (λ b. cond b (next ∷ their_calls names (without_progress next.task sched.under_way))
             (their_calls names (without_progress next.task sched.under_way))) its_own
             ∙ ap (λ l. next ∷ l) (swapped (λ (p : Progress ℕ). is_among same_name p.task names)
             (λ (p : Progress ℕ). not (same_name next.task p.task)) sched.under_way)
@@ -142,8 +129,7 @@ module _ (sched : Sched ℕ) (names : List TaskName) (has : HasCallsUnderWay sch
         → AlikeTurned (next_word nat_eq sched line call fresh before ways o)
         (next_word nat_eq part line call fresh before ways o)
     next_alike before None its e = inl (refl, refl)
-    next_alike before (Some met) its e =
-        word (is_failing ways before.walked) before met its (λ f m.
+    next_alike before (Some met) its e = word (is_failing ways before.walked) before met its (λ f m.
         seen_used world names has.is task member f
         (word_seen world has.is task called call met (nth_among (words_of ways) before.walked met e) f m))
 
@@ -159,16 +145,14 @@ module _ (sched : Sched ℕ) (names : List TaskName) (has : HasCallsUnderWay sch
         → AlikeTurned (first_turn_by nat_eq rules sched task line call fresh restarts)
         (first_turn_by nat_eq rules part task line call fresh restarts)
     entry_alike (Err deny) restarts = inl (refl, refl)
-    entry_alike (Ok same) restarts =
-        subst (λ (before : Progress ℕ). AlikeTurned
+    entry_alike (Ok same) restarts = subst (λ (before : Progress ℕ). AlikeTurned
         (further nat_eq sched task line call fresh (first_progress nat_eq world task restarts))
         (further nat_eq part task line call fresh before))
         (ap (λ n. record (first_progress nat_eq world task restarts) { namespace_change = n })
         (sym (namespace_same world names has.is task member)))
         (further_alike (first_progress nat_eq world task restarts) refl)
 
-    first_alike : (restarts : ℕ)
-        → AlikeTurned (first_turn nat_eq sched task line call fresh restarts)
+    first_alike : (restarts : ℕ) → AlikeTurned (first_turn nat_eq sched task line call fresh restarts)
         (first_turn nat_eq part task line call fresh restarts)
     first_alike restarts = entry_alike (unless (entry_rules task call) (Ok call)) restarts
 
@@ -190,26 +174,22 @@ module _ (sched : Sched ℕ) (names : List TaskName) (has : HasCallsUnderWay sch
         (turn_under_way nat_eq part task line call fresh o)
     under_way_alike None e = first_alike 0
     under_way_alike (Some progress) e =
-        let its : task.name ≡ progress.task =
-        same_task_name task.name progress.task
+        let its : task.name ≡ progress.task = same_task_name task.name progress.task
         (found_passes (λ (p : Progress ℕ). same_name task.name p.task) sched.under_way progress e) in
         subst (λ stale. AlikeTurned (turn_under_way nat_eq sched task line call fresh (Some progress))
         (later_turn nat_eq stale part task line call fresh progress))
         (sym (overtaken_alike world names has.is task member progress (λ current held m.
-        has.holds.seen task progress
-        (record {
+        has.holds.seen task progress (record {
           under_way = contains_from_among sched.under_way progress (found_among _ sched.under_way progress e);
           called = ap (task_called world) (sym its) ∙ called;
-        })
-        current held (contains_from_among progress.filesystems held m))))
+        }) current held (contains_from_among progress.filesystems held m))))
         (later_alike (is_overtaken nat_eq world task progress) progress (sym its))
 
   module _ (name : TaskName) (theirs : is_among same_name name names ≡ true) where
     -- what is under way of one of theirs
     same_found : find (λ (p : Progress ℕ). same_name name p.task) (their_calls names sched.under_way)
         ≡ find (λ (p : Progress ℕ). same_name name p.task) sched.under_way
-    same_found =
-        found_kept (λ (p : Progress ℕ). same_name name p.task)
+    same_found = found_kept (λ (p : Progress ℕ). same_name name p.task)
         (λ (p : Progress ℕ). is_among same_name p.task names) sched.under_way
         (λ p e. ap (λ n. is_among same_name n names) (sym (same_task_name name p.task e)) ∙ theirs)
 
@@ -220,8 +200,7 @@ module _ (sched : Sched ℕ) (names : List TaskName) (has : HasCallsUnderWay sch
     by_task line call fresh (Some task) e =
         let its : task.name ≡ name = sym (name_found world name task e) in
         subst (λ o. AlikeTurned (call_turn_of nat_eq sched name line call fresh (Some task))
-        (turn_under_way nat_eq part task line call fresh o)) (sym same_found)
-        (subst (λ n. AlikeTurned
+        (turn_under_way nat_eq part task line call fresh o)) (sym same_found) (subst (λ n. AlikeTurned
         (turn_under_way nat_eq sched task line call fresh
         (find (λ (p : Progress ℕ). same_name n p.task) sched.under_way))
         (turn_under_way nat_eq part task line call fresh
@@ -232,10 +211,8 @@ module _ (sched : Sched ℕ) (names : List TaskName) (has : HasCallsUnderWay sch
     by_call : (line : ℕ) (call : Call) (fresh : Option (Fresh ℕ))
         → AlikeTurned (call_turn nat_eq sched name line call fresh) (call_turn nat_eq part name line call fresh)
     by_call line call None = inl (refl, refl)
-    by_call line call (Some fresh) =
-        subst (λ o. AlikeTurned (call_turn nat_eq sched name line call (Some fresh))
-        (call_turn_of nat_eq part name line call fresh o))
-        (sym (called_alike names name theirs world.tasks))
+    by_call line call (Some fresh) = subst (λ o. AlikeTurned (call_turn nat_eq sched name line call (Some fresh))
+        (call_turn_of nat_eq part name line call fresh o)) (sym (called_alike names name theirs world.tasks))
         (by_task line call fresh (task_called world name) refl)
 
     by_item : (line : ℕ) (item : Item) (fresh : Option (Fresh ℕ))
@@ -258,13 +235,11 @@ module _ (sched : Sched ℕ) (names : List TaskName) (has : HasCallsUnderWay sch
     turns_alike fresh = by_queue (queue_of sched.queues (Someone name)) fresh
 
 pub their_turns_answer_alike : TheirTurnsAnswerAlike
-their_turns_answer_alike sched names name fresh has theirs =
-    ⊎_elim (λ both. both.1 ∙ sym both.0)
+their_turns_answer_alike sched names name fresh has theirs = ⊎_elim (λ both. both.1 ∙ sym both.0)
     (λ none. ap (λ (t : Turned ℕ). is_some t.reply) none.1 ∙ sym (ap is_some none.0))
     (turns_alike sched names has name theirs fresh)
 
 pub their_words_are_of_their_part : TheirWordsAreOfTheirPart
 their_words_are_of_their_part sched names name fresh has theirs none =
     ⊎_elim (λ both. absurd (true≢false (sym both.0 ∙ ap is_some none)))
-    (λ alike. ap (λ (t : Turned ℕ). t.sched) alike.1)
-    (turns_alike sched names has name theirs fresh)
+    (λ alike. ap (λ (t : Turned ℕ). t.sched) alike.1) (turns_alike sched names has name theirs fresh)

@@ -31,11 +31,10 @@ module _ (sched : Sched ℕ) (names : List TaskName) (given : Turn) (has : HasIt
     pub leaves : LeavesItSealed sched.world later names
 
   stays : (later : World ℕ) → later ≡ sched.world → LeavesAWorld later
-  stays later same =
-      subst LeavesAWorld (sym same) (record {
-        is = has.is;
-        leaves = record { sealed_off = has.sealed_off; part = refl; no_more = λ filesystem there alone. alone };
-      })
+  stays later same = subst LeavesAWorld (sym same) (record {
+    is = has.is;
+    leaves = record { sealed_off = has.sealed_off; part = refl; no_more = λ filesystem there alone. alone };
+  })
 
   called : (name : TaskName) (call : Call) (fresh : Fresh ℕ) → given.0 ≡ Someone name → given.1 ≡ Some fresh
       → IsFirst sched given.0 call → LeavesAWorld (policy nat_eq fresh sched.world name call).world
@@ -63,22 +62,19 @@ module _ (sched : Sched ℕ) (names : List TaskName) (given : Turn) (has : HasIt
 
       by : Leaves sched given later → LeavesAWorld later.world
       by (Same same) = stays later.world same
-      by (After name call fresh commits) =
-          subst LeavesAWorld (sym commits.world)
+      by (After name call fresh commits) = subst LeavesAWorld (sym commits.world)
           (called name call fresh commits.who commits.handed (commits.line, commits.first))
 
   -- their queues
   queues_stay : (member : TaskName) → is_among same_name member names ≡ true
       → queue_of (map (shortened given.0) sched.queues) (Someone member) ≡ queue_of sched.queues (Someone member)
-  queues_stay member theirs =
-      shorter given.0 (Someone member) sched.queues
+  queues_stay member theirs = shorter given.0 (Someone member) sched.queues
       ∙ ap (λ b. cond b (rest_of (queue_of sched.queues (Someone member))) (queue_of sched.queues (Someone member)))
       (other (same_who (Someone member) given.0) refl)
     where
       other : (b : Bool) → same_who (Someone member) given.0 ≡ b → b ≡ false
       other false e = refl
-      other true e =
-          absurd (true≢false (sym theirs ∙ ap (is_of_theirs names) (same_whos (Someone member) given.0 e)
+      other true e = absurd (true≢false (sym theirs ∙ ap (is_of_theirs names) (same_whos (Someone member) given.0 e)
           ∙ outsider.outside))
 
   -- their calls under way
@@ -96,11 +92,9 @@ module _ (sched : Sched ℕ) (names : List TaskName) (given : Turn) (has : HasIt
           let same : Someone name ≡ Someone progress.task = same_whos (Someone name) (Someone progress.task) f in
           absurd (true≢false (sym e ∙ ap (is_of_theirs names) (sym same ∙ sym w) ∙ outsider.outside))
       by false true e f later = later
-      by true false e f later =
-          ap (λ b. cond b (progress ∷ their_calls names (without_progress name rest))
+      by true false e f later = ap (λ b. cond b (progress ∷ their_calls names (without_progress name rest))
           (their_calls names (without_progress name rest))) e ∙ ap (λ l. progress ∷ l) later
-      by false false e f later =
-          ap (λ b. cond b (progress ∷ their_calls names (without_progress name rest))
+      by false false e f later = ap (λ b. cond b (progress ∷ their_calls names (without_progress name rest))
           (their_calls names (without_progress name rest))) e ∙ later
 
   pub record LeavesCalls (later : Sched ℕ) : Type 0 where
@@ -109,8 +103,7 @@ module _ (sched : Sched ℕ) (names : List TaskName) (given : Turn) (has : HasIt
         → queue_of later.queues (Someone member) ≡ queue_of sched.queues (Someone member)
 
   by_shape : (turned : Turned ℕ) → Shape sched given.0 given.1 turned → LeavesCalls turned.sched
-  by_shape turned (Idle e is) =
-      subst (λ (t : Turned ℕ). LeavesCalls t.sched) (sym is)
+  by_shape turned (Idle e is) = subst (λ (t : Turned ℕ). LeavesCalls t.sched) (sym is)
       (record { calls = refl; queues = λ member among. refl })
   by_shape turned (OtherDone first f none outcome e) =
       subst (λ (t : Turned ℕ). LeavesCalls t.sched) (sym e) (record { calls = refl; queues = queues_stay })
@@ -124,12 +117,10 @@ module _ (sched : Sched ℕ) (names : List TaskName) (given : Turn) (has : HasIt
       let its : before.task ≡ task.name = named sched task before at in
       let who : given.0 ≡ Someone before.task = w ∙ ap Someone (sym its) in
       subst (λ (t : Turned ℕ). LeavesCalls t.sched) (sym further.is) (record {
-        calls =
-            ap (λ b. cond b (one_further nat_eq sched.world further.met before
+        calls = ap (λ b. cond b (one_further nat_eq sched.world further.met before
             ∷ their_calls names (without_progress before.task sched.under_way))
             (their_calls names (without_progress before.task sched.under_way)))
-            (sym (ap (is_of_theirs names) who) ∙ outsider.outside)
-            ∙ calls_left before.task who sched.under_way;
+            (sym (ap (is_of_theirs names) who) ∙ outsider.outside) ∙ calls_left before.task who sched.under_way;
         queues = λ member among. refl;
       })
 
@@ -146,12 +137,9 @@ outsiders_turns_leave_a_sealed_set sched names given has outsider =
 
 -- Names of theirs are those of the tasks that they were
 pub called_so : (world later : World ℕ) (names : List TaskName) → members later names ≡ members world names
-    → (member : TaskName) → is_among same_name member names ≡ true
-    → task_called later member ≡ task_called world member
-called_so world later names same member theirs =
-    sym (called_alike names member theirs later.tasks)
-    ∙ ap (find (λ (t : Task ℕ). same_name member t.name)) same
-    ∙ called_alike names member theirs world.tasks
+    → (member : TaskName) → is_among same_name member names ≡ true → task_called later member ≡ task_called world member
+called_so world later names same member theirs = sym (called_alike names member theirs later.tasks)
+    ∙ ap (find (λ (t : Task ℕ). same_name member t.name)) same ∙ called_alike names member theirs world.tasks
 
 still_called : (world later : World ℕ) (names : List TaskName) → members later names ≡ members world names
     → are_all_called world names ≡ true → are_all_called later names ≡ true
@@ -163,8 +151,7 @@ still_called world later names same there =
 
 in_turn : (schedule : List Turn) (sched : Sched ℕ) (names : List TaskName) → HasItSealed sched names
     → AreOutsidersTurns sched names schedule → LeaveTheirs sched (left_by sched schedule) names
-in_turn [] sched names has of =
-    record { sealed_off = has; part = refl; calls = refl; queues = λ member theirs. refl }
+in_turn [] sched names has of = record { sealed_off = has; part = refl; calls = refl; queues = λ member theirs. refl }
 in_turn (given ∷ rest) sched names has of =
     let later : Sched ℕ = (turn nat_eq sched given.0 given.1).sched in
     let world = turn_leaves_a_world sched names given has of.0 in

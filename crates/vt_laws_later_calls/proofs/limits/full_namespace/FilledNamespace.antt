@@ -71,14 +71,7 @@ starts = record {
   admin = refl;
   object = 6;
   top = record { mount = 0; node = 6 };
-  way = record {
-    searched = refl;
-    plain = refl;
-    searches = refl;
-    entry = refl;
-    leads = refl;
-    directory = refl;
-  };
+  way = record { searched = refl; plain = refl; searches = refl; entry = refl; leads = refl; directory = refl };
   destination = record { ends = refl; directory = refl; stays = refl };
   private = refl;
   inside = refl;
@@ -101,25 +94,21 @@ module _ (version : Version) where
   -- what so many mounts lead to, and the rest of the text
   stacked : (mounts : ℕ) (lines : List (List ℕ)) → 1 + mounts ≤ most_mounts
       → Fills (whole version) (codes "t mount plain /a") [] mounting (mounting_is_asked version)
-      (λ count world. IsStack world [] (codes "a") count)
-      (λ count world fresh stack serves room. (
+      (λ count world. IsStack world [] (codes "a") count) (λ count world fresh stack serves room. (
         stacked_world world [] (codes "/a") (codes "a") path_has_one_word count stack fresh plain_flags serves room,
         stack_grows world [] (codes "/a") (codes "a") path_has_one_word count stack fresh plain_flags serves room,
         grown_stack world [] (codes "/a") (codes "a") path_has_one_word count stack fresh plain_flags serves room,
       )) 1 1 mounts made lines
-  stacked mounts lines room =
-      fills (whole version) (codes "t mount plain /a") [] mounting (mounting_is_asked version)
+  stacked mounts lines room = fills (whole version) (codes "t mount plain /a") [] mounting (mounting_is_asked version)
       (λ count world. IsStack world [] (codes "a") count) _ mounts 1 1 made lines starts
       (numbers_go_on (whole version) (codes "t mkdir /a") [] making (making_is_asked version) first_world 0
       (granted Done made) opening_has_first_numbers directory_is_made) room
 
   -- the whole text, with what so many mounts leave to come
-  text_begins : (mounts : ℕ) → machine_text version [] (stacking_script mounts)
-      ≡ decimal 1 ++ codes " ok\n"
+  text_begins : (mounts : ℕ) → machine_text version [] (stacking_script mounts) ≡ decimal 1 ++ codes " ok\n"
       ++ text_from (whole version) made 2 (lines_repeated mounts (codes "t mount plain /a") []) []
   unfolding machine_text
-  text_begins mounts =
-      ap (λ lines. text_from (whole version) first_world 1 lines []) (script_has_lines mounts)
+  text_begins mounts = ap (λ lines. text_from (whole version) first_world 1 lines []) (script_has_lines mounts)
       ∙ text_goes_on (whole version) (codes "t mkdir /a") [] making (making_is_asked version) first_world 0
       (granted Done made) (lines_repeated mounts (codes "t mount plain /a") []) directory_is_made
       ∙ ap (λ first. first ++ text_from (whole version) made 2 (lines_repeated mounts (codes "t mount plain /a") []) [])
@@ -132,15 +121,13 @@ fills_its_namespace version mounts room =
     let all : suc mounts ≡ 1 + mounts = omega arith in
     text_begins version mounts
     ∙ (λ i. decimal 1 ++ codes " ok\n" ++ (filled.text ∙ append-nil (numbered 2 mounts (codes " ok\n"))) i)
-    ∙ sym (numbered_from 1 mounts (codes " ok\n"))
-    ∙ ap (λ count. numbered 1 count (codes " ok\n")) all
+    ∙ sym (numbered_from 1 mounts (codes " ok\n")) ∙ ap (λ count. numbered 1 count (codes " ok\n")) all
 
 -- and those beyond it are refused
 pub full_namespace_refuses : FullNamespaceRefuses
 full_namespace_refuses version more =
     let filled = stacked version 4095 (lines_repeated more (codes "t mount plain /a") []) (omega arith) in
-    text_begins version (4095 + more)
-    ∙ (λ i. decimal 1 ++ codes " ok\n"
+    text_begins version (4095 + more) ∙ (λ i. decimal 1 ++ codes " ok\n"
     ++ text_from (whole version) made 2 (more_repeated 4095 more (codes "t mount plain /a") [] i) [])
     ∙ (λ i. decimal 1 ++ codes " ok\n" ++ filled.text i)
     ∙ (λ i. decimal 1 ++ codes " ok\n" ++ (numbered 2 4095 (codes " ok\n")

@@ -54,15 +54,12 @@ module _ (version : Version) where
   line_text : (last : ℕ) (world : World ℕ) (line : List ℕ) (name : TaskName) (call : Call)
       → AsksFor (whole version) line name call → (text : List ℕ)
       → reply_line (suc last) (policy nat_eq (numbers_for (suc last)) world name call).answer ≡ text
-      → (lines : List (List ℕ))
-      → text_from (whole version) world (suc last) (line ∷ lines) []
+      → (lines : List (List ℕ)) → text_from (whole version) world (suc last) (line ∷ lines) []
       ≡ text ++ text_from (whole version) (next_world (suc last) world name call) (suc (suc last)) lines []
   line_text last world line name call asked text replied lines =
       text_goes_on (whole version) line name call asked world last
-      (policy nat_eq (numbers_for (suc last)) world name call) lines refl
-      ∙ ap (λ reply. reply
-      ++ text_from (whole version) (next_world (suc last) world name call) (suc (suc last)) lines [])
-      replied
+      (policy nat_eq (numbers_for (suc last)) world name call) lines refl ∙ ap (λ reply. reply
+      ++ text_from (whole version) (next_world (suc last) world name call) (suc (suc last)) lines []) replied
 
 -- the answers to the first seven lines, computed
 reply_1 : reply_line 1 (policy nat_eq (numbers_for 1) first_world [] (Mkdir (codes "/s") None)).answer ≡ codes "1 ok\n"
@@ -161,20 +158,15 @@ pub seven_lines : (version : Version) (lines : List (List ℕ))
     ≡ codes "1 ok\n2 ok\n3 ok\n4 ok\n5 ok\n6 ok t.1\n7 ok\n" ++ text_from (whole version) world_7 8 lines []
 seven_lines version lines =
     line_text version 0 first_world (codes "t mkdir /s") [] (Mkdir (codes "/s") None) (asked_1 version)
-    (codes "1 ok\n") reply_1 (lines_from_2 lines)
-    ∙ ap (λ rest. codes "1 ok\n" ++ rest)
+    (codes "1 ok\n") reply_1 (lines_from_2 lines) ∙ ap (λ rest. codes "1 ok\n" ++ rest)
     (line_text version 1 world_1 (codes "t mkdir /q") [] (Mkdir (codes "/q") None) (asked_2 version)
-    (codes "2 ok\n") reply_2 (lines_from_3 lines))
-    ∙ ap (λ rest. codes "1 ok\n2 ok\n" ++ rest)
+    (codes "2 ok\n") reply_2 (lines_from_3 lines)) ∙ ap (λ rest. codes "1 ok\n2 ok\n" ++ rest)
     (line_text version 2 world_2 (codes "t mount plain /s") [] (MountPlain (codes "/s") plain_flags) (asked_3 version)
-    (codes "3 ok\n") reply_3 (lines_from_4 lines))
-    ∙ ap (λ rest. codes "1 ok\n2 ok\n3 ok\n" ++ rest)
+    (codes "3 ok\n") reply_3 (lines_from_4 lines)) ∙ ap (λ rest. codes "1 ok\n2 ok\n3 ok\n" ++ rest)
     (line_text version 3 world_3 (codes "t type /s shared") [] (SetType (codes "/s") ToShared false) (asked_4 version)
-    (codes "4 ok\n") reply_4 (lines_from_5 lines))
-    ∙ ap (λ rest. codes "1 ok\n2 ok\n3 ok\n4 ok\n" ++ rest)
+    (codes "4 ok\n") reply_4 (lines_from_5 lines)) ∙ ap (λ rest. codes "1 ok\n2 ok\n3 ok\n4 ok\n" ++ rest)
     (line_text version 4 world_4 (codes "t mkdir /s/d") [] (Mkdir (codes "/s/d") None) (asked_5 version)
-    (codes "5 ok\n") reply_5 (lines_from_6 lines))
-    ∙ ap (λ rest. codes "1 ok\n2 ok\n3 ok\n4 ok\n5 ok\n" ++ rest)
+    (codes "5 ok\n") reply_5 (lines_from_6 lines)) ∙ ap (λ rest. codes "1 ok\n2 ok\n3 ok\n4 ok\n5 ok\n" ++ rest)
     (line_text version 5 world_5 (codes "t fork") [] (Fork None) (asked_6 version)
     (codes "6 ok t.1\n") reply_6 (lines_from_7 lines))
     ∙ ap (λ rest. codes "1 ok\n2 ok\n3 ok\n4 ok\n5 ok\n6 ok t.1\n" ++ rest)
@@ -187,8 +179,7 @@ last_lines : List (List ℕ)
 last_lines = codes "t mount plain /s/d" ∷ codes "t.1 umount /q" ∷ codes "t mount plain /s/d" ∷ []
 
 -- the lines of the script behind the first seven
-stacking_lines : (count : ℕ)
-    → lines_of (repeated count (codes "t.1 mount plain /q\n")
+stacking_lines : (count : ℕ) → lines_of (repeated count (codes "t.1 mount plain /q\n")
     ++ codes "t mount plain /s/d\nt.1 umount /q\nt mount plain /s/d\n")
     ≡ lines_repeated count (codes "t.1 mount plain /q") last_lines
 unfolding repeated lines_repeated last_lines
@@ -250,12 +241,10 @@ module _ (version : Version) where
       (λ count world fresh filled serves room. (
         one_more count world filled fresh serves room,
         stack_grows world (1 ∷ []) (codes "/q")
-            (codes "q") path_has_one_word count filled.stack fresh plain_flags serves
-            room,
+            (codes "q") path_has_one_word count filled.stack fresh plain_flags serves room,
         fills_on count world filled fresh serves room,
       )) 2 7 4093 world_7 (codes "t.1 mount plain /q" ∷ last_lines)
-  stacked =
-      fills (whole version) (codes "t.1 mount plain /q") (1 ∷ []) stacking
+  stacked = fills (whole version) (codes "t.1 mount plain /q") (1 ∷ []) stacking
       (stacking_is_asked version) IsFilled _ 4093 2 7
       world_7 (codes "t.1 mount plain /q" ∷ last_lines) first_is_filled seven_are_reached.has (omega arith)
 
@@ -283,8 +272,7 @@ module _ (version : Version) where
     -- the last mount is granted
     line_4101 : policy nat_eq (numbers_for 4101) world (1 ∷ []) stacking ≡ granted Done full
     line_4101 = stack_grows world (1 ∷ []) (codes "/q") (codes "q") path_has_one_word 4095 filled.stack
-        (numbers_for 4101)
-        plain_flags serves_4101 room
+        (numbers_for 4101) plain_flags serves_4101 room
 
     -- the namespace has 4,096 mounts
     full_count : mount_count full 39 ≡ 4096
@@ -292,18 +280,15 @@ module _ (version : Version) where
 
     -- the mount on the shared one is refused
     line_4102 : policy nat_eq (numbers_for 4102) full [] mounting ≡ denied full (denial M9)
-    line_4102 =
-        full_receiver_refuses full (fuller.stack.is, fuller.stack.plain) fuller.receiver 4096 full_count
+    line_4102 = full_receiver_refuses full (fuller.stack.is, fuller.stack.plain) fuller.receiver 4096 full_count
         (numbers_for 4102) refl
 
     -- the numbers of the next line are not in use
     has_4102 : HasNumbersUntil 4102 full
     has_4102 =
         numbers_go_on (whole version) (codes "t mount plain /s/d") [] mounting (mounting_is_asked version) full 4101
-        (denied full (denial M9))
-        (numbers_go_on (whole version) (codes "t.1 mount plain /q") (1 ∷ []) stacking
-        (stacking_is_asked version) world 4100
-        (granted Done full) has line_4101) line_4102
+        (denied full (denial M9)) (numbers_go_on (whole version) (codes "t.1 mount plain /q") (1 ∷ []) stacking
+        (stacking_is_asked version) world 4100 (granted Done full) has line_4101) line_4102
 
     -- one mount is unmounted
     line_4103 : policy nat_eq (numbers_for 4103) full (1 ∷ []) (Umount (codes "/q")) ≡ granted Done left
@@ -313,8 +298,7 @@ module _ (version : Version) where
 
     -- the mount on the shared one is granted
     line_4104 : (policy nat_eq (numbers_for 4104) left [] mounting).answer ≡ Ok Done
-    line_4104 =
-        receiver_with_room_grants left
+    line_4104 = receiver_with_room_grants left
         (one_less_is_kept 4095 world filled (numbers_for 4101) serves_4101 room (numbers_for 4103)
         (next_numbers_serve full 4102 has_4102))
         (receiver_is_left 4095 world filled (numbers_for 4101) serves_4101 room) 4095
@@ -324,10 +308,8 @@ module _ (version : Version) where
     last_text : text_from (whole version) world 4101 (codes "t.1 mount plain /q" ∷ last_lines) []
         ≡ codes "4101 ok\n4102 deny 28 ENOSPC M9\n4103 ok\n4104 ok\n"
     unfolding last_lines
-    last_text =
-        text_goes_on (whole version) (codes "t.1 mount plain /q") (1 ∷ []) stacking
-        (stacking_is_asked version) world 4100
-        (granted Done full) last_lines line_4101
+    last_text = text_goes_on (whole version) (codes "t.1 mount plain /q") (1 ∷ []) stacking
+        (stacking_is_asked version) world 4100 (granted Done full) last_lines line_4101
         ∙ (λ i. ok_4101 i ++ text_goes_on (whole version) (codes "t mount plain /s/d") [] mounting
         (mounting_is_asked version) full 4101 (denied full (denial M9))
         (codes "t.1 umount /q" ∷ codes "t mount plain /s/d" ∷ []) line_4102 i)

@@ -67,12 +67,10 @@ first_is_filled = record {
 }
 
 module _ (count : ℕ) (world : World ℕ) (filled : IsFilled count world) (fresh : Fresh ℕ)
-    (serves : Serves nat_eq world fresh)
-    (room : count < most_mounts) where
+    (serves : Serves nat_eq world fresh) (room : count < most_mounts) where
   abbrev pub one_more : World ℕ
   one_more = stacked_world world (1 ∷ []) (codes "/q")
-      (codes "q") path_has_one_word count filled.stack fresh plain_flags
-      serves room
+      (codes "q") path_has_one_word count filled.stack fresh plain_flags serves room
 
   -- the mount that comes
   abbrev new : Mount ℕ
@@ -97,16 +95,12 @@ module _ (count : ℕ) (world : World ℕ) (filled : IsFilled count world) (fres
       rest = filled.receiver.rest ++ (new ∷ []);
       more = filled.receiver.more ++ (added ∷ []);
       mounts = mounts_are world (1 ∷ []) (codes "/q") (codes "q") path_has_one_word count filled.stack fresh plain_flags
-          serves room
-          ∙ ap (λ mounts. mounts ++ (new ∷ [])) filled.receiver.mounts
+          serves room ∙ ap (λ mounts. mounts ++ (new ∷ [])) filled.receiver.mounts
           ∙ append_assoc four_mounts filled.receiver.rest (new ∷ []);
       filesystems = filesystems_are world (1 ∷ []) (codes "/q") (codes "q") path_has_one_word count filled.stack fresh
-          plain_flags serves room
-          ∙ ap (λ filesystems. filesystems ++ (added ∷ [])) filled.receiver.filesystems;
-      others = list_all-append is_other filled.receiver.rest (new ∷ [])
-          ∙ (λ i. filled.receiver.others i
-          && (holds_of (nat_eq 39) ((filled.stack.inside ∙ ap (λ n. Some n) filled.own) i)
-          && true));
+          plain_flags serves room ∙ ap (λ filesystems. filesystems ++ (added ∷ [])) filled.receiver.filesystems;
+      others = list_all-append is_other filled.receiver.rest (new ∷ []) ∙ (λ i. filled.receiver.others i
+          && (holds_of (nat_eq 39) ((filled.stack.inside ∙ ap (λ n. Some n) filled.own) i) && true));
       change = filled.receiver.change;
       called = called_raised (1 ∷ []) [] (first_of_two filled.receiver.change) world.tasks filled.receiver.called;
       listed = numbers-raised_namespaces world mounted world.namespaces ∙ filled.receiver.listed;
@@ -116,8 +110,7 @@ module _ (count : ℕ) (world : World ℕ) (filled : IsFilled count world) (fres
   -- the topmost mount unmounted
   abbrev pub one_less : World ℕ
   one_less = unmounted_world world (1 ∷ []) (codes "/q")
-      (codes "q") path_has_one_word count filled.stack fresh plain_flags
-      serves room
+      (codes "q") path_has_one_word count filled.stack fresh plain_flags serves room
 
   -- that world before change numbers are raised
   abbrev left : World ℕ
@@ -155,14 +148,11 @@ module _ (world : World ℕ) (kept : Kept world) (receiver : HasReceiver first_t
   lacking = lacks_room world place 1
 
   needs_room : NeedsRoom world (policy nat_eq fresh world [] (MountPlain (codes "/s/d") plain_flags)) lacking
-  needs_room =
-      new_mount_needs_room world fresh [] (first_of_two receiver.change) (codes "/s/d") plain_flags
-      (record {
-        location = place;
-        left = most_symlinks;
-        steps = (path_leads first_tree second_tree trees world kept.0 kept.1 receiver).0;
-      })
-      kept.0 receiver.called refl (path_leads first_tree second_tree trees world kept.0 kept.1 receiver).1
+  needs_room = new_mount_needs_room world fresh [] (first_of_two receiver.change) (codes "/s/d") plain_flags (record {
+    location = place;
+    left = most_symlinks;
+    steps = (path_leads first_tree second_tree trees world kept.0 kept.1 receiver).0;
+  }) kept.0 receiver.called refl (path_leads first_tree second_tree trees world kept.0 kept.1 receiver).1
       (no_rule_fails first_tree second_tree trees world kept.0 kept.1 receiver)
 
   -- is refused while that is full

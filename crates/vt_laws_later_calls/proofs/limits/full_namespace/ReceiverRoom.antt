@@ -108,9 +108,7 @@ module _ (first second : Filesystem ℕ) (trees : TwoTrees first second) (world 
       by : (b : Bool) → stands_at nat_eq (record { mount = 17; node = node }) mount ≡ b
           → stands_at nat_eq (record { mount = 17; node = node }) mount ≡ false
       by false e = e
-      by true e =
-          absurd (true≢false
-          (sym (child_in world is 1 mount
+      by true e = absurd (true≢false (sym (child_in world is 1 mount
           (subst (Among mount) (sym has.mounts) (among-append_right four_mounts has.rest mount m))
           (record { mount = 17; node = node }) (stands_there (record { mount = 17; node = node }) mount e)
           (ap (λ (one : Mount ℕ). list_all (nat_eq 1) (option_to_list one.namespace)) shared_mount_is))
@@ -120,8 +118,7 @@ module _ (first second : Filesystem ℕ) (trees : TwoTrees first second) (world 
   nothing_on_root : child_at nat_eq world.mounts (record { mount = 17; node = 22 }) ≡ None
   nothing_on_root = cc (
     has.mounts,
-    find_none (stands_at nat_eq (record { mount = 17; node = 22 })) has.rest (λ mount m. rest_stands_apart mount m
-        22),
+    find_none (stands_at nat_eq (record { mount = 17; node = 22 })) has.rest (λ mount m. rest_stands_apart mount m 22),
   )
 
   -- nor at the place
@@ -137,8 +134,7 @@ module _ (first second : Filesystem ℕ) (trees : TwoTrees first second) (world 
   second_is_found : filesystem_numbered nat_eq world 13 ≡ second
   second_is_found =
       ap (λ list. unwrap_or (find (λ (filesystem : Filesystem ℕ). nat_eq 13 filesystem.number) list) (no_filesystem 13))
-      has.filesystems
-      ∙ (λ i. unwrap_or (cond (nat_eq 13 (trees.first_number i)) (Some first)
+      has.filesystems ∙ (λ i. unwrap_or (cond (nat_eq 13 (trees.first_number i)) (Some first)
       (cond (nat_eq 13 (trees.second_number i)) (Some second)
       (find (λ (filesystem : Filesystem ℕ). nat_eq 13 filesystem.number) has.more))) (no_filesystem 13))
 
@@ -204,8 +200,7 @@ module _ (first second : Filesystem ℕ) (trees : TwoTrees first second) (world 
       ∙ ap (λ (filesystem : Filesystem ℕ). is_removed nat_eq filesystem.files.tree 24) second_is_found ∙ trees.stays
 
   -- the path leads to the place, which is the topmost mount
-  pub path_leads : (steps : List (List ℕ))
-      × (destination_walk nat_eq world task (codes "/s/d")
+  pub path_leads : (steps : List (List ℕ)) × (destination_walk nat_eq world task (codes "/s/d")
       ≡ Ok (record { location = place; left = most_symlinks; steps = steps }))
   path_leads = (
     _,
@@ -213,8 +208,7 @@ module _ (first second : Filesystem ℕ) (trees : TwoTrees first second) (world 
         (end_of_two world task (codes "/s/d") (codes "s") (codes "d") path_has_two_words 6 24
         (record { mount = 17; node = 22 }) place first_word_leads second_word_leads)
         (two_words_lead world task (codes "/s/d") (codes "s") (codes "d") path_has_two_words 6 24
-        (record { mount = 17; node = 22 }) place first_word_leads second_word_leads)
-        (record {
+        (record { mount = 17; node = 22 }) place first_word_leads second_word_leads) (record {
           ends = topmost_of_free world.mounts place nothing_on_place;
           directory = second_word_leads.directory;
           stays = place_stays;
@@ -231,8 +225,7 @@ module _ (first second : Filesystem ℕ) (trees : TwoTrees first second) (world 
 
   -- what was stacked receives nothing
   rest_receives_nothing : filter (receives nat_eq world 18) has.rest ≡ []
-  rest_receives_nothing =
-      nothing_passes (receives nat_eq world 18) has.rest (λ mount m.
+  rest_receives_nothing = nothing_passes (receives nat_eq world 18) has.rest (λ mount m.
       by (source_of mount.propagation) (and_parts _ _ (passes is_other has.rest has.others mount m)).0)
     where
       by : (source : Option ℕ) → not (is_some source) ≡ true
@@ -246,9 +239,7 @@ module _ (first second : Filesystem ℕ) (trees : TwoTrees first second) (world 
 
   -- both receive
   receivers_are : receivers_of nat_eq world (shared_mount 17 1 0) ≡ two_shared
-  receivers_are =
-      ap (filter (receives nat_eq world 18)) has.mounts
-      ∙ (λ i. cond (receives_itself i)
+  receivers_are = ap (filter (receives nat_eq world 18)) has.mounts ∙ (λ i. cond (receives_itself i)
       (shared_mount 17 1 0 ∷ cond (receives_itself i) (shared_mount 66 39 47 ∷ rest_receives_nothing i)
       (rest_receives_nothing i))
       (cond (receives_itself i) (shared_mount 66 39 47 ∷ rest_receives_nothing i) (rest_receives_nothing i)))
@@ -270,10 +261,8 @@ module _ (first second : Filesystem ℕ) (trees : TwoTrees first second) (world 
 
   -- the first namespace has two mounts
   first_has_two : mount_count world 1 ≡ 2
-  first_has_two =
-      ap (λ mounts. length (filter (is_in 1) mounts)) has.mounts
-      ∙ ap (λ list. length (root_mount 0 1 ∷ shared_mount 17 1 0 ∷ list))
-      (nothing_passes (is_in 1) has.rest (λ mount m.
+  first_has_two = ap (λ mounts. length (filter (is_in 1) mounts)) has.mounts
+      ∙ ap (λ list. length (root_mount 0 1 ∷ shared_mount 17 1 0 ∷ list)) (nothing_passes (is_in 1) has.rest (λ mount m.
       by mount.namespace (and_parts _ _ (passes is_other has.rest has.others mount m)).1))
     where
       by : (namespace : Option ℕ) → holds_of (nat_eq 39) namespace ≡ true → holds_of (nat_eq 1) namespace ≡ false
@@ -283,12 +272,10 @@ module _ (first second : Filesystem ℕ) (trees : TwoTrees first second) (world 
   -- there is room just while the other namespace has room for one more
   pub room_of_other : (count : ℕ) → mount_count world 39 ≡ count
       → lacks_room world place 1 ≡ nat_lt most_mounts (count + 1)
-  room_of_other count counted =
-      ap (λ parts. list_any (λ (namespace : Namespace ℕ). nat_lt most_mounts
+  room_of_other count counted = ap (λ parts. list_any (λ (namespace : Namespace ℕ). nat_lt most_mounts
       (mount_count world namespace.number + how_many_in namespace.number parts * 1)) world.namespaces) parts_are
       ∙ sym (any-map (λ number. nat_lt most_mounts (mount_count world number + how_many_in number two_shared * 1))
       (λ (namespace : Namespace ℕ). namespace.number) world.namespaces (λ namespace. refl))
       ∙ ap (list_any (λ number. nat_lt most_mounts (mount_count world number + how_many_in number two_shared * 1)))
-      has.listed
-      ∙ (λ i. nat_lt most_mounts (first_has_two i + 1) || (nat_lt most_mounts (counted i + 1) || false))
+      has.listed ∙ (λ i. nat_lt most_mounts (first_has_two i + 1) || (nat_lt most_mounts (counted i + 1) || false))
       ∙ or-false (nat_lt most_mounts (count + 1))

@@ -215,8 +215,7 @@ line_leads last world line name call asked plainly few reached = record {
 -- the first seven lines lead to a world with the invariants
 pub seven_are_reached : IsReached 7 world_7
 unfolding request_of
-seven_are_reached =
-    line_leads 6 world_6 (codes "t.1 unshare") (1 ∷ []) Unshare
+seven_are_reached = line_leads 6 world_6 (codes "t.1 unshare") (1 ∷ []) Unshare
     (record { short = refl; loud = refl; asks = refl }) refl refl
     (line_leads 5 world_5 (codes "t fork") [] (Fork None) (record { short = refl; loud = refl; asks = refl }) refl refl
     (line_leads 4 world_4 (codes "t mkdir /s/d") [] (Mkdir (codes "/s/d") None)
@@ -228,8 +227,7 @@ seven_are_reached =
     (line_leads 1 world_1 (codes "t mkdir /q") [] (Mkdir (codes "/q") None)
     (record { short = refl; loud = refl; asks = refl }) refl refl
     (line_leads 0 first_world (codes "t mkdir /s") [] (Mkdir (codes "/s") None)
-    (record { short = refl; loud = refl; asks = refl }) refl refl
-    (record {
+    (record { short = refl; loud = refl; asks = refl }) refl refl (record {
       kept = opening_is_a_world (λ place. place) (λ j k same. same);
       has = opening_has_first_numbers;
     })))))))

@@ -33,8 +33,7 @@ mounted_asks_for_room world fresh place filesystem flags is =
     copies_ask_for_room (with_new_filesystem world filesystem) place
     (copies_from nat_eq fresh (parts_of nat_eq (with_new_filesystem world filesystem) place)
     (new_mount filesystem.number filesystem.files.tree.root flags ∷ []))
-    (new_mount filesystem.number filesystem.files.tree.root flags ∷ [])
-    ∙ ap (λ parts. list_any (λ namespace.
+    (new_mount filesystem.number filesystem.files.tree.root flags ∷ []) ∙ ap (λ parts. list_any (λ namespace.
     nat_lt most_mounts (mount_count world namespace.number + how_many_in namespace.number parts * 1)) world.namespaces)
     (same_parts world is filesystem place)
 
@@ -50,8 +49,7 @@ overlays_ask_for_room world fresh task place overlay flags is =
 
 -- a bind
 pub binds_ask_for_room : BindsAskForRoom
-binds_ask_for_room world fresh task source place recursive =
-    copies_ask_for_room world place
+binds_ask_for_room world fresh task source place recursive = copies_ask_for_room world place
     (copies_from nat_eq fresh (parts_of nat_eq world place) (bind_tree nat_eq world source recursive))
     (bind_tree nat_eq world source recursive)
 
@@ -69,14 +67,11 @@ moves_ask_for_room world fresh task mount place is there =
     within : (one : Mount ℕ) → Among one (tree_of world mount) → Among one world.mounts
     within one m =
         ⊎_elim (λ same. subst (λ other. Among other world.mounts) (sym same) (found_there world.mounts mount there))
-        (λ other. other)
-        (tree_among (length world.mounts) world.mounts (mount_numbered nat_eq world mount) one m)
+        (λ other. other) (tree_among (length world.mounts) world.mounts (mount_numbered nat_eq world mount) one m)
 
-    counted : (namespace : ℕ)
-        → mount_count (attached_by nat_eq world new place true (tree_of world mount)) namespace
+    counted : (namespace : ℕ) → mount_count (attached_by nat_eq world new place true (tree_of world mount)) namespace
         ≡ mount_count world namespace + how_many_in namespace (parts_of nat_eq world place) * length
-        (tree_of world mount)
-        - how_many_in namespace (tree_of world mount)
+        (tree_of world mount) - how_many_in namespace (tree_of world mount)
     counted namespace =
         let all = moved_all world place new (tree_of world mount) is.mounts.one_number
         (trees_have_each_once world mount is.mounts.one_number is.mounts.standing) within namespace in

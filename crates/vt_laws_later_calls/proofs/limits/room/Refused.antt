@@ -54,8 +54,7 @@ module _ (world : World ℕ) (fresh : Fresh ℕ) (name : TaskName) (task : Task 
     λ lacks. refused_call world fresh name task call called (denial M9)
         (judged ∙ ap (λ b. unless (before ++ (b, M9) ∷ behind) (Ok permit)) lacks
         ∙ m9_refuses (Ok permit) behind before none),
-    λ has. ap (λ outcome. outcome.answer)
-        (policy_by_judgement world fresh name task call called (Ok permit)
+    λ has. ap (λ outcome. outcome.answer) (policy_by_judgement world fresh name task call called (Ok permit)
         (judged ∙ ap (λ b. unless (before ++ (b, M9) ∷ behind) (Ok permit)) has
         ∙ none_refuses (Ok permit) behind (before ++ (false, M9) ∷ behind) none))
         ∙ answer-finished_by _ world name _ (apply nat_eq fresh world task permit) ∙ done,
@@ -75,8 +74,7 @@ new_mount_needs_room world fresh name task path flags here is called admin walk 
     none refl
   where
     judged_at : Here ℕ → Judgement ℕ
-    judged_at place =
-        attach_permit (new_mount_rules nat_eq (looks_of nat_eq world) task place.location)
+    judged_at place = attach_permit (new_mount_rules nat_eq (looks_of nat_eq world) task place.location)
         (overfills nat_eq fresh world task) (ToMountPlain place.location flags)
 
 -- a bind
@@ -92,8 +90,7 @@ bind_needs_room world fresh name task source path recursive from here called adm
     ∙ ap (λ walked. and_then (walk_end walked) (judged_at from)) walk
     ∙ ap (λ b. unless (bind_rules nat_eq (looks_of nat_eq world) task from.location here.location b)
     (Ok (ToBind from.location here.location recursive)))
-    (binds_ask_for_room world fresh task from.location here.location recursive))
-    none refl
+    (binds_ask_for_room world fresh task from.location here.location recursive)) none refl
   where
     judged_at : Here ℕ → Here ℕ → Judgement ℕ
     judged_at origin place =
@@ -117,8 +114,7 @@ move_needs_room world fresh name task source path from here is called admin from
     ∙ ap (λ walked. and_then (walk_end walked) (judged_at from)) walk
     ∙ ap (λ b. unless (move_rules nat_eq (looks_of nat_eq world) task from.location here.location b)
     (Ok (ToMove from.location.mount here.location)))
-    (moves_ask_for_room world fresh task from.location.mount here.location is there))
-    none refl
+    (moves_ask_for_room world fresh task from.location.mount here.location is there)) none refl
   where
     judged_at : Here ℕ → Here ℕ → Judgement ℕ
     judged_at origin place =
@@ -129,6 +125,5 @@ move_needs_room world fresh name task source path from here is called admin from
     judged_from origin = and_then (walk_end (destination_walk nat_eq world task path)) (judged_at origin)
 
     there : is_mount world from.location.mount ≡ true
-    there =
-        (subst (Ends (HereDirectory world is task (own_name world name task called))) from_walk
+    there = (subst (Ends (HereDirectory world is task (own_name world name task called))) from_walk
         (source_walk_end world is task (own_name world name task called) source)).0.0

@@ -105,11 +105,9 @@ module _ (world : World ℕ) (names : List TaskName) (is : IsWorld nat_eq world)
 
   written_there : (place : Place ℕ) (bytes : List ℕ) (o : Option (Location ℕ)) → IsFound o
       → IfOk (written_permit nat_eq one task place bytes o) Edited
-  written_there place bytes None found =
-      of_rules Edited ((nat_lt largest_file (length bytes), E6) ∷ [])
+  written_there place bytes None found = of_rules Edited ((nat_lt largest_file (length bytes), E6) ∷ [])
       (unless (make_rules one task place (unnumbered place (new_file task file_mode bytes)))
-      (Ok (make_permit place (new_file task file_mode bytes))))
-      (of_rules Edited
+      (Ok (make_permit place (new_file task file_mode bytes)))) (of_rules Edited
       (make_rules one task place (unnumbered place (new_file task file_mode bytes)))
       (Ok (make_permit place (new_file task file_mode bytes))) tt)
   written_there place bytes (Some file) found =
@@ -118,8 +116,7 @@ module _ (world : World ℕ) (names : List TaskName) (is : IsWorld nat_eq world)
 
   pub writes_edit : (path bytes : List ℕ) → IfOk (write_permit nat_eq one task path bytes) Edited
   unfolding write_permit
-  writes_edit path bytes =
-      of_walk IsPlaced Edited (file_walk nat_eq one task path)
+  writes_edit path bytes = of_walk IsPlaced Edited (file_walk nat_eq one task path)
       (λ place. unless (file_word_rules place) (written_permit nat_eq one task place bytes place.object))
       (file_agrees one other task On alike.walks alike.directory alike.rules.removed path).1
       (λ place at. of_rules Edited (file_word_rules place) (written_permit nat_eq one task place bytes place.object)
@@ -132,8 +129,7 @@ module _ (world : World ℕ) (names : List TaskName) (is : IsWorld nat_eq world)
 
   pub chmods_edit : (path : List ℕ) (mode : ℕ) → IfOk (chmod_permit nat_eq one task path mode) Edited
   unfolding chmod_permit
-  chmods_edit path mode =
-      of_walk StandsHere Edited (object_walk nat_eq one task path)
+  chmods_edit path mode = of_walk StandsHere Edited (object_walk nat_eq one task path)
       (λ here. attr_permit nat_eq one here.location (owns task.credentials (attr_at one here.location))
       (attr_with_mode (attr_at one here.location) mode))
       (object_agrees one other task On alike.walks alike.directory alike.rules.removed path).1
@@ -142,8 +138,7 @@ module _ (world : World ℕ) (names : List TaskName) (is : IsWorld nat_eq world)
 
   pub chowns_edit : (path : List ℕ) (uid gid : Option ℕ) → IfOk (chown_permit nat_eq one task path uid gid) Edited
   unfolding chown_permit
-  chowns_edit path uid gid =
-      of_walk StandsHere Edited (object_walk nat_eq one task path)
+  chowns_edit path uid gid = of_walk StandsHere Edited (object_walk nat_eq one task path)
       (λ here. attr_permit nat_eq one here.location
       (may_chown task.credentials (attr_at one here.location) (attr_with_owner (attr_at one here.location) uid gid))
       (attr_with_owner (attr_at one here.location) uid gid))
@@ -154,8 +149,7 @@ module _ (world : World ℕ) (names : List TaskName) (is : IsWorld nat_eq world)
 
   pub opaques_edit : (path : List ℕ) (mark : Bool) → IfOk (opaque_permit nat_eq one task path mark) Edited
   unfolding opaque_permit
-  opaques_edit path mark =
-      of_rules Edited (admin_rules task)
+  opaques_edit path mark = of_rules Edited (admin_rules task)
       (and_then (walk_end (directory_walk nat_eq one task path)) (λ here.
       unless (opaque_rules one here.location) (Ok (ToChange here.location (SetMark here.location.node mark)))))
       (of_walk StandsHere Edited (directory_walk nat_eq one task path)

@@ -61,8 +61,7 @@ module _ (world : World ℕ) (names : List TaskName) (h : Filesystem ℕ → Fil
   -- with their layers, the same ones are used
   pub used_later : ((x : Filesystem ℕ) → Among x world.filesystems → change_layers (h x) ≡ change_layers x)
       → used_filesystems nat_eq later names ≡ used
-  used_later changing i =
-      each_once nat_eq (used_directly nat_eq world names
+  used_later changing i = each_once nat_eq (used_directly nat_eq world names
       ++ flat_map (λ k. found change_layers k (λ x m e. changing x m) i) (used_directly nat_eq world names))
 
   pub lowers_later : ((x : Filesystem ℕ) → Among x world.filesystems → lowers_in (h x) ≡ lowers_in x)
@@ -84,8 +83,7 @@ module _ (world : World ℕ) (names : List TaskName) (h : Filesystem ℕ → Fil
 
   unused_found : (k : ℕ) → is_among nat_eq k used_now ≡ false
       → filesystem_numbered nat_eq now k ≡ filesystem_numbered nat_eq world k
-  unused_found k e =
-      found world names h numbered (λ (f : Filesystem ℕ). f) k
+  unused_found k e = found world names h numbered (λ (f : Filesystem ℕ). f) k
       (λ x there m. kept x (ap (λ n. is_among nat_eq n used_now) (sym (eqb-true k x.number m)) ∙ e))
 
   same_used : used_filesystems nat_eq now names ≡ used_now
@@ -99,29 +97,24 @@ module _ (world : World ℕ) (names : List TaskName) (h : Filesystem ℕ → Fil
 
   lower_later : (x : Filesystem ℕ) → is_among nat_eq x.number used_now ≡ false
       → part_of_lower nat_eq now names x ≡ part_of_lower nat_eq world names x
-  lower_later x e i =
-      record x {
-        files = only_among nat_eq (filter (λ object. list_any (λ (layer : Layer ℕ).
-            of_number (unused_found x.number e i) object layer) (same_lowers i)) x.files.numbers) x.files;
-        change = 0;
-      }
+  lower_later x e i = record x {
+    files = only_among nat_eq (filter (λ object. list_any (λ (layer : Layer ℕ).
+        of_number (unused_found x.number e i) object layer) (same_lowers i)) x.files.numbers) x.files;
+    change = 0;
+  }
     where
       of_number : Filesystem ℕ → ℕ → Layer ℕ → Bool
-      of_number f object layer =
-          nat_eq x.number layer.filesystem && is_under nat_eq f.files layer.directory object
+      of_number f object layer = nat_eq x.number layer.filesystem && is_under nat_eq f.files layer.directory object
 
   shown_later : (x : Filesystem ℕ)
       → part_of_filesystem nat_eq now names (h x) ≡ option_map h (part_of_filesystem nat_eq world names x)
-  shown_later x =
-      ap (λ u. cond (is_among nat_eq (h x).number u) (Some (h x))
+  shown_later x = ap (λ u. cond (is_among nat_eq (h x).number u) (Some (h x))
       (when (list_any (λ (layer : Layer ℕ). nat_eq (h x).number layer.filesystem) (own_lowers nat_eq now names))
       (part_of_lower nat_eq now names (h x)))) same_used
       ∙ ap (λ l. cond (is_among nat_eq (h x).number used_now) (Some (h x))
       (when (list_any (λ (layer : Layer ℕ). nat_eq (h x).number layer.filesystem) l)
-      (part_of_lower nat_eq now names (h x)))) same_lowers
-      ∙ ap (λ n. cond (is_among nat_eq n used_now) (Some (h x))
-      (when (has_lower n) (part_of_lower nat_eq now names (h x))))
-      (numbered x)
+      (part_of_lower nat_eq now names (h x)))) same_lowers ∙ ap (λ n. cond (is_among nat_eq n used_now) (Some (h x))
+      (when (has_lower n) (part_of_lower nat_eq now names (h x)))) (numbered x)
       ∙ by (is_among nat_eq x.number used_now) refl
     where
       low : is_among nat_eq x.number used_now ≡ false → (c : Bool)
@@ -147,8 +140,7 @@ pub part_with_files : (world : World ℕ) (names : List TaskName) (h : Filesyste
     → ((x : Filesystem ℕ) → Among x world.filesystems → (h x).overlay ≡ x.overlay)
     → ((x : Filesystem ℕ) → is_among nat_eq x.number (used_filesystems nat_eq world names) ≡ false → h x ≡ x)
     → part_of nat_eq (with_filesystems world h) names ≡ with_filesystems (part_of nat_eq world names) h
-part_with_files world names h numbered overlaid kept =
-    part_with_layers world names h numbered
+part_with_files world names h numbered overlaid kept = part_with_layers world names h numbered
     (λ x m. ap (overlay_or [] (λ (overlay : Overlay ℕ). map (λ (layer : Layer ℕ). layer.filesystem)
     (option_to_list overlay.upper ++ option_to_list overlay.work))) (overlaid x m))
     (λ x m. ap (overlay_or [] (λ (overlay : Overlay ℕ). overlay.lowers)) (overlaid x m)) kept

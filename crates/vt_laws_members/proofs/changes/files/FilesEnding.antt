@@ -65,8 +65,7 @@ module _ (world : World ℕ) (names : List TaskName) (name : TaskName) (call : C
       → run_by world names name call it fresh other w supply task (Ok (ToChange location change))
       ≡ granted Done (numbers_raised nat_eq w name (old.number ∷ [])
       (settled nat_eq (with_filesystems w (swap old files))))
-  changes_so w supply e =
-      ap (λ b. finished_by nat_eq (b || false) w name (changed_at nat_eq w location)
+  changes_so w supply e = ap (λ b. finished_by nat_eq (b || false) w name (changed_at nat_eq w location)
       (granted Done (with_change nat_eq supply w location change))) looks
       ∙ ap (λ f. granted Done (numbers_raised nat_eq w name (numbers_of_change nat_eq w f f.overlay)
       (settled nat_eq (filesystem_changed nat_eq supply w f f.overlay change)))) e
@@ -76,8 +75,7 @@ module _ (world : World ℕ) (names : List TaskName) (name : TaskName) (call : C
   in_use : (w : World ℕ) → AllInUse w
       → ((x : Filesystem ℕ) → Among x w.filesystems → nat_eq old.number x.number ≡ true → x ≡ old)
       → AllInUse (with_filesystems w (swap old files))
-  in_use w all one =
-      in_use_changed w all (swap old files)
+  in_use w all one = in_use_changed w all (swap old files)
       (tree_changes w old files plain (edits_keep old.files change is).0 (edits_keep old.files change is).1
       (edits_keep old.files change is).2 one)
 
@@ -89,8 +87,7 @@ module _ (world : World ℕ) (names : List TaskName) (name : TaskName) (call : C
     where
       of_map : (tasks : List (Task ℕ))
           → raised_members tasks ≡ map (raised_task name) (filter (is_member_task names) tasks)
-      of_map tasks =
-          filter-map (is_member_task names) (raised_task name) tasks
+      of_map tasks = filter-map (is_member_task names) (raised_task name) tasks
           (λ t. ap (λ n. is_among same_name n names) (raised_is name (λ (x : Task ℕ). x.name) (λ x. refl) t))
 
   abbrev left_here : World ℕ
@@ -100,12 +97,10 @@ module _ (world : World ℕ) (names : List TaskName) (name : TaskName) (call : C
   left_there = left old files part name
 
   parts_alike : part_of nat_eq left_here names ≡ part_of nat_eq left_there names
-  parts_alike =
-      part_left old files world name names (old_used world names it.is number used)
+  parts_alike = part_left old files world name names (old_used world names it.is number used)
       (one_in_world world names it.is number used)
       ∙ (λ i. record (with_filesystems (sym (part_again world names it.is) i)
-      (both old files)) { tasks = tasks_alike i })
-      ∙ sym (part_left old files part name names
+      (both old files)) { tasks = tasks_alike i }) ∙ sym (part_left old files part name names
       (ap (is_among nat_eq old.number) (same_used world names)
       ∙ (old_used world names it.is number used)) (one_in_part world names it.is number used))
 
@@ -121,8 +116,7 @@ module _ (world : World ℕ) (names : List TaskName) (name : TaskName) (call : C
       (in_use world (all_in_use world it.is) (one_in_world world names it.is number used))) in
       let second : policy nat_eq other part name call ≡ granted Done left_there =
       ap (ran name call part other) (same_caller world names it.is it.sealed_off name it.theirs ∙ found) ∙ two
-      ∙ changes_so part other (sym alike)
-      ∙ ap (granted Done)
+      ∙ changes_so part other (sym alike) ∙ ap (granted Done)
       (left_so old files part name (in_use part (part_in_use world names it.is it.sealed_off)
       (one_in_part world names it.is number used))) in
       subst (λ p. EndAlike (grown names name call (policy nat_eq fresh world name call).answer)

@@ -32,14 +32,12 @@ module _ (world : World ℕ) (in_use : AllInUse world) (change : Filesystem ℕ 
       mounts = in_use.mounts;
       filesystems = subst (FilesystemsInUseBut []) (sym (mounts_stay world in_use.mounts)) in_use.filesystems;
       inodes = subst (InodesInUseBut []) (sym stays) in_use.inodes;
-      groups =
-          subst (GroupsInUseBut []) (sym (mounts_stay world in_use.mounts))
+      groups = subst (GroupsInUseBut []) (sym (mounts_stay world in_use.mounts))
           (λ group among empty. in_use.groups group empty);
     }
 
     filesystems_after : FilesystemsInUse changed
-    filesystems_after =
-        all_pass (filesystem_lives nat_eq changed) changed.filesystems
+    filesystems_after = all_pass (filesystem_lives nat_eq changed) changed.filesystems
         (λ x m. let from = among-from_map change world.filesystems x m in
         ap (filesystem_lives nat_eq changed) from.2
         ∙ lives_alike world change (λ g n. ChangesFilesystem.number (changes world g n))
@@ -50,8 +48,7 @@ module _ (world : World ℕ) (in_use : AllInUse world) (change : Filesystem ℕ 
     all_stay = cc (mounts_stay changed in_use.mounts, filesystems_stay changed filesystems_after)
 
     all_but_none : AllInUseBut none changed
-    all_but_none =
-        all_but_changed world none in_use_before change []
+    all_but_none = all_but_changed world none in_use_before change []
         (all_from_among (λ f. ChangesFilesystem (in_use_of changed) [] f (change f)) world.filesystems
         (changes (in_use_of changed)))
 
@@ -83,8 +80,7 @@ module _ (world : World ℕ) (old : Filesystem ℕ) (files : FileTree ℕ) (plai
           is_among nat_eq k (named_in files)) (is_among nat_eq k (upper_objects after old.number)) (or_first (is_among
           nat_eq k old.files.numbers) (is_among nat_eq k (named_in files)) (is_among_numbers k old.files.numbers m))),
     );
-    names =
-        ap (λ l. list_all (λ k. is_among nat_eq k l || is_inode_among old.number k []) (named_in old.files)) named
+    names = ap (λ l. list_all (λ k. is_among nat_eq k l || is_inode_among old.number k []) (named_in old.files)) named
         ∙ all_pass (λ k. is_among nat_eq k (named_in old.files) || is_inode_among old.number k []) (named_in old.files)
         (λ k m. or_first (is_among nat_eq k (named_in old.files)) (is_inode_among old.number k [])
         (is_among_numbers k (named_in old.files) m));

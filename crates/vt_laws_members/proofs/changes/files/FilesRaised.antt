@@ -94,26 +94,23 @@ module _ (old : Filesystem ℕ) (files : FileTree ℕ) where
 
     pub part_left : (names : List TaskName) → is_among nat_eq old.number (used_filesystems nat_eq world names) ≡ true
         → ((x : Filesystem ℕ) → Among x world.filesystems → nat_eq old.number x.number ≡ true → x ≡ old)
-        → part_of nat_eq left names
-        ≡ record (with_filesystems (part_of nat_eq world names) both) {
+        → part_of nat_eq left names ≡ record (with_filesystems (part_of nat_eq world names) both) {
           tasks = filter (is_member_task names) (map (raised_task name) world.tasks);
         }
-    part_left names used one =
-        cc (
-          retasked later names names (map (raised_task name) world.tasks) (raised world.change) (sees_alike later
-              names (raised_task name) (raised_is name (λ (t : Task ℕ). t.name) (λ t. refl)) (λ t m. raised_is name (λ
-              (t : Task ℕ). t.namespace) (λ t. refl) t) (λ t m. raised_is name (λ (t : Task ℕ). t.root ∷ t.directory ∷
-              []) (λ t. refl) t) (raised world.change) (λ t m. raised_is name locations_of (λ t. refl) t)),
-          part_with_files world names both both_numbered (λ x m. both_overlaid x (one x m)) kept,
-        )
+    part_left names used one = cc (
+      retasked later names names (map (raised_task name) world.tasks) (raised world.change) (sees_alike later
+          names (raised_task name) (raised_is name (λ (t : Task ℕ). t.name) (λ t. refl)) (λ t m. raised_is name (λ
+          (t : Task ℕ). t.namespace) (λ t. refl) t) (λ t m. raised_is name (λ (t : Task ℕ). t.root ∷ t.directory ∷
+          []) (λ t. refl) t) (raised world.change) (λ t m. raised_is name locations_of (λ t. refl) t)),
+      part_with_files world names both both_numbered (λ x m. both_overlaid x (one x m)) kept,
+    )
       where
         later : World ℕ
         later = with_filesystems world both
 
         other : (x : Filesystem ℕ) → is_among nat_eq x.number (used_filesystems nat_eq world names) ≡ false → (b : Bool)
             → nat_eq old.number x.number ≡ b → both x ≡ x
-        other x unused true e =
-            absurd (true≢false (sym used
+        other x unused true e = absurd (true≢false (sym used
             ∙ ap (λ n. is_among nat_eq n (used_filesystems nat_eq world names)) (eqb-true old.number x.number e)
             ∙ unused))
         other x unused false e = both_kept x e

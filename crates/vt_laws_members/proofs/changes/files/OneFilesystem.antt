@@ -39,26 +39,20 @@ module _ (world : World ℕ) (names : List TaskName) (is : IsWorld nat_eq world)
   old_used = ap (λ n. is_among nat_eq n (used_filesystems nat_eq world names)) old_number ∙ used
 
   pub one_in_world : (x : Filesystem ℕ) → Among x world.filesystems → nat_eq old.number x.number ≡ true → x ≡ old
-  one_in_world x m e =
-      sym (found_filesystem world.filesystems is.files.one_filesystem x m)
+  one_in_world x m e = sym (found_filesystem world.filesystems is.files.one_filesystem x m)
       ∙ ap (filesystem_numbered nat_eq world) (sym (eqb-true old.number x.number e) ∙ old_number)
 
   pub one_in_part : (x : Filesystem ℕ) → Among x part.filesystems → nat_eq old.number x.number ≡ true → x ≡ old
   one_in_part x m e =
       let from = among-from_filter_map (part_of_filesystem nat_eq world names) world.filesystems x m in
-      ⊎_elim
-      (λ same. sym same.0 ∙ one_in_world from.0 from.1
-      (ap (λ (f : Filesystem ℕ). nat_eq old.number f.number) same.0 ∙ e))
-      (λ low. absurd (true≢false
-      (sym old_used
+      ⊎_elim (λ same. sym same.0 ∙ one_in_world from.0 from.1
+      (ap (λ (f : Filesystem ℕ). nat_eq old.number f.number) same.0 ∙ e)) (λ low. absurd (true≢false (sym old_used
       ∙ ap (λ n. is_among nat_eq n (used_filesystems nat_eq world names)) (eqb-true old.number x.number e)
-      ∙ ap (λ (f : Filesystem ℕ). is_among nat_eq f.number (used_filesystems nat_eq world names)) (sym low.0)
-      ∙ low.1)))
+      ∙ ap (λ (f : Filesystem ℕ). is_among nat_eq f.number (used_filesystems nat_eq world names)) (sym low.0) ∙ low.1)))
       (shown_how world names from.0 x from.2)
 
   pub there_in_part : Among old world.filesystems → Among old part.filesystems
-  there_in_part there =
-      among-filter_map (part_of_filesystem nat_eq world names) world.filesystems old old there
+  there_in_part there = among-filter_map (part_of_filesystem nat_eq world names) world.filesystems old old there
       (ap (λ b. cond b (Some old) (when
       (list_any (λ layer. nat_eq old.number layer.filesystem) (own_lowers nat_eq world names))
       (part_of_lower nat_eq world names old))) old_used)

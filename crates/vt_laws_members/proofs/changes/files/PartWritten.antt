@@ -49,8 +49,7 @@ module _ (world : World ℕ) (names : List TaskName) (is : IsWorld nat_eq world)
           → IfOk (and_then (ok_or (cond b (Some descriptor) None) (denial S4))
           (λ d. unless (pwrite_rules one d.location offset bytes) (Ok (ToWritePart d.location offset bytes)))) Written
       which descriptor m false = tt
-      which descriptor m true =
-          of_rules Written (pwrite_rules one descriptor.location offset bytes)
+      which descriptor m true = of_rules Written (pwrite_rules one descriptor.location offset bytes)
           (Ok (ToWritePart descriptor.location offset bytes))
           (opened_theirs world names is sealed_off task member descriptor m, refl)
 
@@ -58,14 +57,12 @@ module _ (world : World ℕ) (names : List TaskName) (is : IsWorld nat_eq world)
           → IfOk (and_then (ok_or (find (λ (d : Descriptor ℕ). d.writes) (option_to_list o)) (denial S4))
           (λ d. unless (pwrite_rules one d.location offset bytes) (Ok (ToWritePart d.location offset bytes)))) Written
       by None e = tt
-      by (Some descriptor) e =
-          which descriptor (found_among (λ (d : Descriptor ℕ). number == d.number)
+      by (Some descriptor) e = which descriptor (found_among (λ (d : Descriptor ℕ). number == d.number)
           task.descriptors descriptor e) descriptor.writes
 
 pub part_writes_end_alike : PartWritesEndAlike
 part_writes_end_alike world names name descriptor offset byte bytes it task called fresh other file at written
-    granted_so plain =
-    edit_ends world names name call it fresh other task called refl refl file
+    granted_so plain = edit_ends world names name call it fresh other task called refl refl file
     (SetBytes file.node (overwritten at (byte ∷ bytes) (bytes_in (node_at nat_eq world file)))) tt plain
     (located_used world names it.is file theirs.0)
     (sym (found world names (mount_at nat_eq world file).filesystem (located_used world names it.is file theirs.0))
@@ -84,8 +81,7 @@ part_writes_end_alike world names name descriptor offset byte bytes it task call
     part = part_of nat_eq world names
 
     theirs : Among file (locations (members world names)) × (written ≡ byte ∷ bytes)
-    theirs =
-        subst (λ j. IfOk j (Writes (locations (members world names)) (byte ∷ bytes))) granted_so
+    theirs = subst (λ j. IfOk j (Writes (locations (members world names)) (byte ∷ bytes))) granted_so
         (writes_theirs world names it.is it.sealed_off task
         (member_called world names it.is it.sealed_off name it.theirs task called) (byte ∷ bytes) descriptor offset)
 

@@ -33,21 +33,17 @@ module _ (w : World ℕ) (in_use : AllInUse w) (step : Filesystem ℕ → Filesy
   }
 
   filesystems_after : FilesystemsInUse changed
-  filesystems_after =
-      all_pass (filesystem_lives nat_eq changed) changed.filesystems
+  filesystems_after = all_pass (filesystem_lives nat_eq changed) changed.filesystems
       (λ x m. let from = among-from_map step w.filesystems x m in
-      ap (filesystem_lives nat_eq changed) from.2
-      ∙ lives_alike w step (λ g n. ChangesFilesystem.number (changes g n))
-      (λ g n. ChangesFilesystem.layers (changes g n))
-      from.0 from.1
+      ap (filesystem_lives nat_eq changed) from.2 ∙ lives_alike w step (λ g n. ChangesFilesystem.number (changes g n))
+      (λ g n. ChangesFilesystem.layers (changes g n)) from.0 from.1
       ∙ passes (filesystem_lives nat_eq w) w.filesystems in_use.filesystems from.0 from.1)
 
   all_stay : in_use_of changed ≡ changed
   all_stay = cc (mounts_stay changed in_use.mounts, filesystems_stay changed filesystems_after)
 
   all_but : AllInUseBut (with_lost none []) changed
-  all_but =
-      all_but_changed w none in_use_before step []
+  all_but = all_but_changed w none in_use_before step []
       (subst (λ v. All (λ f. ChangesFilesystem v [] f (step f)) w.filesystems) (sym all_stay)
       (all_from_among (λ f. ChangesFilesystem changed [] f (step f)) w.filesystems changes))
 

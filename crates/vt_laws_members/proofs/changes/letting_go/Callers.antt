@@ -25,20 +25,18 @@ module _ (world : World ℕ) (names : List TaskName) (name : TaskName) (call : C
     (it : IsCallOfTheirs world names name call) (task : Task ℕ) (called : task_called world name ≡ Some task)
     (mine : Task ℕ) (named : mine.name ≡ task.name) where
   -- it is the caller, or as it was
-  pub replaced_apart : (t : Task ℕ) → Among t world.tasks
-      → ((replaced_if_called mine t ≡ mine) × (task ≡ t))
+  pub replaced_apart : (t : Task ℕ) → Among t world.tasks → ((replaced_if_called mine t ≡ mine) × (task ≡ t))
       ⊎ ((replaced_if_called mine t ≡ t) × (same_name mine.name t.name ≡ false))
   replaced_apart t m = by (same_name mine.name t.name) refl
     where
       by : (b : Bool) → same_name mine.name t.name ≡ b
           → ((cond b mine t ≡ mine) × (task ≡ t)) ⊎ ((cond b mine t ≡ t) × (same_name mine.name t.name ≡ false))
-      by true e =
-          inl (
-            refl,
-            only_task world.tasks it.is.tasks.one_task task t
-                (found_among (λ (x : Task ℕ). same_name name x.name) world.tasks task called) m
-                (sym named ∙ same_task_name mine.name t.name e),
-          )
+      by true e = inl (
+        refl,
+        only_task world.tasks it.is.tasks.one_task task t
+            (found_among (λ (x : Task ℕ). same_name name x.name) world.tasks task called) m
+            (sym named ∙ same_task_name mine.name t.name e),
+      )
       by false e = inr (refl, e)
 
   pub replaced_how : (t : Task ℕ) → Among t world.tasks
@@ -49,10 +47,8 @@ module _ (world : World ℕ) (names : List TaskName) (name : TaskName) (call : C
   pub spaces_kept : mine.namespace ≡ task.namespace → (n : ℕ)
       → list_any (λ (t : Task ℕ). nat_eq n t.namespace) (map (replaced_if_called mine) (members world names))
       ≡ list_any (λ (t : Task ℕ). nat_eq n t.namespace) (members world names)
-  spaces_kept spaced n =
-      any_mapped (λ (t : Task ℕ). nat_eq n t.namespace) (λ (t : Task ℕ). nat_eq n t.namespace)
-      (replaced_if_called mine) (members world names) (λ t m. ap (nat_eq n)
-      (⊎_elim
+  spaces_kept spaced n = any_mapped (λ (t : Task ℕ). nat_eq n t.namespace) (λ (t : Task ℕ). nat_eq n t.namespace)
+      (replaced_if_called mine) (members world names) (λ t m. ap (nat_eq n) (⊎_elim
       (λ its. ap (λ (x : Task ℕ). x.namespace) its.0 ∙ spaced ∙ ap (λ (x : Task ℕ). x.namespace) its.1)
       (λ same. ap (λ (x : Task ℕ). x.namespace) same)
       (replaced_how t (among-from_filter (is_member_task names) world.tasks t m).0)))
@@ -93,36 +89,28 @@ module _ (world : World ℕ) (names : List TaskName) (name : TaskName) (call : C
 
   pub of_set : (tasks : List (Task ℕ))
       → filter (is_member_task names) (map replaced tasks) ≡ map replaced (filter (is_member_task names) tasks)
-  of_set tasks =
-      filter-map (is_member_task names) replaced tasks
+  of_set tasks = filter-map (is_member_task names) replaced tasks
       (λ t. ap (λ n. is_among same_name n names) (name-replaced_if_called mine t))
 
   of_others : filter (λ t. not (is_member_task names t)) (map replaced world.tasks) ≡ map replaced
       (outsiders world names)
-  of_others =
-      filter-map (λ t. not (is_member_task names t)) replaced world.tasks
+  of_others = filter-map (λ t. not (is_member_task names t)) replaced world.tasks
       (λ t. ap (λ n. not (is_among same_name n names)) (name-replaced_if_called mine t))
 
   root_its : (t : Task ℕ) → Among t theirs → (l : Location ℕ)
       → Among l ((replaced t).root ∷ (replaced t).directory ∷ []) → OnTheirs l
-  root_its t m l at =
-      ⊎_elim
-      (λ its. one_of mine stands.root stands.directory
+  root_its t m l at = ⊎_elim (λ its. one_of mine stands.root stands.directory
       (subst (λ (x : Task ℕ). Among l (x.root ∷ x.directory ∷ [])) its.0 at))
       (λ same. one_of t (root_theirs world names it.is t m) (directory_theirs world names it.is t m)
-      (subst (λ (x : Task ℕ). Among l (x.root ∷ x.directory ∷ [])) same at))
-      (how t (there t m))
+      (subst (λ (x : Task ℕ). Among l (x.root ∷ x.directory ∷ [])) same at)) (how t (there t m))
     where
       one_of : (x : Task ℕ) → OnTheirs x.root → OnTheirs x.directory → Among l (x.root ∷ x.directory ∷ []) → OnTheirs l
-      one_of x root directory n =
-          ⊎_elim (λ e. subst OnTheirs (sym e) root)
+      one_of x root directory n = ⊎_elim (λ e. subst OnTheirs (sym e) root)
           (λ rest. ⊎_elim (λ e. subst OnTheirs (sym e) directory) (λ none. absurd none) rest) n
 
   place_its : (t : Task ℕ) → Among t theirs → (l : Location ℕ) → Among l (locations_of (replaced t))
       → Among l (locations theirs) ⊎ OnTheirs l
-  place_its t m l at =
-      ⊎_elim
-      (λ its. ⊎_elim (λ old. inl (among-flat_map locations_of theirs task l member old)) inr
+  place_its t m l at = ⊎_elim (λ its. ⊎_elim (λ old. inl (among-flat_map locations_of theirs task l member old)) inr
       (stands.places l (subst (λ x. Among l (locations_of x)) its.0 at)))
       (λ same. inl (among-flat_map locations_of theirs t l m (subst (λ x. Among l (locations_of x)) same at)))
       (how t (there t m))
@@ -131,13 +119,10 @@ module _ (world : World ℕ) (names : List TaskName) (name : TaskName) (call : C
       → Among l (locations (outsiders world names))
   other_its t m l at =
       let from = among-from_filter (λ x. not (is_member_task names x)) world.tasks t m in
-      ⊎_elim
-      (λ its. absurd (true≢false (sym from.1
-      ∙ ap not (ap (is_member_task names) (sym its.1)
+      ⊎_elim (λ its. absurd (true≢false (sym from.1 ∙ ap not (ap (is_member_task names) (sym its.1)
       ∙ (among-from_filter (is_member_task names) world.tasks task member).1))))
       (λ same. among-flat_map locations_of (outsiders world names) t l m
-      (subst (λ x. Among l (locations_of x)) same at))
-      (how t from.0)
+      (subst (λ x. Among l (locations_of x)) same at)) (how t from.0)
 
   pub roots_left : (l : Location ℕ)
       → Among l (roots_and_directories (filter (is_member_task names) (map replaced world.tasks))) → OnTheirs l
@@ -185,11 +170,9 @@ module _ (world : World ℕ) (names : List TaskName) (name : TaskName) (call : C
       → EndsAlike world names name call fresh other
   moved_alike fresh other stays own one two =
       let_go_alike world names names name call it task called fresh other Done stays (map replaced world.tasks)
-      (map replaced part.tasks) one two
-      (record {
+      (map replaced part.tasks) one two (record {
         own = λ n. ap (list_any (λ (t : Task ℕ). nat_eq n t.namespace)) (of_set world.tasks) ∙ own n;
         roots = roots_left;
         places = places_left;
         others = others_left;
-      })
-      same_set all_in_set
+      }) same_set all_in_set

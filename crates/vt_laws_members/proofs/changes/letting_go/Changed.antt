@@ -49,10 +49,8 @@ mount_parent b kept m l at point = by m.namespace refl
     by None e = absurd (nowhere_stands b [] kept m l at e point)
     by (Some n) e =
         let up : (mount_numbered nat_eq b l.mount).namespace ≡ Some n = sym below ∙ e in
-        ⊎_elim
-        (λ found. (n, e, mount_numbered nat_eq b l.mount, found, sym (number-mount_in b.mounts l.mount), up))
-        (λ none. none_is_some n (sym (ap (λ (y : Mount ℕ). y.namespace) none) ∙ up))
-        (found_or_none b.mounts l.mount)
+        ⊎_elim (λ found. (n, e, mount_numbered nat_eq b l.mount, found, sym (number-mount_in b.mounts l.mount), up))
+        (λ none. none_is_some n (sym (ap (λ (y : Mount ℕ). y.namespace) none) ∙ up)) (found_or_none b.mounts l.mount)
 
 -- The tasks of a set let locations go.
 module _ (world : World ℕ) (names : List TaskName) (is : IsWorld nat_eq world)
@@ -99,8 +97,7 @@ module _ (world : World ℕ) (names : List TaskName) (is : IsWorld nat_eq world)
     pub ground_is : (m : Mount ℕ) → Among m world.mounts → (number : ℕ) → number ≡ m.number
         → IsTheirs world names is.mounts number → IsGround m
     ground_is m n number e theirs =
-        let same : theirs.0 ≡ m =
-        sym (numbered world names is.mounts theirs.0 theirs.1)
+        let same : theirs.0 ≡ m = sym (numbered world names is.mounts theirs.0 theirs.1)
         ∙ ap (mount_numbered nat_eq world) (theirs.2 ∙ e) ∙ numbered world names is.mounts m n in
         subst IsGround same theirs.3
 
@@ -111,14 +108,12 @@ module _ (world : World ℕ) (names : List TaskName) (is : IsWorld nat_eq world)
         ground_is m n l.0.mount (eqb-true l.0.mount m.number l.2) (it.roots l.0 l.1)
 
     pub ground_whole : (m : Mount ℕ) → IsGround m → (owns old m || stands old m) ≡ true
-    ground_whole m ground =
-        ⊎_elim (λ own. or_left (owns old m) (stands old m) own)
+    ground_whole m ground = ⊎_elim (λ own. or_left (owns old m) (stands old m) own)
         (λ stood. or_right (owns old m) (stands old m) stood.1) ground
 
     whole_was : (m : Mount ℕ) → Among m world.mounts → (owns new m || stands new m) ≡ true
         → (owns old m || stands old m) ≡ true
-    whole_was m n h =
-        ⊎_elim (λ own. or_left (owns old m) (stands old m) (sym (owned_same m) ∙ own))
+    whole_was m n h = ⊎_elim (λ own. or_left (owns old m) (stands old m) (sym (owned_same m) ∙ own))
         (λ stood. ground_whole m (stood_ground m n stood)) (or_cases (owns new m) (stands new m) h)
 
     at_was : (m : Mount ℕ) → Among m world.mounts → at new m ≡ true
@@ -145,8 +140,7 @@ module _ (world : World ℕ) (names : List TaskName) (is : IsWorld nat_eq world)
             ≡ kept_as (owns new m || stands new m) (at new m)
         by true e q f r g s h = ap (λ b. then_some (kept_as b (at old m)) (keep world names new)) e
         by false e q f true g s h = absurd (true≢false (sym (whole_was m n g) ∙ e))
-        by false e true f false g s h =
-            ap (λ b. then_some (kept_as b (at old m)) (keep world names new)) e
+        by false e true f false g s h = ap (λ b. then_some (kept_as b (at old m)) (keep world names new)) e
             ∙ ap (λ b. then_some (when b (stub m)) (keep world names new)) f
             ∙ ap (λ b. cond b (Some (stub m)) (when (at new m) (stub m))) (or_parts (owns new m) (stands new m) g).1
             ∙ sym (ap (λ b. kept_as b (at new m)) g)
@@ -164,16 +158,12 @@ module _ (world : World ℕ) (names : List TaskName) (is : IsWorld nat_eq world)
     mounted_same i = map (λ (m : Mount ℕ). m.filesystem) (filter (λ m. owned_same m i) world.mounts)
 
     direct_was : (n : ℕ) → Among n (used_directly nat_eq later set) → Among n (used_directly nat_eq world names)
-    direct_was n m =
-        ⊎_elim (λ shown. among-append_left (mounted old) (map shows (locations old)) n
-        (subst (Among n) mounted_same shown))
-        (λ placed. let l = among-from_map shows (locations new) n placed in
-        ⊎_elim
-        (λ was. among-append_right (mounted old) (map shows (locations old)) n
+    direct_was n m = ⊎_elim (λ shown. among-append_left (mounted old) (map shows (locations old)) n
+        (subst (Among n) mounted_same shown)) (λ placed. let l = among-from_map shows (locations new) n placed in
+        ⊎_elim (λ was. among-append_right (mounted old) (map shows (locations old)) n
         (subst (λ k. Among k (map shows (locations old))) (sym l.2) (among-map shows (locations old) l.0 was)))
         (λ theirs. subst (λ k. Among k (used_directly nat_eq world names)) (sym l.2)
-        (theirs_directly world names is l.0 theirs))
-        (it.places l.0 l.1))
+        (theirs_directly world names is l.0 theirs)) (it.places l.0 l.1))
         (among-append (mounted new) (map shows (locations new)) n m)
 
     pub sees_less : SeeLess world names set tasks change
@@ -189,8 +179,7 @@ module _ (world : World ℕ) (names : List TaskName) (is : IsWorld nat_eq world)
     -- a mount where they stand is theirs, or without a mount point
     pub stood_so : (m : Mount ℕ) → Among m world.mounts → stands new m ≡ true
         → (owns new m ≡ true) ⊎ (m.mount_point ≡ None)
-    stood_so m n h =
-        ⊎_elim (λ own. inl (owned_same m ∙ own)) (λ stood. inr (nowhere stood.0 m.mount_point refl))
+    stood_so m n h = ⊎_elim (λ own. inl (owned_same m ∙ own)) (λ stood. inr (nowhere stood.0 m.mount_point refl))
         (stood_ground m n h)
       where
         nowhere : m.namespace ≡ None → (o : Option (Location ℕ)) → m.mount_point ≡ o → m.mount_point ≡ None
@@ -200,10 +189,7 @@ module _ (world : World ℕ) (names : List TaskName) (is : IsWorld nat_eq world)
     -- the locations of the set are on mounts that are there
     pub placed_on : (l : Location ℕ) → Among l (locations new)
         → (m : Mount ℕ) × Among m world.mounts × (l.mount ≡ m.number)
-    placed_on l m =
-        ⊎_elim
-        (λ was. let t = among-from_flat_map locations_of old l was in
-        mount_under world names is sealed_off l
-        (among-flat_map locations_of world.tasks t.0 l
+    placed_on l m = ⊎_elim (λ was. let t = among-from_flat_map locations_of old l was in
+        mount_under world names is sealed_off l (among-flat_map locations_of world.tasks t.0 l
         (among-from_filter (is_member_task names) world.tasks t.0 t.1).0 t.2))
         (λ theirs. (theirs.0, theirs.1, sym theirs.2)) (it.places l m)

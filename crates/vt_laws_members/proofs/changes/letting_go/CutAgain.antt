@@ -20,19 +20,16 @@ use Rattle.vt_laws_members.proofs.changes.part.CutTrees.{at_head, more, named_in
 filter_in : (p q r : ℕ → Bool) (xs : List ℕ) → ((x : ℕ) → Among x xs → r x ≡ true → p x ≡ q x)
     → ((x : ℕ) → Among x xs → r x ≡ false → q x ≡ false) → filter p (filter r xs) ≡ filter q xs
 filter_in p q r [] same none = refl
-filter_in p q r (x ∷ xs) same none =
-    by (r x) refl (filter_in p q r xs (λ y m. same y (inr m)) (λ y m. none y (inr m)))
+filter_in p q r (x ∷ xs) same none = by (r x) refl (filter_in p q r xs (λ y m. same y (inr m)) (λ y m. none y (inr m)))
   where
     by : (b : Bool) → r x ≡ b → filter p (filter r xs) ≡ filter q xs
         → filter p (cond b (x ∷ filter r xs) (filter r xs)) ≡ cond (q x) (x ∷ filter q xs) (filter q xs)
     by true e later = cc (same x (inl refl) e)
     by false e later = cc (none x (inl refl) e)
 
-among_both : (used chosen : List ℕ) (n : ℕ)
-    → is_among nat_eq n (filter (λ k. is_among nat_eq k used) chosen)
+among_both : (used chosen : List ℕ) (n : ℕ) → is_among nat_eq n (filter (λ k. is_among nat_eq k used) chosen)
     ≡ (is_among nat_eq n chosen && is_among nat_eq n used)
-among_both used chosen n =
-    same_truth (is_among nat_eq n (filter (λ k. is_among nat_eq k used) chosen))
+among_both used chosen n = same_truth (is_among nat_eq n (filter (λ k. is_among nat_eq k used) chosen))
     (is_among nat_eq n chosen && is_among nat_eq n used)
     (λ h. let from = among-from_filter (λ k. is_among nat_eq k used) chosen n
     (among_numbers (filter (λ k. is_among nat_eq k used) chosen) n h) in
@@ -42,8 +39,7 @@ among_both used chosen n =
     (among-filter (λ k. is_among nat_eq k used) chosen n (among_numbers chosen n both.0) both.1))
 
 -- a tree that is cut twice
-pub cut_twice : (used chosen : List ℕ) (files : FileTree ℕ)
-    → only_among nat_eq used (only_among nat_eq chosen files)
+pub cut_twice : (used chosen : List ℕ) (files : FileTree ℕ) → only_among nat_eq used (only_among nat_eq chosen files)
     ≡ only_among nat_eq (filter (λ k. is_among nat_eq k used) chosen) files
 cut_twice used chosen files = λ i. record {
   tree = record { root = files.tree.root; node = λ n. node n i };
@@ -61,13 +57,11 @@ cut_twice used chosen files = λ i. record {
 
     node : (n : ℕ) → cond (is_among nat_eq n used) (cond (is_among nat_eq n chosen) (files.tree.node n) None) None
         ≡ cond (is_among nat_eq n both) (files.tree.node n) None
-    node n =
-        cc (swap (is_among nat_eq n used) (is_among nat_eq n chosen) (files.tree.node n), among_both used chosen n)
+    node n = cc (swap (is_among nat_eq n used) (is_among nat_eq n chosen) (files.tree.node n), among_both used chosen n)
 
     numbers : filter (λ k. is_among nat_eq k used) (filter (λ k. is_among nat_eq k chosen) files.numbers)
         ≡ filter (λ k. is_among nat_eq k both) files.numbers
-    numbers =
-        filter_in (λ k. is_among nat_eq k used) (λ k. is_among nat_eq k both)
+    numbers = filter_in (λ k. is_among nat_eq k used) (λ k. is_among nat_eq k both)
         (λ k. is_among nat_eq k chosen) files.numbers
         (λ k m e. sym (among_both used chosen k ∙ ap (λ b. b && is_among nat_eq k used) e))
         (λ k m e. among_both used chosen k ∙ ap (λ b. b && is_among nat_eq k used) e)
@@ -100,11 +94,9 @@ module _ (files : FileTree ℕ) (chosen : List ℕ) (top : ℕ) where
           → cond r None (when (has_entry_to nat_eq files.tree (parent_in d (files.tree.node d)) d)
           (parent_in d (files.tree.node d))) ≡ Some b
       by p f true e = none_is_some b e
-      by true f false e =
-          entry (parent_in d (files.tree.node d))
+      by true f false e = entry (parent_in d (files.tree.node d))
           (has_entry_to nat_eq cut.tree (parent_in d (files.tree.node d)) d) refl e
-      by false f false e =
-          none_is_some b
+      by false f false e = none_is_some b
           (sym (ap (λ c. when (is_among nat_eq d (targets_in (cond c (files.tree.node d) None))) d) f) ∙ e)
 
   chain_was : (n d : ℕ) → reaches top n (named_parent nat_eq cut.tree) d ≡ true
@@ -114,15 +106,12 @@ module _ (files : FileTree ℕ) (chosen : List ℕ) (top : ℕ) where
     where
       by : (o : Option ℕ) → named_parent nat_eq cut.tree d ≡ o
           → is_among nat_eq top (elim o [ None ↦ d ∷ [] | Some b ↦ d ∷ chain n (named_parent nat_eq cut.tree) b ])
-          ≡ true
-          → ((b : ℕ) → reaches top n (named_parent nat_eq cut.tree) b ≡ true
+          ≡ true → ((b : ℕ) → reaches top n (named_parent nat_eq cut.tree) b ≡ true
           → reaches top n (named_parent nat_eq files.tree) b ≡ true)
           → reaches top (suc n) (named_parent nat_eq files.tree) d ≡ true
-      by None e h later =
-          at_head top (named_parent nat_eq files.tree) (suc n) d
+      by None e h later = at_head top (named_parent nat_eq files.tree) (suc n) d
           (⊎_elim (λ same. same) (λ none. absurd (true≢false (sym none))) (or_cases (nat_eq top d) false h))
-      by (Some b) e h later =
-          ap (λ o. is_among nat_eq top
+      by (Some b) e h later = ap (λ o. is_among nat_eq top
           (elim o [ None ↦ d ∷ [] | Some c ↦ d ∷ chain n (named_parent nat_eq files.tree) c ])) (parent_was d b e)
           ∙ ⊎_elim (or_left (nat_eq top d) (reaches top n (named_parent nat_eq files.tree) b))
           (λ f. or_right (nat_eq top d) (reaches top n (named_parent nat_eq files.tree) b) (later b f))
@@ -137,8 +126,7 @@ module _ (files : FileTree ℕ) (chosen : List ℕ) (top : ℕ) where
 
   pub under_was : (object : ℕ) → is_among nat_eq object chosen ≡ true → is_under nat_eq cut top object ≡ true
       → is_under nat_eq files top object ≡ true
-  under_was object kept h =
-      by (is_directory_node (files.tree.node object))
+  under_was object kept h = by (is_directory_node (files.tree.node object))
       (sym (ap (λ c. cond (is_directory_node (cond c (files.tree.node object) None))
       (is_directory_under nat_eq cut top object) (is_file_under nat_eq cut top object)) kept) ∙ h)
     where
@@ -158,8 +146,7 @@ module _ (files : FileTree ℕ) (chosen : List ℕ) (top : ℕ) where
 -- Lower layers in a filesystem of this number
 module _ (number : ℕ) (lowers : List (Layer ℕ)) where
   abbrev pub lies_under : FileTree ℕ → ℕ → Bool
-  lies_under files object =
-      list_any (λ (layer : Layer ℕ). nat_eq number layer.filesystem
+  lies_under files object = list_any (λ (layer : Layer ℕ). nat_eq number layer.filesystem
       && is_under nat_eq files layer.directory object) lowers
 
   -- what lies under them
@@ -188,8 +175,7 @@ module _ (number : ℕ) (lowers : List (Layer ℕ)) where
 
     pub lies_alike : (object : ℕ) → Among object whole.numbers → is_among nat_eq object chosen ≡ true
         → lies_under part object ≡ lies_under whole object
-    lies_alike object there kept =
-        same_truth (lies_under part object) (lies_under whole object)
+    lies_alike object there kept = same_truth (lies_under part object) (lies_under whole object)
         (λ h. let at = any_among (λ (l : Layer ℕ). nat_eq number l.filesystem
         && is_under nat_eq part l.directory object) lowers h in
         let both = and_parts (nat_eq number at.0.filesystem) (is_under nat_eq part at.0.directory object) at.2 in
@@ -207,8 +193,7 @@ module _ (number : ℕ) (lowers : List (Layer ℕ)) where
     -- it is a layer's directory, or has a name
     pub named_there : (object : ℕ) → Among object part.numbers → lies_under part object ≡ true
         → ((layer : Layer ℕ) × Among layer lowers × (nat_eq number layer.filesystem ≡ true)
-        × (layer.directory ≡ object))
-        ⊎ Among object (named_in part)
+        × (layer.directory ≡ object)) ⊎ Among object (named_in part)
     named_there object there h =
         let kept = among-from_filter (λ n. is_among nat_eq n chosen) whole.numbers object there in
         let at = any_among (λ (l : Layer ℕ). nat_eq number l.filesystem
@@ -243,14 +228,12 @@ module _ (number : ℕ) (lowers : List (Layer ℕ)) where
         has.all n from.0 from.1
 
     pub cut_alike : cut_to part ≡ cut_to whole
-    cut_alike =
-        ap (λ list. only_among nat_eq list part) same_numbers
-        ∙ (λ i. record {
-          tree = record { root = whole.tree.root; node = λ n. node n (is_among nat_eq n left) refl i };
-          numbers = filter_in (λ n. is_among nat_eq n left) (λ n. is_among nat_eq n left)
-              (λ n. is_among nat_eq n chosen)
-              whole.numbers (λ n m e. refl) (λ n m e. out n e (is_among nat_eq n left) refl) i;
-        })
+    cut_alike = ap (λ list. only_among nat_eq list part) same_numbers ∙ (λ i. record {
+      tree = record { root = whole.tree.root; node = λ n. node n (is_among nat_eq n left) refl i };
+      numbers = filter_in (λ n. is_among nat_eq n left) (λ n. is_among nat_eq n left)
+          (λ n. is_among nat_eq n chosen)
+          whole.numbers (λ n m e. refl) (λ n m e. out n e (is_among nat_eq n left) refl) i;
+    })
       where
         node : (n : ℕ) (b : Bool) → is_among nat_eq n left ≡ b
             → cond (is_among nat_eq n left) (cond (is_among nat_eq n chosen) (whole.tree.node n) None) None
@@ -279,8 +262,7 @@ module _ (number : ℕ) (lowers : List (Layer ℕ)) where
         listed = has.listed;
         all = λ object there h.
             let kept = has.all object there h in
-            among_both used chosen object
-            ∙ and_from (is_among nat_eq object chosen) (is_among nat_eq object used) kept
+            among_both used chosen object ∙ and_from (is_among nat_eq object chosen) (is_among nat_eq object used) kept
             (enough object (among-filter (λ n. is_among nat_eq n chosen) whole.numbers object there kept)
             (lies_alike whole chosen has object there kept ∙ h));
       }

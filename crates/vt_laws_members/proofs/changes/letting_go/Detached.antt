@@ -29,13 +29,11 @@ raised_part : (before w : World ℕ) (set : List TaskName) (name : TaskName)
           (map (raised_namespace nat_eq before (settled nat_eq w)) w.namespaces);
       tasks = filter (is_member_task set) (map (raised_task name) w.tasks);
     }
-raised_part before w set name =
-    (λ i. part_of nat_eq (record renamed {
-      filesystems = map_same (raised_if_changed nat_eq []) (settled nat_eq w).filesystems (λ f m. refl) i;
-      tasks = map (raised_task name) w.tasks;
-      change = raised w.change;
-    }) set)
-    ∙ retasked renamed set set (map (raised_task name) w.tasks) (raised w.change)
+raised_part before w set name = (λ i. part_of nat_eq (record renamed {
+  filesystems = map_same (raised_if_changed nat_eq []) (settled nat_eq w).filesystems (λ f m. refl) i;
+  tasks = map (raised_task name) w.tasks;
+  change = raised w.change;
+}) set) ∙ retasked renamed set set (map (raised_task name) w.tasks) (raised w.change)
     (raised_sees renamed set name (raised w.change))
   where
     renamed : World ℕ
@@ -55,9 +53,7 @@ module _ (world : World ℕ) (names : List TaskName) (is : IsWorld nat_eq world)
     (all : (t : Task ℕ) → Among t tasks_too → is_member_task set t ≡ true)
     (still : (m : Mount ℕ) → Among m world.mounts → is_going nat_eq gone m.number ≡ false
     → is_own world names (members world names) m ≡ true → is_own world names (filter (is_member_task set) tasks) m
-    ≡ true)
-    (b : Bool)
-    (kept : MountInvariants nat_eq
+    ≡ true) (b : Bool) (kept : MountInvariants nat_eq
     (ended world names is sealed_off set gone own_go lasts tasks tasks_too change change_too same fewer b))
     (kept_there : MountInvariants nat_eq
     (ended_part world names is sealed_off set gone own_go lasts tasks tasks_too change change_too same fewer b))
@@ -72,11 +68,9 @@ module _ (world : World ℕ) (names : List TaskName) (is : IsWorld nat_eq world)
   v_part = ended_part world names is sealed_off set gone own_go lasts tasks tasks_too change change_too same fewer b
 
   swept_alike : part_of nat_eq (settled nat_eq v) set ≡ part_of nat_eq (settled nat_eq v_part) set
-  swept_alike =
-      part_of_settled v set (used_filesystems nat_eq v set) (own_lowers nat_eq v set)
+  swept_alike = part_of_settled v set (used_filesystems nat_eq v set) (own_lowers nat_eq v set)
       (ended_ready world names is sealed_off set gone own_go lasts
-      tasks tasks_too change change_too same fewer others still
-      b kept)
+      tasks tasks_too change change_too same fewer others still b kept)
       ∙ sym (ap (swept_of set) (one_part world names is set v v_part
       (ended_less world names is sealed_off set gone own_go lasts tasks tasks_too change change_too same fewer b)))
       ∙ sym (part_of_settled v_part set (used_filesystems nat_eq v set) (own_lowers nat_eq v set)
@@ -88,15 +82,10 @@ module _ (world : World ℕ) (names : List TaskName) (is : IsWorld nat_eq world)
 
   pub detached_parts : part_of nat_eq (numbers_raised nat_eq world name [] (settled nat_eq v)) set
       ≡ part_of nat_eq (numbers_raised nat_eq part name [] (settled nat_eq v_part)) set
-  detached_parts =
-      raised_part world v set name
-      ∙ (λ i. record (swept_alike i) {
-        namespaces = (sym (raised_alike world names is sealed_off set gone own_go lasts tasks tasks_too change
-            change_too same fewer b)
-            ∙ ap (λ ts. filter (spaces ts)
-            (map (raised_namespace nat_eq part (settled nat_eq v_part)) v_part.namespaces))
-            (sym same)) i;
-        tasks = (raised_members set name tasks ∙ ap (map (raised_task name)) (sym same)
-            ∙ sym (raised_members set name tasks_too)) i;
-      })
-      ∙ sym (raised_part part v_part set name)
+  detached_parts = raised_part world v set name ∙ (λ i. record (swept_alike i) {
+    namespaces = (sym (raised_alike world names is sealed_off set gone own_go lasts tasks tasks_too change
+        change_too same fewer b) ∙ ap (λ ts. filter (spaces ts)
+        (map (raised_namespace nat_eq part (settled nat_eq v_part)) v_part.namespaces)) (sym same)) i;
+    tasks = (raised_members set name tasks ∙ ap (map (raised_task name)) (sym same)
+        ∙ sym (raised_members set name tasks_too)) i;
+  }) ∙ sym (raised_part part v_part set name)

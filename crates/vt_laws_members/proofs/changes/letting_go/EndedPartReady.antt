@@ -28,17 +28,12 @@ use Rattle.vt_laws_members.proofs.changes.letting_go.WorldReady.{sees_living}
 module _ (world : World ℕ) (names : List TaskName) (is : IsWorld nat_eq world)
     (sealed_off : sealed nat_eq world names ≡ true) (set : List TaskName) (gone : List ℕ)
     (own_go : (m : Mount ℕ) → Among m world.mounts → is_going nat_eq gone m.number ≡ true
-    → is_own world names (members world names) m ≡ true)
-    (lasts : ℕ → Bool) (tasks tasks_too : List (Task ℕ))
-    (change change_too : ℕ)
-    (same : filter (is_member_task set) tasks_too ≡ filter (is_member_task set) tasks)
-    (fewer : SetIsLess world names is set tasks)
-    (all : (t : Task ℕ) → Among t tasks_too → is_member_task set t ≡ true)
+    → is_own world names (members world names) m ≡ true) (lasts : ℕ → Bool) (tasks tasks_too : List (Task ℕ))
+    (change change_too : ℕ) (same : filter (is_member_task set) tasks_too ≡ filter (is_member_task set) tasks)
+    (fewer : SetIsLess world names is set tasks) (all : (t : Task ℕ) → Among t tasks_too → is_member_task set t ≡ true)
     (still : (m : Mount ℕ) → Among m world.mounts → is_going nat_eq gone m.number ≡ false
     → is_own world names (members world names) m ≡ true → is_own world names (filter (is_member_task set) tasks) m
-    ≡ true)
-    (b : Bool)
-    (kept_there : MountInvariants nat_eq
+    ≡ true) (b : Bool) (kept_there : MountInvariants nat_eq
     (ended_part world names is sealed_off set gone own_go lasts tasks tasks_too change change_too same fewer b)) where
   abbrev part : World ℕ
   part = part_of nat_eq world names
@@ -53,12 +48,10 @@ module _ (world : World ℕ) (names : List TaskName) (is : IsWorld nat_eq world)
   kept = keep world names old
 
   abbrev after_world : World ℕ
-  after_world =
-      ended world names is sealed_off set gone own_go lasts tasks tasks_too change change_too same fewer b
+  after_world = ended world names is sealed_off set gone own_go lasts tasks tasks_too change change_too same fewer b
 
   abbrev after_part : World ℕ
-  after_part =
-      ended_part world names is sealed_off set gone own_go lasts tasks tasks_too change change_too same fewer b
+  after_part = ended_part world names is sealed_off set gone own_go lasts tasks tasks_too change change_too same fewer b
 
   less : AreLess world names set after_world after_part
   less = ended_less world names is sealed_off set gone own_go lasts tasks tasks_too change change_too same fewer b
@@ -92,8 +85,7 @@ module _ (world : World ℕ) (names : List TaskName) (is : IsWorld nat_eq world)
       pair-filter (λ (p q : Mount ℕ). nat_eq p.number q.number) (mount_lives nat_eq after_part) after_part.mounts
       (pair-map (λ (p q : Mount ℕ). nat_eq p.number q.number)
       (λ (p q : Mount ℕ). nat_eq p.number q.number) after part.mounts
-      (λ p q m n e. ap (λ i. nat_eq i (after q).number) (shape p).number
-      ∙ ap (nat_eq p.number) (shape q).number ∙ e)
+      (λ p q m n e. ap (λ i. nat_eq i (after q).number) (shape p).number ∙ ap (nat_eq p.number) (shape q).number ∙ e)
       (part_one_number world names is))
 
   number_kept : (m y : Mount ℕ) → kept m ≡ Some y → y.number ≡ m.number
@@ -104,18 +96,15 @@ module _ (world : World ℕ) (names : List TaskName) (is : IsWorld nat_eq world)
   located_so : (l : Location ℕ) → Among l (locations new) → (y : Mount ℕ) × Among y living.mounts × (l.mount ≡ y.number)
   located_so l m =
       let on = place_shown world names is sealed_off set gone own_go lasts
-      tasks tasks_too change change_too same fewer b l
-      (subst (λ ts. Among l (locations ts)) same m) in
+      tasks tasks_too change change_too same fewer b l (subst (λ ts. Among l (locations ts)) same m) in
       let shown : (y : Mount ℕ) × (kept on.0 ≡ Some y) = (on.3, on.4) in
       let there = among-filter_map kept world.mounts on.0 shown.0 on.1 shown.1 in
       let t = among-from_flat_map locations_of new l m in
       let number : l.mount ≡ (after shown.0).number =
       on.2 ∙ sym (number_kept on.0 shown.0 shown.1) ∙ sym (shape shown.0).number in (
         after shown.0,
-        located_lives shown.0 l there
-            (among-flat_map locations_of tasks_too t.0 l
-            (among-from_filter (is_member_task set) tasks_too t.0 t.1).0 t.2)
-            number,
+        located_lives shown.0 l there (among-flat_map locations_of tasks_too t.0 l
+            (among-from_filter (is_member_task set) tasks_too t.0 t.1).0 t.2) number,
         number,
       )
 
@@ -137,12 +126,9 @@ module _ (world : World ℕ) (names : List TaskName) (is : IsWorld nat_eq world)
   -- a mount of theirs is theirs after, or in no namespace
   own_after : (z : Mount ℕ) → Among z world.mounts → is_own world names old z ≡ true →
       (is_own world names new (after z) ≡ true) ⊎ ((after z).namespace ≡ None)
-  own_after z at own =
-      ⊎_elim (λ out. inr out.0)
-      (λ stays. inl (ap (λ ts. is_own world names ts (after z)) same
+  own_after z at own = ⊎_elim (λ out. inr out.0) (λ stays. inl (ap (λ ts. is_own world names ts (after z)) same
       ∙ ap (holds_of (λ i. list_any (λ (t : Task ℕ). nat_eq i t.namespace) (filter (is_member_task set) tasks))) stays.0
-      ∙ still z at stays.2 own))
-      (placed_so b t_part part gone z)
+      ∙ still z at stays.2 own)) (placed_so b t_part part gone z)
 
   none_after : (z : Mount ℕ) → z.namespace ≡ None → (after z).namespace ≡ None
   none_after z e = ⊎_elim (λ out. out.0) (λ stays. stays.0 ∙ e) (placed_so b t_part part gone z)

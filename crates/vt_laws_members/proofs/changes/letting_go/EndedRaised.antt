@@ -99,12 +99,9 @@ raised_number before after n = by (same_mounts_in nat_eq before after n.number)
 module _ (world : World ℕ) (names : List TaskName) (is : IsWorld nat_eq world)
     (sealed_off : sealed nat_eq world names ≡ true) (set : List TaskName) (gone : List ℕ)
     (own_go : (m : Mount ℕ) → Among m world.mounts → is_going nat_eq gone m.number ≡ true
-    → is_own world names (members world names) m ≡ true)
-    (lasts : ℕ → Bool) (tasks tasks_too : List (Task ℕ))
-    (change change_too : ℕ)
-    (same : filter (is_member_task set) tasks_too ≡ filter (is_member_task set) tasks)
-    (fewer : SetIsLess world names is set tasks)
-    (b : Bool) where
+    → is_own world names (members world names) m ≡ true) (lasts : ℕ → Bool) (tasks tasks_too : List (Task ℕ))
+    (change change_too : ℕ) (same : filter (is_member_task set) tasks_too ≡ filter (is_member_task set) tasks)
+    (fewer : SetIsLess world names is set tasks) (b : Bool) where
   abbrev part : World ℕ
   part = part_of nat_eq world names
 
@@ -165,32 +162,23 @@ module _ (world : World ℕ) (names : List TaskName) (is : IsWorld nat_eq world)
 
   -- and after
   settled_mounts : (w : World ℕ) (n : ℕ) → mounts_of nat_eq (settled nat_eq w) n ≡ filter (its_in n) w.mounts
-  settled_mounts w n =
-      filter_less (its_in n) (mount_lives nat_eq w) w.mounts
+  settled_mounts w n = filter_less (its_in n) (mount_lives nat_eq w) w.mounts
       (λ m h. or_left (is_some m.namespace) (is_located nat_eq w m.number) (attached n m h))
 
   after_in : (n : ℕ) (m : Mount ℕ) → its_in n (after m) ≡ true → (its_in n m ≡ true)
       × (is_going nat_eq gone m.number ≡ false)
-  after_in n m h =
-      ⊎_elim (λ gone. absurd (true≢false (sym h ∙ ap (holds_of (nat_eq n)) gone.0)))
+  after_in n m h = ⊎_elim (λ gone. absurd (true≢false (sym h ∙ ap (holds_of (nat_eq n)) gone.0)))
       (λ stays. (sym (ap (holds_of (nat_eq n)) stays.0) ∙ h, stays.2)) (placed_so b t_world world gone m)
 
   mounts_after : (n : ℕ) → is_theirs n ≡ true → mounts_of nat_eq u_part n ≡ mounts_of nat_eq u n
-  mounts_after n own =
-      settled_mounts v_part n
-      ∙ kept_alike (its_in n) after after_part kept world.mounts
+  mounts_after n own = settled_mounts v_part n ∙ kept_alike (its_in n) after after_part kept world.mounts
       (λ m at h. let own_one = own_in world names is sealed_off n own m (after_in n m h).0 in (
         own_kept world names is sealed_off m own_one,
-        mount_alike world names is sealed_off gone own_go b m
-            (mine m at own_one),
-      ))
-      (λ m y at h e. ⊎_elim
-      (λ same. ap (λ (q : Mount ℕ). its_in n (after_part q)) (sym same)
+        mount_alike world names is sealed_off gone own_go b m (mine m at own_one),
+      )) (λ m y at h e. ⊎_elim (λ same. ap (λ (q : Mount ℕ). its_in n (after_part q)) (sym same)
       ∙ ap (holds_of (nat_eq n)) (space_same b t_part t_world part world gone m) ∙ h)
       (λ stub. ap (λ (q : Mount ℕ). its_in n (after_part q)) (sym stub.0)
-      ∙ ap (its_in n) (stub_stays b t_part part gone m))
-      (kept_how world names old m y e))
-      ∙ sym (settled_mounts v n)
+      ∙ ap (its_in n) (stub_stays b t_part part gone m)) (kept_how world names old m y e)) ∙ sym (settled_mounts v n)
 
   -- masters above, before
   above_before : (m : Mount ℕ) → Among m owns → master_above part m ≡ master_above world m
@@ -198,35 +186,28 @@ module _ (world : World ℕ) (names : List TaskName) (is : IsWorld nat_eq world)
     where
       by : (o : Option ℕ) → source_of m.propagation ≡ o → then_some o part.master ≡ then_some o world.master
       by None e = refl
-      by (Some g) e =
-          master_same world names is sealed_off g (heard_by_own world names is sealed_off m n g e)
+      by (Some g) e = master_same world names is sealed_off g (heard_by_own world names is sealed_off m n g e)
 
   -- the source of a mount of theirs after is heard
   heard_after : (m : Mount ℕ) → Among m owns → is_going nat_eq gone m.number ≡ false → (g : ℕ)
       → source_of (after m).propagation ≡ Some g → Heard g
-  heard_after m n out g e =
-      by b m.propagation refl (sym (ap source_of (kind_after b t_world world gone m out)) ∙ e)
+  heard_after m n out g e = by b m.propagation refl (sym (ap source_of (kind_after b t_world world gone m out)) ∙ e)
     where
       from_heir : (s : ℕ) → Heard s → (o : Option ℕ) → heir nat_eq t_world (Some s) ≡ o
           → source_of (slave_of_heir o) ≡ Some g → Heard g
       from_heir s heard None f h = none_is_some g h
-      from_heir s heard (Some above) f h =
-          subst Heard (same_Some above g h)
-          (up_heard world names is sealed_off s above heard
-          (subst (Among above) (ap (λ i. chain i world.master s)
+      from_heir s heard (Some above) f h = subst Heard (same_Some above g h)
+          (up_heard world names is sealed_off s above heard (subst (Among above) (ap (λ i. chain i world.master s)
           (length-map world.mounts (after_going nat_eq world gone)))
           (found_among (has_members nat_eq t_world.mounts) (groups_up t_world s) above f)))
 
       by : (b : Bool) (kind : Propagation ℕ) → m.propagation ≡ kind
           → source_of (cond b (inherited nat_eq t_world m.propagation) m.propagation) ≡ Some g → Heard g
       by false kind f h = heard_by_own world names is sealed_off m n g h
-      by true (Shared s) f h =
-          heard_by_own world names is sealed_off m n g
+      by true (Shared s) f h = heard_by_own world names is sealed_off m n g
           (ap source_of f ∙ sym (ap (λ q. source_of (inherited nat_eq t_world q)) f) ∙ h)
-      by true (Slave s) f h =
-          from_heir s (heard_by_own world names is sealed_off m n s (ap source_of f))
-          (heir nat_eq t_world (Some s)) refl
-          (sym (ap (λ q. source_of (inherited nat_eq t_world q)) f) ∙ h)
+      by true (Slave s) f h = from_heir s (heard_by_own world names is sealed_off m n s (ap source_of f))
+          (heir nat_eq t_world (Some s)) refl (sym (ap (λ q. source_of (inherited nat_eq t_world q)) f) ∙ h)
       by true Private f h = none_is_some g (sym (ap (λ q. source_of (inherited nat_eq t_world q)) f) ∙ h)
       by true Unbindable f h = none_is_some g (sym (ap (λ q. source_of (inherited nat_eq t_world q)) f) ∙ h)
 
@@ -251,8 +232,7 @@ module _ (world : World ℕ) (names : List TaskName) (is : IsWorld nat_eq world)
 
   -- a group that is heard has members after in both, or in none
   members_after : (g : ℕ) → Heard g → has_members nat_eq u_part.mounts g ≡ has_members nat_eq u.mounts g
-  members_after g heard =
-      same_truth (has_members nat_eq u_part.mounts g) (has_members nat_eq u.mounts g)
+  members_after g heard = same_truth (has_members nat_eq u_part.mounts g) (has_members nat_eq u.mounts g)
       (λ h. let y = any_among (is_member_of nat_eq g) u_part.mounts h in
       let lives = among-from_filter (mount_lives nat_eq v_part) v_part.mounts y.0 y.1 in
       let z = among-from_map after_part part.mounts y.0 lives.0 in
@@ -272,14 +252,12 @@ module _ (world : World ℕ) (names : List TaskName) (is : IsWorld nat_eq world)
       let own = its_own z.0 z.1 was in
       let from = among-from_filter (is_own_mount nat_eq world names) world.mounts z.0 own in
       let alike = mount_alike world names is sealed_off gone own_go b z.0 own in
-      lives_on v_part t_part part z.0
-      (among-map after_part part.mounts z.0
+      lives_on v_part t_part part z.0 (among-map after_part part.mounts z.0
       (among-filter_map kept world.mounts z.0 z.0 from.0 (own_kept world names is sealed_off z.0 from.1)))
       (ap (is_member_of nat_eq g) alike ∙ is_in) from.1)
     where
       its_own : (m : Mount ℕ) → Among m world.mounts → is_member_of nat_eq g m ≡ true → Among m owns
-      its_own m n was =
-          ⊎_elim (λ own. own)
+      its_own m n was = ⊎_elim (λ own. own)
           (λ other. absurd (none_hears world names is.mounts (apart world names is sealed_off).events g m heard.0
           other was))
           (sides world names is.mounts (apart world names is sealed_off).events m g n (member_group g m was))
@@ -321,8 +299,7 @@ module _ (world : World ℕ) (names : List TaskName) (is : IsWorld nat_eq world)
   )
     where
       same_ones : Mount ℕ → Mount ℕ → Bool
-      same_ones x y =
-          nat_eq x.number y.number && same_option (same_location nat_eq) x.mount_point y.mount_point
+      same_ones x y = nat_eq x.number y.number && same_option (same_location nat_eq) x.mount_point y.mount_point
           && same_flags x.flags y.flags && same_propagation nat_eq x.propagation y.propagation
 
       compared : (x y : Mount ℕ) → master_above part x ≡ master_above world x → master_above u_part y ≡ master_above u y
@@ -338,16 +315,15 @@ module _ (world : World ℕ) (names : List TaskName) (is : IsWorld nat_eq world)
   -- the namespaces of the set that is left, raised
   pub raised_alike : filter (spaces new) (map (raised_namespace nat_eq part u_part) v_part.namespaces)
       ≡ filter (spaces new) (map (raised_namespace nat_eq world u) v.namespaces)
-  raised_alike =
-      cc (
-        filter-map (spaces new) (raised_namespace nat_eq part u_part) v_part.namespaces (λ n. ap (λ i. list_any (λ
-            (t : Task ℕ). nat_eq i t.namespace) new) (raised_number part u_part n)),
-        filter_mid (spaces new) stays (spaces old) world.namespaces (λ n h. entered_was world names is sealed_off
-            set gone own_go lasts tasks tasks_too change change_too same fewer b n.number h),
-        map_alike (raised_namespace nat_eq part u_part) (raised_namespace nat_eq world u) (filter (spaces new)
-            (filter stays world.namespaces)) (λ n m. ap (λ c. cond c n (record n { change = raised n.change }))
-            (spaces_alike n.number (entered_was world names is sealed_off set gone own_go lasts tasks tasks_too change
-            change_too same fewer b n.number (among-from_filter (spaces new) (filter stays world.namespaces) n m).1))),
-        filter-map (spaces new) (raised_namespace nat_eq world u) v.namespaces (λ n. ap (λ i. list_any (λ (t : Task
-            ℕ). nat_eq i t.namespace) new) (raised_number world u n)),
-      )
+  raised_alike = cc (
+    filter-map (spaces new) (raised_namespace nat_eq part u_part) v_part.namespaces (λ n. ap (λ i. list_any (λ
+        (t : Task ℕ). nat_eq i t.namespace) new) (raised_number part u_part n)),
+    filter_mid (spaces new) stays (spaces old) world.namespaces (λ n h. entered_was world names is sealed_off
+        set gone own_go lasts tasks tasks_too change change_too same fewer b n.number h),
+    map_alike (raised_namespace nat_eq part u_part) (raised_namespace nat_eq world u) (filter (spaces new)
+        (filter stays world.namespaces)) (λ n m. ap (λ c. cond c n (record n { change = raised n.change }))
+        (spaces_alike n.number (entered_was world names is sealed_off set gone own_go lasts tasks tasks_too change
+        change_too same fewer b n.number (among-from_filter (spaces new) (filter stays world.namespaces) n m).1))),
+    filter-map (spaces new) (raised_namespace nat_eq world u) v.namespaces (λ n. ap (λ i. list_any (λ (t : Task
+        ℕ). nat_eq i t.namespace) new) (raised_number world u n)),
+  )

@@ -29,18 +29,14 @@ use Rattle.vt_laws_members.proofs.changes.letting_go.WorldReady.{all_named_there
 module _ (world : World ℕ) (names : List TaskName) (is : IsWorld nat_eq world)
     (sealed_off : sealed nat_eq world names ≡ true) (set : List TaskName) (gone : List ℕ)
     (own_go : (m : Mount ℕ) → Among m world.mounts → is_going nat_eq gone m.number ≡ true
-    → is_own world names (members world names) m ≡ true)
-    (lasts : ℕ → Bool) (tasks tasks_too : List (Task ℕ))
-    (change change_too : ℕ)
-    (same : filter (is_member_task set) tasks_too ≡ filter (is_member_task set) tasks)
+    → is_own world names (members world names) m ≡ true) (lasts : ℕ → Bool) (tasks tasks_too : List (Task ℕ))
+    (change change_too : ℕ) (same : filter (is_member_task set) tasks_too ≡ filter (is_member_task set) tasks)
     (fewer : SetIsLess world names is set tasks)
     (others : (l : Location ℕ) → Among l (locations (filter (λ t. not (is_member_task set t)) tasks))
     → Among l (locations (outsiders world names)))
     (still : (m : Mount ℕ) → Among m world.mounts → is_going nat_eq gone m.number ≡ false
     → is_own world names (members world names) m ≡ true → is_own world names (filter (is_member_task set) tasks) m
-    ≡ true)
-    (b : Bool)
-    (kept : MountInvariants nat_eq
+    ≡ true) (b : Bool) (kept : MountInvariants nat_eq
     (ended world names is sealed_off set gone own_go lasts tasks tasks_too change change_too same fewer b)) where
   abbrev old : List (Task ℕ)
   old = members world names
@@ -49,8 +45,7 @@ module _ (world : World ℕ) (names : List TaskName) (is : IsWorld nat_eq world)
   new = filter (is_member_task set) tasks
 
   abbrev after_world : World ℕ
-  after_world =
-      ended world names is sealed_off set gone own_go lasts tasks tasks_too change change_too same fewer b
+  after_world = ended world names is sealed_off set gone own_go lasts tasks tasks_too change change_too same fewer b
 
   abbrev after : Mount ℕ → Mount ℕ
   after = ended_mount b (left world names is sealed_off gone own_go) world gone
@@ -90,15 +85,13 @@ module _ (world : World ℕ) (names : List TaskName) (is : IsWorld nat_eq world)
   own_after : (m : Mount ℕ) (n : ℕ) → Among m world.mounts → m.namespace ≡ Some n
       → is_own_namespace nat_eq world names n ≡ true
       → (is_own world names new (after m) ≡ true) ⊎ ((after m).namespace ≡ None)
-  own_after m n at e own =
-      ⊎_elim (λ out. inr out.0)
+  own_after m n at e own = ⊎_elim (λ out. inr out.0)
       (λ stays. inl (ap (holds_of (λ i. list_any (λ (t : Task ℕ). nat_eq i t.namespace) new)) stays.0
       ∙ still m at stays.2 (ap (holds_of (is_own_namespace nat_eq world names)) e ∙ own)))
       (placed_so b (left world names is sealed_off gone own_go) world gone m)
 
   none_after : (m : Mount ℕ) → m.namespace ≡ None → (after m).namespace ≡ None
-  none_after m e =
-      ⊎_elim (λ out. out.0) (λ stays. stays.0 ∙ e)
+  none_after m e = ⊎_elim (λ out. out.0) (λ stays. stays.0 ∙ e)
       (placed_so b (left world names is sealed_off gone own_go) world gone m)
 
   -- where others have no foothold
@@ -121,13 +114,10 @@ module _ (world : World ℕ) (names : List TaskName) (is : IsWorld nat_eq world)
         which : (c : Bool) → is_own_namespace nat_eq world names j ≡ c
             → (is_own world names new (after m) ≡ true) ⊎ ((after m).namespace ≡ None)
         which true own = own_after m j n f own
-        which false other =
-            absurd (true≢false
-            (sym (eq-eqb number m.filesystem (sym e))
+        which false other = absurd (true≢false (sym (eq-eqb number m.filesystem (sym e))
             ∙ none_among (λ (y : Mount ℕ). nat_eq number y.filesystem) (other_mounts nat_eq world names) nobody.0 m
             (among-filter (λ (y : Mount ℕ). holds_of (λ i. not (is_own_namespace nat_eq world names i)) y.namespace)
-            world.mounts m n
-            (ap (holds_of (λ i. not (is_own_namespace nat_eq world names i))) f ∙ ap not other))))
+            world.mounts m n (ap (holds_of (λ i. not (is_own_namespace nat_eq world names i))) f ∙ ap not other))))
 
     mounts_own : (y : Mount ℕ) → Among y living.mounts → y.filesystem ≡ number
         → (is_own world names new y ≡ true) ⊎ (y.namespace ≡ None)
@@ -151,8 +141,7 @@ module _ (world : World ℕ) (names : List TaskName) (is : IsWorld nat_eq world)
             let out = others l (among-flat_map locations_of (filter (λ y. not (is_member_task set y)) tasks) t l
             (among-filter (λ y. not (is_member_task set y)) tasks t n (ap not other)) at) in
             let from = among-from_flat_map locations_of (outsiders world names) l out in
-            let under = mount_under world names is sealed_off l
-            (among-flat_map locations_of world.tasks from.0 l
+            let under = mount_under world names is sealed_off l (among-flat_map locations_of world.tasks from.0 l
             (among-from_filter (λ y. not (is_member_task names y)) world.tasks from.0 from.1).0 from.2) in
             let alive = located_lives under.0 l under.1 m under.2 in
             let shows : (mount_at nat_eq living l).filesystem ≡ (mount_at nat_eq world l).filesystem =
@@ -161,8 +150,7 @@ module _ (world : World ℕ) (names : List TaskName) (is : IsWorld nat_eq world)
             ∙ (shape under.0).filesystem
             ∙ ap (λ (q : Mount ℕ). q.filesystem) (sym (found_itself world.mounts is.mounts.one_number under.0 under.1))
             ∙ sym (ap (λ i. (mount_numbered nat_eq world i).filesystem) under.2) in
-            absurd (true≢false
-            (sym (eq-eqb number (mount_at nat_eq world l).filesystem (sym (sym shows ∙ e)))
+            absurd (true≢false (sym (eq-eqb number (mount_at nat_eq world l).filesystem (sym (sym shows ∙ e)))
             ∙ none_among (λ q. nat_eq number (mount_at nat_eq world q).filesystem) (locations (outsiders world names))
             nobody.1 l out))
 
@@ -217,8 +205,7 @@ module _ (world : World ℕ) (names : List TaskName) (is : IsWorld nat_eq world)
       let from = was y n in
       let l = any_among (λ (p : Location ℕ). nat_eq p.mount y.number) (roots_and_directories new) h in
       let ground = root_ground world names is sealed_off set gone own_go lasts
-      tasks tasks_too change change_too same fewer b l.0 l.1 from.0 from.1
-      (eqb-true l.0.mount from.0.number
+      tasks tasks_too change change_too same fewer b l.0 l.1 from.0 from.1 (eqb-true l.0.mount from.0.number
       (ap (nat_eq l.0.mount) (sym (ap (λ (q : Mount ℕ). q.number) from.2 ∙ (shape from.0).number)) ∙ l.2)) in
       subst (λ (q : Mount ℕ). (is_own world names new q ≡ true) ⊎ (q.mount_point ≡ None)) (sym from.2)
       (by from.0 from.1 (⊎_elim inl (λ stood. inr stood.0) ground) from.0.namespace refl from.0.mount_point refl)
@@ -231,11 +218,9 @@ module _ (world : World ℕ) (names : List TaskName) (is : IsWorld nat_eq world)
           (placed_so b (left world names is sealed_off gone own_go) world gone m))
       by m at (inr none) o e (Some l) f = absurd (nowhere_stands world names is.mounts m l at none f)
       by m at (inl own) None e (Some l) f = absurd (nowhere_stands world names is.mounts m l at e f)
-      by m at (inl own) (Some j) e (Some l) f =
-          ⊎_elim (λ out. inr out.1)
+      by m at (inl own) (Some j) e (Some l) f = ⊎_elim (λ out. inr out.1)
           (λ stays. inl (ap (holds_of (λ i. list_any (λ (t : Task ℕ). nat_eq i t.namespace) new)) stays.0
-          ∙ still m at stays.2 own))
-          (placed_so b (left world names is sealed_off gone own_go) world gone m)
+          ∙ still m at stays.2 own)) (placed_so b (left world names is sealed_off gone own_go) world gone m)
 
   pub ended_ready : Ready living set (used_filesystems nat_eq after_world set) (own_lowers nat_eq after_world set)
   ended_ready = record {
@@ -250,8 +235,7 @@ module _ (world : World ℕ) (names : List TaskName) (is : IsWorld nat_eq world)
     plain = plain_in world names is;
     free = λ x m u. ⊎_elim (λ h. inl (alone x.number h)) (λ h. inr (all_named_there world names is x m h))
         (or_cases (used_alone nat_eq world names x.number) (wholly_locked nat_eq world names x.number)
-        (used_are_free world names sealed_off x.number
-        (among_numbers (used_filesystems nat_eq world names) x.number
+        (used_are_free world names sealed_off x.number (among_numbers (used_filesystems nat_eq world names) x.number
         (used_was world names is set after_world
         (ended_part world names is sealed_off set gone own_go lasts tasks tasks_too change change_too same fewer b)
         (ended_less world names is sealed_off set gone own_go lasts tasks tasks_too change change_too same fewer b)

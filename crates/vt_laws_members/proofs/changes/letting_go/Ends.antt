@@ -32,14 +32,12 @@ use Rattle.vt_laws_members.proofs.changes.letting_go.SweptAlike.{swept_alike}
 pub raised_members : (set : List TaskName) (name : TaskName) (list : List (Task ℕ))
     → filter (is_member_task set) (map (raised_task name) list)
     ≡ map (raised_task name) (filter (is_member_task set) list)
-raised_members set name list =
-    filter-map (is_member_task set) (raised_task name) list
+raised_members set name list = filter-map (is_member_task set) (raised_task name) list
     (λ t. ap (λ n. is_among same_name n set) (raised_is name (λ (x : Task ℕ). x.name) (λ x. refl) t))
 
 -- detached mounts are private
 pub private_in_world : (world : World ℕ) → IsWorld nat_eq world → DetachedArePrivate world
-private_in_world world is m n none =
-    (and_parts (not (is_some m.mount_point)) (is_private m.propagation)
+private_in_world world is m n none = (and_parts (not (is_some m.mount_point)) (is_private m.propagation)
     (sym (ap (λ o. is_some o || (not (is_some m.mount_point) && is_private m.propagation)) none)
     ∙ among_from_list_all is_nowhere_or_attached world.mounts is.mounts.nowhere m n)).1
 
@@ -47,8 +45,7 @@ pub private_in_part : (world : World ℕ) (names : List TaskName) → IsWorld na
     → DetachedArePrivate (part_of nat_eq world names)
 private_in_part world names is y n none =
     let from = among-from_filter_map (keep world names (members world names)) world.mounts y n in
-    ⊎_elim
-    (λ same. subst (λ (m : Mount ℕ). is_private m.propagation ≡ true) same
+    ⊎_elim (λ same. subst (λ (m : Mount ℕ). is_private m.propagation ≡ true) same
     (private_in_world world is from.0 from.1 (ap (λ (m : Mount ℕ). m.namespace) same ∙ none)))
     (λ stub. ap (λ (m : Mount ℕ). is_private m.propagation) (sym stub.0))
     (kept_how world names (members world names) from.0 y from.2)
@@ -76,21 +73,17 @@ module _ (before : World ℕ) (in_use : AllInUse before) (private_ones : Detache
   pub part_of_ended : part_of nat_eq ended set ≡ record (part_of nat_eq (settled nat_eq later) set) {
     tasks = filter (is_member_task set) (map (raised_task name) tasks);
   }
-  part_of_ended =
-      retasked (settled nat_eq later) set set (map (raised_task name) tasks) (raised before.change)
+  part_of_ended = retasked (settled nat_eq later) set set (map (raised_task name) tasks) (raised before.change)
       (raised_sees (settled nat_eq later) set name (raised before.change))
 
 pub let_go_alike : (world : World ℕ) (names set : List TaskName) (name : TaskName) (call : Call)
     → (it : IsCallOfTheirs world names name call) (task : Task ℕ) → task_called world name ≡ Some task
     → (fresh other : Fresh ℕ) (answer : Answer) → grown names name call (Ok answer) ≡ set
-    → (tasks tasks_too : List (Task ℕ))
-    → ran name call world fresh (Some task) ≡ with_tasks world name answer tasks
+    → (tasks tasks_too : List (Task ℕ)) → ran name call world fresh (Some task) ≡ with_tasks world name answer tasks
     → ran name call (part_of nat_eq world names) other (Some task)
-    ≡ with_tasks (part_of nat_eq world names) name answer tasks_too
-    → LetsGo world names it.is it.sealed_off set tasks
+    ≡ with_tasks (part_of nat_eq world names) name answer tasks_too → LetsGo world names it.is it.sealed_off set tasks
     → filter (is_member_task set) tasks_too ≡ filter (is_member_task set) tasks
-    → ((t : Task ℕ) → Among t tasks_too → is_member_task set t ≡ true)
-    → EndsAlike world names name call fresh other
+    → ((t : Task ℕ) → Among t tasks_too → is_member_task set t ≡ true) → EndsAlike world names name call fresh other
 let_go_alike world names set name call it task called fresh other answer stays tasks tasks_too one two lets same all =
     subst (λ p. EndAlike (grown names name call (policy nat_eq fresh world name call).answer)
     (policy nat_eq fresh world name call) p) (sym second)
@@ -114,20 +107,16 @@ let_go_alike world names set name call it task called fresh other answer stays t
     left_too = ended part in_part (private_in_part world names it.is) name set tasks_too answer
 
     first : policy nat_eq fresh world name call ≡ granted answer left
-    first =
-        ap (ran name call world fresh) called ∙ one
+    first = ap (ran name call world fresh) called ∙ one
         ∙ ends_so world in_world (private_in_world world it.is) name set tasks answer
 
     second : policy nat_eq other part name call ≡ granted answer left_too
-    second =
-        ap (ran name call part other) (same_caller world names it.is it.sealed_off name it.theirs ∙ called) ∙ two
+    second = ap (ran name call part other) (same_caller world names it.is it.sealed_off name it.theirs ∙ called) ∙ two
         ∙ ends_so part in_part (private_in_part world names it.is) name set tasks_too answer
 
     parts : part_of nat_eq left set ≡ part_of nat_eq left_too set
-    parts =
-        part_of_ended world in_world (private_in_world world it.is) name set tasks answer
+    parts = part_of_ended world in_world (private_in_world world it.is) name set tasks answer
         ∙ (λ i. record (swept_alike world names set it.is it.sealed_off tasks tasks_too lets same all i) {
           tasks = (raised_members set name tasks ∙ ap (map (raised_task name)) (sym same)
               ∙ sym (raised_members set name tasks_too)) i;
-        })
-        ∙ sym (part_of_ended part in_part (private_in_part world names it.is) name set tasks_too answer)
+        }) ∙ sym (part_of_ended part in_part (private_in_part world names it.is) name set tasks_too answer)

@@ -80,8 +80,7 @@ module _ (world : World ℕ) (names : List TaskName) (name called_so : TaskName)
   how = replaced_apart world names name (Setns called_so) it task called caller refl
 
   set_is : filter (is_member_task names) rest ≡ map moved old
-  set_is =
-      of_set world names name (Setns called_so) it task called caller
+  set_is = of_set world names name (Setns called_so) it task called caller
       (stands world names name called_so it task called target target_in) world.tasks
 
   less : SetIsLess world names it.is names rest
@@ -116,20 +115,16 @@ module _ (world : World ℕ) (names : List TaskName) (name called_so : TaskName)
       → list_any (in_space_of n) list ≡ true → list_any (in_space_of n) (map moved list) ≡ true
   still_in n apart list within h =
       let at = any_among (in_space_of n) list h in
-      any_from_among (in_space_of n) (map moved list) (moved at.0) (among-map moved list at.0 at.1)
-      (⊎_elim
+      any_from_among (in_space_of n) (map moved list) (moved at.0) (among-map moved list at.0 at.1) (⊎_elim
       (λ its. absurd (true≢false (sym (eq-eqb k n
       (ap (λ (x : Task ℕ). x.namespace) its.1 ∙ sym (eqb-true n at.0.namespace at.2))) ∙ apart)))
       (λ same. ap (in_space_of n) same.0 ∙ at.2) (how at.0 (within at.0 at.1)))
 
   none_in : (list : List (Task ℕ)) → ((t : Task ℕ) → Among t list → Among t world.tasks)
       → list_any (in_space_of k) (map moved list) ≡ false
-  none_in list within =
-      none_from_among (in_space_of k) (map moved list) (λ t m.
+  none_in list within = none_from_among (in_space_of k) (map moved list) (λ t m.
       let from = among-from_map moved list t m in
-      ap (in_space_of k) from.2
-      ∙ ⊎_elim (λ its. ap (in_space_of k) its.0 ∙ away)
-      (λ same. ap (in_space_of k) same.0
+      ap (in_space_of k) from.2 ∙ ⊎_elim (λ its. ap (in_space_of k) its.0 ∙ away) (λ same. ap (in_space_of k) same.0
       ∙ none_among (in_space_of k) (filter (λ (t : Task ℕ). not (same_name name t.name)) world.tasks) empty from.0
       (among-filter (λ (t : Task ℕ). not (same_name name t.name)) world.tasks from.0 (within from.0 from.1)
       (ap not (ap (λ n. same_name n from.0.name) (name_found world name task called) ∙ same.1))))
@@ -149,13 +144,11 @@ module _ (world : World ℕ) (names : List TaskName) (name called_so : TaskName)
       (map (after_going nat_eq world gone) world.mounts)
 
   same : filter (is_member_task names) rest_too ≡ filter (is_member_task names) rest
-  same =
-      same_set world names name (Setns called_so) it task called caller
+  same = same_set world names name (Setns called_so) it task called caller
       (stands world names name called_so it task called target target_in)
 
   abbrev v : World ℕ
-  v =
-      ended world names it.is it.sealed_off names gone own_go lasts rest rest_too world.change part.change same less
+  v = ended world names it.is it.sealed_off names gone own_go lasts rest rest_too world.change part.change same less
       flag
 
   abbrev v_part : World ℕ
@@ -167,10 +160,8 @@ module _ (world : World ℕ) (names : List TaskName) (name called_so : TaskName)
       → ((n : Namespace ℕ) → Among n w.namespaces → list_any (in_space_of n.number) list ≡ true)
       → list_all (λ (n : Namespace ℕ). nat_eq k n.number || has_tasks nat_eq (record w { tasks = map moved list }) n)
       w.namespaces ≡ true
-  others_live w list within live =
-      list_all_from_among (λ (n : Namespace ℕ). nat_eq k n.number
-      || has_tasks nat_eq (record w { tasks = map moved list }) n) w.namespaces
-      (λ n m. by n m (nat_eq k n.number) refl)
+  others_live w list within live = list_all_from_among (λ (n : Namespace ℕ). nat_eq k n.number
+      || has_tasks nat_eq (record w { tasks = map moved list }) n) w.namespaces (λ n m. by n m (nat_eq k n.number) refl)
     where
       by : (n : Namespace ℕ) → Among n w.namespaces → (b : Bool) → nat_eq k n.number ≡ b
           → (nat_eq k n.number || has_tasks nat_eq (record w { tasks = map moved list }) n) ≡ true
@@ -178,32 +169,24 @@ module _ (world : World ℕ) (names : List TaskName) (name called_so : TaskName)
       by n m false e = or_right (nat_eq k n.number) _ (still_in n.number e list within (live n m))
 
   world_ends : namespaces_ended nat_eq (record world { tasks = rest }) ≡ v
-  world_ends =
-      ends_so (record world { tasks = rest }) k gone refl it.is.namespaces.mounts_listed
-      (none_in world.tasks (λ t m. m))
-      (others_live world world.tasks (λ t m. m)
+  world_ends = ends_so (record world { tasks = rest }) k gone refl it.is.namespaces.mounts_listed
+      (none_in world.tasks (λ t m. m)) (others_live world world.tasks (λ t m. m)
       (λ n m. among_from_list_all (has_tasks nat_eq world) world.namespaces it.is.namespaces.namespaces_live n m))
       flag refl
 
   part_ends : namespaces_ended nat_eq (record part { tasks = rest_too }) ≡ v_part
-  part_ends =
-      ends_so (record part { tasks = rest_too }) k gone
+  part_ends = ends_so (record part { tasks = rest_too }) k gone
       (ap (map (λ (m : Mount ℕ). m.number)) (space_in_part world names it.is it.sealed_off k theirs_ends))
-      (part_listed world names name exits task called) (none_in part.tasks known)
-      (others_live part part.tasks known
+      (part_listed world names name exits task called) (none_in part.tasks known) (others_live part part.tasks known
       (λ n m. (among-from_filter (λ (s : Namespace ℕ). list_any (in_space_of s.number) old) world.namespaces n m).1))
       flag (sym (flags_same world names it.is it.sealed_off gone own_go))
 
   kept : MountInvariants nat_eq v
-  kept =
-      subst (MountInvariants nat_eq) world_ends
-      (ended_namespaces_keep_mounts (record world { tasks = rest })
+  kept = subst (MountInvariants nat_eq) world_ends (ended_namespaces_keep_mounts (record world { tasks = rest })
       (same_mounts world (record world { tasks = rest }) refl refl it.is.mounts))
 
   kept_there : MountInvariants nat_eq v_part
-  kept_there =
-      subst (MountInvariants nat_eq) part_ends
-      (ended_namespaces_keep_mounts (record part { tasks = rest_too })
+  kept_there = subst (MountInvariants nat_eq) part_ends (ended_namespaces_keep_mounts (record part { tasks = rest_too })
       (same_mounts part (record part { tasks = rest_too }) refl refl (part_mounts world names it.is it.sealed_off)))
 
   abbrev left_one : World ℕ
@@ -213,10 +196,8 @@ module _ (world : World ℕ) (names : List TaskName) (name called_so : TaskName)
   left_too = numbers_raised nat_eq part name [] (settled nat_eq v_part)
 
   parts : part_of nat_eq left_one names ≡ part_of nat_eq left_too names
-  parts =
-      detached_parts world names it.is it.sealed_off names gone own_go lasts rest rest_too world.change part.change
-      same less
-      (others_left world names name (Setns called_so) it task called caller
+  parts = detached_parts world names it.is it.sealed_off names gone own_go lasts rest rest_too world.change part.change
+      same less (others_left world names name (Setns called_so) it task called caller
       (stands world names name called_so it task called target target_in))
       (all_in_set world names name (Setns called_so) it task called caller
       (stands world names name called_so it task called target target_in)) mounts_stay flag kept kept_there name
@@ -230,15 +211,13 @@ module _ (world : World ℕ) (names : List TaskName) (name called_so : TaskName)
       ∙ ap (run_by world names name (Setns called_so) it fresh supply world fresh task) judged
       ∙ ap (λ w. granted Done (numbers_raised nat_eq world name [] (settled nat_eq w))) world_ends in
       let second : policy nat_eq supply part name (Setns called_so) ≡ granted Done left_too =
-      ap (ran name (Setns called_so) part supply)
-      (same_caller world names it.is it.sealed_off name it.theirs ∙ called)
+      ap (ran name (Setns called_so) part supply) (same_caller world names it.is it.sealed_off name it.theirs ∙ called)
       ∙ ap (run_by world names name (Setns called_so) it fresh supply part supply task)
       (sym (same_judgement world names name (Setns called_so) it fresh supply task called) ∙ judged)
       ∙ ap (λ o. granted Done (numbers_raised nat_eq part name [] (settled nat_eq (namespaces_ended nat_eq
       (record part {
         tasks = map (replaced_if_called (entered_at task target.namespace (unwrap_or o task.root))) part.tasks;
-      })))))
-      (root_alike world names name called_so it task called target target_in)
+      }))))) (root_alike world names name called_so it task called target target_in)
       ∙ ap (λ w. granted Done (numbers_raised nat_eq part name [] (settled nat_eq w))) part_ends in
       subst (λ p. EndAlike (grown names name (Setns called_so)
       (policy nat_eq fresh world name (Setns called_so)).answer)
@@ -279,10 +258,8 @@ module _ (world : World ℕ) (names : List TaskName) (name called_so : TaskName)
   judged_by member (Ok permit) judged its =
       granted_alike its.0 its.1 (judged ∙ ap Ok its.2) (nat_eq task.namespace its.0.namespace)
       (list_any (λ (t : Task ℕ). nat_eq task.namespace t.namespace) (filter stays world.tasks)) refl refl
-  judged_by member (Err deny) judged its =
-      denial_ends_alike world names name (Setns called_so) it fresh supply
-      (ap (λ o. is_ok (ran name (Setns called_so) world fresh o).answer) called
-      ∙ ap (λ j. is_ok
+  judged_by member (Err deny) judged its = denial_ends_alike world names name (Setns called_so) it fresh supply
+      (ap (λ o. is_ok (ran name (Setns called_so) world fresh o).answer) called ∙ ap (λ j. is_ok
       (run_by world names name (Setns called_so) it fresh supply world fresh task j).answer) judged)
 
 pub setns_ends_alike : SetnsEndsAlike

@@ -114,8 +114,7 @@ module _ (world : World ℕ) (names : List TaskName) (name called_so : TaskName)
           → option_map (λ m. topmost nat_eq part.mounts (root_of m)) o
           ≡ option_map (λ m. topmost nat_eq world.mounts (root_of m)) o
       by None e = refl
-      by (Some m) e =
-          ap Some (sym (same_topmost (one world names it.is it.sealed_off task member)
+      by (Some m) e = ap Some (sym (same_topmost (one world names it.is it.sealed_off task member)
           (other world names it.is it.sealed_off task member) task (On world names it.is it.sealed_off task member)
           (alike world names it.is it.sealed_off task member).walks (root_of m) (on_root m e)))
 
@@ -125,12 +124,10 @@ module _ (world : World ℕ) (names : List TaskName) (name called_so : TaskName)
   pub root_on : IsTheirs world names it.is.mounts root.mount
   root_on = by (root_mount nat_eq world space) refl
     where
-      by : (o : Option (Mount ℕ)) → root_mount nat_eq world space ≡ o
-          → IsTheirs world names it.is.mounts
+      by : (o : Option (Mount ℕ)) → root_mount nat_eq world space ≡ o → IsTheirs world names it.is.mounts
           (unwrap_or (option_map (λ m. topmost nat_eq world.mounts (root_of m)) o) task.root).mount
       by None e = root_theirs world names it.is task member
-      by (Some m) e =
-          theirs_from world names it.is.mounts (topmost nat_eq world.mounts (root_of m)).mount
+      by (Some m) e = theirs_from world names it.is.mounts (topmost nat_eq world.mounts (root_of m)).mount
           (own_topmost (one world names it.is it.sealed_off task member)
           (other world names it.is it.sealed_off task member) task (On world names it.is it.sealed_off task member)
           (alike world names it.is it.sealed_off task member).walks (root_of m) (on_root m e))
@@ -150,8 +147,7 @@ module _ (world : World ℕ) (names : List TaskName) (name called_so : TaskName)
       let from = among-from_map replaced theirs at.0 at.1 in
       let here : nat_eq n (replaced from.0).namespace ≡ true =
       ap (λ (x : Task ℕ). nat_eq n x.namespace) (sym from.2) ∙ at.2 in
-      ⊎_elim
-      (λ its. any_from_among (λ (t : Task ℕ). nat_eq n t.namespace) theirs target target_in
+      ⊎_elim (λ its. any_from_among (λ (t : Task ℕ). nat_eq n t.namespace) theirs target target_in
       (ap (λ (x : Task ℕ). nat_eq n x.namespace) (sym its.0) ∙ here))
       (λ same. any_from_among (λ (t : Task ℕ). nat_eq n t.namespace) theirs from.0 from.1
       (ap (λ (x : Task ℕ). nat_eq n x.namespace) (sym same) ∙ here))
@@ -172,21 +168,18 @@ module _ (world : World ℕ) (names : List TaskName) (name called_so : TaskName)
 
   -- A namespace with a task still has one
   module _ (entered : (n : ℕ) → (list : List (Task ℕ)) → ((t : Task ℕ) → Among t list → Among t world.tasks)
-      → ((t : Task ℕ) → Among t theirs → Among t list)
-      → list_any (λ (t : Task ℕ). nat_eq n t.namespace) list ≡ true
+      → ((t : Task ℕ) → Among t theirs → Among t list) → list_any (λ (t : Task ℕ). nat_eq n t.namespace) list ≡ true
       → list_any (λ (t : Task ℕ). nat_eq n t.namespace) (map replaced list) ≡ true) where
     own : (n : ℕ) → list_any (λ (t : Task ℕ). nat_eq n t.namespace) (map replaced theirs)
         ≡ list_any (λ (t : Task ℕ). nat_eq n t.namespace) theirs
-    own n =
-        same_truth (list_any (λ (t : Task ℕ). nat_eq n t.namespace) (map replaced theirs))
+    own n = same_truth (list_any (λ (t : Task ℕ). nat_eq n t.namespace) (map replaced theirs))
         (list_any (λ (t : Task ℕ). nat_eq n t.namespace) theirs) (entered_was n)
         (λ h. entered n theirs (in_world world names name exit_it task called) (λ t m. m) h)
 
     -- No namespace ends
     world_stays : namespaces_ended nat_eq (record world { tasks = map replaced world.tasks })
         ≡ record world { tasks = map replaced world.tasks }
-    world_stays =
-        none_ends (record world { tasks = map replaced world.tasks }) it.is.namespaces.mounts_listed
+    world_stays = none_ends (record world { tasks = map replaced world.tasks }) it.is.namespaces.mounts_listed
         (list_all_from_among (has_tasks nat_eq (record world { tasks = map replaced world.tasks })) world.namespaces
         (λ n m. entered n.number world.tasks (λ t k. k) (in_world world names name exit_it task called)
         (among_from_list_all (has_tasks nat_eq world) world.namespaces it.is.namespaces.namespaces_live n m)))
@@ -194,14 +187,12 @@ module _ (world : World ℕ) (names : List TaskName) (name called_so : TaskName)
 
     part_stays : namespaces_ended nat_eq (record part { tasks = map replaced part.tasks })
         ≡ record part { tasks = map replaced part.tasks }
-    part_stays =
-        none_ends (record part { tasks = map replaced part.tasks })
+    part_stays = none_ends (record part { tasks = map replaced part.tasks })
         (part_listed world names name exit_it task called)
         (list_all_from_among (has_tasks nat_eq (record part { tasks = map replaced part.tasks })) part.namespaces
         (λ n m. entered n.number theirs (in_world world names name exit_it task called) (λ t k. k)
         (among-from_filter (λ (s : Namespace ℕ). list_any (λ (t : Task ℕ). nat_eq s.number t.namespace) theirs)
-        world.namespaces n m).1))
-        (part_keeps world names name exit_it task called)
+        world.namespaces n m).1)) (part_keeps world names name exit_it task called)
 
     pub entering_alike : (fresh supply : Fresh ℕ)
         → judge_in nat_eq fresh world task (Setns called_so) ≡ Ok (ToEnterNamespace space)
@@ -214,11 +205,8 @@ module _ (world : World ℕ) (names : List TaskName) (name called_so : TaskName)
         (sym (same_judgement world names name (Setns called_so) it fresh supply task called) ∙ judged)
         ∙ ap (λ o. granted Done (numbers_raised nat_eq part name [] (settled nat_eq (namespaces_ended nat_eq
         (record part {
-          tasks = map (replaced_if_called
-              (entered_at task space (unwrap_or o task.root))) part.tasks;
-        })))))
-        root_alike
-        ∙ ap (λ w. granted Done (numbers_raised nat_eq part name [] (settled nat_eq w))) part_stays)
+          tasks = map (replaced_if_called (entered_at task space (unwrap_or o task.root))) part.tasks;
+        }))))) root_alike ∙ ap (λ w. granted Done (numbers_raised nat_eq part name [] (settled nat_eq w))) part_stays)
 
   -- Another task is in the namespace that it leaves
   module _ (other_task : Task ℕ) (there : Among other_task world.tasks)
@@ -234,8 +222,7 @@ module _ (world : World ℕ) (names : List TaskName) (name called_so : TaskName)
         → list_any (λ (t : Task ℕ). nat_eq n t.namespace) (map replaced list) ≡ true
     entered n list within all h =
         let at = any_among (λ (t : Task ℕ). nat_eq n t.namespace) list h in
-        ⊎_elim
-        (λ its. any_from_among (λ (t : Task ℕ). nat_eq n t.namespace) (map replaced list) (replaced other_task)
+        ⊎_elim (λ its. any_from_among (λ (t : Task ℕ). nat_eq n t.namespace) (map replaced list) (replaced other_task)
         (among-map replaced list other_task (all other_task other_in))
         (ap (λ (x : Task ℕ). nat_eq n x.namespace) other_same
         ∙ ap (nat_eq n) (together ∙ ap (λ (x : Task ℕ). x.namespace) its.1) ∙ at.2))
@@ -251,8 +238,7 @@ module _ (world : World ℕ) (names : List TaskName) (name called_so : TaskName)
   entered_itself same_space n list within all h =
       let at = any_among (λ (t : Task ℕ). nat_eq n t.namespace) list h in
       any_from_among (λ (t : Task ℕ). nat_eq n t.namespace) (map replaced list) (replaced at.0)
-      (among-map replaced list at.0 at.1)
-      (ap (nat_eq n) (⊎_elim
+      (among-map replaced list at.0 at.1) (ap (nat_eq n) (⊎_elim
       (λ its. ap (λ (x : Task ℕ). x.namespace) its.0 ∙ same_space ∙ ap (λ (x : Task ℕ). x.namespace) its.1)
       (λ same. ap (λ (x : Task ℕ). x.namespace) same)
       (replaced_how world names name (Setns called_so) it task called mine refl at.0 (within at.0 at.1))) ∙ at.2)

@@ -47,8 +47,7 @@ module _ (w : World ℕ) (k : ℕ) (gone : List ℕ) (same : numbers_in w k ≡ 
         mounts = map (λ m. regrouped_mount b left_by (after_going nat_eq w gone m)) w.mounts;
         namespaces = remain;
       }
-  ends_so listed empty others b flag =
-      one_namespace_ends w k listed empty others
+  ends_so listed empty others b flag = one_namespace_ends w k listed empty others
       ∙ ap (λ l. record (taken_away nat_eq w l) { namespaces = remain }) same
       ∙ ap (λ c. record (regrouped_by nat_eq c left_by) { namespaces = remain }) flag
       ∙ ap (λ (r : World ℕ). record r { namespaces = remain }) (regroup_is b left_by)
@@ -83,8 +82,7 @@ module _ (world : World ℕ) (names : List TaskName) (name : TaskName) (it : IsC
   stays_on = stays world names name it task called
 
   theirs_ends : is_own_namespace nat_eq world names k ≡ true
-  theirs_ends =
-      any_from_among (λ (t : Task ℕ). nat_eq k t.namespace) old task (member world names name it task called)
+  theirs_ends = any_from_among (λ (t : Task ℕ). nat_eq k t.namespace) old task (member world names name it task called)
       (eq-eqb k k refl)
 
   abbrev gone : List ℕ
@@ -109,8 +107,7 @@ module _ (world : World ℕ) (names : List TaskName) (name : TaskName) (it : IsC
     where
       by : (t : Task ℕ) → Among t list → nat_eq n t.namespace ≡ true → (b : Bool) → same_name name t.name ≡ b
           → list_any (λ (t : Task ℕ). nat_eq n t.namespace) (filter stays_on list) ≡ true
-      by t m e false f =
-          any_from_among (λ (t : Task ℕ). nat_eq n t.namespace) (filter stays_on list) t
+      by t m e false f = any_from_among (λ (t : Task ℕ). nat_eq n t.namespace) (filter stays_on list) t
           (among-filter stays_on list t m (ap not f)) e
       by t m e true f =
           let one = is_task world names name it task called t (within t m) f in
@@ -149,23 +146,18 @@ module _ (world : World ℕ) (names : List TaskName) (name : TaskName) (it : IsC
       (less_of_fewer world names it.is set rest (new_old world names name it task called)) flag
 
   world_ends : namespaces_ended nat_eq (record world { tasks = rest }) ≡ v
-  world_ends =
-      ends_so (record world { tasks = rest }) k gone refl it.is.namespaces.mounts_listed empty
+  world_ends = ends_so (record world { tasks = rest }) k gone refl it.is.namespaces.mounts_listed empty
       (list_all_from_among (λ (n : Namespace ℕ). nat_eq k n.number || has_tasks nat_eq
-      (record world { tasks = rest }) n)
-      world.namespaces (λ n m. by n m (nat_eq k n.number) refl)) flag refl
+      (record world { tasks = rest }) n) world.namespaces (λ n m. by n m (nat_eq k n.number) refl)) flag refl
     where
       by : (n : Namespace ℕ) → Among n world.namespaces → (b : Bool) → nat_eq k n.number ≡ b
           → (nat_eq k n.number || has_tasks nat_eq (record world { tasks = rest }) n) ≡ true
       by n m true e = or_left (nat_eq k n.number) _ e
-      by n m false e =
-          or_right (nat_eq k n.number) _
-          (still_in n.number e world.tasks (λ t q. q)
+      by n m false e = or_right (nat_eq k n.number) _ (still_in n.number e world.tasks (λ t q. q)
           (among_from_list_all (has_tasks nat_eq world) world.namespaces it.is.namespaces.namespaces_live n m))
 
   part_ends : namespaces_ended nat_eq (record part { tasks = rest_too }) ≡ v_part
-  part_ends =
-      ends_so (record part { tasks = rest_too }) k gone
+  part_ends = ends_so (record part { tasks = rest_too }) k gone
       (ap (map (λ (m : Mount ℕ). m.number)) (space_in_part world names it.is it.sealed_off k theirs_ends))
       (part_listed world names name it task called)
       (none_from_among (λ (t : Task ℕ). nat_eq k t.namespace) rest_too (λ t m.
@@ -173,35 +165,28 @@ module _ (world : World ℕ) (names : List TaskName) (name : TaskName) (it : IsC
       none_among (λ (t : Task ℕ). nat_eq k t.namespace) rest empty t
       (among-filter stays_on world.tasks t (in_world world names name it task called t from.0) from.1)))
       (list_all_from_among (λ (n : Namespace ℕ). nat_eq k n.number || has_tasks nat_eq
-      (record part { tasks = rest_too }) n)
-      part.namespaces (λ n m. by n m (nat_eq k n.number) refl)) flag
+      (record part { tasks = rest_too }) n) part.namespaces (λ n m. by n m (nat_eq k n.number) refl)) flag
       (sym (flags_same world names it.is it.sealed_off gone own_go))
     where
       by : (n : Namespace ℕ) → Among n part.namespaces → (b : Bool) → nat_eq k n.number ≡ b
           → (nat_eq k n.number || has_tasks nat_eq (record part { tasks = rest_too }) n) ≡ true
       by n m true e = or_left (nat_eq k n.number) _ e
-      by n m false e =
-          or_right (nat_eq k n.number) _
+      by n m false e = or_right (nat_eq k n.number) _
           (still_in n.number e old (in_world world names name it task called)
           (among-from_filter (λ (s : Namespace ℕ). list_any (λ (t : Task ℕ). nat_eq s.number t.namespace) old)
           world.namespaces n m).1)
 
   kept : MountInvariants nat_eq v
-  kept =
-      subst (MountInvariants nat_eq) world_ends
-      (ended_namespaces_keep_mounts (record world { tasks = rest })
+  kept = subst (MountInvariants nat_eq) world_ends (ended_namespaces_keep_mounts (record world { tasks = rest })
       (same_mounts world (record world { tasks = rest }) refl refl it.is.mounts))
 
   kept_there : MountInvariants nat_eq v_part
-  kept_there =
-      subst (MountInvariants nat_eq) part_ends
-      (ended_namespaces_keep_mounts (record part { tasks = rest_too })
+  kept_there = subst (MountInvariants nat_eq) part_ends (ended_namespaces_keep_mounts (record part { tasks = rest_too })
       (same_mounts part (record part { tasks = rest_too }) refl refl (part_mounts world names it.is it.sealed_off)))
 
   parts : part_of nat_eq (numbers_raised nat_eq world name [] (settled nat_eq v)) set
       ≡ part_of nat_eq (numbers_raised nat_eq part name [] (settled nat_eq v_part)) set
-  parts =
-      detached_parts world names it.is it.sealed_off set gone own_go lasts rest rest_too world.change part.change
+  parts = detached_parts world names it.is it.sealed_off set gone own_go lasts rest rest_too world.change part.change
       (same_left world names name it task called)
       (less_of_fewer world names it.is set rest (new_old world names name it task called))
       (others_left world names name it task called) (all_left world names name it task called) mounts_stay flag kept
@@ -214,16 +199,14 @@ module _ (world : World ℕ) (names : List TaskName) (name : TaskName) (it : IsC
   left_too = numbers_raised nat_eq part name [] (settled nat_eq v_part)
 
   first : (fresh : Fresh ℕ) → policy nat_eq fresh world name Exit ≡ granted Done left_one
-  first fresh =
-      ap (ran name Exit world fresh) called
+  first fresh = ap (ran name Exit world fresh) called
       ∙ ap (λ n. granted Done (numbers_raised nat_eq world name [] (settled nat_eq (namespaces_ended nat_eq
       (record world { tasks = filter (λ (t : Task ℕ). not (same_name n t.name)) world.tasks })))))
       (sym (its_name world names name it task called))
       ∙ ap (λ w. granted Done (numbers_raised nat_eq world name [] (settled nat_eq w))) world_ends
 
   second : (other : Fresh ℕ) → policy nat_eq other part name Exit ≡ granted Done left_too
-  second other =
-      ap (ran name Exit part other) (same_caller world names it.is it.sealed_off name it.theirs ∙ called)
+  second other = ap (ran name Exit part other) (same_caller world names it.is it.sealed_off name it.theirs ∙ called)
       ∙ ap (λ n. granted Done (numbers_raised nat_eq part name [] (settled nat_eq (namespaces_ended nat_eq
       (record part { tasks = filter (λ (t : Task ℕ). not (same_name n t.name)) part.tasks })))))
       (sym (its_name world names name it task called))

@@ -59,8 +59,7 @@ module _ (world : World ℕ) (names : List TaskName) (name : TaskName) (it : IsC
   apart = apart_if_sealed world names it.is it.sealed_off
 
   -- each group that a mount of the part receives from has a member there
-  heard_there : (g : ℕ) → Hears world names it.is.mounts apart.events g
-      → Living world names it.is.mounts apart.events g
+  heard_there : (g : ℕ) → Hears world names it.is.mounts apart.events g → Living world names it.is.mounts apart.events g
       → has_members nat_eq its_part.mounts g ≡ true
   heard_there g heard lives =
       let own = own_member world names it.is.mounts apart.events g heard lives in
@@ -79,8 +78,7 @@ module _ (world : World ℕ) (names : List TaskName) (name : TaskName) (it : IsC
   part_keeps =
       none_from_among (lost_a_group nat_eq its_part) its_part.mounts (λ y m. by y m (source_of y.propagation) refl)
     where
-      above : (g : ℕ) → Hears world names it.is.mounts apart.events g
-          → Living world names it.is.mounts apart.events g
+      above : (g : ℕ) → Hears world names it.is.mounts apart.events g → Living world names it.is.mounts apart.events g
           → (b : Bool) (o : Option ℕ) → world.master g ≡ o → is_lost_group nat_eq its_part (cond b o None) ≡ false
       above g heard lives false o e = refl
       above g heard lives true None e = refl
@@ -90,8 +88,7 @@ module _ (world : World ℕ) (names : List TaskName) (name : TaskName) (it : IsC
 
       placed : (y : Mount ℕ) → Among y its_part.mounts → (g : ℕ) → source_of y.propagation ≡ Some g → (o : Option ℕ)
           → y.namespace ≡ o → Among y world.mounts × (is_own world names its_old y ≡ true)
-      placed y m g e None f =
-          absurd (source_placed y.propagation g e (private_in_part world names it.is y m f))
+      placed y m g e None f = absurd (source_placed y.propagation g e (private_in_part world names it.is y m f))
       placed y m g e (Some n) f = own_part world names name it task called y m n f
 
       by : (y : Mount ℕ) → Among y its_part.mounts → (o : Option ℕ) → source_of y.propagation ≡ o
@@ -138,11 +135,8 @@ module _ (world : World ℕ) (names : List TaskName) (name : TaskName) (it : IsC
     where
       by : (b : Bool) → is_member_task names other ≡ b → b ≡ true
       by true e = refl
-      by false e =
-          absurd (true≢false
-          (sym (any_from_among (λ (t : Task ℕ). nat_eq other.namespace t.namespace) old task
-          (member world names name it task called)
-          (eq-eqb other.namespace task.namespace together))
+      by false e = absurd (true≢false (sym (any_from_among (λ (t : Task ℕ). nat_eq other.namespace t.namespace) old task
+          (member world names name it task called) (eq-eqb other.namespace task.namespace together))
           ∙ namespace_outside world names (apart world names name it task called) other
           (among-filter (λ t. not (is_member_task names t)) world.tasks other there (ap not e))))
 
@@ -159,8 +153,7 @@ module _ (world : World ℕ) (names : List TaskName) (name : TaskName) (it : IsC
     where
       by : (t : Task ℕ) → Among t list → nat_eq n t.namespace ≡ true → (b : Bool) → same_name name t.name ≡ b
           → list_any (λ (t : Task ℕ). nat_eq n t.namespace) (filter stays list) ≡ true
-      by t k e false f =
-          any_from_among (λ (t : Task ℕ). nat_eq n t.namespace) (filter stays list) t
+      by t k e false f = any_from_among (λ (t : Task ℕ). nat_eq n t.namespace) (filter stays list) t
           (among-filter stays list t k (ap not f)) e
       by t k e true f =
           let one = is_task world names name it task called t (within t k) f in
@@ -185,13 +178,10 @@ module _ (world : World ℕ) (names : List TaskName) (name : TaskName) (it : IsC
     roots = λ l m.
         let from = among-from_flat_map (λ (t : Task ℕ). t.root ∷ t.directory ∷ []) new l m in
         let t = new_old world names name it task called from.0 from.1 in
-        ⊎_elim
+        ⊎_elim (λ e. subst (λ (k : Location ℕ). IsTheirs world names it.is.mounts k.mount)
+        (sym e) (root_theirs world names it.is from.0 t)) (λ rest. ⊎_elim
         (λ e. subst (λ (k : Location ℕ). IsTheirs world names it.is.mounts k.mount)
-        (sym e) (root_theirs world names it.is from.0 t))
-        (λ rest. ⊎_elim
-        (λ e. subst (λ (k : Location ℕ). IsTheirs world names it.is.mounts k.mount)
-        (sym e) (directory_theirs world names it.is from.0 t))
-        (λ none. absurd none) rest) from.2;
+        (sym e) (directory_theirs world names it.is from.0 t)) (λ none. absurd none) rest) from.2;
     places = λ l m. let from = among-from_flat_map locations_of new l m in
         inl (among-flat_map locations_of old from.0 l (new_old world names name it task called from.0 from.1) from.2);
     others = others_left world names name it task called;
@@ -199,32 +189,26 @@ module _ (world : World ℕ) (names : List TaskName) (name : TaskName) (it : IsC
 
   -- No namespace ends
   world_stays : namespaces_ended nat_eq (record world { tasks = rest }) ≡ record world { tasks = rest }
-  world_stays =
-      none_ends (record world { tasks = rest }) it.is.namespaces.mounts_listed
+  world_stays = none_ends (record world { tasks = rest }) it.is.namespaces.mounts_listed
       (list_all_from_among (has_tasks nat_eq (record world { tasks = rest })) world.namespaces
       (λ n m. entered n.number world.tasks (λ t k. k) there
       (among_from_list_all (has_tasks nat_eq world) world.namespaces it.is.namespaces.namespaces_live n m)))
       (none_lost world it.is.mounts)
 
   part_stays : namespaces_ended nat_eq (record part { tasks = rest_too }) ≡ record part { tasks = rest_too }
-  part_stays =
-      none_ends (record part { tasks = rest_too }) (part_listed world names name it task called)
+  part_stays = none_ends (record part { tasks = rest_too }) (part_listed world names name it task called)
       (list_all_from_among (has_tasks nat_eq (record part { tasks = rest_too })) part.namespaces
       (λ n m. entered n.number old (λ t k. (among-from_filter (is_member_task names) world.tasks t k).0) in_old
       (among-from_filter (λ (s : Namespace ℕ). list_any (λ (t : Task ℕ). nat_eq s.number t.namespace) old)
-      world.namespaces n m).1))
-      (part_keeps world names name it task called)
+      world.namespaces n m).1)) (part_keeps world names name it task called)
 
   pub exit_alike : (fresh supply : Fresh ℕ) → EndsAlike world names name Exit fresh supply
-  exit_alike fresh supply =
-      let_go_alike world names set name Exit it task called fresh supply Done refl rest rest_too
-      (ap (λ n. granted Done (numbers_raised nat_eq world name []
-      (settled nat_eq (namespaces_ended nat_eq
+  exit_alike fresh supply = let_go_alike world names set name Exit it task called fresh supply Done refl rest rest_too
+      (ap (λ n. granted Done (numbers_raised nat_eq world name [] (settled nat_eq (namespaces_ended nat_eq
       (record world { tasks = filter (λ (t : Task ℕ). not (same_name n t.name)) world.tasks })))))
       (sym (its_name world names name it task called))
       ∙ ap (λ w. granted Done (numbers_raised nat_eq world name [] (settled nat_eq w))) world_stays)
-      (ap (λ n. granted Done (numbers_raised nat_eq part name []
-      (settled nat_eq (namespaces_ended nat_eq
+      (ap (λ n. granted Done (numbers_raised nat_eq part name [] (settled nat_eq (namespaces_ended nat_eq
       (record part { tasks = filter (λ (t : Task ℕ). not (same_name n t.name)) part.tasks })))))
       (sym (its_name world names name it task called))
       ∙ ap (λ w. granted Done (numbers_raised nat_eq part name [] (settled nat_eq w))) part_stays)
@@ -241,14 +225,11 @@ exits_end_alike world names name it fresh supply = by (task_called world name) r
         let other = any_among (λ (t : Task ℕ). nat_eq task.namespace t.namespace)
         (filter (λ (t : Task ℕ). not (same_name name t.name)) world.tasks) h in
         let from = among-from_filter (λ (t : Task ℕ). not (same_name name t.name)) world.tasks other.0 other.1 in
-        exit_alike world names name it task e other.0 from.0
-        (sym (eqb-true task.namespace other.0.namespace other.2))
+        exit_alike world names name it task e other.0 from.0 (sym (eqb-true task.namespace other.0.namespace other.2))
         (not-true (same_name name other.0.name) from.1) fresh supply
     last_or_not task e false h = last_exit_alike world names name it task e h fresh supply
 
     by : (o : Option (Task ℕ)) → task_called world name ≡ o → EndsAlike world names name Exit fresh supply
     by None e = unnamed_ends_alike world names name Exit it fresh supply e
-    by (Some task) e =
-        last_or_not task e
-        (list_any (λ (t : Task ℕ). nat_eq task.namespace t.namespace)
+    by (Some task) e = last_or_not task e (list_any (λ (t : Task ℕ). nat_eq task.namespace t.namespace)
         (filter (λ (t : Task ℕ). not (same_name name t.name)) world.tasks)) refl

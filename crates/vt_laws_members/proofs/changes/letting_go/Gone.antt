@@ -54,14 +54,12 @@ module _ (a : World ℕ) (set : List TaskName) (used : List ℕ) (lowers : List 
   lowers_there = own_lowers nat_eq a set
 
   abbrev alive : ℕ → Bool
-  alive number =
-      is_mounted nat_eq a number
+  alive number = is_mounted nat_eq a number
       || list_any (λ merged. has_layer_on nat_eq number merged && is_mounted nat_eq a merged.number) a.filesystems
 
   layer_alive : (number : ℕ) (merged : Filesystem ℕ) → Among merged a.filesystems → Among merged.number direct
       → has_layer_on nat_eq number merged ≡ true → alive number ≡ true
-  layer_alive number merged m at has =
-      or_right (is_mounted nat_eq a number) _
+  layer_alive number merged m at has = or_right (is_mounted nat_eq a number) _
       (any_from_among (λ other. has_layer_on nat_eq number other
       && is_mounted nat_eq a other.number) a.filesystems merged m
       (and_from (has_layer_on nat_eq number merged) (is_mounted nat_eq a merged.number) has
@@ -78,9 +76,7 @@ module _ (a : World ℕ) (set : List TaskName) (used : List ℕ) (lowers : List 
   direct_alive number m = or_left (is_mounted nat_eq a number) _ (direct_mounted a set used lowers it number m)
 
   used_alive : (number : ℕ) → Among number used_there → alive number ≡ true
-  used_alive number m =
-      ⊎_elim (direct_alive number)
-      (λ changed. let of = changed_of a set number changed in
+  used_alive number m = ⊎_elim (direct_alive number) (λ changed. let of = changed_of a set number changed in
       layer_alive number of.0 of.1 of.2 (has_layer number of.0 of.3 of.4 (eq-eqb number of.3.filesystem of.5)))
       (among-append direct _ number
       (among-from_each_once (direct ++ flat_map (λ n. change_layers (filesystem_numbered nat_eq a n)) direct) number m))
@@ -119,12 +115,11 @@ module _ (a : World ℕ) (set : List TaskName) (used : List ℕ) (lowers : List 
 
   dead_not_shown : (x : Filesystem ℕ) → filesystem_lives nat_eq a x ≡ false
       → shown_of a used_there lowers_there x ≡ None
-  dead_not_shown x dead =
-      cc (
-        false_from_ne_true (is_among nat_eq x.number used_there) (λ h. true≢false (sym (used_alive x.number
-            (among_numbers used_there x.number h)) ∙ dead)),
-        false_from_ne_true (has_lower x.number) (λ h. true≢false (sym (lower_alive x.number h) ∙ dead)),
-      )
+  dead_not_shown x dead = cc (
+    false_from_ne_true (is_among nat_eq x.number used_there) (λ h. true≢false (sym (used_alive x.number
+        (among_numbers used_there x.number h)) ∙ dead)),
+    false_from_ne_true (has_lower x.number) (λ h. true≢false (sym (lower_alive x.number h) ∙ dead)),
+  )
 
   sees_living : SeesTheSame a living set
   sees_living = record {
@@ -132,8 +127,7 @@ module _ (a : World ℕ) (set : List TaskName) (used : List ℕ) (lowers : List 
     mounts = refl;
     masters = λ group e. refl;
     direct = λ number m. found_alive number (direct_alive number (among_from_contains direct number m));
-    filesystems =
-        kept_filtered (shown_of a used_there lowers_there) (shown_of living used_there lowers_there)
+    filesystems = kept_filtered (shown_of a used_there lowers_there) (shown_of living used_there lowers_there)
         (filesystem_lives nat_eq a) a.filesystems
         (λ x m lives. ap (λ (f : Filesystem ℕ). cond (is_among nat_eq x.number used_there) (Some x)
         (when (has_lower x.number) (lowered f.files x))) (found_alive x.number lives))
@@ -141,8 +135,7 @@ module _ (a : World ℕ) (set : List TaskName) (used : List ℕ) (lowers : List 
     namespaces = refl;
   }
 
-  pub living_part : part_of nat_eq living set
-      ≡ part_of nat_eq a set
+  pub living_part : part_of nat_eq living set ≡ part_of nat_eq a set
   living_part = part_same a living set sees_living
 
   there : (x : Filesystem ℕ) → Among x living.filesystems → Among x a.filesystems
@@ -175,12 +168,8 @@ module _ (a : World ℕ) (set : List TaskName) (used : List ℕ) (lowers : List 
   pub living_mounted : OverlaysMounted living set
   living_mounted merged m over =
       let from = among-from_filter (filesystem_lives nat_eq a) a.filesystems merged m in
-      ⊎_elim (λ mounted. mounted)
-      (λ layer. let at = any_among
-      (λ other. has_layer_on nat_eq merged.number other && is_mounted nat_eq a other.number)
-      a.filesystems layer in
-      absurd (true≢false (sym over
-      ∙ ap is_some (it.plain merged at.0 from.0 at.1
-      (and_parts (has_layer_on nat_eq merged.number at.0)
-      (is_mounted nat_eq a at.0.number) at.2).0))))
+      ⊎_elim (λ mounted. mounted) (λ layer. let at = any_among
+      (λ other. has_layer_on nat_eq merged.number other && is_mounted nat_eq a other.number) a.filesystems layer in
+      absurd (true≢false (sym over ∙ ap is_some (it.plain merged at.0 from.0 at.1
+      (and_parts (has_layer_on nat_eq merged.number at.0) (is_mounted nat_eq a at.0.number) at.2).0))))
       (or_cases (is_mounted nat_eq a merged.number) _ from.1)

@@ -57,8 +57,7 @@ module _ (world : World ℕ) (names : List TaskName) (is : IsWorld nat_eq world)
   above_heard g lower e heard = heard_above world names is.mounts apart.events g lower e heard
 
   pub up_heard : (g x : ℕ) → IsHeard g → Among x (groups_up world g) → IsHeard x
-  up_heard g x heard m =
-      along_chain world.master IsHeard above_heard (length world.mounts) g x heard
+  up_heard g x heard m = along_chain world.master IsHeard above_heard (length world.mounts) g x heard
       (is_among_numbers (groups_up world g) x m)
 
   pub master_same : (g : ℕ) → IsHeard g → part.master g ≡ world.master g
@@ -75,11 +74,9 @@ module _ (world : World ℕ) (names : List TaskName) (is : IsWorld nat_eq world)
   pub part_source : (y : Mount ℕ) → Among y part.mounts → (g : ℕ) → source_of y.propagation ≡ Some g → Among y owns
   part_source y n g e =
       let from = among-from_filter_map (keep world names old) world.mounts y n in
-      ⊎_elim
-      (λ same.
+      ⊎_elim (λ same.
       let there = subst (λ k. Among k world.mounts) same from.1 in
-      ⊎_elim
-      (λ own. among-filter (is_own_mount nat_eq world names) world.mounts y there own)
+      ⊎_elim (λ own. among-filter (is_own_mount nat_eq world names) world.mounts y there own)
       (λ none. none_is_some g (sym (private_source y.propagation (and_parts (not (is_some y.mount_point))
       (is_private y.propagation)
       (sym (ap (λ o. is_some o || (not (is_some y.mount_point) && is_private y.propagation)) none)
@@ -102,15 +99,13 @@ module _ (world : World ℕ) (names : List TaskName) (is : IsWorld nat_eq world)
       by (Some j) h = ap (λ i. list_any (λ (t : Task ℕ). nat_eq i t.namespace) old) (sym (eqb-true n j h)) ∙ own
 
   pub own_kept : (m : Mount ℕ) → is_own world names old m ≡ true → keep world names old m ≡ Some m
-  own_kept m own =
-      kept_whole world names old m
+  own_kept m own = kept_whole world names old m
       (or_left (is_own world names old m) (is_at nat_eq (roots_and_directories old) m) own)
 
   -- the mounts of a namespace of theirs are in the part
   pub space_in_part : (n : ℕ) → list_any (λ (t : Task ℕ). nat_eq n t.namespace) old ≡ true
       → mounts_of nat_eq part n ≡ mounts_of nat_eq world n
-  space_in_part n own =
-      filter_both (keep world names old) (its_in n) (its_in n) world.mounts
+  space_in_part n own = filter_both (keep world names old) (its_in n) (its_in n) world.mounts
       (λ m at h. (own_kept m (own_in n own m h), h))
       (λ m y at h e. ⊎_elim (λ same. ap (its_in n) (sym same) ∙ h) (λ stub. ap (its_in n) (sym stub.0))
       (kept_how world names old m y e))

@@ -67,8 +67,7 @@ module _ (world : World ℕ) (names : List TaskName) (name : TaskName) (it : IsC
 
   -- who has its name is the caller
   pub is_task : (t : Task ℕ) → Among t world.tasks → same_name name t.name ≡ true → task ≡ t
-  is_task t m e =
-      only_task world.tasks it.is.tasks.one_task task t
+  is_task t m e = only_task world.tasks it.is.tasks.one_task task t
       (found_among (λ (x : Task ℕ). same_name name x.name) world.tasks task called) m
       (sym its_name ∙ same_task_name name t.name e)
 
@@ -136,13 +135,11 @@ module _ (world : World ℕ) (names : List TaskName) (name : TaskName) (it : IsC
       → Among y world.mounts × (is_own world names old y ≡ true)
   own_part y m n e =
       let from = among-from_filter_map (keep world names old) world.mounts y m in
-      ⊎_elim
-      (λ same. (
+      ⊎_elim (λ same. (
         subst (λ k. Among k world.mounts) same from.1,
         ⊎_elim (λ own. own)
             (λ none. none_is_some n (sym none ∙ e)) (part_mount world names it.is from.0 y from.1 from.2),
-      ))
-      (λ stub. none_is_some n (ap (λ (k : Mount ℕ). k.namespace) stub.0 ∙ e))
+      )) (λ stub. none_is_some n (ap (λ (k : Mount ℕ). k.namespace) stub.0 ∙ e))
       (kept_how world names old from.0 y from.2)
 
   pub part_listed : MountsAreListed (record part { tasks = tasks_too })

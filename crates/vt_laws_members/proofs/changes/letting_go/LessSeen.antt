@@ -66,26 +66,20 @@ module _ (world : World ℕ) (names : List TaskName) (is : IsWorld nat_eq world)
   owned_by tasks mounts = filter (is_own world names tasks) mounts
 
   abbrev directly_by : List (Task ℕ) → List (Mount ℕ) → List ℕ
-  directly_by tasks mounts =
-      map (λ (mount : Mount ℕ). mount.filesystem) (owned_by tasks mounts)
+  directly_by tasks mounts = map (λ (mount : Mount ℕ). mount.filesystem) (owned_by tasks mounts)
       ++ map (λ (l : Location ℕ). (mount_in nat_eq mounts l.mount).filesystem) (locations tasks)
 
   tasks_of_parts : members (part_of nat_eq other set) set ≡ members (part_of nat_eq one set) set
   tasks_of_parts = same_members other set ∙ less.tasks ∙ sym (same_members one set)
 
   pub less_own : own_mounts nat_eq other set ≡ own_mounts nat_eq one set
-  less_own =
-      sym (same_own other set)
-      ∙ ap (λ tasks. owned_by tasks (part_of nat_eq other set).mounts) tasks_of_parts
-      ∙ ap (owned_by (members (part_of nat_eq one set) set)) less.mounts
-      ∙ same_own one set
+  less_own = sym (same_own other set) ∙ ap (λ tasks. owned_by tasks (part_of nat_eq other set).mounts) tasks_of_parts
+      ∙ ap (owned_by (members (part_of nat_eq one set) set)) less.mounts ∙ same_own one set
 
   directly_same : used_directly nat_eq other set ≡ used_directly nat_eq one set
-  directly_same =
-      sym (same_directly other set)
+  directly_same = sym (same_directly other set)
       ∙ ap (λ tasks. directly_by tasks (part_of nat_eq other set).mounts) tasks_of_parts
-      ∙ ap (directly_by (members (part_of nat_eq one set) set)) less.mounts
-      ∙ same_directly one set
+      ∙ ap (directly_by (members (part_of nat_eq one set) set)) less.mounts ∙ same_directly one set
 
   abbrev direct : List ℕ
   direct = used_directly nat_eq one set
@@ -126,13 +120,10 @@ module _ (world : World ℕ) (names : List TaskName) (is : IsWorld nat_eq world)
   changed_in n = change_layers (filesystem_numbered nat_eq world n)
 
   pub used_was : (n : ℕ) → is_among nat_eq n used ≡ true → is_among nat_eq n used_before ≡ true
-  used_was n h =
-      is_among_numbers used_before n
+  used_was n h = is_among_numbers used_before n
       (among-each_once (used_directly nat_eq world names ++ flat_map changed_in (used_directly nat_eq world names)) n
-      (⊎_elim
-      (λ m. among-append_left (used_directly nat_eq world names)
-      (flat_map changed_in (used_directly nat_eq world names)) n
-      (less.direct n m))
+      (⊎_elim (λ m. among-append_left (used_directly nat_eq world names)
+      (flat_map changed_in (used_directly nat_eq world names)) n (less.direct n m))
       (λ m. let from = among-from_flat_map changed_in direct n m in
       among-append_right (used_directly nat_eq world names) (flat_map changed_in (used_directly nat_eq world names)) n
       (among-flat_map changed_in (used_directly nat_eq world names) from.0 n (less.direct from.0 from.1) from.2))
@@ -165,8 +156,7 @@ module _ (world : World ℕ) (names : List TaskName) (is : IsWorld nat_eq world)
 
   shown_part : (x : Filesystem ℕ)
       → part_of_filesystem nat_eq other set x ≡ shown_by (filesystem_numbered nat_eq part x.number).files x
-  shown_part x =
-      ap (λ u. cond (is_among nat_eq x.number u) (Some x)
+  shown_part x = ap (λ u. cond (is_among nat_eq x.number u) (Some x)
       (when (has_lower (own_lowers nat_eq other set) x.number) (part_of_lower nat_eq other set x))) less_used
       ∙ ap (λ l. cond (is_among nat_eq x.number used) (Some x) (when (has_lower l x.number) (record x {
         files = only_among nat_eq
@@ -179,21 +169,16 @@ module _ (world : World ℕ) (names : List TaskName) (is : IsWorld nat_eq world)
 
   -- what was not shown is not shown
   none_shown : (x : Filesystem ℕ) → was_shown x ≡ None → None ≡ part_of_filesystem nat_eq one set x
-  none_shown x e =
-      by (is_among nat_eq x.number used_before) refl (has_lower lowers_before x.number) refl
+  none_shown x e = by (is_among nat_eq x.number used_before) refl (has_lower lowers_before x.number) refl
       (is_among nat_eq x.number used) refl (has_lower lowers x.number) refl
     where
       by : (a : Bool) → is_among nat_eq x.number used_before ≡ a → (b : Bool) → has_lower lowers_before x.number ≡ b
           → (c : Bool) → is_among nat_eq x.number used ≡ c → (d : Bool) → has_lower lowers x.number ≡ d
           → None ≡ cond (is_among nat_eq x.number used) (Some x)
           (when (has_lower lowers x.number) (lowered (filesystem_numbered nat_eq world x.number).files x))
-      by true f b g c h d k =
-          none_is_some x
-          (sym e ∙ ap (λ q. cond q (Some x)
+      by true f b g c h d k = none_is_some x (sym e ∙ ap (λ q. cond q (Some x)
           (when (has_lower lowers_before x.number) (part_of_lower nat_eq world names x))) f)
-      by false f true g c h d k =
-          none_is_some (part_of_lower nat_eq world names x)
-          (sym e ∙ ap (λ q. cond q (Some x)
+      by false f true g c h d k = none_is_some (part_of_lower nat_eq world names x) (sym e ∙ ap (λ q. cond q (Some x)
           (when (has_lower lowers_before x.number) (part_of_lower nat_eq world names x))) f
           ∙ ap (λ q. when q (part_of_lower nat_eq world names x)) g)
       by false f false g true h d k = absurd (true≢false (sym (used_was x.number h) ∙ f))
@@ -207,8 +192,7 @@ module _ (world : World ℕ) (names : List TaskName) (is : IsWorld nat_eq world)
     y = part_of_lower nat_eq world names x
 
     was_so : was_shown x ≡ Some y
-    was_so =
-        ap (λ q. cond q (Some x) (when (has_lower lowers_before x.number) y)) unused ∙ ap (λ q. when q y) low
+    was_so = ap (λ q. cond q (Some x) (when (has_lower lowers_before x.number) y)) unused ∙ ap (λ q. when q y) low
 
     unused_now : is_among nat_eq x.number used ≡ false
     unused_now = by (is_among nat_eq x.number used) refl
@@ -231,19 +215,16 @@ module _ (world : World ℕ) (names : List TaskName) (is : IsWorld nat_eq world)
     }
 
     lowered_again : lowered y.files y ≡ lowered x.files x
-    lowered_again =
-        cc (cut_alike x.number lowers x.files (filter (lies_in_own_lower nat_eq world names x.number)
+    lowered_again = cc (cut_alike x.number lowers x.files (filter (lies_in_own_lower nat_eq world names x.number)
         x.files.numbers) has_lowers)
 
     shown_again : part_of_filesystem nat_eq other set y ≡ part_of_filesystem nat_eq one set x
-    shown_again =
-        shown_part y
+    shown_again = shown_part y
         ∙ ap (λ (f : Filesystem ℕ). shown_by f.files y) (found_in_part world names is x y m was_so)
         ∙ ap (λ q. cond q (Some y) (when (has_lower lowers x.number) (lowered y.files y))) unused_now
         ∙ ap (when (has_lower lowers x.number)) lowered_again
         ∙ ap (λ (f : Filesystem ℕ). when (has_lower lowers x.number) (lowered f.files x))
-        (sym (itself world names is x m unused low))
-        ∙ sym (ap (λ q. cond q (Some x)
+        (sym (itself world names is x m unused low)) ∙ sym (ap (λ q. cond q (Some x)
         (when (has_lower lowers x.number) (lowered (filesystem_numbered nat_eq world x.number).files x))) unused_now)
 
   shown_then : (x : Filesystem ℕ) → Among x world.filesystems
@@ -253,14 +234,11 @@ module _ (world : World ℕ) (names : List TaskName) (is : IsWorld nat_eq world)
       by : (o : Option (Filesystem ℕ)) → was_shown x ≡ o
           → then_some o (part_of_filesystem nat_eq other set) ≡ part_of_filesystem nat_eq one set x
       by None e = none_shown x e
-      by (Some z) e =
-          ⊎_elim
+      by (Some z) e = ⊎_elim
           (λ whole. subst (λ f. part_of_filesystem nat_eq other set f ≡ part_of_filesystem nat_eq one set x) whole.0
-          (shown_part x
-          ∙ ap (λ (f : Filesystem ℕ). shown_by f.files x) (found world names x.number whole.1)))
+          (shown_part x ∙ ap (λ (f : Filesystem ℕ). shown_by f.files x) (found world names x.number whole.1)))
           (λ low. subst (λ f. part_of_filesystem nat_eq other set f ≡ part_of_filesystem nat_eq one set x) low.0
-          (shown_again x m low.1 low.2))
-          (shown_how world names x z e)
+          (shown_again x m low.1 low.2)) (shown_how world names x z e)
 
   filesystems_less : filter_map (part_of_filesystem nat_eq other set) (filter_map was_shown world.filesystems)
       ≡ filter_map (part_of_filesystem nat_eq one set) world.filesystems

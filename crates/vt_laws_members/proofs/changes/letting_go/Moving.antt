@@ -77,16 +77,14 @@ module _ (world : World ℕ) (names : List TaskName) (is : IsWorld nat_eq world)
 
   pub sets_directory : (path : List ℕ) → IfOk (chdir_permit nat_eq one task path) SetsDirectory
   unfolding chdir_permit
-  sets_directory path =
-      of_walk StandsHere SetsDirectory (directory_walk nat_eq one task path)
+  sets_directory path = of_walk StandsHere SetsDirectory (directory_walk nat_eq one task path)
       (λ here. unless (enter_rules one task here.location) (Ok (ToSetDirectory here.location))) (at_directory path)
       (λ here on. of_rules SetsDirectory (enter_rules one task here.location) (Ok (ToSetDirectory here.location))
       (here.location, refl, on))
 
   pub sets_root : (path : List ℕ) → IfOk (chroot_permit nat_eq one task path) SetsRoot
   unfolding chroot_permit
-  sets_root path =
-      of_rules SetsRoot ((lacks task cap_sys_chroot, K1) ∷ []) _
+  sets_root path = of_rules SetsRoot ((lacks task cap_sys_chroot, K1) ∷ []) _
       (of_walk StandsHere SetsRoot (directory_walk nat_eq one task path)
       (λ here. unless (enter_rules one task here.location) (Ok (ToSetRoot here.location))) (at_directory path)
       (λ here on. of_rules SetsRoot (enter_rules one task here.location) (Ok (ToSetRoot here.location))
@@ -113,15 +111,12 @@ closes_end_alike world names name number it fresh other = by (task_called world 
               let d = among-from_map (λ (d : Descriptor ℕ). d.location)
               (filter (λ (d : Descriptor ℕ). not (number == d.number)) task.descriptors) l open_file in
               inr (subst (λ (k : Location ℕ). Among k (map (λ (d : Descriptor ℕ). d.location) task.descriptors))
-              (sym d.2)
-              (among-map (λ (d : Descriptor ℕ). d.location) task.descriptors d.0
+              (sym d.2) (among-map (λ (d : Descriptor ℕ). d.location) task.descriptors d.0
               (among-from_filter (λ (d : Descriptor ℕ). not
               (number == d.number)) task.descriptors d.0 d.1).0))) rest)) m);
-        }) fresh other refl
-        (spaces_kept world names name (Close number) it task e
+        }) fresh other refl (spaces_kept world names name (Close number) it task e
         (record task { descriptors = filter (λ (d : Descriptor ℕ). not (number == d.number)) task.descriptors }) refl
-        refl)
-        (ap (run_by world names name (Close number) it fresh other world fresh task) judged)
+        refl) (ap (run_by world names name (Close number) it fresh other world fresh task) judged)
         (ap (run_by world names name (Close number) it fresh other part other task)
         (sym (same_judgement world names name (Close number) it fresh other task e) ∙ judged))
 
@@ -129,15 +124,13 @@ closes_end_alike world names name number it fresh other = by (task_called world 
         → judge_in nat_eq fresh world task (Close number) ≡ j → IfOk j (Closes number)
         → EndsAlike world names name (Close number) fresh other
     judged_by task e (Ok permit) judged its = granted_so task e (judged ∙ ap Ok its)
-    judged_by task e (Err deny) judged its =
-        denial_ends_alike world names name (Close number) it fresh other
+    judged_by task e (Err deny) judged its = denial_ends_alike world names name (Close number) it fresh other
         (ap (λ o. is_ok (ran name (Close number) world fresh o).answer) e
         ∙ ap (λ j. is_ok (run_by world names name (Close number) it fresh other world fresh task j).answer) judged)
 
     by : (o : Option (Task ℕ)) → task_called world name ≡ o → EndsAlike world names name (Close number) fresh other
     by None e = unnamed_ends_alike world names name (Close number) it fresh other e
-    by (Some task) e =
-        judged_by task e (judge_in nat_eq fresh world task (Close number)) refl (closes task number)
+    by (Some task) e = judged_by task e (judge_in nat_eq fresh world task (Close number)) refl (closes task number)
 
 pub chdirs_end_alike : ChdirsEndAlike
 chdirs_end_alike world names name path it fresh other = by (task_called world name) refl
@@ -150,16 +143,14 @@ chdirs_end_alike world names name path it fresh other = by (task_called world na
         → judge_in nat_eq fresh world task (Chdir path) ≡ Ok (ToSetDirectory l)
         → EndsAlike world names name (Chdir path) fresh other
     granted_so task member e l on judged =
-        moved_alike world names name (Chdir path) it task e (record task { directory = l })
-        (record {
+        moved_alike world names name (Chdir path) it task e (record task { directory = l }) (record {
           named = refl;
           root = root_theirs world names it.is task member;
           directory = on;
           places = λ k m. ⊎_elim (λ root. inl (inl root)) (λ rest. ⊎_elim
               (λ here. inr (subst (λ (q : Location ℕ). IsTheirs world names it.is.mounts q.mount) (sym here) on))
               (λ open_file. inl (inr (inr open_file))) rest) m;
-        }) fresh other refl
-        (spaces_kept world names name (Chdir path) it task e
+        }) fresh other refl (spaces_kept world names name (Chdir path) it task e
         (record task { directory = l }) refl refl)
         (ap (run_by world names name (Chdir path) it fresh other world fresh task) judged)
         (ap (run_by world names name (Chdir path) it fresh other part other task)
@@ -171,8 +162,7 @@ chdirs_end_alike world names name path it fresh other = by (task_called world na
         → EndsAlike world names name (Chdir path) fresh other
     judged_by task member e (Ok permit) judged its =
         granted_so task member e its.0 (theirs_from world names it.is.mounts its.0.mount its.2) (judged ∙ ap Ok its.1)
-    judged_by task member e (Err deny) judged its =
-        denial_ends_alike world names name (Chdir path) it fresh other
+    judged_by task member e (Err deny) judged its = denial_ends_alike world names name (Chdir path) it fresh other
         (ap (λ o. is_ok (ran name (Chdir path) world fresh o).answer) e
         ∙ ap (λ j. is_ok (run_by world names name (Chdir path) it fresh other world fresh task j).answer) judged)
 
@@ -194,17 +184,14 @@ chroots_end_alike world names name path it fresh other = by (task_called world n
         → judge_in nat_eq fresh world task (Chroot path) ≡ Ok (ToSetRoot l)
         → EndsAlike world names name (Chroot path) fresh other
     granted_so task member e l on judged =
-        moved_alike world names name (Chroot path) it task e (record task { root = l })
-        (record {
+        moved_alike world names name (Chroot path) it task e (record task { root = l }) (record {
           named = refl;
           root = on;
           directory = directory_theirs world names it.is task member;
           places = λ k m. ⊎_elim
               (λ here. inr (subst (λ (q : Location ℕ). IsTheirs world names it.is.mounts q.mount) (sym here) on))
               (λ rest. inl (inr rest)) m;
-        }) fresh other refl
-        (spaces_kept world names name (Chroot path) it task e
-        (record task { root = l }) refl refl)
+        }) fresh other refl (spaces_kept world names name (Chroot path) it task e (record task { root = l }) refl refl)
         (ap (run_by world names name (Chroot path) it fresh other world fresh task) judged)
         (ap (run_by world names name (Chroot path) it fresh other part other task)
         (sym (same_judgement world names name (Chroot path) it fresh other task e) ∙ judged))
@@ -215,8 +202,7 @@ chroots_end_alike world names name path it fresh other = by (task_called world n
         → EndsAlike world names name (Chroot path) fresh other
     judged_by task member e (Ok permit) judged its =
         granted_so task member e its.0 (theirs_from world names it.is.mounts its.0.mount its.2) (judged ∙ ap Ok its.1)
-    judged_by task member e (Err deny) judged its =
-        denial_ends_alike world names name (Chroot path) it fresh other
+    judged_by task member e (Err deny) judged its = denial_ends_alike world names name (Chroot path) it fresh other
         (ap (λ o. is_ok (ran name (Chroot path) world fresh o).answer) e
         ∙ ap (λ j. is_ok (run_by world names name (Chroot path) it fresh other world fresh task j).answer) judged)
 

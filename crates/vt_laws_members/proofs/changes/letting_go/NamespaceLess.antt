@@ -58,16 +58,14 @@ shape_kept b t w gone m = by b (is_going nat_eq gone m.number)
 -- it is in no namespace, or in its own, and then where it is left
 pub placed_so : (b : Bool) (t w : World ℕ) (gone : List ℕ) (m : Mount ℕ)
     → (((ended_mount b t w gone m).namespace ≡ None) × ((ended_mount b t w gone m).mount_point ≡ None)
-    × (is_going nat_eq gone m.number ≡ true))
-    ⊎ (((ended_mount b t w gone m).namespace ≡ m.namespace)
+    × (is_going nat_eq gone m.number ≡ true)) ⊎ (((ended_mount b t w gone m).namespace ≡ m.namespace)
     × ((ended_mount b t w gone m).mount_point ≡ option_map (mount_point_left nat_eq w gone) m.mount_point)
     × (is_going nat_eq gone m.number ≡ false))
 placed_so b t w gone m = by b (is_going nat_eq gone m.number) refl
   where
     by : (b c : Bool) → is_going nat_eq gone m.number ≡ c
         → (((ended_by b c t w gone m).namespace ≡ None) × ((ended_by b c t w gone m).mount_point ≡ None)
-        × (is_going nat_eq gone m.number ≡ true))
-        ⊎ (((ended_by b c t w gone m).namespace ≡ m.namespace)
+        × (is_going nat_eq gone m.number ≡ true)) ⊎ (((ended_by b c t w gone m).namespace ≡ m.namespace)
         × ((ended_by b c t w gone m).mount_point ≡ option_map (mount_point_left nat_eq w gone) m.mount_point)
         × (is_going nat_eq gone m.number ≡ false))
     by true true e = inl (refl, refl, e)
@@ -129,29 +127,23 @@ source_from Unbindable g e = none_is_some g e
 
 -- a mount where they stand is theirs, or in no namespace
 pub stands_on : (world : World ℕ) (names : List TaskName) (is : IsWorld nat_eq world) (m : Mount ℕ)
-    → Among m world.mounts
-    → is_at nat_eq (roots_and_directories (members world names)) m ≡ true
+    → Among m world.mounts → is_at nat_eq (roots_and_directories (members world names)) m ≡ true
     → (is_own world names (members world names) m ≡ true) ⊎ (m.namespace ≡ None)
 stands_on world names is m n h =
     let l = any_among (λ (l : Location ℕ). nat_eq l.mount m.number) (roots_and_directories (members world names)) h in
     let t = among-from_flat_map (λ (t : Task ℕ). t.root ∷ t.directory ∷ []) (members world names) l.0 l.1 in
     let on = theirs t.0 t.1 l.0 t.2 in
-    let same : on.0 ≡ m =
-    sym (numbered world names is.mounts on.0 on.1)
+    let same : on.0 ≡ m = sym (numbered world names is.mounts on.0 on.1)
     ∙ ap (mount_numbered nat_eq world) (on.2 ∙ eqb-true l.0.mount m.number l.2) ∙ numbered world names is.mounts m n in
     subst (λ (k : Mount ℕ). (is_own world names (members world names) k ≡ true) ⊎ (k.namespace ≡ None)) same
     (⊎_elim inl (λ stood. inr stood.0) on.3)
   where
     theirs : (t : Task ℕ) → Among t (members world names) → (l : Location ℕ) → Among l (t.root ∷ t.directory ∷ [])
         → IsTheirs world names is.mounts l.mount
-    theirs t m l at =
-        ⊎_elim
+    theirs t m l at = ⊎_elim (λ e. subst (λ (q : Location ℕ). IsTheirs world names is.mounts q.mount) (sym e)
+        (root_theirs world names is t m)) (λ rest. ⊎_elim
         (λ e. subst (λ (q : Location ℕ). IsTheirs world names is.mounts q.mount) (sym e)
-        (root_theirs world names is t m))
-        (λ rest. ⊎_elim
-        (λ e. subst (λ (q : Location ℕ). IsTheirs world names is.mounts q.mount) (sym e)
-        (directory_theirs world names is t m))
-        (λ none. absurd none) rest) at
+        (directory_theirs world names is t m)) (λ none. absurd none) rest) at
 
 -- A set of tasks that is in no other namespaces than those of before, and at locations of before or where members get
 module _ (world : World ℕ) (names : List TaskName) (is : IsWorld nat_eq world) where
@@ -187,8 +179,7 @@ module _ (world : World ℕ) (names : List TaskName) (is : IsWorld nat_eq world)
   -- a mount where members get
   pub ground_at : (l : Location ℕ) → OnTheirs l → (m : Mount ℕ) → Among m world.mounts → l.mount ≡ m.number
       → IsGround world names is.mounts m
-  ground_at l (mount, there, number, ground) m n e =
-      subst (IsGround world names is.mounts)
+  ground_at l (mount, there, number, ground) m n e = subst (IsGround world names is.mounts)
       (sym (numbered world names is.mounts mount there) ∙ ap (mount_numbered nat_eq world) (number ∙ e)
       ∙ numbered world names is.mounts m n) ground
 
@@ -202,12 +193,9 @@ module _ (world : World ℕ) (names : List TaskName) (is : IsWorld nat_eq world)
 module _ (world : World ℕ) (names : List TaskName) (is : IsWorld nat_eq world)
     (sealed_off : sealed nat_eq world names ≡ true) (set : List TaskName) (gone : List ℕ)
     (own_go : (m : Mount ℕ) → Among m world.mounts → is_going nat_eq gone m.number ≡ true
-    → is_own world names (members world names) m ≡ true)
-    (lasts : ℕ → Bool) (tasks tasks_too : List (Task ℕ))
-    (change change_too : ℕ)
-    (same : filter (is_member_task set) tasks_too ≡ filter (is_member_task set) tasks)
-    (fewer : SetIsLess world names is set tasks)
-    (b : Bool) where
+    → is_own world names (members world names) m ≡ true) (lasts : ℕ → Bool) (tasks tasks_too : List (Task ℕ))
+    (change change_too : ℕ) (same : filter (is_member_task set) tasks_too ≡ filter (is_member_task set) tasks)
+    (fewer : SetIsLess world names is set tasks) (b : Bool) where
   abbrev part : World ℕ
   part = part_of nat_eq world names
 
@@ -274,13 +262,10 @@ module _ (world : World ℕ) (names : List TaskName) (is : IsWorld nat_eq world)
 
   -- an own mount of the set that is left was one
   pub own_before : (m : Mount ℕ) → owns new (after m) ≡ true → (owns new m ≡ true) × (owns old m ≡ true)
-  own_before m h =
-      ⊎_elim
-      (λ gone. absurd (true≢false (sym h
+  own_before m h = ⊎_elim (λ gone. absurd (true≢false (sym h
       ∙ ap (holds_of (λ n. list_any (λ (t : Task ℕ). nat_eq n t.namespace) new)) gone.0)))
       (λ stays. let mine = sym (ap (holds_of (λ n. list_any (λ (t : Task ℕ). nat_eq n t.namespace) new)) stays.0) ∙ h in
-      (mine, own_was m mine))
-      (placed_so b t_world world gone m)
+      (mine, own_was m mine)) (placed_so b t_world world gone m)
 
   pub root_ground : (l : Location ℕ) → Among l (roots_and_directories new) → (m : Mount ℕ) → Among m world.mounts
       → l.mount ≡ m.number → IsGround world names is.mounts m
@@ -296,18 +281,14 @@ module _ (world : World ℕ) (names : List TaskName) (is : IsWorld nat_eq world)
   at_was m n h =
       let l = any_among (λ (l : Location ℕ). nat_eq l.mount m.number) (locations new) h in
       ⊎_elim (λ before. inr (any_from_among (λ (l : Location ℕ). nat_eq l.mount m.number)
-      (locations old) l.0 before l.2))
-      (λ on. inl (ground_whole world names is m
-      (ground_at world names is l.0 on m n (eqb-true l.0.mount m.number l.2))))
-      (fewer.places l.0 l.1)
+      (locations old) l.0 before l.2)) (λ on. inl (ground_whole world names is m
+      (ground_at world names is l.0 on m n (eqb-true l.0.mount m.number l.2)))) (fewer.places l.0 l.1)
 
   -- a mount that is whole in the part is after alike
   whole_alike : (m : Mount ℕ) → Among m world.mounts → (o : Option ℕ) → m.namespace ≡ o
       → (owns old m || stands old m) ≡ true → (owns old m ≡ true)
-      ⊎ ((is_private m.propagation ≡ true) × (m.mount_point ≡ None))
-      → after_part m ≡ after m
-  whole_alike m n o e whole (inl own) =
-      mount_alike world names is sealed_off gone own_go b m
+      ⊎ ((is_private m.propagation ≡ true) × (m.mount_point ≡ None)) → after_part m ≡ after m
+  whole_alike m n o e whole (inl own) = mount_alike world names is sealed_off gone own_go b m
       (among-filter (is_own_mount nat_eq world names) world.mounts m n own)
   whole_alike m n o e whole (inr alone) = private_alike b t_part t_world part world gone m alone.0 alone.1
 
@@ -316,35 +297,26 @@ module _ (world : World ℕ) (names : List TaskName) (is : IsWorld nat_eq world)
   kept_as p q m = cond p (Some m) (when q (seen_by_descriptor m))
 
   less_whole : (m : Mount ℕ) → Among m world.mounts → (owns old m || stands old m) ≡ false
-      → (owns new (after m) || stands new (after m))
-      ≡ false
-  less_whole m n e =
-      by (owns new (after m)) refl (stands new (after m)) refl
+      → (owns new (after m) || stands new (after m)) ≡ false
+  less_whole m n e = by (owns new (after m)) refl (stands new (after m)) refl
     where
       by : (p : Bool) → owns new (after m) ≡ p → (q : Bool) → stands new (after m) ≡ q
           → (owns new (after m) || stands new (after m)) ≡ false
-      by true f q g =
-          absurd (true≢false (sym (or_left (owns old m) (stands old m) (own_before m f).1) ∙ e))
-      by false f true g =
-          absurd (true≢false (sym
+      by true f q g = absurd (true≢false (sym (or_left (owns old m) (stands old m) (own_before m f).1) ∙ e))
+      by false f true g = absurd (true≢false (sym
           (stands_was m n (ap (λ i. list_any (λ (l : Location ℕ). nat_eq l.mount i) (roots_and_directories new))
           (sym (shape_kept b t_world world gone m).number) ∙ g)) ∙ e))
       by false f false g = ap (λ c. c || stands new (after m)) f ∙ g
 
   stub_kept : (m : Mount ℕ) → Among m world.mounts → (owns old m || stands old m) ≡ false
-      → keep world names new (after m)
-      ≡ when (at new m) (seen_by_descriptor m)
-  stub_kept m n e =
-      ap (λ c. kept_as c (at new (after m)) (after m)) (less_whole m n e)
+      → keep world names new (after m) ≡ when (at new m) (seen_by_descriptor m)
+  stub_kept m n e = ap (λ c. kept_as c (at new (after m)) (after m)) (less_whole m n e)
       ∙ ap (λ i. when (list_any (λ (l : Location ℕ). nat_eq l.mount i) (locations new)) (seen_by_descriptor (after m)))
-      (shape_kept b t_world world gone m).number
-      ∙ ap (when (at new m)) (shape_kept b t_world world gone m).stub
+      (shape_kept b t_world world gone m).number ∙ ap (when (at new m)) (shape_kept b t_world world gone m).stub
 
   stub_whole : (m : Mount ℕ) → Among m world.mounts → (owns old m || stands old m) ≡ false
       → keep world names new (after_part (seen_by_descriptor m)) ≡ when (at new m) (seen_by_descriptor m)
-  stub_whole m n e =
-      ap (keep world names new) (stub_stays b t_part part gone m)
-      ∙ by (stands new m) refl
+  stub_whole m n e = ap (keep world names new) (stub_stays b t_part part gone m) ∙ by (stands new m) refl
     where
       by : (q : Bool) → stands new m ≡ q
           → cond (stands new m) (Some (seen_by_descriptor m)) (when (at new m) (seen_by_descriptor m))
@@ -358,18 +330,14 @@ module _ (world : World ℕ) (names : List TaskName) (is : IsWorld nat_eq world)
 
   private_if : (m : Mount ℕ) → Among m world.mounts → (owns old m || stands old m) ≡ true
       → (owns old m ≡ true) ⊎ ((is_private m.propagation ≡ true) × (m.mount_point ≡ None))
-  private_if m n whole =
-      ⊎_elim inl (λ stood. by stood) (or_cases (owns old m) (stands old m) whole)
+  private_if m n whole = ⊎_elim inl (λ stood. by stood) (or_cases (owns old m) (stands old m) whole)
     where
       by : stands old m ≡ true → (owns old m ≡ true) ⊎ ((is_private m.propagation ≡ true) × (m.mount_point ≡ None))
-      by stood =
-          ⊎_elim inl
-          (λ none.
+      by stood = ⊎_elim inl (λ none.
           let parts = and_parts (not (is_some m.mount_point)) (is_private m.propagation)
           (sym (ap (λ o. is_some o || (not (is_some m.mount_point) && is_private m.propagation)) none)
           ∙ among_from_list_all is_nowhere_or_attached world.mounts is.mounts.nowhere m n) in
-          inr (parts.1, no_point m.mount_point parts.0))
-          (stands_on world names is m n stood)
+          inr (parts.1, no_point m.mount_point parts.0)) (stands_on world names is m n stood)
 
   kept_then : (m : Mount ℕ) → Among m world.mounts
       → then_some (keep world names old m) (λ y. keep world names new (after_part y)) ≡ keep world names new (after m)
@@ -396,12 +364,10 @@ module _ (world : World ℕ) (names : List TaskName) (is : IsWorld nat_eq world)
 
   -- mounts by their numbers
   pub one_after : OneNumberEach ended
-  one_after =
-      pair-map (λ (p q : Mount ℕ). nat_eq p.number q.number)
+  one_after = pair-map (λ (p q : Mount ℕ). nat_eq p.number q.number)
       (λ (p q : Mount ℕ). nat_eq p.number q.number) after world.mounts
       (λ p q m n e. ap (λ i. nat_eq i (after q).number) (shape_kept b t_world world gone p).number
-      ∙ ap (nat_eq p.number) (shape_kept b t_world world gone q).number ∙ e)
-      is.mounts.one_number
+      ∙ ap (nat_eq p.number) (shape_kept b t_world world gone q).number ∙ e) is.mounts.one_number
 
   pub shown_after : (m : Mount ℕ) → Among m world.mounts → (l : Location ℕ) → l.mount ≡ m.number
       → mount_at nat_eq ended l ≡ after m
@@ -422,28 +388,23 @@ module _ (world : World ℕ) (names : List TaskName) (is : IsWorld nat_eq world)
       × (l.mount ≡ m.number)
   placed_old l m =
       let t = among-from_flat_map locations_of old l m in
-      mount_under world names is sealed_off l
-      (among-flat_map locations_of world.tasks t.0 l
+      mount_under world names is sealed_off l (among-flat_map locations_of world.tasks t.0 l
       (among-from_filter (is_member_task names) world.tasks t.0 t.1).0 t.2)
 
   -- a location of the set that is left is on a mount of the part
   pub place_shown : (l : Location ℕ) → Among l (locations new)
       → (m : Mount ℕ) × Among m world.mounts × (l.mount ≡ m.number) × (y : Mount ℕ) × (keep world names old m ≡ Some y)
-  place_shown l m =
-      ⊎_elim
-      (λ before. let on = placed_old l before in
+  place_shown l m = ⊎_elim (λ before. let on = placed_old l before in
       let shown = shown_at world names on.0
       (any_from_among (λ (p : Location ℕ). nat_eq p.mount on.0.number) (locations old) l
       before (eq-eqb l.mount on.0.number on.2)) in
-      (on.0, on.1, on.2, shown.0, shown.1))
-      (λ on. (
+      (on.0, on.1, on.2, shown.0, shown.1)) (λ on. (
         on.0,
         on.1,
         sym on.2,
         on.0,
         kept_whole world names old on.0 (ground_whole world names is on.0 on.3),
-      ))
-      (fewer.places l m)
+      )) (fewer.places l m)
 
   abbrev mounted : List ℕ
   mounted = map (λ (m : Mount ℕ). m.filesystem) (own_mounts nat_eq world names)
@@ -452,22 +413,19 @@ module _ (world : World ℕ) (names : List TaskName) (is : IsWorld nat_eq world)
   shows l = (mount_at nat_eq world l).filesystem
 
   direct_was : (n : ℕ) → Among n (used_directly nat_eq ended set) → Among n (used_directly nat_eq world names)
-  direct_was n m =
-      ⊎_elim
+  direct_was n m = ⊎_elim
       (λ shown. let y = among-from_map (λ (m : Mount ℕ). m.filesystem) (own_mounts nat_eq ended set) n shown in
       let own = among-from_filter (owns new) (map after world.mounts) y.0 y.1 in
       let from = among-from_map after world.mounts y.0 own.0 in
       let was = own_before from.0 (ap (owns new) (sym from.2) ∙ own.1) in
-      among-append_left mounted (map shows (locations old)) n
-      (subst (λ i. Among i mounted)
+      among-append_left mounted (map shows (locations old)) n (subst (λ i. Among i mounted)
       (sym (y.2 ∙ ap (λ (x : Mount ℕ). x.filesystem) from.2 ∙ (shape_kept b t_world world gone from.0).filesystem))
       (among-map (λ (m : Mount ℕ). m.filesystem) (own_mounts nat_eq world names) from.0
       (among-filter (is_own_mount nat_eq world names) world.mounts from.0 from.1 was.1))))
       (λ placed. let l = among-from_map (λ (l : Location ℕ). (mount_at nat_eq ended l).filesystem)
       (locations new) n placed in
       let on = place_shown l.0 l.1 in
-      subst (λ i. Among i (used_directly nat_eq world names)) (sym (l.2 ∙ filesystem_after on.0 on.1 l.0 on.2))
-      (⊎_elim
+      subst (λ i. Among i (used_directly nat_eq world names)) (sym (l.2 ∙ filesystem_after on.0 on.1 l.0 on.2)) (⊎_elim
       (λ before. among-append_right mounted (map shows (locations old)) (shows l.0)
       (among-map shows (locations old) l.0 before))
       (λ theirs. theirs_directly world names is l.0 theirs) (fewer.places l.0 l.1)))
@@ -483,8 +441,7 @@ module _ (world : World ℕ) (names : List TaskName) (is : IsWorld nat_eq world)
       let from = among-from_map after world.mounts y.0 own.0 in
       let was = own_before from.0 (ap (owns new) (sym from.2) ∙ own.1) in
       let is_in = member_was b t_world world gone group from.0 (ap (is_member_of nat_eq group) (sym from.2) ∙ y.2) in
-      master_alike world names is sealed_off gone own_go b group
-      (heard_by_own world names is sealed_off from.0
+      master_alike world names is sealed_off gone own_go b group (heard_by_own world names is sealed_off from.0
       (among-filter (is_own_mount nat_eq world names) world.mounts from.0 from.1 was.1) group
       (source_from from.0.propagation group (member_group group from.0 is_in)))
 

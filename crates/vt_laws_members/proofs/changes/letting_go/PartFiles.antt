@@ -21,8 +21,7 @@ module _ (world : World ℕ) (names : List TaskName) (is : IsWorld nat_eq world)
   shown = part_of_filesystem nat_eq world names
 
   shown_number : (x y : Filesystem ℕ) → shown x ≡ Some y → (y.number ≡ x.number) × (y.overlay ≡ x.overlay)
-  shown_number x y e =
-      ⊎_elim
+  shown_number x y e = ⊎_elim
       (λ whole. (ap (λ (f : Filesystem ℕ). f.number) (sym whole.0), ap (λ (f : Filesystem ℕ). f.overlay) (sym whole.0)))
       (λ low. (ap (λ (f : Filesystem ℕ). f.number) (sym low.0), ap (λ (f : Filesystem ℕ). f.overlay) (sym low.0)))
       (shown_how world names x y e)
@@ -56,14 +55,11 @@ module _ (world : World ℕ) (names : List TaskName) (is : IsWorld nat_eq world)
         → IsCut y.number (own_lowers nat_eq now set) y.files
     cut_in_part y m unused low =
         let from = among-from_filter_map shown world.filesystems y m in
-        ⊎_elim
-        (λ whole. subst (λ (f : Filesystem ℕ). IsCut f.number (own_lowers nat_eq now set) f.files) whole.0
+        ⊎_elim (λ whole. subst (λ (f : Filesystem ℕ). IsCut f.number (own_lowers nat_eq now set) f.files) whole.0
         (whole_cut world is (own_lowers nat_eq now set) from.0 from.1))
-        (λ lower. subst (λ (f : Filesystem ℕ). IsCut f.number (own_lowers nat_eq now set) f.files) lower.0
-        (record {
+        (λ lower. subst (λ (f : Filesystem ℕ). IsCut f.number (own_lowers nat_eq now set) f.files) lower.0 (record {
           whole = from.0.files;
           chosen = filter (lies_in_own_lower nat_eq world names from.0.number) from.0.files.numbers;
           has = has_lowers world names is set next next_part less from.0 from.1 lower.1 lower.2;
           same = refl;
-        }))
-        (shown_how world names from.0 y from.2)
+        })) (shown_how world names from.0 y from.2)

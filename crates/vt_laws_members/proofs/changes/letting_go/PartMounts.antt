@@ -24,12 +24,9 @@ module _ (world : World ℕ) (names : List TaskName) where
   -- what is kept has no mount points in common that the mounts had not
   share_less : (x y u z : Mount ℕ) → kept x ≡ Some y → kept u ≡ Some z → share_a_mount_point nat_eq x u ≡ false
       → share_a_mount_point nat_eq y z ≡ false
-  share_less x y u z e f apart_so =
-      ⊎_elim
-      (λ same. ⊎_elim
+  share_less x y u z e f apart_so = ⊎_elim (λ same. ⊎_elim
       (λ too. ap (λ k. share_a_mount_point nat_eq k z) (sym same) ∙ ap (share_a_mount_point nat_eq x) (sym too)
-      ∙ apart_so)
-      (λ stub. ap (λ (k : Mount ℕ). share_a_mount_point nat_eq y k) (sym stub.0) ∙ none y.mount_point)
+      ∙ apart_so) (λ stub. ap (λ (k : Mount ℕ). share_a_mount_point nat_eq y k) (sym stub.0) ∙ none y.mount_point)
       (kept_how world names (members world names) u z f))
       (λ stub. ap (λ (k : Mount ℕ). share_a_mount_point nat_eq k z) (sym stub.0))
       (kept_how world names (members world names) x y e)
@@ -50,8 +47,7 @@ module _ (world : World ℕ) (names : List TaskName) where
           → any_pair (share_a_mount_point nat_eq) (filter_map kept rest) ≡ false
           → any_pair (share_a_mount_point nat_eq) (cons_option o (filter_map kept rest)) ≡ false
       by None f none later = later
-      by (Some y) f none later =
-          or_from (list_any (share_a_mount_point nat_eq y) (filter_map kept rest))
+      by (Some y) f none later = or_from (list_any (share_a_mount_point nat_eq y) (filter_map kept rest))
           (any_pair (share_a_mount_point nat_eq) (filter_map kept rest))
           (none_from_among (share_a_mount_point nat_eq y) (filter_map kept rest) (λ z m.
           let from = among-from_filter_map kept rest z m in
@@ -78,8 +74,7 @@ module _ (world : World ℕ) (names : List TaskName) (is : IsWorld nat_eq world)
       (master_same world names is sealed_off it (heard, has_no_master it members_are none) ∙ none)
   lives_there g heard (has_master it above members_are e later) =
       has_master it above (in_it it heard (has_master it above members_are e later))
-      (master_same world names is sealed_off it (heard, has_master it above members_are e later) ∙ e)
-      (lives_there above
+      (master_same world names is sealed_off it (heard, has_master it above members_are e later) ∙ e) (lives_there above
       (above_heard world names is sealed_off above it e (heard, has_master it above members_are e later)).0 later)
 
   pub part_mounts : MountInvariants nat_eq part
@@ -89,8 +84,7 @@ module _ (world : World ℕ) (names : List TaskName) (is : IsWorld nat_eq world)
     standing = part_stands world names is;
     nowhere = list_all_from_among is_nowhere_or_attached part.mounts (λ y m.
         let from = among-from_filter_map (keep world names (members world names)) world.mounts y m in
-        ⊎_elim
-        (λ same. subst (λ k. is_nowhere_or_attached k ≡ true) same
+        ⊎_elim (λ same. subst (λ k. is_nowhere_or_attached k ≡ true) same
         (among_from_list_all is_nowhere_or_attached world.mounts is.mounts.nowhere from.0 from.1))
         (λ stub. ap (λ (k : Mount ℕ). is_nowhere_or_attached k) (sym stub.0))
         (kept_how world names (members world names) from.0 y from.2));

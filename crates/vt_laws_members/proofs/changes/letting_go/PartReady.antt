@@ -66,14 +66,12 @@ module _ (world : World ℕ) (names : List TaskName) (is : IsWorld nat_eq world)
       (kept_how world names old m y e)
 
   attached_lives : (y : Mount ℕ) (n : ℕ) → Among y part.mounts → y.namespace ≡ Some n → Among y living.mounts
-  attached_lives y n at e =
-      among-filter (mount_lives nat_eq later_part) part.mounts y at
+  attached_lives y n at e = among-filter (mount_lives nat_eq later_part) part.mounts y at
       (or_left (is_some y.namespace) (is_located nat_eq later_part y.number) (ap is_some e))
 
   located_lives : (y : Mount ℕ) (l : Location ℕ) → Among y part.mounts → Among l (all_locations later_part)
       → l.mount ≡ y.number → Among y living.mounts
-  located_lives y l at n e =
-      among-filter (mount_lives nat_eq later_part) part.mounts y at
+  located_lives y l at n e = among-filter (mount_lives nat_eq later_part) part.mounts y at
       (or_right (is_some y.namespace) (is_located nat_eq later_part y.number)
       (any_from_among (λ (k : Location ℕ). nat_eq y.number k.mount) (all_locations later_part) l n
       (eq-eqb y.number l.mount (sym e))))
@@ -89,46 +87,33 @@ module _ (world : World ℕ) (names : List TaskName) (is : IsWorld nat_eq world)
       let t = among-from_flat_map locations_of (filter (is_member_task set) tasks_too) l m in
       let number : l.mount ≡ shows.0.number = on.2 ∙ sym (number_kept on.0 shows.0 shows.1) in (
         shows.0,
-        located_lives shows.0 l there_too
-            (among-flat_map locations_of tasks_too t.0 l
-            (among-from_filter (is_member_task set) tasks_too t.0 t.1).0 t.2)
-            number,
+        located_lives shows.0 l there_too (among-flat_map locations_of tasks_too t.0 l
+            (among-from_filter (is_member_task set) tasks_too t.0 t.1).0 t.2) number,
         number,
       )
     where
-      by : (m : Mount ℕ) → Among m world.mounts
-          → Among l (locations old) ⊎ IsTheirs world names is.mounts l.mount
+      by : (m : Mount ℕ) → Among m world.mounts → Among l (locations old) ⊎ IsTheirs world names is.mounts l.mount
           → l.mount ≡ m.number → (y : Mount ℕ) × (kept m ≡ Some y)
       by m n (inl before) e =
           shown_at world names m (any_from_among (λ (k : Location ℕ). nat_eq k.mount m.number) (locations old) l before
           (eq-eqb l.mount m.number e))
       by m n (inr theirs) e = (
         m,
-        kept_whole world names old m
-            (ground_whole world names is sealed_off set tasks change it m
-            (ground_is world names is sealed_off set tasks change it m n
-            l.mount e theirs)),
+        kept_whole world names old m (ground_whole world names is sealed_off set tasks change it m
+            (ground_is world names is sealed_off set tasks change it m n l.mount e theirs)),
       )
 
   -- a mount of the part with a mount point is theirs, and whole
   whole_point : (m y : Mount ℕ) (l : Location ℕ) → Among m world.mounts → kept m ≡ Some y → y.mount_point ≡ Some l
       → (m ≡ y) × (is_own world names old y ≡ true)
-  whole_point m y l n e point =
-      ⊎_elim
-      (λ its. (
-        its,
-        ⊎_elim (λ own. own)
-            (λ none. absurd (nowhere_stands world names is.mounts y l
-            (subst (λ k. Among k world.mounts) its n) none point))
-            (part_mount world names is m y n e),
-      ))
-      (λ stub. none_is_some l (ap (λ (k : Mount ℕ). k.mount_point) stub.0 ∙ point))
-      (kept_how world names old m y e)
+  whole_point m y l n e point = ⊎_elim (λ its. (
+    its,
+    ⊎_elim (λ own. own) (λ none. absurd (nowhere_stands world names is.mounts y l
+        (subst (λ k. Among k world.mounts) its n) none point)) (part_mount world names is m y n e),
+  )) (λ stub. none_is_some l (ap (λ (k : Mount ℕ). k.mount_point) stub.0 ∙ point)) (kept_how world names old m y e)
 
   own_whole : (k : Mount ℕ) → Among k world.mounts → is_own world names old k ≡ true → Among k part.mounts
-  own_whole k n own =
-      among-filter_map kept world.mounts k k n
-      (kept_whole world names old k
+  own_whole k n own = among-filter_map kept world.mounts k k n (kept_whole world names old k
       (or_left (is_own world names old k) (is_at nat_eq (roots_and_directories old) k) own))
 
   parents_so : (y : Mount ℕ) (l : Location ℕ) → Among y living.mounts → y.mount_point ≡ Some l
@@ -172,8 +157,7 @@ module _ (world : World ℕ) (names : List TaskName) (is : IsWorld nat_eq world)
   sees = now_less world names is set tasks tasks_too change change_too less same
 
   one_number : OneNumberEach living
-  one_number =
-      pair-filter (λ (p q : Mount ℕ). nat_eq p.number q.number) (mount_lives nat_eq later_part) part.mounts
+  one_number = pair-filter (λ (p q : Mount ℕ). nat_eq p.number q.number) (mount_lives nat_eq later_part) part.mounts
       (part_one_number world names is)
 
   pub part_ready : Ready living set (used_filesystems nat_eq later set) (own_lowers nat_eq later set)

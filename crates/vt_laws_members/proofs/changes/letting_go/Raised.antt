@@ -31,8 +31,7 @@ in_no_group group Unbindable e = refl
 
 -- mounts outside every namespace are private
 abbrev pub DetachedArePrivate : World ℕ → Type 0
-DetachedArePrivate before =
-    (m : Mount ℕ) → Among m before.mounts → m.namespace ≡ None → is_private m.propagation ≡ true
+DetachedArePrivate before = (m : Mount ℕ) → Among m before.mounts → m.namespace ≡ None → is_private m.propagation ≡ true
 
 module _ (before : World ℕ) (in_use : AllInUse before) (private_ones : DetachedArePrivate before) (name : TaskName)
     (tasks : List (Task ℕ)) where
@@ -46,8 +45,7 @@ module _ (before : World ℕ) (in_use : AllInUse before) (private_ones : Detache
   lives = mount_lives nat_eq later
 
   mounts_stay : (n : ℕ) → mounts_of nat_eq after n ≡ mounts_of nat_eq before n
-  mounts_stay n =
-      filter_less (λ (m : Mount ℕ). holds_of (nat_eq n) m.namespace) lives before.mounts
+  mounts_stay n = filter_less (λ (m : Mount ℕ). holds_of (nat_eq n) m.namespace) lives before.mounts
       (λ m h. or_left (is_some m.namespace) (is_located nat_eq later m.number) (attached n m.namespace h))
 
   -- a group with a member keeps one
@@ -59,10 +57,8 @@ module _ (before : World ℕ) (in_use : AllInUse before) (private_ones : Detache
     where
       by : (m : Mount ℕ) → Among m before.mounts → is_member_of nat_eq group m ≡ true → (o : Option ℕ) → m.namespace ≡ o
           → has_members nat_eq after.mounts group ≡ true
-      by m n its None e =
-          absurd (true≢false (sym its ∙ in_no_group group m.propagation (private_ones m n e)))
-      by m n its (Some k) e =
-          any_from_among (is_member_of nat_eq group) (filter lives before.mounts) m
+      by m n its None e = absurd (true≢false (sym its ∙ in_no_group group m.propagation (private_ones m n e)))
+      by m n its (Some k) e = any_from_among (is_member_of nat_eq group) (filter lives before.mounts) m
           (among-filter lives before.mounts m n
           (or_left (is_some m.namespace) (is_located nat_eq later m.number) (ap is_some e))) its
 
@@ -76,14 +72,11 @@ module _ (before : World ℕ) (in_use : AllInUse before) (private_ones : Detache
       by : (b : Bool) → has_members nat_eq before.mounts group ≡ b
           → cond (has_members nat_eq after.mounts group) (before.master group) None ≡ before.master group
       by true e = ap (λ c. cond c (before.master group) None) (members_stay group e)
-      by false e =
-          same (has_members nat_eq after.mounts group) (before.master group) (in_use.groups group e)
+      by false e = same (has_members nat_eq after.mounts group) (before.master group) (in_use.groups group e)
 
   same_mounts : (n : ℕ) → same_mounts_in nat_eq before after n ≡ true
-  same_mounts n =
-      (λ i. same_list (same_mount nat_eq before (record before { master = λ group. masters_stay group i }))
-      (mounts_of nat_eq before n) (mounts_stay n i))
-      ∙ all_themselves before name tasks (mounts_of nat_eq before n)
+  same_mounts n = (λ i. same_list (same_mount nat_eq before (record before { master = λ group. masters_stay group i }))
+      (mounts_of nat_eq before n) (mounts_stay n i)) ∙ all_themselves before name tasks (mounts_of nat_eq before n)
 
   namespace_stays : (namespace : Namespace ℕ) → raised_namespace nat_eq before after namespace ≡ namespace
   namespace_stays namespace = cc (same_mounts namespace.number)

@@ -42,8 +42,7 @@ numbers_kept {A} key k same (x ∷ rest) e =
         → any_pair (λ y z. nat_eq (key y) (key z)) (filter_map k rest) ≡ false
         → any_pair (λ y z. nat_eq (key y) (key z)) (cons_option o (filter_map k rest)) ≡ false
     by None f none later = later
-    by (Some y) f none later =
-        or_from (list_any (λ z. nat_eq (key y) (key z)) (filter_map k rest))
+    by (Some y) f none later = or_from (list_any (λ z. nat_eq (key y) (key z)) (filter_map k rest))
         (any_pair (λ u z. nat_eq (key u) (key z)) (filter_map k rest))
         (none_from_among (λ z. nat_eq (key y) (key z)) (filter_map k rest) (λ z m.
         let from = among-from_filter_map k rest z m in
@@ -52,8 +51,7 @@ numbers_kept {A} key k same (x ∷ rest) e =
 
 -- mounts of a part have numbers of their own
 pub part_numbers : (b : World ℕ) (set : List TaskName) → OneNumberEach b → OneNumberEach (part_of nat_eq b set)
-part_numbers b set one =
-    numbers_kept (λ (m : Mount ℕ). m.number) (keep b set (members b set))
+part_numbers b set one = numbers_kept (λ (m : Mount ℕ). m.number) (keep b set (members b set))
     (λ x y e. ⊎_elim (λ same. ap (λ (m : Mount ℕ). m.number) (sym same))
     (λ stub. ap (λ (m : Mount ℕ). m.number) (sym stub.0)) (kept_how b set (members b set) x y e)) b.mounts one
 
@@ -107,13 +105,11 @@ module _ (a : World ℕ) (set : List TaskName) where
     pub free : (x : Filesystem ℕ) → Among x a.filesystems → is_among nat_eq x.number used ≡ true
         → Alone x.number ⊎ AllNamed x
     pub cut : (x : Filesystem ℕ) → Among x a.filesystems → is_among nat_eq x.number used ≡ false
-        → list_any (λ (layer : Layer ℕ). nat_eq x.number layer.filesystem) lowers ≡ true
-        → IsCut x.number lowers x.files
+        → list_any (λ (layer : Layer ℕ). nat_eq x.number layer.filesystem) lowers ≡ true → IsCut x.number lowers x.files
 
   -- each overlay is mounted
   abbrev pub OverlaysMounted : Type 0
-  OverlaysMounted =
-      (merged : Filesystem ℕ) → Among merged a.filesystems → is_overlay merged ≡ true
+  OverlaysMounted = (merged : Filesystem ℕ) → Among merged a.filesystems → is_overlay merged ≡ true
       → is_mounted nat_eq a merged.number ≡ true
 
 module _ (a : World ℕ) (set : List TaskName) (used : List ℕ) (lowers : List (Layer ℕ))
@@ -142,14 +138,12 @@ module _ (a : World ℕ) (set : List TaskName) (used : List ℕ) (lowers : List 
           → ((y : Mount ℕ) × (kept m ≡ Some y)) × Among number (used_directly nat_eq a set)
       owned own = (
         (m, kept_whole a set members_of m (or_left (is_own a set members_of m) _ own)),
-        among-append_left mounted_there (map shows (locations members_of)) number
-            (subst (λ k. Among k mounted_there) e
+        among-append_left mounted_there (map shows (locations members_of)) number (subst (λ k. Among k mounted_there) e
             (among-map (λ (x : Mount ℕ). x.filesystem) (own_mounts nat_eq a set) m
             (among-filter (is_own_mount nat_eq a set) a.mounts m at own))),
       )
 
-      nowhere : m.namespace ≡ None
-          → ((y : Mount ℕ) × (kept m ≡ Some y)) × Among number (used_directly nat_eq a set)
+      nowhere : m.namespace ≡ None → ((y : Mount ℕ) × (kept m ≡ Some y)) × Among number (used_directly nat_eq a set)
       nowhere d =
           let l = any_among (λ (k : Location ℕ). nat_eq m.number k.mount) (all_locations a)
           (sym (ap (λ o. is_some o || is_located nat_eq a m.number) d) ∙ it.lives m at) in
@@ -157,8 +151,7 @@ module _ (a : World ℕ) (set : List TaskName) (used : List ℕ) (lowers : List 
           let on : shows l.0 ≡ number = ap (λ (x : Mount ℕ). x.filesystem) (mount_is m at l.0 same) ∙ e in
           let its = none.locations l.0 l.1 on in (
             shown_at a set m (any_from_among (λ (k : Location ℕ). nat_eq k.mount m.number)
-                (locations members_of) l.0 its
-                (eq-eqb l.0.mount m.number same)),
+                (locations members_of) l.0 its (eq-eqb l.0.mount m.number same)),
             among-append_right mounted_there (map shows (locations members_of)) number
                 (subst (λ k. Among k (map shows (locations members_of))) on
                 (among-map shows (locations members_of) l.0 its)),
@@ -166,8 +159,7 @@ module _ (a : World ℕ) (set : List TaskName) (used : List ℕ) (lowers : List 
 
   -- what they use directly is mounted
   pub direct_mounted : (number : ℕ) → Among number (used_directly nat_eq a set) → is_mounted nat_eq a number ≡ true
-  direct_mounted number m =
-      ⊎_elim
+  direct_mounted number m = ⊎_elim
       (λ shown. let at = among-from_map (λ (x : Mount ℕ). x.filesystem) (own_mounts nat_eq a set) number shown in
       mounted at.0 (among-from_filter (is_own_mount nat_eq a set) a.mounts at.0 at.1).0 (sym at.2))
       (λ located. let l = among-from_map shows (locations members_of) number located in

@@ -98,11 +98,9 @@ module _ (world : World ℕ) (names : List TaskName) (is : IsWorld nat_eq world)
       → (is_member_of nat_eq g m ≡ true) × (goes m ≡ false)
   cut_member w g m = by (goes m) refl
     where
-      by : (b : Bool) → goes m ≡ b
-          → is_member_of nat_eq g (cond b (detached m) (record m {
-            mount_point = option_map (mount_point_left nat_eq w gone) m.mount_point;
-          })) ≡ true
-          → (is_member_of nat_eq g m ≡ true) × (goes m ≡ false)
+      by : (b : Bool) → goes m ≡ b → is_member_of nat_eq g (cond b (detached m) (record m {
+        mount_point = option_map (mount_point_left nat_eq w gone) m.mount_point;
+      })) ≡ true → (is_member_of nat_eq g m ≡ true) × (goes m ≡ false)
       by true e h = absurd (true≢false (sym h))
       by false e h = (h, e)
 
@@ -111,13 +109,11 @@ module _ (world : World ℕ) (names : List TaskName) (is : IsWorld nat_eq world)
   stays_member w g m e h = cc
 
   pub has_same : (g : ℕ) → Heard g → has_members nat_eq left.mounts g ≡ has_members nat_eq left_part.mounts g
-  has_same g heard =
-      same_truth (has_members nat_eq left.mounts g) (has_members nat_eq left_part.mounts g)
+  has_same g heard = same_truth (has_members nat_eq left.mounts g) (has_members nat_eq left_part.mounts g)
       (λ h. let at = any_among (is_member_of nat_eq g) left.mounts h in
       let from = among-from_map cut world.mounts at.0 at.1 in
       let its = cut_member world g from.0 (ap (is_member_of nat_eq g) (sym from.2) ∙ at.2) in
-      ⊎_elim
-      (λ own. any_from_among (is_member_of nat_eq g) left_part.mounts (cut_there from.0)
+      ⊎_elim (λ own. any_from_among (is_member_of nat_eq g) left_part.mounts (cut_there from.0)
       (among-map cut_there part.mounts from.0 (own_in_part world names is sealed_off from.0 own))
       (stays_member part g from.0 its.1 its.0))
       (λ other. absurd (none_hears world names is.mounts events g from.0 heard.0 other its.0))
@@ -127,8 +123,7 @@ module _ (world : World ℕ) (names : List TaskName) (is : IsWorld nat_eq world)
       let its = cut_member part g from.0 (ap (is_member_of nat_eq g) (sym from.2) ∙ at.2) in
       let own = part_source world names is sealed_off from.0 from.1 g
       (member_source from.0.propagation g (member_group g from.0 its.0)) in
-      any_from_among (is_member_of nat_eq g) left.mounts (cut from.0)
-      (among-map cut world.mounts from.0
+      any_from_among (is_member_of nat_eq g) left.mounts (cut from.0) (among-map cut world.mounts from.0
       (among-from_filter (is_own_mount nat_eq world names) world.mounts from.0 own).0)
       (stays_member world g from.0 its.1 its.0))
 
@@ -176,18 +171,15 @@ module _ (world : World ℕ) (names : List TaskName) (is : IsWorld nat_eq world)
   other_stays m other n = by (source_of m.propagation) refl
     where
       outside : (m : Mount ℕ) → Among m (other_mounts nat_eq world names) → goes m ≡ false
-      outside m o =
-          false_from_ne_true (goes m) (λ h.
+      outside m o = false_from_ne_true (goes m) (λ h.
           let from = among-from_filter
-          (λ (x : Mount ℕ). holds_of (λ i. not (is_own_namespace nat_eq world names i)) x.namespace)
-          world.mounts m o in
+          (λ (x : Mount ℕ). holds_of (λ i. not (is_own_namespace nat_eq world names i)) x.namespace) world.mounts m o in
           one_side (is_own_namespace nat_eq world names) m.namespace (own_go m from.0 h) from.1)
 
       still : (g : ℕ) → OtherLives world names is.mounts events g → has_members nat_eq left.mounts g ≡ true
       still g (heard, lives) =
           let at = any_among (is_member_of nat_eq g) world.mounts (members_of world names is.mounts events g lives) in
-          ⊎_elim
-          (λ own. absurd (none_other world names is.mounts events g at.0 heard own at.2))
+          ⊎_elim (λ own. absurd (none_other world names is.mounts events g at.0 heard own at.2))
           (λ out. any_from_among (is_member_of nat_eq g) left.mounts (cut at.0) (among-map cut world.mounts at.0 at.1)
           (stays_member world g at.0 (outside at.0 out) at.2))
           (sides world names is.mounts events at.0 g at.1 (member_group g at.0 at.2))
@@ -211,11 +203,9 @@ module _ (world : World ℕ) (names : List TaskName) (is : IsWorld nat_eq world)
       → (goes m ≡ false) × (lost_a_group nat_eq t m ≡ true)
   cut_lost t w m = by (goes m) refl
     where
-      by : (b : Bool) → goes m ≡ b
-          → lost_a_group nat_eq t (cond b (detached m) (record m {
-            mount_point = option_map (mount_point_left nat_eq w gone) m.mount_point;
-          })) ≡ true
-          → (goes m ≡ false) × (lost_a_group nat_eq t m ≡ true)
+      by : (b : Bool) → goes m ≡ b → lost_a_group nat_eq t (cond b (detached m) (record m {
+        mount_point = option_map (mount_point_left nat_eq w gone) m.mount_point;
+      })) ≡ true → (goes m ≡ false) × (lost_a_group nat_eq t m ≡ true)
       by true e h = absurd (true≢false (sym h))
       by false e h = (e, h)
 
@@ -225,8 +215,7 @@ module _ (world : World ℕ) (names : List TaskName) (is : IsWorld nat_eq world)
 
   pub flags_same : list_any (lost_a_group nat_eq left) left.mounts ≡ list_any
       (lost_a_group nat_eq left_part) left_part.mounts
-  flags_same =
-      same_truth (list_any (lost_a_group nat_eq left) left.mounts)
+  flags_same = same_truth (list_any (lost_a_group nat_eq left) left.mounts)
       (list_any (lost_a_group nat_eq left_part) left_part.mounts)
       (λ h. let at = any_among (lost_a_group nat_eq left) left.mounts h in
       let from = among-from_map cut world.mounts at.0 at.1 in
@@ -239,8 +228,7 @@ module _ (world : World ℕ) (names : List TaskName) (is : IsWorld nat_eq world)
     where
       forward : (m : Mount ℕ) → Among m world.mounts → goes m ≡ false → lost_a_group nat_eq left m ≡ true
           → (o : Option ℕ) → m.namespace ≡ o → list_any (lost_a_group nat_eq left_part) left_part.mounts ≡ true
-      forward m n same lost None e =
-          absurd (true≢false (sym lost ∙ unlost_none left m (private_source m.propagation
+      forward m n same lost None e = absurd (true≢false (sym lost ∙ unlost_none left m (private_source m.propagation
           (and_parts (not (is_some m.mount_point)) (is_private m.propagation)
           (sym (ap (λ o. is_some o || (not (is_some m.mount_point) && is_private m.propagation)) e)
           ∙ among_from_list_all is_nowhere_or_attached world.mounts is.mounts.nowhere m n)).1)))
@@ -254,11 +242,9 @@ module _ (world : World ℕ) (names : List TaskName) (is : IsWorld nat_eq world)
               any_from_among (lost_a_group nat_eq left_part) left_part.mounts (cut_there m)
               (among-map cut_there part.mounts m (own_in_part world names is sealed_off m mine))
               (stays_lost left_part part m same (sym (lost_same m mine) ∙ lost))
-          which false other =
-              absurd (true≢false (sym lost ∙ other_stays m
+          which false other = absurd (true≢false (sym lost ∙ other_stays m
               (among-filter (λ (x : Mount ℕ). holds_of (λ i. not (is_own_namespace nat_eq world names i)) x.namespace)
-              world.mounts m n
-              (ap (holds_of (λ i. not (is_own_namespace nat_eq world names i))) e ∙ ap not other)) n))
+              world.mounts m n (ap (holds_of (λ i. not (is_own_namespace nat_eq world names i))) e ∙ ap not other)) n))
 
       back : (y : Mount ℕ) → Among y part.mounts → goes y ≡ false → lost_a_group nat_eq left_part y ≡ true
           → (o : Option ℕ) → source_of y.propagation ≡ o → list_any (lost_a_group nat_eq left) left.mounts ≡ true

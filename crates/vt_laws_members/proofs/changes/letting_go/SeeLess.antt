@@ -100,8 +100,7 @@ module _ (world : World ℕ) (names : List TaskName) (is : IsWorld nat_eq world)
 
   namespaces_less : filter (spaces (members now_part set)) (filter (spaces before) world.namespaces)
       ≡ filter (spaces theirs) world.namespaces
-  namespaces_less =
-      cc (same, filter_less (spaces theirs) (spaces before) world.namespaces (λ n h. less.own n.number h))
+  namespaces_less = cc (same, filter_less (spaces theirs) (spaces before) world.namespaces (λ n h. less.own n.number h))
 
   mounts_now : filter_map (keep world names (members now_part set)) part.mounts
       ≡ filter_map (keep world names theirs) world.mounts

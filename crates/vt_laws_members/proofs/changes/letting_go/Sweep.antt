@@ -32,8 +32,7 @@ groups_part b set = λ i. record (part_of nat_eq b set) {
 
 -- the sweep of the part
 abbrev pub swept_of : List TaskName → World ℕ → World ℕ
-swept_of set part =
-    swept_part set (λ (x : Filesystem ℕ). not (is_overlay x)) (swept_part set is_overlay part)
+swept_of set part = swept_part set (λ (x : Filesystem ℕ). not (is_overlay x)) (swept_part set is_overlay part)
 
 module _ (v : World ℕ) (set : List TaskName) (used : List ℕ) (lowers : List (Layer ℕ))
     (it : Ready (without_dead_mounts nat_eq v) set used lowers) where
@@ -75,15 +74,13 @@ module _ (v : World ℕ) (set : List TaskName) (used : List ℕ) (lowers : List 
 
   plain_part : part_of nat_eq (without_dead_inodes nat_eq left) set
       ≡ swept_part set is_plain (part_of nat_eq merged set)
-  plain_part =
-      part_of_swept merged set used lowers
+  plain_part = part_of_swept merged set used lowers
       (swept_ready left set used lowers left_ready one_left left_mounted is_overlay plains) one_merged
       (swept_mounted left set used lowers left_ready one_left left_mounted is_overlay plains) is_plain
 
   -- what they use stays
   pub used_of_settled : used_filesystems nat_eq (settled nat_eq v) set ≡ used
-  used_of_settled =
-      used_swept merged set used lowers
+  used_of_settled = used_swept merged set used lowers
       (swept_ready left set used lowers left_ready one_left left_mounted is_overlay plains) one_merged
       (swept_mounted left set used lowers left_ready one_left left_mounted is_overlay plains) is_plain
 

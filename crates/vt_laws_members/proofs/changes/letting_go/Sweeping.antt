@@ -27,13 +27,10 @@ module _ (world : World ℕ) (names set : List TaskName) (is : IsWorld nat_eq wo
   stood : (l : Location ℕ) → Among l (roots_and_directories old) → IsTheirs world names is.mounts l.mount
   stood l m =
       let from = among-from_flat_map (λ (t : Task ℕ). t.root ∷ t.directory ∷ []) old l m in
-      ⊎_elim
+      ⊎_elim (λ e. subst (λ (k : Location ℕ). IsTheirs world names is.mounts k.mount) (sym e)
+      (root_theirs world names is from.0 from.1)) (λ rest. ⊎_elim
       (λ e. subst (λ (k : Location ℕ). IsTheirs world names is.mounts k.mount) (sym e)
-      (root_theirs world names is from.0 from.1))
-      (λ rest. ⊎_elim
-      (λ e. subst (λ (k : Location ℕ). IsTheirs world names is.mounts k.mount) (sym e)
-      (directory_theirs world names is from.0 from.1))
-      (λ none. absurd none) rest) from.2
+      (directory_theirs world names is from.0 from.1)) (λ none. absurd none) rest) from.2
 
   lets_go : LetsGo world names is sealed_off set tasks
   lets_go = record {

@@ -27,12 +27,11 @@ module _ (world : World ℕ) (names set : List TaskName) (is : IsWorld nat_eq wo
   now_part = record part { tasks = tasks_too }
 
   pub swept_alike : part_of nat_eq (settled nat_eq now) set ≡ part_of nat_eq (settled nat_eq now_part) set
-  swept_alike =
-      cc (
-        part_of_settled now set (used_filesystems nat_eq now set) (own_lowers nat_eq now set) (world_ready world
-            names is sealed_off set tasks world.change lets),
-        part_of_less world names is set tasks tasks_too world.change part.change (sees_less world names is
-            sealed_off set tasks world.change lets) same,
-        part_of_settled now_part set (used_filesystems nat_eq now set) (own_lowers nat_eq now set) (part_ready
-            world names is sealed_off set tasks tasks_too world.change part.change lets same all),
-      )
+  swept_alike = cc (
+    part_of_settled now set (used_filesystems nat_eq now set) (own_lowers nat_eq now set) (world_ready world
+        names is sealed_off set tasks world.change lets),
+    part_of_less world names is set tasks tasks_too world.change part.change (sees_less world names is
+        sealed_off set tasks world.change lets) same,
+    part_of_settled now_part set (used_filesystems nat_eq now set) (own_lowers nat_eq now set) (part_ready
+        world names is sealed_off set tasks tasks_too world.change part.change lets same all),
+  )

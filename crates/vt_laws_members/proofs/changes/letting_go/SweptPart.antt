@@ -43,8 +43,7 @@ by_test false list x = refl
 -- by two lists with the same numbers
 only_alike : (one other : List ℕ) (x : Filesystem ℕ) → ((n : ℕ) → is_among nat_eq n one ≡ is_among nat_eq n other)
     → only_used_of nat_eq one x ≡ only_used_of nat_eq other x
-only_alike one other x same =
-    by_test (list_all (λ n. is_among nat_eq n one) x.files.numbers) one x
+only_alike one other x same = by_test (list_all (λ n. is_among nat_eq n one) x.files.numbers) one x
     ∙ (λ i. only_by (list_all (λ n. same n i) x.files.numbers) (λ n. same n i) x)
     ∙ sym (by_test (list_all (λ n. is_among nat_eq n other) x.files.numbers) other x)
 
@@ -83,16 +82,14 @@ layers_kept : (world : World ℕ) (chosen : Bool) (x : Filesystem ℕ)
 layers_kept world false x = refl
 layers_kept world true x = by (list_all (λ n. is_among nat_eq n (used_in nat_eq world x)) x.files.numbers)
   where
-    of : (o : Option (Overlay ℕ))
-        → overlay_or [] (λ (overlay : Overlay ℕ). overlay.lowers)
+    of : (o : Option (Overlay ℕ)) → overlay_or [] (λ (overlay : Overlay ℕ). overlay.lowers)
         (option_map (real_among nat_eq (used_in nat_eq world x)) o)
         ≡ overlay_or [] (λ (overlay : Overlay ℕ). overlay.lowers) o
     of None = refl
     of (Some overlay) = refl
 
     by : (b : Bool) → of_overlay [] (λ (overlay : Overlay ℕ). overlay.lowers)
-        (only_used_by nat_eq b (used_in nat_eq world x) x)
-        ≡ of_overlay [] (λ (overlay : Overlay ℕ). overlay.lowers) x
+        (only_used_by nat_eq b (used_in nat_eq world x) x) ≡ of_overlay [] (λ (overlay : Overlay ℕ). overlay.lowers) x
     by true = refl
     by false = of x.overlay
 
@@ -131,12 +128,9 @@ module _ (a : World ℕ) (set : List TaskName) (used_now : List ℕ) (lowers : L
   sweep_alike : (x : Filesystem ℕ) → Among x a.filesystems → uses x.number ≡ true → (c : Bool)
       → only_used nat_eq a c x ≡ only_used nat_eq part c x
   sweep_alike x m u false = refl
-  sweep_alike x m u true =
-      ⊎_elim
-      (λ alone. only_alike (used_in nat_eq a x) (used_in nat_eq part x) x
+  sweep_alike x m u true = ⊎_elim (λ alone. only_alike (used_in nat_eq a x) (used_in nat_eq part x) x
       (used_alike a set used_now lowers it one_in_part mounted x alone))
-      (λ named. named_stays a x named ∙ sym (named_stays part x named))
-      (it.free x m u)
+      (λ named. named_stays a x named ∙ sym (named_stays part x named)) (it.free x m u)
 
   -- What they use stays
   numbered_kept : {A : Type 0} (g : Filesystem ℕ → A) → ((x : Filesystem ℕ) → g (sweep x) ≡ g x) → (n : ℕ)
@@ -164,30 +158,24 @@ module _ (a : World ℕ) (set : List TaskName) (used_now : List ℕ) (lowers : L
   direct = used_directly nat_eq a set
 
   pub used_swept : used_filesystems nat_eq swept set ≡ used_now
-  used_swept =
-      ap (λ l. each_once nat_eq (direct ++ l))
+  used_swept = ap (λ l. each_once nat_eq (direct ++ l))
       (flat_map_alike (λ n. change_layers (filesystem_numbered nat_eq swept n))
       (λ n. change_layers (filesystem_numbered nat_eq a n)) direct
-      (λ n m. numbered_kept change_layers (λ x. changes_kept a (chosen x) x) n))
-      ∙ it.used_are
+      (λ n m. numbered_kept change_layers (λ x. changes_kept a (chosen x) x) n)) ∙ it.used_are
 
   abbrev lowers_at : Filesystem ℕ → List (Layer ℕ)
   lowers_at x = of_overlay [] (λ (overlay : Overlay ℕ). overlay.lowers) x
 
   lowers_swept : own_lowers nat_eq swept set ≡ lowers
-  lowers_swept =
-      flat_map_alike (λ n. lowers_at (filesystem_numbered nat_eq swept n))
+  lowers_swept = flat_map_alike (λ n. lowers_at (filesystem_numbered nat_eq swept n))
       (λ n. lowers_at (filesystem_numbered nat_eq a n)) direct
-      (λ n m. numbered_kept lowers_at (λ x. layers_kept a (chosen x) x) n)
-      ∙ it.lowers_are
+      (λ n m. numbered_kept lowers_at (λ x. layers_kept a (chosen x) x) n) ∙ it.lowers_are
 
   one_swept : any_pair (λ (x y : Filesystem ℕ). nat_eq x.number y.number) swept.filesystems ≡ false
   one_swept =
       pair-map (λ (x y : Filesystem ℕ). nat_eq x.number y.number) (λ (x y : Filesystem ℕ). nat_eq x.number y.number)
-      sweep a.filesystems
-      (λ x y m n e. ap (λ k. nat_eq k (sweep y).number) (number-only_used a (chosen x) x)
-      ∙ ap (nat_eq x.number) (number-only_used a (chosen y) y) ∙ e)
-      it.one_filesystem
+      sweep a.filesystems (λ x y m n e. ap (λ k. nat_eq k (sweep y).number) (number-only_used a (chosen x) x)
+      ∙ ap (nat_eq x.number) (number-only_used a (chosen y) y) ∙ e) it.one_filesystem
 
   abbrev has_lower : List (Layer ℕ) → ℕ → Bool
   has_lower layers n = list_any (λ (layer : Layer ℕ). nat_eq n layer.filesystem) layers
@@ -212,8 +200,7 @@ module _ (a : World ℕ) (set : List TaskName) (used_now : List ℕ) (lowers : L
 
   shown_after : (x : Filesystem ℕ) → Among x a.filesystems
       → part_of_filesystem nat_eq swept set (sweep x) ≡ shown_with x.number used_now lowers (sweep x).files (sweep x)
-  shown_after x m =
-      ap (λ (f : Filesystem ℕ). shown_with (sweep x).number (used_filesystems nat_eq swept set)
+  shown_after x m = ap (λ (f : Filesystem ℕ). shown_with (sweep x).number (used_filesystems nat_eq swept set)
       (own_lowers nat_eq swept set) f.files (sweep x))
       (found_filesystem swept.filesystems one_swept (sweep x) (among-map sweep a.filesystems x m))
       ∙ ap (λ u. shown_with (sweep x).number u (own_lowers nat_eq swept set) (sweep x).files (sweep x)) used_swept
@@ -237,34 +224,27 @@ module _ (a : World ℕ) (set : List TaskName) (used_now : List ℕ) (lowers : L
 
     shown_named : (object : ℕ) → Among object x.files.numbers → lies_under x.number lowers x.files object ≡ true
         → ((layer : Layer ℕ) × Among layer lowers × (nat_eq x.number layer.filesystem ≡ true)
-        × (layer.directory ≡ object))
-        ⊎ Among object (named_in x.files)
-    shown_named =
-        subst (λ (files : FileTree ℕ). (object : ℕ) → Among object files.numbers
+        × (layer.directory ≡ object)) ⊎ Among object (named_in x.files)
+    shown_named = subst (λ (files : FileTree ℕ). (object : ℕ) → Among object files.numbers
         → lies_under x.number lowers files object ≡ true
         → ((layer : Layer ℕ) × Among layer lowers × (nat_eq x.number layer.filesystem ≡ true)
-        × (layer.directory ≡ object))
-        ⊎ Among object (named_in files)) cut.same
+        × (layer.directory ≡ object)) ⊎ Among object (named_in files)) cut.same
         (named_there x.number lowers cut.whole cut.chosen cut.has)
 
     enough : (object : ℕ) → Among object x.files.numbers → lies_under x.number lowers x.files object ≡ true
         → is_among nat_eq object all_used ≡ true
-    enough object n h =
-        is_among_numbers all_used object
+    enough object n h = is_among_numbers all_used object
         (⊎_elim (λ top. subst (λ k. Among k all_used) top.3 (layer_used top.0 top.1 top.2))
         (λ name. used a x object (by_name name)) (shown_named object n h))
 
     cut_same : cut_to x.number lowers (only_among nat_eq all_used x.files) ≡ cut_to x.number lowers x.files
-    cut_same =
-        subst (λ (files : FileTree ℕ). ((object : ℕ) → Among object files.numbers
+    cut_same = subst (λ (files : FileTree ℕ). ((object : ℕ) → Among object files.numbers
         → lies_under x.number lowers files object ≡ true → is_among nat_eq object all_used ≡ true)
         → cut_to x.number lowers (only_among nat_eq all_used files) ≡ cut_to x.number lowers files) cut.same
         (cut_still x.number lowers cut.whole cut.chosen cut.has all_used) enough
 
     plain : x.overlay ≡ None
-    plain =
-        lower_plain a set used_now lowers it one_in_part x m
-        (ap (λ l. has_lower l x.number) it.lowers_are ∙ low)
+    plain = lower_plain a set used_now lowers it one_in_part x m (ap (λ l. has_lower l x.number) it.lowers_are ∙ low)
 
     lowered_by : (b : Bool) → lowered x.number lowers (only_used_by nat_eq b all_used x).files
         (only_used_by nat_eq b all_used x) ≡ lowered x.number lowers x.files x
@@ -289,15 +269,13 @@ module _ (a : World ℕ) (set : List TaskName) (used_now : List ℕ) (lowers : L
       by : (p : Bool) → uses x.number ≡ p → (q : Bool) → has_lower lowers x.number ≡ q
           → shown_with x.number used_now lowers (sweep x).files (sweep x)
           ≡ option_map swept_there (shown_with x.number used_now lowers x.files x)
-      by true e q f =
-          ap (λ b. cond b (Some (sweep x))
+      by true e q f = ap (λ b. cond b (Some (sweep x))
           (when (has_lower lowers x.number) (lowered x.number lowers (sweep x).files (sweep x)))) e
           ∙ ap Some (sweep_alike x m e (chosen x))
           ∙ ap Some (sym (ap (λ b. cond b (only_used nat_eq part (chosen x) x) x) (used_in_part x.number ∙ e)))
           ∙ sym (ap (λ b. option_map swept_there (cond b (Some x)
           (when (has_lower lowers x.number) (lowered x.number lowers x.files x)))) e)
-      by false e true f =
-          ap (λ b. cond b (Some (sweep x))
+      by false e true f = ap (λ b. cond b (Some (sweep x))
           (when (has_lower lowers x.number) (lowered x.number lowers (sweep x).files (sweep x)))) e
           ∙ ap (λ b. when b (lowered x.number lowers (sweep x).files (sweep x))) f
           ∙ ap Some (lowered_same x m e f (chosen x))
@@ -309,8 +287,7 @@ module _ (a : World ℕ) (set : List TaskName) (used_now : List ℕ) (lowers : L
       by false e false f = cc
 
   pub part_of_swept : part_of nat_eq swept set ≡ swept_part set chosen part
-  part_of_swept =
-      ap (λ list. record part { filesystems = list })
+  part_of_swept = ap (λ list. record part { filesystems = list })
       (filter_map_map (part_of_filesystem nat_eq swept set) sweep a.filesystems
       ∙ filter_map_same (λ x. part_of_filesystem nat_eq swept set (sweep x))
       (λ x. option_map swept_there (part_of_filesystem nat_eq a set x)) a.filesystems shown_swept
@@ -321,8 +298,7 @@ module _ (a : World ℕ) (set : List TaskName) (used_now : List ℕ) (lowers : L
     plain_stays : (x : Filesystem ℕ) → x.overlay ≡ None → sweep x ≡ x
     plain_stays x e = ap (λ c. only_used nat_eq a c x) (plains x e)
 
-    was : (y : Filesystem ℕ) → Among y swept.filesystems
-        → (x : Filesystem ℕ) × Among x a.filesystems × (y ≡ sweep x)
+    was : (y : Filesystem ℕ) → Among y swept.filesystems → (x : Filesystem ℕ) × Among x a.filesystems × (y ≡ sweep x)
     was y m = among-from_map sweep a.filesystems y m
 
     layered_was : (n : ℕ) (x : Filesystem ℕ) → has_layer_on nat_eq n (sweep x) ≡ true → has_layer_on nat_eq n x ≡ true
@@ -349,8 +325,7 @@ module _ (a : World ℕ) (set : List TaskName) (used_now : List ℕ) (lowers : L
         let from = was y m in
         let same : y.number ≡ from.0.number =
         ap (λ (f : Filesystem ℕ). f.number) from.2 ∙ number-only_used a (chosen from.0) from.0 in
-        ⊎_elim
-        (λ alone. inl (subst (Alone swept set) (sym same) (alone_swept from.0.number alone)))
+        ⊎_elim (λ alone. inl (subst (Alone swept set) (sym same) (alone_swept from.0.number alone)))
         (λ named. inr (subst AllNamed (sym (from.2 ∙ stays from.0 named (chosen from.0))) named))
         (it.free from.0 from.1 (ap uses (sym same) ∙ u))
       where
@@ -402,6 +377,5 @@ module _ (a : World ℕ) (set : List TaskName) (used_now : List ℕ) (lowers : L
         let from = was y m in
         let same : y.number ≡ from.0.number =
         ap (λ (f : Filesystem ℕ). f.number) from.2 ∙ number-only_used a (chosen from.0) from.0 in
-        ap (is_mounted nat_eq a) same
-        ∙ mounted from.0 from.1
+        ap (is_mounted nat_eq a) same ∙ mounted from.0 from.1
         (sym (cut_overlay a (chosen from.0) from.0) ∙ sym (ap is_overlay from.2) ∙ over)

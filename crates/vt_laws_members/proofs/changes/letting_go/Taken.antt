@@ -31,9 +31,7 @@ module _ (w : World ℕ) (gone : List ℕ) where
         mounts = map (λ m. regrouped_mount b left_by (after_going nat_eq w gone m)) w.mounts;
         namespaces = filter (λ (n : Namespace ℕ). true) w.namespaces;
       }
-  taken_so b lost =
-      ap (λ c. regrouped_by nat_eq c left_by) lost
-      ∙ regroup_is b left_by
+  taken_so b lost = ap (λ c. regrouped_by nat_eq c left_by) lost ∙ regroup_is b left_by
       ∙ (λ i. record (regrouped_so b left_by) {
         mounts = map_twice (regrouped_mount b left_by) (after_going nat_eq w gone) w.mounts i;
         namespaces = sym (filter_true w.namespaces) i;

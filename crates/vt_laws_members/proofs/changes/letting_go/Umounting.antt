@@ -53,8 +53,7 @@ module _ (world : World ℕ) (names : List TaskName) (is : IsWorld nat_eq world)
   On number = is_theirs world names number ≡ true
 
   abbrev Unmounts : Permit ℕ → Type 0
-  Unmounts permit =
-      (here : Location ℕ) × (permit ≡ ToUnmount here.mount) × On here.mount
+  Unmounts permit = (here : Location ℕ) × (permit ≡ ToUnmount here.mount) × On here.mount
       × (is_some (mount_at nat_eq world here).mount_point ≡ true) × (has_child nat_eq world here.mount ≡ false)
 
   pointed : (b : Bool) → not b ≡ false → b ≡ true
@@ -64,16 +63,14 @@ module _ (world : World ℕ) (names : List TaskName) (is : IsWorld nat_eq world)
   unmounts : (path : List ℕ) → IfOk
       (umount_permit nat_eq (one world names is sealed_off task member) task path) Unmounts
   unfolding umount_permit
-  unmounts path =
-      of_rules Unmounts (admin_rules task) _
+  unmounts path = of_rules Unmounts (admin_rules task) _
       (of_walk (StandsHere world names is sealed_off task member) Unmounts
       (directory_walk nat_eq (one world names is sealed_off task member) task path)
       (λ here. unless (umount_rules nat_eq (one world names is sealed_off task member) task here.location)
       (Ok (ToUnmount here.location.mount))) (at_directory world names is sealed_off task member path)
       (λ here on. of_passed Unmounts
       (umount_rules nat_eq (one world names is sealed_off task member) task here.location)
-      (Ok (ToUnmount here.location.mount))
-      (λ passed. (
+      (Ok (ToUnmount here.location.mount)) (λ passed. (
         here.location,
         refl,
         on,
@@ -90,8 +87,7 @@ module _ (world : World ℕ) (names : List TaskName) (is : IsWorld nat_eq world)
   own_go m n h =
       let its = going_own world names is sealed_off mount m.number there own
       (among_numbers (going nat_eq world mount) m.number h) in
-      let same : its.0 ≡ m =
-      sym (numbered world names is.mounts its.0 its.1) ∙ ap (mount_numbered nat_eq world) its.3
+      let same : its.0 ≡ m = sym (numbered world names is.mounts its.0 its.1) ∙ ap (mount_numbered nat_eq world) its.3
       ∙ numbered world names is.mounts m n in
       ap (is_own world names (members world names)) (sym same) ∙ its.2
 
@@ -117,15 +113,12 @@ module _ (world : World ℕ) (names : List TaskName) (name : TaskName) (call : C
   mount_there = subst (λ m. Among m world.mounts) (sym is_it) theirs.1
 
   mount_own : is_own world names (members world names) mount_of ≡ true
-  mount_own =
-      ⊎_elim (λ own. ap (is_own world names (members world names)) is_it ∙ own)
-      (λ stood. absurd (by stood.0 mount_of.mount_point refl has_point))
-      theirs.3
+  mount_own = ⊎_elim (λ own. ap (is_own world names (members world names)) is_it ∙ own)
+      (λ stood. absurd (by stood.0 mount_of.mount_point refl has_point)) theirs.3
     where
       by : theirs.0.namespace ≡ None → (o : Option (Location ℕ)) → mount_of.mount_point ≡ o → is_some o ≡ true → ⊥
       by none None e h = true≢false (sym h)
-      by none (Some l) e h =
-          nowhere_stands world names it.is.mounts mount_of l mount_there
+      by none (Some l) e h = nowhere_stands world names it.is.mounts mount_of l mount_there
           (ap (λ (m : Mount ℕ). m.namespace) is_it ∙ none) e
 
   same_going : going nat_eq there (mount_numbered nat_eq there number) ≡ going nat_eq world mount_of
@@ -135,11 +128,9 @@ module _ (world : World ℕ) (names : List TaskName) (name : TaskName) (call : C
   )
 
   pub alone_there : has_child nat_eq there number ≡ false
-  alone_there =
-      none_from_among (stands_on nat_eq number) there.mounts (λ y m.
+  alone_there = none_from_among (stands_on nat_eq number) there.mounts (λ y m.
       let from = among-from_filter_map (keep world names (members world names)) world.mounts y m in
-      ⊎_elim
-      (λ same. ap (stands_on nat_eq number) (sym same)
+      ⊎_elim (λ same. ap (stands_on nat_eq number) (sym same)
       ∙ none_among (stands_on nat_eq number) world.mounts alone from.0 from.1)
       (λ stub. ap (λ (q : Mount ℕ). stands_on nat_eq number q) (sym stub.0))
       (kept_how world names (members world names) from.0 y from.2))
@@ -148,8 +139,7 @@ module _ (world : World ℕ) (names : List TaskName) (name : TaskName) (call : C
   kept_world = unmount_keeps_mounts world number it.is.mounts alone
 
   kept_part : MountInvariants nat_eq (taken_away nat_eq there (going nat_eq world mount_of))
-  kept_part =
-      subst (λ l. MountInvariants nat_eq (taken_away nat_eq there l)) same_going
+  kept_part = subst (λ l. MountInvariants nat_eq (taken_away nat_eq there l)) same_going
       (unmount_keeps_mounts there number (part_mounts world names it.is it.sealed_off) alone_there)
 
   -- the outcome
@@ -160,8 +150,7 @@ module _ (world : World ℕ) (names : List TaskName) (name : TaskName) (call : C
       → ran name call world fresh (Some task) ≡ detaches world → ran name call there other (Some task) ≡ detaches there
       → EndsAlike world names name call fresh other
   detached_alike fresh other stays one two =
-      let first : policy nat_eq fresh world name call ≡ detaches world =
-      ap (ran name call world fresh) called ∙ one in
+      let first : policy nat_eq fresh world name call ≡ detaches world = ap (ran name call world fresh) called ∙ one in
       let second : policy nat_eq other there name call ≡ granted Done (numbers_raised nat_eq there name []
       (settled nat_eq (taken_away nat_eq there (going nat_eq world mount_of)))) =
       ap (ran name call there other) (same_caller world names it.is it.sealed_off name it.theirs ∙ called) ∙ two
@@ -172,8 +161,7 @@ module _ (world : World ℕ) (names : List TaskName) (name : TaskName) (call : C
       (subst (λ o. EndAlike (grown names name call o.answer) o (granted Done (numbers_raised nat_eq there name []
       (settled nat_eq (taken_away nat_eq there (going nat_eq world mount_of)))))) (sym first)
       (subst (λ s. EndAlike s (detaches world) (granted Done (numbers_raised nat_eq there name []
-      (settled nat_eq (taken_away nat_eq there (going nat_eq world mount_of)))))) (sym stays)
-      (record {
+      (settled nat_eq (taken_away nat_eq there (going nat_eq world mount_of)))))) (sym stays) (record {
         answer = refl;
         part = taken_parts world names it.is it.sealed_off (going nat_eq world mount_of)
             (own_go world names it.is it.sealed_off mount_of mount_there mount_own) name kept_world kept_part;
@@ -191,8 +179,7 @@ umounts_end_alike world names name path it fresh other = by (task_called world n
         (ap (run_by world names name (Umount path) it fresh other world fresh task) (judged ∙ ap Ok its.1))
         (ap (run_by world names name (Umount path) it fresh other (part_of nat_eq world names) other task)
         (sym (same_judgement world names name (Umount path) it fresh other task e) ∙ judged ∙ ap Ok its.1))
-    judged_by task member e (Err deny) judged its =
-        denial_ends_alike world names name (Umount path) it fresh other
+    judged_by task member e (Err deny) judged its = denial_ends_alike world names name (Umount path) it fresh other
         (ap (λ o. is_ok (ran name (Umount path) world fresh o).answer) e
         ∙ ap (λ j. is_ok (run_by world names name (Umount path) it fresh other world fresh task j).answer) judged)
 

@@ -71,14 +71,11 @@ module _ (b : World ℕ) (x : Filesystem ℕ) (object : ℕ) where
   on_it layer = nat_eq x.number layer.filesystem
 
   place : (l : Location ℕ) → Among l places → IsPlace b l
-  place l m =
-      ⊎_elim
-      (λ two. ⊎_elim (λ task. by_task task)
+  place l m = ⊎_elim (λ two. ⊎_elim (λ task. by_task task)
       (λ root. let at = among-from_map root_of b.mounts l root in by_root at.0 at.1 at.2)
       (among-append (all_locations b) roots l two))
       (λ point. let at = among-from_filter_map (λ (k : Mount ℕ). k.mount_point) b.mounts l point in
-      by_point at.0 at.1 at.2)
-      (among-append (all_locations b ++ roots) points l m)
+      by_point at.0 at.1 at.2) (among-append (all_locations b ++ roots) points l m)
 
   from_placed : Among object placed → IsUsed b x object
   from_placed m =
@@ -94,25 +91,19 @@ module _ (b : World ℕ) (x : Filesystem ℕ) (object : ℕ) where
       by_layer of.0 at.0 of.1 of.2 on.1 at.2
 
   pub why : Among object (used_in nat_eq b x) → IsUsed b x object
-  why m =
-      ⊎_elim (λ root. as_root root)
-      (λ more. ⊎_elim
-      (λ three. ⊎_elim
+  why m = ⊎_elim (λ root. as_root root) (λ more. ⊎_elim (λ three. ⊎_elim
       (λ two. ⊎_elim (λ n. by_name n) from_placed (among-append named placed object two))
       from_layers (among-append (named ++ placed) layers object three))
       (λ o. let of = among-from_flat_map (objects_of_overlay nat_eq x.number) b.filesystems object o in
-      by_object of.0 of.1 of.2)
-      (among-append (named ++ placed ++ layers) objects object more)) m
+      by_object of.0 of.1 of.2) (among-append (named ++ placed ++ layers) objects object more)) m
 
   to_place : (l : Location ℕ) → IsPlace b l → Among l places
   to_place l (by_task m) =
       among-append_left (all_locations b ++ roots) points l (among-append_left (all_locations b) roots l m)
-  to_place l (by_root k m e) =
-      among-append_left (all_locations b ++ roots) points l
+  to_place l (by_root k m e) = among-append_left (all_locations b ++ roots) points l
       (among-append_right (all_locations b) roots l
       (subst (λ (p : Location ℕ). Among p roots) (sym e) (among-map root_of b.mounts k m)))
-  to_place l (by_point k m e) =
-      among-append_right (all_locations b ++ roots) points l
+  to_place l (by_point k m e) = among-append_right (all_locations b ++ roots) points l
       (among-filter_map (λ (y : Mount ℕ). y.mount_point) b.mounts k l m e)
 
   in_four : Among object (named ++ placed ++ layers ++ objects) → Among object (used_in nat_eq b x)
@@ -120,24 +111,17 @@ module _ (b : World ℕ) (x : Filesystem ℕ) (object : ℕ) where
 
   pub used : IsUsed b x object → Among object (used_in nat_eq b x)
   used (as_root e) = inl e
-  used (by_name m) =
-      in_four (among-append_left (named ++ placed ++ layers) objects object
+  used (by_name m) = in_four (among-append_left (named ++ placed ++ layers) objects object
       (among-append_left (named ++ placed) layers object (among-append_left named placed object m)))
-  used (by_place l at on e) =
-      in_four (among-append_left (named ++ placed ++ layers) objects object
+  used (by_place l at on e) = in_four (among-append_left (named ++ placed ++ layers) objects object
       (among-append_left (named ++ placed) layers object (among-append_right named placed object
-      (subst (λ k. Among k placed) (sym e)
-      (among-map (λ (p : Location ℕ). p.node) (filter within places) l
+      (subst (λ k. Among k placed) (sym e) (among-map (λ (p : Location ℕ). p.node) (filter within places) l
       (among-filter within places l (to_place l at) (eq-eqb x.number (mount_at nat_eq b l).filesystem (sym on))))))))
-  used (by_layer merged layer m n on e) =
-      in_four (among-append_left (named ++ placed ++ layers) objects object
-      (among-append_right (named ++ placed) layers object
-      (subst (λ k. Among k layers) (sym e)
-      (among-map (λ (l : Layer ℕ). l.directory) (filter on_it all_layers) layer
-      (among-filter on_it all_layers layer
+  used (by_layer merged layer m n on e) = in_four (among-append_left (named ++ placed ++ layers) objects object
+      (among-append_right (named ++ placed) layers object (subst (λ k. Among k layers) (sym e)
+      (among-map (λ (l : Layer ℕ). l.directory) (filter on_it all_layers) layer (among-filter on_it all_layers layer
       (among-flat_map (of_overlay [] layers_of) b.filesystems merged layer m n) on)))))
-  used (by_object merged m o) =
-      in_four (among-append_right (named ++ placed ++ layers) objects object
+  used (by_object merged m o) = in_four (among-append_right (named ++ placed ++ layers) objects object
       (among-flat_map (objects_of_overlay nat_eq x.number) b.filesystems merged object m o))
 
 -- an overlay with objects in a filesystem has a layer there
@@ -159,8 +143,7 @@ objects_layered number object merged = by merged.overlay
         on true f h = cc (e, or_left (nat_eq number layer.filesystem) _ f)
         on false f h = absurd h
 
-    by : (o : Option (Overlay ℕ))
-        → Among object (overlay_or [] (λ (overlay : Overlay ℕ). objects_by overlay
+    by : (o : Option (Overlay ℕ)) → Among object (overlay_or [] (λ (overlay : Overlay ℕ). objects_by overlay
         (holds_of (λ (layer : Layer ℕ). nat_eq number layer.filesystem) overlay.upper)) o)
         → overlay_or false (λ (overlay : Overlay ℕ). list_any (λ (l : Layer ℕ). nat_eq number l.filesystem)
         (layers_of overlay)) o ≡ true
@@ -183,19 +166,15 @@ module _ (a : World ℕ) (set : List TaskName) (used_now : List ℕ) (lowers : L
 
   same_of : (m y : Mount ℕ) → kept m ≡ Some y
       → (y.number ≡ m.number) × (y.filesystem ≡ m.filesystem) × (root_of y ≡ root_of m)
-  same_of m y e =
-      ⊎_elim
-      (λ same. (
-        ap (λ (k : Mount ℕ). k.number) (sym same),
-        ap (λ (k : Mount ℕ). k.filesystem) (sym same),
-        ap root_of (sym same),
-      ))
-      (λ stub. (
-        ap (λ (k : Mount ℕ). k.number) (sym stub.0),
-        ap (λ (k : Mount ℕ). k.filesystem) (sym stub.0),
-        ap root_of (sym stub.0),
-      ))
-      (kept_how a set theirs m y e)
+  same_of m y e = ⊎_elim (λ same. (
+    ap (λ (k : Mount ℕ). k.number) (sym same),
+    ap (λ (k : Mount ℕ). k.filesystem) (sym same),
+    ap root_of (sym same),
+  )) (λ stub. (
+    ap (λ (k : Mount ℕ). k.number) (sym stub.0),
+    ap (λ (k : Mount ℕ). k.filesystem) (sym stub.0),
+    ap root_of (sym stub.0),
+  )) (kept_how a set theirs m y e)
 
   in_part : (m y : Mount ℕ) → Among m a.mounts → kept m ≡ Some y → Among y part.mounts
   in_part m y n e = among-filter_map kept a.mounts m y n e
@@ -204,18 +183,15 @@ module _ (a : World ℕ) (set : List TaskName) (used_now : List ℕ) (lowers : L
   at_part y n l e = cc (found_itself part.mounts one_in_part y n)
 
   own_whole : (m : Mount ℕ) → owns m ≡ true → kept m ≡ Some m
-  own_whole m own =
-      kept_whole a set theirs m (or_left (owns m) (is_at nat_eq (roots_and_directories theirs) m) own)
+  own_whole m own = kept_whole a set theirs m (or_left (owns m) (is_at nat_eq (roots_and_directories theirs) m) own)
 
   -- on a mount of theirs with a mount point
   own_by : (m k : Mount ℕ) (n : ℕ) → m.namespace ≡ Some n → k.namespace ≡ Some n → owns m ≡ true → owns k ≡ true
   own_by m k n e f own = cc
 
   shown_used : (x : Filesystem ℕ) → Among x a.filesystems → is_among nat_eq x.number
-      (used_filesystems nat_eq a set) ≡ true
-      → Among x part.filesystems
-  shown_used x m e =
-      among-filter_map (part_of_filesystem nat_eq a set) a.filesystems x x m
+      (used_filesystems nat_eq a set) ≡ true → Among x part.filesystems
+  shown_used x m e = among-filter_map (part_of_filesystem nat_eq a set) a.filesystems x x m
       (ap (λ b. cond b (Some x) (when (list_any (λ (layer : Layer ℕ). nat_eq x.number layer.filesystem)
       (own_lowers nat_eq a set)) (part_of_lower nat_eq a set x))) e)
 
@@ -228,15 +204,12 @@ module _ (a : World ℕ) (set : List TaskName) (used_now : List ℕ) (lowers : L
           → (m ≡ y) × (owns m ≡ true)
       by true own q at = (same_Some m y (sym (own_whole m own) ∙ e), own)
       by false own true at =
-          let same : m ≡ y =
-          same_Some m y (sym (ap
+          let same : m ≡ y = same_Some m y (sym (ap
           (λ b. cond b (Some m) (when (is_at nat_eq (locations theirs) m) (seen_by_descriptor m)))
           (ap (λ b. owns m || b) at ∙ ap (λ b. b || true) own)) ∙ e) in
           ⊎_elim (λ its. (same, its))
-          (λ none. none_is_some l (sym none ∙ ap (λ (k : Mount ℕ). k.mount_point) same ∙ point))
-          (it.stood m n at)
-      by false own false at =
-          none_is_some l (stub (is_at nat_eq (locations theirs) m)
+          (λ none. none_is_some l (sym none ∙ ap (λ (k : Mount ℕ). k.mount_point) same ∙ point)) (it.stood m n at)
+      by false own false at = none_is_some l (stub (is_at nat_eq (locations theirs) m)
           (sym (ap (λ b. cond b (Some m) (when (is_at nat_eq (locations theirs) m) (seen_by_descriptor m)))
           (ap (λ b. owns m || b) at ∙ ap (λ b. b || false) own)) ∙ e) ∙ point)
         where
@@ -256,9 +229,7 @@ module _ (a : World ℕ) (set : List TaskName) (used_now : List ℕ) (lowers : L
   module _ (mounted : OverlaysMounted a set) (x : Filesystem ℕ) (alone : Alone a set x.number) (object : ℕ) where
     merged_there : (merged : Filesystem ℕ) → Among merged a.filesystems → has_layer_on nat_eq x.number merged ≡ true
         → Among merged part.filesystems
-    merged_there merged m has =
-        shown_used merged m
-        (used_directly_used a set merged.number
+    merged_there merged m has = shown_used merged m (used_directly_used a set merged.number
         (overlay_used a set used_now lowers it mounted merged m (layered_overlay x.number merged has)
         (alone.overlays merged m has)))
 
@@ -269,23 +240,19 @@ module _ (a : World ℕ) (set : List TaskName) (used_now : List ℕ) (lowers : L
         let its = alone.itself.locations l m on in
         by_place l (by_task its) (located a set l its ∙ on) e
     to_part (by_place l (by_root m n r) on e) =
-        let shows : m.filesystem ≡ x.number =
-        ap (λ (k : Mount ℕ). k.filesystem)
+        let shows : m.filesystem ≡ x.number = ap (λ (k : Mount ℕ). k.filesystem)
         (sym (mount_is a set used_now lowers it m n l (ap (λ (p : Location ℕ). p.mount) r))) ∙ on in
         let shown = (seen_alone a set used_now lowers it x.number alone.itself m n shows).0 in
         let same = same_of m shown.0 shown.1 in
         let there = in_part m shown.0 n shown.1 in
-        by_place l (by_root shown.0 there (r ∙ sym same.2))
-        (ap (λ (k : Mount ℕ). k.filesystem)
+        by_place l (by_root shown.0 there (r ∙ sym same.2)) (ap (λ (k : Mount ℕ). k.filesystem)
         (at_part shown.0 there l (ap (λ (p : Location ℕ). p.mount) (r ∙ sym same.2))) ∙ same.1 ∙ shows) e
     to_part (by_place l (by_point m n point) on e) =
         let up = it.parents m l n point in
         let at : mount_at nat_eq a l ≡ up.2 = mount_is a set used_now lowers it up.2 up.3 l up.4 in
-        ⊎_elim
-        (λ own.
+        ⊎_elim (λ own.
         let child = own_by up.2 m up.0 up.5 up.1 own in
-        by_place l (by_point m (in_part m m n (own_whole m child)) point)
-        (ap (λ (k : Mount ℕ). k.filesystem)
+        by_place l (by_point m (in_part m m n (own_whole m child)) point) (ap (λ (k : Mount ℕ). k.filesystem)
         (at_part up.2 (in_part up.2 up.2 up.3 (own_whole up.2 own)) l up.4 ∙ sym at) ∙ on) e)
         (λ nowhere. none_is_some up.0 (sym nowhere ∙ up.5))
         (alone.itself.mounts up.2 up.3 (ap (λ (k : Mount ℕ). k.filesystem) (sym at) ∙ on))
@@ -306,8 +273,7 @@ module _ (a : World ℕ) (set : List TaskName) (used_now : List ℕ) (lowers : L
         let same = same_of from.0 y from.2 in
         let shows : y.filesystem ≡ x.number =
         ap (λ (k : Mount ℕ). k.filesystem) (sym (at_part y n l (ap (λ (p : Location ℕ). p.mount) r))) ∙ on in
-        by_place l (by_root from.0 from.1 (r ∙ same.2))
-        (ap (λ (k : Mount ℕ). k.filesystem)
+        by_place l (by_root from.0 from.1 (r ∙ same.2)) (ap (λ (k : Mount ℕ). k.filesystem)
         (mount_is a set used_now lowers it from.0 from.1 l (ap (λ (p : Location ℕ). p.mount) (r ∙ same.2)))
         ∙ sym same.1 ∙ shows) e
     from_part (by_place l (by_point y n point) on e) =
@@ -316,8 +282,7 @@ module _ (a : World ℕ) (set : List TaskName) (used_now : List ℕ) (lowers : L
         let its : from.0.mount_point ≡ Some l = ap (λ (k : Mount ℕ). k.mount_point) whole.0 ∙ point in
         let up = it.parents from.0 l from.1 its in
         let own : owns up.2 ≡ true = own_by from.0 up.2 up.0 up.1 up.5 whole.1 in
-        by_place l (by_point from.0 from.1 its)
-        (ap (λ (k : Mount ℕ). k.filesystem)
+        by_place l (by_point from.0 from.1 its) (ap (λ (k : Mount ℕ). k.filesystem)
         (mount_is a set used_now lowers it up.2 up.3 l up.4
         ∙ sym (at_part up.2 (in_part up.2 up.2 up.3 (own_whole up.2 own)) l up.4)) ∙ on) e
     from_part (by_layer merged layer m n on e) =
@@ -328,8 +293,7 @@ module _ (a : World ℕ) (set : List TaskName) (used_now : List ℕ) (lowers : L
         (shown_how a set from.0 merged from.2)) on e
     from_part (by_object merged m o) =
         let from = among-from_filter_map (part_of_filesystem nat_eq a set) a.filesystems merged m in
-        ⊎_elim
-        (λ whole. by_object from.0 from.1
+        ⊎_elim (λ whole. by_object from.0 from.1
         (subst (λ (f : Filesystem ℕ). Among object (objects_of_overlay nat_eq x.number f)) (sym whole.0) o))
         (λ low. absurd (subst (λ p. Among object (overlay_or [] (λ (overlay : Overlay ℕ).
         cond (holds_of (λ (layer : Layer ℕ). nat_eq x.number layer.filesystem) overlay.upper)

@@ -45,8 +45,7 @@ plain_in world names is x merged m n has = by merged.overlay refl has
   where
     by : (o : Option (Overlay ℕ)) → merged.overlay ≡ o
         → overlay_or false (λ (overlay : Overlay ℕ). list_any (λ (layer : Layer ℕ). nat_eq x.number layer.filesystem)
-        (layers_of overlay)) o ≡ true
-        → x.overlay ≡ None
+        (layers_of overlay)) o ≡ true → x.overlay ≡ None
     by None e h = absurd (true≢false (sym h))
     by (Some overlay) e h =
         let at = any_among (λ (layer : Layer ℕ). nat_eq x.number layer.filesystem) (layers_of overlay) h in
@@ -74,11 +73,9 @@ whole_cut world is lowers x m =
 
 -- where each inode has a name
 pub all_named_there : (world : World ℕ) (names : List TaskName) (is : IsWorld nat_eq world) (x : Filesystem ℕ)
-    → Among x world.filesystems → wholly_locked nat_eq world names x.number ≡ true
-    → AllNamed x
+    → Among x world.filesystems → wholly_locked nat_eq world names x.number ≡ true → AllNamed x
 all_named_there world names is x m locked object n =
-    let all : all_named nat_eq x.files ≡ true =
-    ap (λ (f : Filesystem ℕ). all_named nat_eq f.files)
+    let all : all_named nat_eq x.files ≡ true = ap (λ (f : Filesystem ℕ). all_named nat_eq f.files)
     (sym (found_filesystem world.filesystems is.files.one_filesystem x m))
     ∙ (and_parts (list_any (λ merged. is_lower_root nat_eq x.number
     (filesystem_numbered nat_eq world x.number).files.tree.root merged
@@ -106,14 +103,12 @@ module _ (world : World ℕ) (names : List TaskName) (is : IsWorld nat_eq world)
   there m n = (among-from_filter (mount_lives nat_eq later) world.mounts m n).0
 
   attached_lives : (m : Mount ℕ) (n : ℕ) → Among m world.mounts → m.namespace ≡ Some n → Among m living.mounts
-  attached_lives m n at e =
-      among-filter (mount_lives nat_eq later) world.mounts m at
+  attached_lives m n at e = among-filter (mount_lives nat_eq later) world.mounts m at
       (or_left (is_some m.namespace) (is_located nat_eq later m.number) (ap is_some e))
 
   located_lives : (m : Mount ℕ) (l : Location ℕ) → Among m world.mounts → Among l (all_locations later)
       → l.mount ≡ m.number → Among m living.mounts
-  located_lives m l at n e =
-      among-filter (mount_lives nat_eq later) world.mounts m at
+  located_lives m l at n e = among-filter (mount_lives nat_eq later) world.mounts m at
       (or_right (is_some m.namespace) (is_located nat_eq later m.number)
       (any_from_among (λ (k : Location ℕ). nat_eq m.number k.mount) (all_locations later) l n
       (eq-eqb m.number l.mount (sym e))))
@@ -145,12 +140,9 @@ module _ (world : World ℕ) (names : List TaskName) (is : IsWorld nat_eq world)
           where
             which : (b : Bool) → is_own_namespace nat_eq world names k ≡ b
                 → (is_own world names new m ≡ true) ⊎ (m.namespace ≡ None)
-            which true own =
-                inl (owned_same world names is sealed_off set tasks change it m
+            which true own = inl (owned_same world names is sealed_off set tasks change it m
                 ∙ ap (holds_of (is_own_namespace nat_eq world names)) f ∙ own)
-            which false other =
-                absurd (true≢false
-                (sym (eq-eqb number m.filesystem (sym e))
+            which false other = absurd (true≢false (sym (eq-eqb number m.filesystem (sym e))
                 ∙ none_among (λ (y : Mount ℕ). nat_eq number y.filesystem) (other_mounts nat_eq world names) nobody.0 m
                 (among-filter (λ (y : Mount ℕ). holds_of (λ i. not (is_own_namespace nat_eq world names i)) y.namespace)
                 world.mounts m (there m n)
@@ -170,19 +162,15 @@ module _ (world : World ℕ) (names : List TaskName) (is : IsWorld nat_eq world)
             let out = it.others l (among-flat_map locations_of (filter (λ y. not (is_member_task set y)) tasks) t l
             (among-filter (λ y. not (is_member_task set y)) tasks t n (ap not other)) at) in
             let from = among-from_flat_map locations_of (outsiders world names) l out in
-            let under = mount_under world names is sealed_off l
-            (among-flat_map locations_of world.tasks from.0 l
+            let under = mount_under world names is sealed_off l (among-flat_map locations_of world.tasks from.0 l
             (among-from_filter (λ y. not (is_member_task names y)) world.tasks from.0 from.1).0 from.2) in
             let alive = located_lives under.0 l under.1 m under.2 in
-            let same : mount_at nat_eq living l ≡ mount_at nat_eq world l =
-            ap (mount_numbered nat_eq living) under.2
+            let same : mount_at nat_eq living l ≡ mount_at nat_eq world l = ap (mount_numbered nat_eq living) under.2
             ∙ found_itself living.mounts
             (pair-filter (λ (p q : Mount ℕ). nat_eq p.number q.number) (mount_lives nat_eq later) world.mounts
-            is.mounts.one_number) under.0 alive
-            ∙ sym (found_itself world.mounts is.mounts.one_number under.0 under.1)
+            is.mounts.one_number) under.0 alive ∙ sym (found_itself world.mounts is.mounts.one_number under.0 under.1)
             ∙ sym (ap (mount_numbered nat_eq world) under.2) in
-            absurd (true≢false
-            (sym (eq-eqb number (mount_at nat_eq world l).filesystem
+            absurd (true≢false (sym (eq-eqb number (mount_at nat_eq world l).filesystem
             (sym (ap (λ (k : Mount ℕ). k.filesystem) (sym same) ∙ e)))
             ∙ none_among (λ k. nat_eq number (mount_at nat_eq world k).filesystem) (locations (outsiders world names))
             nobody.1 l out))
@@ -229,8 +217,7 @@ module _ (world : World ℕ) (names : List TaskName) (is : IsWorld nat_eq world)
     plain = plain_in world names is;
     free = λ x m u. ⊎_elim (λ h. inl (alone x.number h)) (λ h. inr (all_named_there world names is x m h))
         (or_cases (used_alone nat_eq world names x.number) (wholly_locked nat_eq world names x.number)
-        (used_are_free world names sealed_off x.number
-        (among_numbers (used_filesystems nat_eq world names) x.number
+        (used_are_free world names sealed_off x.number (among_numbers (used_filesystems nat_eq world names) x.number
         (used_was world names is set later (record (part_of nat_eq world names) { tasks = tasks; change = change })
         (now_less world names is set tasks tasks change change (sees_less world names is sealed_off set tasks change it)
         refl) x.number u))));

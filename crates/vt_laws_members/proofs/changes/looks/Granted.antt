@@ -28,8 +28,7 @@ use Rattle.vt_laws_members.proofs.judging.WalksLead.{HereAt, directory_agrees, o
 
 -- what is granted after a walk, and after rules
 pub of_walk : {A : Type 0} (Q : A → Type 0) (P : Permit ℕ → Type 0) (w : Result A (Stop ℕ)) (f : A → Judgement ℕ)
-    → IfOk w Q
-    → ((a : A) → Q a → IfOk (f a) P) → IfOk (and_then (walk_end w) f) P
+    → IfOk w Q → ((a : A) → Q a → IfOk (f a) P) → IfOk (and_then (walk_end w) f) P
 of_walk Q P (Ok a) f q next = next a q
 of_walk Q P (Err stop) f q next = tt
 
@@ -62,8 +61,7 @@ module _ (world : World ℕ) (names : List TaskName) (is : IsWorld nat_eq world)
   abbrev Looked : Permit ℕ → Type 0
   Looked = IsLook (is_theirs world names) (locations (members world names))
 
-  alike : JudgesAlike one other task (is_theirs world names)
-      (λ number. is_among nat_eq number
+  alike : JudgesAlike one other task (is_theirs world names) (λ number. is_among nat_eq number
       (used_filesystems nat_eq world names))
   alike = judges world names is sealed_off task member
 
@@ -82,8 +80,7 @@ module _ (world : World ℕ) (names : List TaskName) (is : IsWorld nat_eq world)
   -- an open file of theirs
   pub opened_theirs : (descriptor : Descriptor ℕ) → Among descriptor task.descriptors
       → Among descriptor.location (locations (members world names))
-  opened_theirs descriptor m =
-      among-flat_map locations_of (members world names) task descriptor.location member
+  opened_theirs descriptor m = among-flat_map locations_of (members world names) task descriptor.location member
       (inr (inr (among-map (λ (d : Descriptor ℕ). d.location) task.descriptors descriptor m)))
 
   pread_looks : (number offset size : ℕ) → IfOk (pread_permit task number offset size) Looked
@@ -100,13 +97,11 @@ module _ (world : World ℕ) (names : List TaskName) (is : IsWorld nat_eq world)
           → IfOk (and_then (ok_or (find (λ (d : Descriptor ℕ). d.reads) (option_to_list o)) (denial S4))
           (λ d. Ok (ToReadPart d.location offset size))) Looked
       by None e = tt
-      by (Some descriptor) e =
-          which descriptor (found_among (λ (d : Descriptor ℕ). number == d.number)
+      by (Some descriptor) e = which descriptor (found_among (λ (d : Descriptor ℕ). number == d.number)
           task.descriptors descriptor e) descriptor.reads
 
   pub looked : (overfills : Permit ℕ → Bool) (set : List TaskName) (name : TaskName) (call : Call)
-      → only_looks call ≡ true
-      → IfOk (judge nat_eq one overfills task call) Looked × (left set name call ≡ set)
+      → only_looks call ≡ true → IfOk (judge nat_eq one overfills task call) Looked × (left set name call ≡ set)
   unfolding list_permit stat_permit lstat_permit readlink_permit read_permit exec_permit
   looked overfills set name (Ls path) e = (
     of_walk StandsHere Looked (directory_walk nat_eq one task path)

@@ -37,10 +37,8 @@ module _ (world : World ℕ) (names : List TaskName) (is : IsWorld nat_eq world)
 
   -- the mounts of their namespace
   pub mounts_alike : mounts_of nat_eq part task.namespace ≡ mounts_of nat_eq world task.namespace
-  mounts_alike =
-      filter_kept (keep world names theirs) inside
-      (λ x e. own_whole world names is x (in_own world names is task member x e))
-      (λ x y e f.
+  mounts_alike = filter_kept (keep world names theirs) inside
+      (λ x e. own_whole world names is x (in_own world names is task member x e)) (λ x y e f.
       ⊎_elim (λ same. ap inside (sym same) ∙ f) (λ stub. ap inside (sym stub.0)) (kept_how world names theirs x y e))
       world.mounts
 
@@ -107,22 +105,17 @@ module _ (world : World ℕ) (names : List TaskName) (is : IsWorld nat_eq world)
   abbrev place : World ℕ → List ℕ → Location ℕ → ℕ × Spot
   place w numbers point = pair (number_among nat_eq numbers point.mount) (mount_point_spot nat_eq w point)
 
-  points_alike : (numbers : List ℕ) (mount : Mount ℕ) → Among mount Listed
-      → option_map (place part numbers)
-      mount.mount_point
-      ≡ option_map (place world numbers)
-      mount.mount_point
+  points_alike : (numbers : List ℕ) (mount : Mount ℕ) → Among mount Listed → option_map (place part numbers)
+      mount.mount_point ≡ option_map (place world numbers) mount.mount_point
   points_alike numbers mount m = by mount.mount_point refl
     where
-      by : (o : Option (Location ℕ)) → mount.mount_point ≡ o
-          → option_map (place part numbers) o
+      by : (o : Option (Location ℕ)) → mount.mount_point ≡ o → option_map (place part numbers) o
           ≡ option_map (place world numbers) o
       by None e = refl
       by (Some point) e =
           let own = listed_own mount m in
           cc (spot_alike point (parent_theirs world names is.mounts mount.number point (own_theirs world names is
-          mount own.0 own.1) (ap (λ (x : Mount ℕ). x.mount_point) (numbered world names is.mounts mount own.0) ∙
-          e)))
+          mount own.0 own.1) (ap (λ (x : Mount ℕ). x.mount_point) (numbered world names is.mounts mount own.0) ∙ e)))
 
   line_alike : (mount : Mount ℕ) → Among mount Listed
       → mount_line nat_eq part Listed mount ≡ mount_line nat_eq world Listed mount

@@ -42,21 +42,18 @@ module _ (world : World ℕ) (names : List TaskName) (is : IsWorld nat_eq world)
 
   pub member_called : (name : TaskName) → is_among same_name name names ≡ true → (task : Task ℕ)
       → task_called world name ≡ Some task → Among task (members world names)
-  member_called name theirs task e =
-      among-filter (is_member_task names) world.tasks task
-      (found_among (λ (t : Task ℕ). same_name name t.name) world.tasks task e)
-      (ap (λ n. is_among same_name n names)
+  member_called name theirs task e = among-filter (is_member_task names) world.tasks task
+      (found_among (λ (t : Task ℕ). same_name name t.name) world.tasks task e) (ap (λ n. is_among same_name n names)
       (sym (same_task_name name task.name (found_passes (λ (t : Task ℕ). same_name name t.name) world.tasks task e)))
       ∙ theirs)
 
   -- an open file of theirs
   pub open_file : (file : Location ℕ) → Among file (locations (members world names))
       → node_at nat_eq world file ≡ node_at nat_eq part file
-  open_file file m =
-      cc (
-        found world names (mount_at nat_eq world file).filesystem (located_used world names is file m),
-        located world names file m,
-      )
+  open_file file m = cc (
+    found world names (mount_at nat_eq world file).filesystem (located_used world names is file m),
+    located world names file m,
+  )
 
   module _ (task : Task ℕ) (member : Among task (members world names)) (fresh other : Fresh ℕ) where
     abbrev Looked : Permit ℕ → Type 0
@@ -64,8 +61,7 @@ module _ (world : World ℕ) (names : List TaskName) (is : IsWorld nat_eq world)
 
     -- what is told, and that nothing changes
     abbrev ToldAlike : Permit ℕ → Type 0
-    ToldAlike permit =
-        ((apply nat_eq fresh world task permit).answer ≡ (apply nat_eq other part task permit).answer)
+    ToldAlike permit = ((apply nat_eq fresh world task permit).answer ≡ (apply nat_eq other part task permit).answer)
         × ((apply nat_eq fresh world task permit).world ≡ world) × ((apply nat_eq other part task permit).world ≡ part)
 
     told : (permit : Permit ℕ) → Looked permit → ToldAlike permit
@@ -101,8 +97,7 @@ module _ (world : World ℕ) (names : List TaskName) (is : IsWorld nat_eq world)
     looks_by name call same (Ok permit) on =
         let it = told permit on in
         subst (λ set. EndAlike set (apply nat_eq fresh world task permit) (apply nat_eq other part task permit))
-        (sym (stays name call same permit on))
-        (record {
+        (sym (stays name call same permit on)) (record {
           answer = it.0;
           part = cc (it.1, part_again world names is, it.2);
         })
@@ -110,26 +105,21 @@ module _ (world : World ℕ) (names : List TaskName) (is : IsWorld nat_eq world)
 
 -- a call by the task that is found
 abbrev pub ran : TaskName → Call → World ℕ → Fresh ℕ → Option (Task ℕ) → Outcome ℕ
-ran name call world fresh found =
-    after world (ok_or found (denial S2)) (λ task.
+ran name call world fresh found = after world (ok_or found (denial S2)) (λ task.
     finished nat_eq world name call (filesystems_changed_by nat_eq world (judge_in nat_eq fresh world task call))
     (call_outcome nat_eq fresh world task call))
 
 pub looks_end_alike : LooksEndAlike
-looks_end_alike world names name call it looks fresh other =
-    by (task_called world name) refl
+looks_end_alike world names name call it looks fresh other = by (task_called world name) refl
   where
     part : World ℕ
     part = part_of nat_eq world names
 
     also : (found : Option (Task ℕ)) → task_called world name ≡ found
         → EndAlike (grown names name call (ran name call world fresh found).answer) (ran name call world fresh found)
-        (ran name call part other found)
-        → EndAlike (grown names name call (policy nat_eq fresh world name call).answer)
-        (policy nat_eq fresh world name call)
-        (policy nat_eq other part name call)
-    also found e alike =
-        subst (λ p. EndAlike (grown names name call (policy nat_eq fresh world name call).answer)
+        (ran name call part other found) → EndAlike (grown names name call (policy nat_eq fresh world name call).answer)
+        (policy nat_eq fresh world name call) (policy nat_eq other part name call)
+    also found e alike = subst (λ p. EndAlike (grown names name call (policy nat_eq fresh world name call).answer)
         (policy nat_eq fresh world name call) p)
         (sym (ap (ran name call part other) (same_caller world names it.is it.sealed_off name it.theirs ∙ e)))
         (subst (λ o. EndAlike (grown names name call o.answer) o (ran name call part other found))
@@ -143,25 +133,20 @@ looks_end_alike world names name call it looks fresh other =
 
     by : (found : Option (Task ℕ)) → task_called world name ≡ found
         → EndAlike (grown names name call (policy nat_eq fresh world name call).answer)
-        (policy nat_eq fresh world name call)
-        (policy nat_eq other part name call)
+        (policy nat_eq fresh world name call) (policy nat_eq other part name call)
     by None e = also None e (record { answer = refl; part = sym (part_again world names it.is) })
     by (Some task) e =
         let member = member_called world names it.is it.sealed_off name it.theirs task e in
         let granted = looked world names it.is it.sealed_off task member
-        (overfills nat_eq fresh world task) names name call
-        looks in
+        (overfills nat_eq fresh world task) names name call looks in
         let judged : judge_in nat_eq fresh world task call ≡ judge_in nat_eq other part task call =
-        members_are_judged_by_their_part world names task call
-        (record {
+        members_are_judged_by_their_part world names task call (record {
           is = it.is;
           sealed_off = it.sealed_off;
           member = contains_from_among (members world names) task member;
           among_them = it.among_them;
-        })
-        fresh other in
-        also (Some task) e
-        (subst (λ p. EndAlike (grown names name call (ran name call world fresh (Some task)).answer)
+        }) fresh other in
+        also (Some task) e (subst (λ p. EndAlike (grown names name call (ran name call world fresh (Some task)).answer)
         (ran name call world fresh (Some task)) p)
         (sym (looking part other task ∙ ap (λ j. after part j (apply nat_eq other part task)) (sym judged)))
         (subst (λ o. EndAlike (grown names name call o.answer) o

@@ -32,8 +32,7 @@ pub part_respaced : (w : World ℕ) (names : List TaskName) (name : TaskName) (n
       namespaces = namespaces;
       tasks = map (raised_task name) w.tasks;
       change = raised w.change;
-    }) names
-    ≡ record (part_of nat_eq w names) {
+    }) names ≡ record (part_of nat_eq w names) {
       namespaces = filter (spaces (members w names)) namespaces;
       tasks = filter (is_member_task names) (map (raised_task name) w.tasks);
     }
@@ -42,8 +41,7 @@ part_respaced w names name namespaces =
     (sees_alike (record w { namespaces = namespaces }) names (raised_task name)
     (raised_is name (λ (t : Task ℕ). t.name) (λ t. refl))
     (λ t m. raised_is name (λ (t : Task ℕ). t.namespace) (λ t. refl) t)
-    (λ t m. raised_is name (λ (t : Task ℕ). t.root ∷ t.directory ∷ []) (λ t. refl) t)
-    (raised w.change)
+    (λ t m. raised_is name (λ (t : Task ℕ). t.root ∷ t.directory ∷ []) (λ t. refl) t) (raised w.change)
     (λ t m. raised_is name locations_of (λ t. refl) t))
 
 -- the tasks of the set, with the caller's change number raised
@@ -55,8 +53,7 @@ raised_members_alike world names name =
   where
     of_map : (tasks : List (Task ℕ)) → filter (is_member_task names) (map (raised_task name) tasks)
         ≡ map (raised_task name) (filter (is_member_task names) tasks)
-    of_map tasks =
-        filter-map (is_member_task names) (raised_task name) tasks
+    of_map tasks = filter-map (is_member_task names) (raised_task name) tasks
         (λ t. ap (λ n. is_among same_name n names) (raised_is name (λ (x : Task ℕ). x.name) (λ x. refl) t))
 
 module _ (world : World ℕ) (names : List TaskName) (is : IsWorld nat_eq world)
@@ -91,8 +88,7 @@ module _ (world : World ℕ) (names : List TaskName) (is : IsWorld nat_eq world)
   part_of_later = part_with_flags world names is.mounts.one_number old there own flags
 
   part_of_later_part : part_of nat_eq later_part names ≡ later_part
-  part_of_later_part =
-      part_with_flags part names (part_mounts world names is sealed_off).one_number old
+  part_of_later_part = part_with_flags part names (part_mounts world names is sealed_off).one_number old
       (own_in_part world names is sealed_off old (mine old there own))
       (ap (λ tasks. is_own world names tasks old) (same_members world names) ∙ own) flags
       ∙ ap (λ (w : World ℕ). with_mounts w (map set w.mounts)) (part_again world names is)
@@ -106,8 +102,7 @@ module _ (world : World ℕ) (names : List TaskName) (is : IsWorld nat_eq world)
     where
       by : (o : Option ℕ) → source_of m.propagation ≡ o → then_some o part.master ≡ then_some o world.master
       by None e = refl
-      by (Some g) e =
-          master_same world names is sealed_off g (heard_by_own world names is sealed_off m n g e)
+      by (Some g) e = master_same world names is sealed_off g (heard_by_own world names is sealed_off m n g e)
 
   module _ (n : ℕ) (space : list_any (λ (t : Task ℕ). nat_eq n t.namespace) theirs ≡ true) where
     above_later : (y : Mount ℕ) → Among y later.mounts → its_in n y ≡ true → master_above part y ≡ master_above world y
@@ -119,16 +114,14 @@ module _ (world : World ℕ) (names : List TaskName) (is : IsWorld nat_eq world)
             → master_above part y ≡ master_above world y
         by z at true e =
             subst (λ (q : Mount ℕ). master_above part q ≡ master_above world q) (sym e) (above old (mine old there own))
-        by z at false e =
-            subst (λ (q : Mount ℕ). master_above part q ≡ master_above world q) (sym e)
+        by z at false e = subst (λ (q : Mount ℕ). master_above part q ≡ master_above world q) (sym e)
             (above z (mine z at (own_in world names is sealed_off n space z (ap (its_in n) (sym e) ∙ h))))
 
     later_in_part : mounts_of nat_eq later_part n ≡ mounts_of nat_eq later n
     later_in_part = cc (
       part_of_later,
       filter_both (keep world names theirs) (its_in n) (its_in n) later.mounts (λ m at h. (
-        own_kept world names is
-            sealed_off m (own_in world names is sealed_off n space m h),
+        own_kept world names is sealed_off m (own_in world names is sealed_off n space m h),
         h,
       )) (λ m y at h e. ⊎_elim (λ same. ap (its_in n)
           (sym same) ∙ h) (λ stub. ap (its_in n) (sym stub.0)) (kept_how world names theirs m y e)),
@@ -146,8 +139,7 @@ module _ (world : World ℕ) (names : List TaskName) (is : IsWorld nat_eq world)
     )
       where
         same_ones : Mount ℕ → Mount ℕ → Bool
-        same_ones x y =
-            nat_eq x.number y.number && same_option (same_location nat_eq) x.mount_point y.mount_point
+        same_ones x y = nat_eq x.number y.number && same_option (same_location nat_eq) x.mount_point y.mount_point
             && same_flags x.flags y.flags && same_propagation nat_eq x.propagation y.propagation
 
         compared : (x y : Mount ℕ) → master_above part x ≡ master_above world x
@@ -157,17 +149,16 @@ module _ (world : World ℕ) (names : List TaskName) (is : IsWorld nat_eq world)
 
   raised_alike : filter (spaces theirs) (map (raised_namespace nat_eq part later_part) part.namespaces)
       ≡ filter (spaces theirs) (map (raised_namespace nat_eq world later) world.namespaces)
-  raised_alike =
-      cc (
-        filter-map (spaces theirs) (raised_namespace nat_eq part later_part) part.namespaces (λ n. ap (λ i.
-            list_any (λ (t : Task ℕ). nat_eq i t.namespace) theirs) (raised_number part later_part n)),
-        filter_again (spaces theirs) world.namespaces,
-        map_alike (raised_namespace nat_eq part later_part) (raised_namespace nat_eq world later) (filter (spaces
-            theirs) world.namespaces) (λ n m. ap (λ c. cond c n (record n { change = raised n.change })) (spaces_alike
-            n.number (among-from_filter (spaces theirs) world.namespaces n m).1)),
-        filter-map (spaces theirs) (raised_namespace nat_eq world later) world.namespaces (λ n. ap (λ i. list_any
-            (λ (t : Task ℕ). nat_eq i t.namespace) theirs) (raised_number world later n)),
-      )
+  raised_alike = cc (
+    filter-map (spaces theirs) (raised_namespace nat_eq part later_part) part.namespaces (λ n. ap (λ i.
+        list_any (λ (t : Task ℕ). nat_eq i t.namespace) theirs) (raised_number part later_part n)),
+    filter_again (spaces theirs) world.namespaces,
+    map_alike (raised_namespace nat_eq part later_part) (raised_namespace nat_eq world later) (filter (spaces
+        theirs) world.namespaces) (λ n m. ap (λ c. cond c n (record n { change = raised n.change })) (spaces_alike
+        n.number (among-from_filter (spaces theirs) world.namespaces n m).1)),
+    filter-map (spaces theirs) (raised_namespace nat_eq world later) world.namespaces (λ n. ap (λ i. list_any
+        (λ (t : Task ℕ). nat_eq i t.namespace) theirs) (raised_number world later n)),
+  )
 
   module _ (name : TaskName) where
     -- what a call leaves in which a world becomes another with the same tasks and filesystems
@@ -190,17 +181,14 @@ module _ (world : World ℕ) (names : List TaskName) (is : IsWorld nat_eq world)
 
     pub parts_left : part_of nat_eq (numbers_raised nat_eq world name [] later) names
         ≡ part_of nat_eq (numbers_raised nat_eq part name [] later_part) names
-    parts_left =
-        ap (λ w. part_of nat_eq w names) (left_so world later)
+    parts_left = ap (λ w. part_of nat_eq w names) (left_so world later)
         ∙ part_respaced later names name (map (raised_namespace nat_eq world later) world.namespaces)
         ∙ (λ i. record (part_of_later i) {
           namespaces = sym raised_alike i;
           tasks = raised_members_alike world names name i;
-        })
-        ∙ (λ i. record (sym part_of_later_part i) {
+        }) ∙ (λ i. record (sym part_of_later_part i) {
           namespaces = filter (spaces (sym (same_members world names) i))
               (map (raised_namespace nat_eq part later_part) part.namespaces);
           tasks = filter (is_member_task names) (map (raised_task name) part.tasks);
-        })
-        ∙ sym (part_respaced later_part names name (map (raised_namespace nat_eq part later_part) part.namespaces))
+        }) ∙ sym (part_respaced later_part names name (map (raised_namespace nat_eq part later_part) part.namespaces))
         ∙ sym (ap (λ w. part_of nat_eq w names) (left_so part later_part))

@@ -43,8 +43,7 @@ module _ (world : World ℕ) (names : List TaskName) (is : IsWorld nat_eq world)
   On number = is_theirs world names number ≡ true
 
   abbrev SetsFlags : Permit ℕ → Type 0
-  SetsFlags permit =
-      (here : Location ℕ) × (permit ≡ ToSetFlags here.mount flags) × On here.mount
+  SetsFlags permit = (here : Location ℕ) × (permit ≡ ToSetFlags here.mount flags) × On here.mount
       × (is_own world names (members world names) (mount_at nat_eq world here) ≡ true)
 
   is_so : (b : Bool) → not b ≡ false → b ≡ true
@@ -54,16 +53,14 @@ module _ (world : World ℕ) (names : List TaskName) (is : IsWorld nat_eq world)
   sets_flags : (path : List ℕ) → IfOk
       (remount_permit nat_eq (one world names is sealed_off task member) task path flags) SetsFlags
   unfolding remount_permit
-  sets_flags path =
-      of_rules SetsFlags (admin_rules task) _
+  sets_flags path = of_rules SetsFlags (admin_rules task) _
       (of_walk (StandsHere world names is sealed_off task member) SetsFlags
       (directory_walk nat_eq (one world names is sealed_off task member) task path)
       (λ here. unless (remount_rules nat_eq (one world names is sealed_off task member) task here.location flags)
       (Ok (ToSetFlags here.location.mount flags))) (at_directory world names is sealed_off task member path)
       (λ here on. of_passed SetsFlags
       (remount_rules nat_eq (one world names is sealed_off task member) task here.location flags)
-      (Ok (ToSetFlags here.location.mount flags))
-      (λ passed. (
+      (Ok (ToSetFlags here.location.mount flags)) (λ passed. (
         here.location,
         refl,
         on,
@@ -88,8 +85,7 @@ module _ (world : World ℕ) (names : List TaskName) (name : TaskName) (path : L
   theirs = theirs_from world names it.is.mounts here.mount on
 
   mount_there : Among mount_of world.mounts
-  mount_there =
-      subst (λ m. Among m world.mounts) (sym (its_mount world names it.is.mounts here.mount theirs)) theirs.1
+  mount_there = subst (λ m. Among m world.mounts) (sym (its_mount world names it.is.mounts here.mount theirs)) theirs.1
 
   abbrev now : World ℕ
   now = later world names it.is it.sealed_off mount_of mount_there own flags
@@ -98,16 +94,14 @@ module _ (world : World ℕ) (names : List TaskName) (name : TaskName) (path : L
   now_there = later_part world names it.is it.sealed_off mount_of mount_there own flags
 
   first : policy nat_eq fresh world name (Remount path flags) ≡ granted Done (numbers_raised nat_eq world name [] now)
-  first =
-      ap (ran name (Remount path flags) world fresh) called
+  first = ap (ran name (Remount path flags) world fresh) called
       ∙ ap (run_by world names name (Remount path flags) it fresh other world fresh task) judged
       ∙ ap (λ w. granted Done (numbers_raised nat_eq world name [] w))
       (set_flags_keep_all fresh world task here.mount flags it.is.mounts.one_number (all_in_use world it.is))
 
   second : policy nat_eq other there name (Remount path flags)
       ≡ granted Done (numbers_raised nat_eq there name [] now_there)
-  second =
-      ap (ran name (Remount path flags) there other)
+  second = ap (ran name (Remount path flags) there other)
       (same_caller world names it.is it.sealed_off name it.theirs ∙ called)
       ∙ ap (run_by world names name (Remount path flags) it fresh other there other task)
       (sym (same_judgement world names name (Remount path flags) it fresh other task called) ∙ judged)
@@ -118,13 +112,11 @@ module _ (world : World ℕ) (names : List TaskName) (name : TaskName) (path : L
       (same_mount world names it.is.mounts here.mount theirs))
 
   remount_alike : EndsAlike world names name (Remount path flags) fresh other
-  remount_alike =
-      subst (λ p. EndAlike
+  remount_alike = subst (λ p. EndAlike
       (grown names name (Remount path flags) (policy nat_eq fresh world name (Remount path flags)).answer)
       (policy nat_eq fresh world name (Remount path flags)) p) (sym second)
       (subst (λ o. EndAlike (grown names name (Remount path flags) o.answer) o
-      (granted Done (numbers_raised nat_eq there name [] now_there))) (sym first)
-      (record {
+      (granted Done (numbers_raised nat_eq there name [] now_there))) (sym first) (record {
         answer = refl;
         part = parts_left world names it.is it.sealed_off mount_of mount_there own flags name;
       }))
@@ -140,8 +132,7 @@ remounts_end_alike world names name path flags it fresh other = by (task_called 
         remount_alike world names name path flags it task e fresh other its.0 its.2 its.3 (judged ∙ ap Ok its.1)
     judged_by task member e (Err deny) judged its =
         denial_ends_alike world names name (Remount path flags) it fresh other
-        (ap (λ o. is_ok (ran name (Remount path flags) world fresh o).answer) e
-        ∙ ap (λ j. is_ok
+        (ap (λ o. is_ok (ran name (Remount path flags) world fresh o).answer) e ∙ ap (λ j. is_ok
         (run_by world names name (Remount path flags) it fresh other world fresh task j).answer) judged)
 
     by : (o : Option (Task ℕ)) → task_called world name ≡ o

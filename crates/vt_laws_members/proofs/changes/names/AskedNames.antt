@@ -104,8 +104,7 @@ module _ (world : World ℕ) (names : List TaskName) (name : TaskName) (call : C
   itself = ap (task_called world) (sym (name_found world name task found)) ∙ found
 
   asked : AsksWell world location change
-  asked = (subst (AsksWellIf world) asks
-      (permits_ask_well world fresh task call permit is serves itself judged)).0
+  asked = (subst (AsksWellIf world) asks (permits_ask_well world fresh task call permit is serves itself judged)).0
 
   pub proper : IsProper old.files.tree change
   proper = (permits_ask_properly world fresh task call permit location change is serves itself judged asks).0
@@ -113,8 +112,7 @@ module _ (world : World ℕ) (names : List TaskName) (name : TaskName) (call : C
   node_there : is_some (old.files.tree.node (written_to change)) ≡ true
   node_there = by change comes asked
     where
-      by : (c : Change ℕ) → Names c → AsksWell world location c
-          → is_some (old.files.tree.node (written_to c)) ≡ true
+      by : (c : Change ℕ) → Names c → AsksWell world location c → is_some (old.files.tree.node (written_to c)) ≡ true
       by (Make directory entry inode node) any well =
           written_there world location (Make directory entry inode node) well tt
       by (AddName directory entry object) any well =
@@ -128,8 +126,7 @@ module _ (world : World ℕ) (names : List TaskName) (name : TaskName) (call : C
 
   pub old_listed : IsListedTree old.files
   old_listed = record {
-    tree = ⊎_elim (λ tree. tree)
-        (λ missing. absurd (true≢false (sym node_there
+    tree = ⊎_elim (λ tree. tree) (λ missing. absurd (true≢false (sym node_there
         ∙ ap (λ (f : Filesystem ℕ). is_some (f.files.tree.node (written_to change))) missing.0)))
         (numbered_all (λ (f : Filesystem ℕ). IsTree f.files.tree) number world.filesystems is.files.trees);
     numbers = numbered_anyhow (λ (f : Filesystem ℕ). ListsNumbers nat_eq f.files) number world.filesystems
@@ -166,9 +163,7 @@ module _ (world : World ℕ) (names : List TaskName) (name : TaskName) (call : C
   -- others have no foothold on it: what is wholly locked is not changed
   pub old_alone : is_among nat_eq number (used_filesystems nat_eq world names) ≡ true
       → used_alone nat_eq world names number ≡ true
-  old_alone used =
-      ⊎_elim (λ alone. alone)
-      (λ locked. absurd (no_copy change comes (written_not_spared old.files change
+  old_alone used = ⊎_elim (λ alone. alone) (λ locked. absurd (no_copy change comes (written_not_spared old.files change
       (spared.spares (written_to change)
       (all_locked world names number old_listed.tree old_listed.numbers locked (written_to change) node_there)))))
       (or_cases (used_alone nat_eq world names number) (wholly_locked nat_eq world names number)

@@ -35,27 +35,23 @@ module _ (world : World ℕ) (names : List TaskName) (is : IsWorld nat_eq world)
       )
 
       above_there : Among (mount_at nat_eq world point) world.mounts
-      above_there =
-          ⊎_elim (λ k. k)
+      above_there = ⊎_elim (λ k. k)
           (λ none. none_is_some n (sym (ap (λ (y : Mount ℕ). y.namespace) none) ∙ above_placed))
           (found_or_none world.mounts point.mount)
 
       nobody : list_any (λ (y : Mount ℕ). nat_eq number y.filesystem) (other_mounts nat_eq world names) ≡ false
-      nobody =
-          not-true _ (and_parts (not (list_any (λ (y : Mount ℕ). nat_eq number y.filesystem)
+      nobody = not-true _ (and_parts (not (list_any (λ (y : Mount ℕ). nat_eq number y.filesystem)
           (other_mounts nat_eq world names))) _ (and_parts (no_outsider_on nat_eq world names number) _ alone).0).0
 
       by : (b : Bool) → is_own_namespace nat_eq world names n ≡ b → is_own_namespace nat_eq world names n ≡ true
       by true own = own
-      by false other =
-          absurd (true≢false
+      by false other = absurd (true≢false
           (sym (any_from_among (λ (y : Mount ℕ). nat_eq number y.filesystem) (other_mounts nat_eq world names)
           (mount_at nat_eq world point)
           (among-filter (λ (y : Mount ℕ). holds_of (λ k. not (is_own_namespace nat_eq world names k)) y.namespace)
           world.mounts (mount_at nat_eq world point) above_there
           (ap (holds_of (λ k. not (is_own_namespace nat_eq world names k))) above_placed ∙ ap not other))
-          (eq-eqb number (mount_at nat_eq world point).filesystem (sym shows)))
-          ∙ nobody))
+          (eq-eqb number (mount_at nat_eq world point).filesystem (sym shows))) ∙ nobody))
 
   -- of a plain filesystem the points of a directory are its own
   pub plain_points : (directory : Location ℕ) → (filesystem_at nat_eq world directory).overlay ≡ None
@@ -83,8 +79,6 @@ module _ (world : World ℕ) (names : List TaskName) (is : IsWorld nat_eq world)
             && nat_eq (mount_at nat_eq world point).filesystem at.0) o ≡ true
             → is_own_namespace nat_eq world names n ≡ true
         by k at theirs None e h = absurd (true≢false (sym h))
-        by k at theirs (Some point) e h =
-            own_there at.0 theirs mount k point e
+        by k at theirs (Some point) e h = own_there at.0 theirs mount k point e
             (eqb-true (mount_at nat_eq world point).filesystem at.0
-            (and_parts (nat_eq point.node at.1) (nat_eq (mount_at nat_eq world point).filesystem at.0) h).1)
-            n placed
+            (and_parts (nat_eq point.node at.1) (nat_eq (mount_at nat_eq world point).filesystem at.0) h).1) n placed

@@ -119,7 +119,6 @@ module _ (world : World ℕ) (names : List TaskName) (is : IsWorld nat_eq world)
   pub granted_theirs : (call : Call) (permit : Permit ℕ) → judge_in nat_eq fresh world task call ≡ Ok permit
       → (location : Location ℕ) (change : Change ℕ) → change_asked fresh world permit ≡ Some (location, change)
       → Names change → On location.mount
-  granted_theirs call permit judged location change asks comes =
-      names_theirs call permit
+  granted_theirs call permit judged location change asks comes = names_theirs call permit
       (calls_are_granted nat_eq one (overfills nat_eq fresh world task) task call permit judged)
       (location, change) asks comes

@@ -72,12 +72,9 @@ module _ (world : World ℕ) (names : List TaskName) (name : TaskName) (call : C
   part = part_of nat_eq world names
 
   on : IsTheirs world names it.is.mounts location.mount
-  on =
-      theirs_from world names it.is.mounts location.mount
-      (granted_theirs world names it.is it.sealed_off task
+  on = theirs_from world names it.is.mounts location.mount (granted_theirs world names it.is it.sealed_off task
       (member_called world names it.is it.sealed_off name it.theirs task found) served call permit judged location
-      change
-      asks names_it)
+      change asks names_it)
 
   used : is_among nat_eq (mount_at nat_eq world location).filesystem (used_filesystems nat_eq world names) ≡ true
   used = theirs_used world names it.is location on
@@ -96,10 +93,8 @@ module _ (world : World ℕ) (names : List TaskName) (name : TaskName) (call : C
       → EndsAlike world names name call fresh other
   naming_ends =
       let so = changes_so world names name call it.is it.sealed_off task found served serves permit judged location
-      change
-      asks names_it in
-      tree_ends world names name call it fresh other task found stays location plain used
-      naming_alone
+      change asks names_it in
+      tree_ends world names name call it fresh other task found stays location plain used naming_alone
       (changed nat_eq old.files change)
       (lost world old (changed nat_eq old.files change) plain (names_lost old.files change) so)
       (tree_changes world old (changed nat_eq old.files change) plain (names_lost old.files change) so)
@@ -124,8 +119,7 @@ module _ (world : World ℕ) (names : List TaskName) (name : TaskName) (call : C
       ∙ plain_run (part_of nat_eq world names) name call other location change
       (filesystem_at nat_eq world location) looks
       (alike world names name call it fresh other (unused_numbers world) (unused_serve world) task found stays
-      (ToChange location change) judged_too location change refl names_it plain)
-      plain)
+      (ToChange location change) judged_too location change refl names_it plain) plain)
 
 -- link(2) gives a name
 abbrev IsGiving : Change ℕ → Type 0
@@ -144,8 +138,7 @@ links_give world fresh task asked permit granted first second e location change 
 pub links_end_alike : LinksEndAlike
 links_end_alike world names name first second it task found fresh other location change judged plain =
     change_ends world names name (LinkTo first second) it fresh other task found refl refl location change judged judged
-    (by change
-    (links_give world fresh task (LinkTo first second) (ToChange location change)
+    (by change (links_give world fresh task (LinkTo first second) (ToChange location change)
     (calls_are_granted nat_eq (looks_of nat_eq world) (overfills nat_eq fresh world task) task (LinkTo first second)
     (ToChange location change) judged) first second refl location change refl)) plain
   where
@@ -169,8 +162,7 @@ unlinks_take world fresh task asked permit granted path e location change f = ab
 pub unlinks_end_alike : UnlinksEndAlike
 unlinks_end_alike world names name path it task found fresh other location change judged plain =
     change_ends world names name (Unlink path) it fresh other task found refl refl location change judged judged
-    (by change
-    (unlinks_take world fresh task (Unlink path) (ToChange location change)
+    (by change (unlinks_take world fresh task (Unlink path) (ToChange location change)
     (calls_are_granted nat_eq (looks_of nat_eq world) (overfills nat_eq fresh world task) task (Unlink path)
     (ToChange location change) judged) path refl location change refl)) plain
   where

@@ -41,8 +41,7 @@ use Rattle.vt_laws_members.proofs.changes.tasks.OpenedFiles.{MovesIn, opened_end
 -- so ends a granted open that gives a plain filesystem another tree
 new_run : (w : World ℕ) (name : TaskName) (path : List ℕ) (access : Access) (how : Creation) (supply : Fresh ℕ)
     (location : Location ℕ) (change : Change ℕ) (old : Filesystem ℕ) (task : Task ℕ) (file : Location ℕ)
-    (wanted : Access)
-    → filesystem_at nat_eq w location ≡ old → is_overlay old ≡ false
+    (wanted : Access) → filesystem_at nat_eq w location ≡ old → is_overlay old ≡ false
     → finished nat_eq w name (OpenFile path access how) (changed_at nat_eq w location)
     (opened (with_change nat_eq supply w location change) task file wanted)
     ≡ opened_with w name (swap old (changed nat_eq old.files change)) (old.number ∷ []) task file wanted
@@ -56,10 +55,8 @@ new_run w name path access how supply location change old task file wanted e pla
 
 pub new_opens_end_alike : NewOpensEndAlike
 new_opens_end_alike world names name path access how it task found fresh serves directory entry node wanted judged
-    plain =
-    opened_ends world names name path access how it fresh task found file ground wanted (swap old files)
-    (old.number ∷ [])
-    (moves world (all_in_use world it.is) (one_in_world world names it.is number used)
+    plain = opened_ends world names name path access how it fresh task found file ground wanted (swap old files)
+    (old.number ∷ []) (moves world (all_in_use world it.is) (one_in_world world names it.is number used)
     (old_used world names it.is number used))
     (moves part (part_in_use world names it.is it.sealed_off) (one_in_part world names it.is number used)
     (ap (is_among nat_eq old.number) (same_used world names) ∙ old_used world names it.is number used))
@@ -92,9 +89,7 @@ new_opens_end_alike world names name path access how it task found fresh serves 
     file = record { mount = directory.mount; node = evens fresh 0 }
 
     ground : IsTheirs world names it.is.mounts directory.mount
-    ground =
-        theirs_from world names it.is.mounts directory.mount
-        (granted_theirs world names it.is it.sealed_off task
+    ground = theirs_from world names it.is.mounts directory.mount (granted_theirs world names it.is it.sealed_off task
         (member_called world names it.is it.sealed_off name it.theirs task found) fresh call
         (ToOpenNew directory entry node wanted) judged directory change refl tt)
 
@@ -102,12 +97,9 @@ new_opens_end_alike world names name path access how it task found fresh serves 
     used = theirs_used world names it.is directory ground
 
     none_lost : ChangesTree old.files files []
-    none_lost =
-        subst (ChangesTree old.files files)
-        (ap option_to_list
+    none_lost = subst (ChangesTree old.files files) (ap option_to_list
         (proper world names name call it.is it.sealed_off task found fresh serves
-        (ToOpenNew directory entry node wanted)
-        judged directory change refl tt).name_is_free.free)
+        (ToOpenNew directory entry node wanted) judged directory change refl tt).name_is_free.free)
         (changes_so world names name call it.is it.sealed_off task found fresh serves
         (ToOpenNew directory entry node wanted) judged directory change refl tt)
 
@@ -126,7 +118,6 @@ new_opens_end_alike world names name path access how it task found fresh serves 
       where
         kept : (x : Filesystem ℕ) → is_among nat_eq x.number (used_filesystems nat_eq w names) ≡ false → (b : Bool)
             → nat_eq old.number x.number ≡ b → both old files x ≡ x
-        kept x unused true e =
-            absurd (true≢false (sym used_there
+        kept x unused true e = absurd (true≢false (sym used_there
             ∙ ap (λ n. is_among nat_eq n (used_filesystems nat_eq w names)) (eqb-true old.number x.number e) ∙ unused))
         kept x unused false e = both_kept old files x e

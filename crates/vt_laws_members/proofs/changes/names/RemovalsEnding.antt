@@ -63,8 +63,7 @@ module _ (world : World ℕ) (names : List TaskName) (is : IsWorld nat_eq world)
 
   -- what goes is on the mount of the directory, not locked, and no mount of the caller's namespace is on it
   abbrev IsFree : Location ℕ → Location ℕ → Type 0
-  IsFree object parent =
-      On object.mount × (is_locked_at nat_eq world object ≡ false)
+  IsFree object parent = On object.mount × (is_locked_at nat_eq world object ≡ false)
       × (is_mount_point_in nat_eq one task.namespace object ≡ false) × (object.mount ≡ parent.mount)
 
   object_on : (place : Place ℕ) → IsPlaced place → On (object_there place).mount
@@ -81,8 +80,7 @@ module _ (world : World ℕ) (names : List TaskName) (is : IsWorld nat_eq world)
   removed_free asked permit (removes_directory path place walk word passed) parent entry directory e =
       let same : object_there place ≡ directory = cc in
       let above : place.parent ≡ parent = cc in
-      subst (IsFree directory) above
-      (subst (λ object. IsFree object place.parent) same (
+      subst (IsFree directory) above (subst (λ object. IsFree object place.parent) same (
         object_on place (subst (λ r. IfOk r IsPlaced) walk
             (old_agrees one other_looks task On judged_alike.walks judged_alike.directory judged_alike.rules.removed
             path).1),

@@ -59,8 +59,7 @@ module _ (w : World ℕ) (in_use : AllInUse w) (old : Filesystem ℕ) (files : F
   }
 
   filesystems_after : FilesystemsInUse changed
-  filesystems_after =
-      all_pass (filesystem_lives nat_eq changed) changed.filesystems
+  filesystems_after = all_pass (filesystem_lives nat_eq changed) changed.filesystems
       (λ x m. let from = among-from_map swap w.filesystems x m in
       ap (filesystem_lives nat_eq changed) from.2
       ∙ lives_alike w swap (λ g n. ChangesFilesystem.number (swap_changes w g n))
@@ -71,8 +70,7 @@ module _ (w : World ℕ) (in_use : AllInUse w) (old : Filesystem ℕ) (files : F
   all_stay = cc (mounts_stay changed in_use.mounts, filesystems_stay changed filesystems_after)
 
   all_but : AllInUseBut (with_lost none lost) changed
-  all_but =
-      all_but_changed w none in_use_before swap lost
+  all_but = all_but_changed w none in_use_before swap lost
       (all_from_among (λ f. ChangesFilesystem (in_use_of changed) lost f (swap f)) w.filesystems
       (swap_changes (in_use_of changed)))
 
@@ -81,10 +79,8 @@ module _ (w : World ℕ) (in_use : AllInUse w) (old : Filesystem ℕ) (files : F
 
   used_but : (x : Filesystem ℕ) → Among x w.filesystems
       → list_all (is_used_or_among lost changed (swap x)) (swap x).files.numbers ≡ true
-  used_but x m =
-      among_from_all (λ f. list_all (is_used_or_among lost changed f) f.files.numbers
-      ≡ true) changed.filesystems inodes_but
-      (swap x) (among-map swap w.filesystems x m)
+  used_but x m = among_from_all (λ f. list_all (is_used_or_among lost changed f) f.files.numbers
+      ≡ true) changed.filesystems inodes_but (swap x) (among-map swap w.filesystems x m)
 
   -- what is not the one stays whole
   others_used : (x : Filesystem ℕ) → Among x w.filesystems → nat_eq old.number x.number ≡ false
@@ -103,8 +99,7 @@ module _ (w : World ℕ) (in_use : AllInUse w) (old : Filesystem ℕ) (files : F
   others_stay x m e false = refl
 
   overlays_stay : without_dead_in nat_eq is_overlay changed ≡ changed
-  overlays_stay =
-      ap (λ list. record changed { filesystems = list })
+  overlays_stay = ap (λ list. record changed { filesystems = list })
       (map_same (λ f. only_used nat_eq changed (is_overlay f) f) changed.filesystems
       (λ y n. let from = among-from_map swap w.filesystems y n in
       subst (λ f. only_used nat_eq changed (is_overlay f) f ≡ f) (sym from.2)
@@ -120,8 +115,7 @@ module _ (w : World ℕ) (in_use : AllInUse w) (old : Filesystem ℕ) (files : F
   cut_is true = refl
   cut_is false = cc (no_overlay old.overlay plain)
 
-  each : (x : Filesystem ℕ) → Among x w.filesystems
-      → only_used nat_eq changed (not (is_overlay (swap x))) (swap x)
+  each : (x : Filesystem ℕ) → Among x w.filesystems → only_used nat_eq changed (not (is_overlay (swap x))) (swap x)
       ≡ replaced_if_numbered nat_eq (with_files old (cut new used)) x
   each x m = by (nat_eq old.number x.number) refl
     where

@@ -39,8 +39,7 @@ with_tree w name old files =
 -- so ends a granted change of a plain tree
 pub plain_run : (w : World ℕ) (name : TaskName) (call : Call) (supply : Fresh ℕ) (location : Location ℕ)
     (change : Change ℕ) (old : Filesystem ℕ) → only_looks call ≡ false → filesystem_at nat_eq w location ≡ old
-    → is_overlay old ≡ false
-    → finished nat_eq w name call (changed_at nat_eq w location)
+    → is_overlay old ≡ false → finished nat_eq w name call (changed_at nat_eq w location)
     (granted Done (with_change nat_eq supply w location change))
     ≡ with_tree w name old (Changes.changed nat_eq old.files change)
 plain_run w name call supply location change old looks e plain =
@@ -58,8 +57,7 @@ module _ (world : World ℕ) (names : List TaskName) (name : TaskName) (call : C
     (plain : is_overlay (filesystem_at nat_eq world location) ≡ false)
     (used : is_among nat_eq (mount_at nat_eq world location).filesystem (used_filesystems nat_eq world names) ≡ true)
     (alone : used_alone nat_eq world names (mount_at nat_eq world location).filesystem ≡ true)
-    (files : FileTree ℕ) (lost : List Inode)
-    (changes : (after : World ℕ)
+    (files : FileTree ℕ) (lost : List Inode) (changes : (after : World ℕ)
     → ChangesFilesystem after lost (filesystem_at nat_eq world location)
     (with_files (filesystem_at nat_eq world location) files))
     (of_it : (number object : ℕ) → nat_eq (filesystem_at nat_eq world location).number number ≡ false
@@ -82,8 +80,7 @@ module _ (world : World ℕ) (names : List TaskName) (name : TaskName) (call : C
   numbers_so w tree i = record {
     mounts = w.mounts;
     master = w.master;
-    filesystems = map_twice (raised_if_changed nat_eq (old.number ∷ []))
-        (swap old tree) w.filesystems i;
+    filesystems = map_twice (raised_if_changed nat_eq (old.number ∷ [])) (swap old tree) w.filesystems i;
     namespaces = ap (λ (v : World ℕ). v.namespaces) (tasks_raised w name w.tasks) i;
     tasks = map (raised_task name) w.tasks;
     change = raised w.change;
@@ -92,10 +89,8 @@ module _ (world : World ℕ) (names : List TaskName) (name : TaskName) (call : C
   left_so : (w : World ℕ) → AllInUse w
       → ((x : Filesystem ℕ) → Among x w.filesystems → nat_eq old.number x.number ≡ true → x ≡ old)
       → with_tree w name old files ≡ granted Done (left old (cut_in w) w name)
-  left_so w in_use one =
-      ap (λ v. granted Done (numbers_raised nat_eq w name (old.number ∷ []) v))
-      (settled_so w in_use old files plain lost changes of_it one)
-      ∙ ap (granted Done) (numbers_so w (cut_in w))
+  left_so w in_use one = ap (λ v. granted Done (numbers_raised nat_eq w name (old.number ∷ []) v))
+      (settled_so w in_use old files plain lost changes of_it one) ∙ ap (granted Done) (numbers_so w (cut_in w))
 
   abbrev raised_members : List (Task ℕ) → List (Task ℕ)
   raised_members tasks = filter (is_member_task names) (map (raised_task name) tasks)
@@ -105,8 +100,7 @@ module _ (world : World ℕ) (names : List TaskName) (name : TaskName) (call : C
     where
       of_map : (tasks : List (Task ℕ))
           → raised_members tasks ≡ map (raised_task name) (filter (is_member_task names) tasks)
-      of_map tasks =
-          filter-map (is_member_task names) (raised_task name) tasks
+      of_map tasks = filter-map (is_member_task names) (raised_task name) tasks
           (λ t. ap (λ n. is_among same_name n names) (raised_is name (λ (x : Task ℕ). x.name) (λ x. refl) t))
 
   -- it is the same in both: they alone use it
@@ -126,13 +120,11 @@ module _ (world : World ℕ) (names : List TaskName) (name : TaskName) (call : C
   left_there = left old (cut_in part) part name
 
   parts_alike : part_of nat_eq left_here names ≡ part_of nat_eq left_there names
-  parts_alike =
-      part_left old (cut_in world) world name names (old_used world names it.is number used)
+  parts_alike = part_left old (cut_in world) world name names (old_used world names it.is number used)
       (one_in_world world names it.is number used)
       ∙ (λ i. record (with_filesystems (sym (part_again world names it.is) i) (both old (same i))) {
         tasks = tasks_alike i;
-      })
-      ∙ sym (part_left old (cut_in part) part name names
+      }) ∙ sym (part_left old (cut_in part) part name names
       (ap (is_among nat_eq old.number) (same_used world names) ∙ old_used world names it.is number used)
       (one_in_part world names it.is number used))
 

@@ -50,8 +50,7 @@ module _ (world : World ℕ) (names : List TaskName) (is : IsWorld nat_eq world)
   IsAt object = Among object (located_in nat_eq world x.number)
 
   at_place : (location : Location ℕ) → Among location (places world) → On world location → IsAt location.node
-  at_place location m e =
-      among-map (λ (l : Location ℕ). l.node)
+  at_place location m e = among-map (λ (l : Location ℕ). l.node)
       (filter (λ l. nat_eq x.number (mount_at nat_eq world l).filesystem) (places world)) location
       (among-filter (λ l. nat_eq x.number (mount_at nat_eq world l).filesystem) (places world) location m
       (eq-eqb x.number (mount_at nat_eq world location).filesystem (sym e)))
@@ -80,8 +79,7 @@ module _ (world : World ℕ) (names : List TaskName) (is : IsWorld nat_eq world)
   of_task : (location : Location ℕ) → Among location (all_locations part) → On part location → IsAt location.node
   of_task location m e =
       let from = among-from_flat_map locations_of part.tasks location m in
-      at_place location
-      (in_first (all_locations world) (map root_of world.mounts) (points world) location
+      at_place location (in_first (all_locations world) (map root_of world.mounts) (points world) location
       (among-flat_map locations_of world.tasks from.0 location
       (among-from_filter (is_member_task names) world.tasks from.0 from.1).0 from.2))
       (sym (located world names location m) ∙ e)
@@ -89,17 +87,14 @@ module _ (world : World ℕ) (names : List TaskName) (is : IsWorld nat_eq world)
   of_root : (y : Mount ℕ) → Among y part.mounts → On part (root_of y) → IsAt y.root
   of_root y m e =
       let z = was_mount y m in
-      subst IsAt z.5
-      (at_place (root_of z.0)
+      subst IsAt z.5 (at_place (root_of z.0)
       (in_second (all_locations world) (map root_of world.mounts) (points world) (root_of z.0)
-      (among-map root_of world.mounts z.0 z.1))
-      (ap (λ (k : Mount ℕ). k.filesystem) (world_itself z.0 z.1) ∙ z.4
+      (among-map root_of world.mounts z.0 z.1)) (ap (λ (k : Mount ℕ). k.filesystem) (world_itself z.0 z.1) ∙ z.4
       ∙ ap (λ (k : Mount ℕ). k.filesystem) (sym (part_itself y m)) ∙ e))
 
   of_point : (y : Mount ℕ) → Among y part.mounts → (point : Location ℕ) → y.mount_point ≡ Some point → On part point
       → IsAt point.node
-  of_point y m point stands e =
-      ⊎_elim (λ same. by y.namespace refl same)
+  of_point y m point stands e = ⊎_elim (λ same. by y.namespace refl same)
       (λ stub. none_is_some point (ap (λ (k : Mount ℕ). k.mount_point) stub.0 ∙ stands))
       (kept_how world names (members world names) from.0 y from.2)
     where
@@ -116,20 +111,16 @@ module _ (world : World ℕ) (names : List TaskName) (is : IsWorld nat_eq world)
       )
 
       by : (o : Option ℕ) → y.namespace ≡ o → from.0 ≡ y → IsAt point.node
-      by None none same =
-          absurd (nowhere_stands world names is.mounts y point
+      by None none same = absurd (nowhere_stands world names is.mounts y point
           (subst (λ k. Among k world.mounts) same from.1) none stands)
       by (Some n) there same =
-          let above : Among (mount_at nat_eq part point) part.mounts =
-          ⊎_elim (λ k. k)
+          let above : Among (mount_at nat_eq part point) part.mounts = ⊎_elim (λ k. k)
           (λ none. none_is_some n (sym (ap (λ (k : Mount ℕ). k.namespace) none) ∙ sym placed ∙ there))
           (found_or_none part.mounts point.mount) in
           let parent = was_mount (mount_at nat_eq part point) above in
-          at_place point
-          (in_third (all_locations world) (map root_of world.mounts) (points world) point
+          at_place point (in_third (all_locations world) (map root_of world.mounts) (points world) point
           (among-filter_map (λ (k : Mount ℕ). k.mount_point) world.mounts from.0 point from.1
-          (ap (λ (k : Mount ℕ). k.mount_point) same ∙ stands)))
-          (ap (λ n. (mount_numbered nat_eq world n).filesystem)
+          (ap (λ (k : Mount ℕ). k.mount_point) same ∙ stands))) (ap (λ n. (mount_numbered nat_eq world n).filesystem)
           (sym (parent.3 ∙ number-mount_in part.mounts point.mount))
           ∙ ap (λ (k : Mount ℕ). k.filesystem) (world_itself parent.0 parent.1) ∙ parent.4 ∙ e)
 
@@ -139,9 +130,7 @@ module _ (world : World ℕ) (names : List TaskName) (is : IsWorld nat_eq world)
       (filter (λ l. nat_eq x.number (mount_at nat_eq part l).filesystem) (places part)) object m in
       let on = among-from_filter (λ l. nat_eq x.number (mount_at nat_eq part l).filesystem) (places part) at.0 at.1 in
       let shows : On part at.0 = sym (eqb-true x.number (mount_at nat_eq part at.0).filesystem on.1) in
-      subst IsAt (sym at.2)
-      (⊎_elim
-      (λ two. ⊎_elim (λ task. of_task at.0 task shows)
+      subst IsAt (sym at.2) (⊎_elim (λ two. ⊎_elim (λ task. of_task at.0 task shows)
       (λ root. let mount = among-from_map root_of part.mounts at.0 root in
       subst IsAt (ap (λ (l : Location ℕ). l.node) (sym mount.2))
       (of_root mount.0 mount.1 (subst (On part) mount.2 shows)))
@@ -162,8 +151,7 @@ module _ (world : World ℕ) (names : List TaskName) (is : IsWorld nat_eq world)
       let of = among-from_flat_map (of_overlay [] layers_of) part.filesystems at.0 on.0 in
       let from = among-from_filter_map (part_of_filesystem nat_eq world names) world.filesystems of.0 of.1 in
       subst (λ k. Among k (layers_in nat_eq world x.number)) (sym at.2)
-      (among-map (λ (layer : Layer ℕ). layer.directory)
-      (filter (λ (layer : Layer ℕ). nat_eq x.number layer.filesystem)
+      (among-map (λ (layer : Layer ℕ). layer.directory) (filter (λ (layer : Layer ℕ). nat_eq x.number layer.filesystem)
       (flat_map (of_overlay [] layers_of) world.filesystems)) at.0
       (among-filter (λ (layer : Layer ℕ). nat_eq x.number layer.filesystem)
       (flat_map (of_overlay [] layers_of) world.filesystems) at.0
@@ -171,8 +159,7 @@ module _ (world : World ℕ) (names : List TaskName) (is : IsWorld nat_eq world)
       (subst (λ o. Among at.0 (overlay_or [] layers_of o)) (overlaid from.0 of.0 from.2) of.2)) on.1))
     where
       overlaid : (f g : Filesystem ℕ) → part_of_filesystem nat_eq world names f ≡ Some g → g.overlay ≡ f.overlay
-      overlaid f g e =
-          ⊎_elim (λ same. ap (λ (k : Filesystem ℕ). k.overlay) (sym same.0))
+      overlaid f g e = ⊎_elim (λ same. ap (λ (k : Filesystem ℕ). k.overlay) (sym same.0))
           (λ low. ap (λ (k : Filesystem ℕ). k.overlay) (sym low.0)) (shown_how world names f g e)
 
   object_was : (object : ℕ) → Among object (flat_map (objects_of_overlay nat_eq x.number) part.filesystems)
@@ -180,8 +167,7 @@ module _ (world : World ℕ) (names : List TaskName) (is : IsWorld nat_eq world)
   object_was object m =
       let of = among-from_flat_map (objects_of_overlay nat_eq x.number) part.filesystems object m in
       let from = among-from_filter_map (part_of_filesystem nat_eq world names) world.filesystems of.0 of.1 in
-      among-flat_map (objects_of_overlay nat_eq x.number) world.filesystems from.0 object from.1
-      (⊎_elim
+      among-flat_map (objects_of_overlay nat_eq x.number) world.filesystems from.0 object from.1 (⊎_elim
       (λ same. subst (λ f. Among object (objects_of_overlay nat_eq x.number f)) (sym same.0) of.2)
       (λ low. lower from.0 (subst (λ f. Among object (objects_of_overlay nat_eq x.number f)) (sym low.0) of.2))
       (shown_how world names from.0 of.0 from.2))
@@ -202,12 +188,10 @@ module _ (world : World ℕ) (names : List TaskName) (is : IsWorld nat_eq world)
           → Among object (objects_of_overlay nat_eq x.number f)
       lower f n = by f.overlay n
         where
-          by : (o : Option (Overlay ℕ))
-              → Among object (overlay_or [] (λ overlay. cond
+          by : (o : Option (Overlay ℕ)) → Among object (overlay_or [] (λ overlay. cond
               (holds_of (λ layer. nat_eq x.number layer.filesystem) overlay.upper)
               (filter_map (λ k. upper_object (overlay.real k)) (part_of_lower nat_eq world names f).files.numbers) [])
-              o)
-              → Among object (overlay_or [] (λ overlay. cond
+              o) → Among object (overlay_or [] (λ overlay. cond
               (holds_of (λ layer. nat_eq x.number layer.filesystem) overlay.upper)
               (filter_map (λ k. upper_object (overlay.real k)) f.files.numbers) []) o)
           by None k = k
@@ -216,28 +200,19 @@ module _ (world : World ℕ) (names : List TaskName) (is : IsWorld nat_eq world)
               (holds_of (λ layer. nat_eq x.number layer.filesystem) overlay.upper) k
 
   pub was_used : (object : ℕ) → Among object (used_in nat_eq part x) → Among object (used_in nat_eq world x)
-  was_used object m =
-      ⊎_elim inl
-      (λ more. inr (⊎_elim
+  was_used object m = ⊎_elim inl (λ more. inr (⊎_elim
       (λ three. among-append_left (named_in x.files ++ located_in nat_eq world x.number ++ layers_in nat_eq world
-      x.number)
-      (flat_map (objects_of_overlay nat_eq x.number) world.filesystems) object
-      (⊎_elim
-      (λ two. ⊎_elim
+      x.number) (flat_map (objects_of_overlay nat_eq x.number) world.filesystems) object (⊎_elim (λ two. ⊎_elim
       (in_first (named_in x.files) (located_in nat_eq world x.number) (layers_in nat_eq world x.number) object)
       (λ at. in_second (named_in x.files) (located_in nat_eq world x.number) (layers_in nat_eq world x.number) object
-      (at_was object at))
-      (among-append (named_in x.files) (located_in nat_eq part x.number) object two))
+      (at_was object at)) (among-append (named_in x.files) (located_in nat_eq part x.number) object two))
       (λ layer. in_third (named_in x.files) (located_in nat_eq world x.number) (layers_in nat_eq world x.number) object
-      (layer_was object layer))
-      (among-append (named_in x.files ++ located_in nat_eq part x.number)
+      (layer_was object layer)) (among-append (named_in x.files ++ located_in nat_eq part x.number)
       (layers_in nat_eq part x.number) object three)))
       (λ real. among-append_right (named_in x.files ++ located_in nat_eq world x.number ++ layers_in nat_eq world
-      x.number)
-      (flat_map (objects_of_overlay nat_eq x.number) world.filesystems) object (object_was object real))
+      x.number) (flat_map (objects_of_overlay nat_eq x.number) world.filesystems) object (object_was object real))
       (among-append (named_in x.files ++ located_in nat_eq part x.number ++ layers_in nat_eq part x.number)
-      (flat_map (objects_of_overlay nat_eq x.number) part.filesystems) object more)))
-      m
+      (flat_map (objects_of_overlay nat_eq x.number) part.filesystems) object more))) m
 
   -- So both use the same, if they use it alone.
   module _ (sealed_off : sealed nat_eq world names ≡ true) (alone : used_alone nat_eq world names x.number ≡ true) where
@@ -257,10 +232,7 @@ module _ (filesystem : Filesystem ℕ) where
   abbrev cut_by : Bool → (ℕ → Bool) → FileTree ℕ
   cut_by true test = filesystem.files
   cut_by false test = record {
-    tree = record {
-      root = filesystem.files.tree.root;
-      node = λ n. cond (test n) (filesystem.files.tree.node n) None;
-    };
+    tree = record { root = filesystem.files.tree.root; node = λ n. cond (test n) (filesystem.files.tree.node n) None };
     numbers = filter test filesystem.files.numbers;
   }
 
@@ -271,8 +243,7 @@ module _ (filesystem : Filesystem ℕ) where
 
   pub cut_alike : (one other : List ℕ) → ((n : ℕ) → is_among nat_eq n one ≡ is_among nat_eq n other)
       → cut filesystem one ≡ cut filesystem other
-  cut_alike one other same =
-      by_test one (list_all (λ n. is_among nat_eq n one) filesystem.files.numbers)
+  cut_alike one other same = by_test one (list_all (λ n. is_among nat_eq n one) filesystem.files.numbers)
       ∙ (λ i. cut_by (list_all (λ n. same n i) filesystem.files.numbers) (λ n. same n i))
       ∙ sym (by_test other (list_all (λ n. is_among nat_eq n other) filesystem.files.numbers))
 
@@ -291,9 +262,7 @@ module _ (w : World ℕ) (old : Filesystem ℕ) (files : FileTree ℕ) (plain : 
       by false e = refl
 
   pub used_still : used_in nat_eq (with_filesystems w (swap old files)) new ≡ used_in nat_eq w new
-  used_still i =
-      files.tree.root
-      ∷ (named_in files ++ located_in nat_eq w old.number
+  used_still i = files.tree.root ∷ (named_in files ++ located_in nat_eq w old.number
       ++ map (λ (layer : Layer ℕ). layer.directory) (filter (λ (layer : Layer ℕ). nat_eq old.number layer.filesystem)
       (flat_map-step (swap old files) (of_overlay [] layers_of) w.filesystems
       (kept_in (of_overlay [] layers_of) refl) i))

@@ -71,34 +71,28 @@ module _ (world : World ℕ) (names : List TaskName) (name : TaskName) (call : C
       → ((x : Filesystem ℕ) → Among x w.filesystems → ChangesFilesystem (with_filesystems w moved) [] x (moved x))
       → with_change nat_eq fresh w location change ≡ with_filesystems w moved → changed_at nat_eq w location ≡ numbers
       → finished nat_eq w name call (changed_at nat_eq w location)
-      (granted Done (with_change nat_eq fresh w location change))
-      ≡ granted Done (left w)
-  ends_so w in_use changes made listed =
-      ap (λ b. finished_by nat_eq (b || false) w name (changed_at nat_eq w location)
+      (granted Done (with_change nat_eq fresh w location change)) ≡ granted Done (left w)
+  ends_so w in_use changes made listed = ap (λ b. finished_by nat_eq (b || false) w name (changed_at nat_eq w location)
       (granted Done (with_change nat_eq fresh w location change))) looks
       ∙ ap (λ l. granted Done (numbers_raised nat_eq w name l
-      (settled nat_eq (with_change nat_eq fresh w location change))))
-      listed
+      (settled nat_eq (with_change nat_eq fresh w location change)))) listed
       ∙ ap (λ v. granted Done (numbers_raised nat_eq w name numbers (settled nat_eq v))) made
       ∙ ap (λ v. granted Done (numbers_raised nat_eq w name numbers v))
       (nothing_goes (with_filesystems w moved) (in_use_stepped w in_use moved changes))
       ∙ ap (granted Done) (numbers_so w)
 
-  part_of_left : (w : World ℕ)
-      → AreOnes fresh world names location change overlay upper it.is can direct alike w
+  part_of_left : (w : World ℕ) → AreOnes fresh world names location change overlay upper it.is can direct alike w
       → ((x : Filesystem ℕ) → is_among nat_eq x.number (used_filesystems nat_eq w names) ≡ false → both x ≡ x)
-      → part_of nat_eq (left w) names
-      ≡ record (with_filesystems (part_of nat_eq w names) both) {
+      → part_of nat_eq (left w) names ≡ record (with_filesystems (part_of nat_eq w names) both) {
         tasks = filter (is_member_task names) (map (raised_task name) w.tasks);
       }
-  part_of_left w ones unused =
-      cc (
-        retasked later names names (map (raised_task name) w.tasks) (raised w.change) (sees_alike later names
-            (raised_task name) (raised_is name (λ (t : Task ℕ). t.name) (λ t. refl)) (λ t m. raised_is name (λ (t :
-            Task ℕ). t.namespace) (λ t. refl) t) (λ t m. raised_is name (λ (t : Task ℕ). t.root ∷ t.directory ∷ []) (λ
-            t. refl) t) (raised w.change) (λ t m. raised_is name locations_of (λ t. refl) t)),
-        part_moved fresh world names location change overlay upper it.is can direct alike w ones unused,
-      )
+  part_of_left w ones unused = cc (
+    retasked later names names (map (raised_task name) w.tasks) (raised w.change) (sees_alike later names
+        (raised_task name) (raised_is name (λ (t : Task ℕ). t.name) (λ t. refl)) (λ t m. raised_is name (λ (t :
+        Task ℕ). t.namespace) (λ t. refl) t) (λ t m. raised_is name (λ (t : Task ℕ). t.root ∷ t.directory ∷ []) (λ
+        t. refl) t) (raised w.change) (λ t m. raised_is name locations_of (λ t. refl) t)),
+    part_moved fresh world names location change overlay upper it.is can direct alike w ones unused,
+  )
     where
       later : World ℕ
       later = with_filesystems w both
@@ -111,8 +105,7 @@ module _ (world : World ℕ) (names : List TaskName) (name : TaskName) (call : C
     where
       of_map : (tasks : List (Task ℕ))
           → raised_members tasks ≡ map (raised_task name) (filter (is_member_task names) tasks)
-      of_map tasks =
-          filter-map (is_member_task names) (raised_task name) tasks
+      of_map tasks = filter-map (is_member_task names) (raised_task name) tasks
           (λ t. ap (λ n. is_among same_name n names) (raised_is name (λ (x : Task ℕ). x.name) (λ x. refl) t))
 
   parts_alike : part_of nat_eq (left world) names ≡ part_of nat_eq (left part) names
@@ -126,15 +119,12 @@ module _ (world : World ℕ) (names : List TaskName) (name : TaskName) (call : C
 
   pub copy_ends : ran name call world fresh (Some task)
       ≡ finished nat_eq world name call (changed_at nat_eq world location)
-      (granted Done (with_change nat_eq fresh world location change))
-      → ran name call part fresh (Some task)
+      (granted Done (with_change nat_eq fresh world location change)) → ran name call part fresh (Some task)
       ≡ finished nat_eq part name call (changed_at nat_eq part location)
-      (granted Done (with_change nat_eq fresh part location change))
-      → EndsAlike world names name call fresh fresh
+      (granted Done (with_change nat_eq fresh part location change)) → EndsAlike world names name call fresh fresh
   copy_ends runs runs_there =
       let first : policy nat_eq fresh world name call ≡ granted Done (left world) =
-      ap (ran name call world fresh) found ∙ runs
-      ∙ ends_so world (all_in_use world it.is)
+      ap (ran name call world fresh) found ∙ runs ∙ ends_so world (all_in_use world it.is)
       (changes_in_world fresh world names location change overlay upper it.is can direct alike copies)
       (stepped_in_world fresh world names location change overlay upper it.is can direct alike)
       (numbers_in_world fresh world names location change overlay upper it.is can direct alike) in

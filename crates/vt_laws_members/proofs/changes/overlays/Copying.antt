@@ -87,13 +87,10 @@ pub upper_in_use : (w : World ℕ) (names : List TaskName) (number : ℕ) (overl
     → Among number (used_directly nat_eq w names)
     → is_among nat_eq upper.filesystem (used_filesystems nat_eq w names) ≡ true
 upper_in_use w names number overlay upper overlaid has direct =
-    is_among_numbers (used_filesystems nat_eq w names) upper.filesystem
-    (among-each_once (used_directly nat_eq w names
-    ++ flat_map (λ n. change_layers (filesystem_numbered nat_eq w n)) (used_directly nat_eq w names))
-    upper.filesystem
+    is_among_numbers (used_filesystems nat_eq w names) upper.filesystem (among-each_once (used_directly nat_eq w names
+    ++ flat_map (λ n. change_layers (filesystem_numbered nat_eq w n)) (used_directly nat_eq w names)) upper.filesystem
     (among-append_right (used_directly nat_eq w names)
-    (flat_map (λ n. change_layers (filesystem_numbered nat_eq w n)) (used_directly nat_eq w names))
-    upper.filesystem
+    (flat_map (λ n. change_layers (filesystem_numbered nat_eq w n)) (used_directly nat_eq w names)) upper.filesystem
     (among-flat_map (λ n. change_layers (filesystem_numbered nat_eq w n)) (used_directly nat_eq w names)
     number upper.filesystem direct
     (subst (λ o. Among upper.filesystem (overlay_or [] (λ (v : Overlay ℕ). map (λ (l : Layer ℕ). l.filesystem)
@@ -144,8 +141,7 @@ module _ (fresh : Fresh ℕ) (world : World ℕ) (names : List TaskName) (locati
       by false e = refl
 
   pub step_numbered : (x : Filesystem ℕ) → (step x).number ≡ x.number
-  step_numbered x =
-      renumbered layer_later (replaced_if_numbered nat_eq merged_later x) ∙ renumbered merged_later x
+  step_numbered x = renumbered layer_later (replaced_if_numbered nat_eq merged_later x) ∙ renumbered merged_later x
 
   -- the two, and no other
   pub record AreOnes (w : World ℕ) : Type 0 where
@@ -179,14 +175,11 @@ module _ (fresh : Fresh ℕ) (world : World ℕ) (names : List TaskName) (locati
       other false e = refl
 
       by : (b : Bool) → nat_eq merged.number x.number ≡ b → of_overlay default what (step x) ≡ of_overlay default what x
-      by true e =
-          ap (λ f. of_overlay default what (step f)) (ones.one_merged x m e)
+      by true e = ap (λ f. of_overlay default what (step f)) (ones.one_merged x m e)
           ∙ ap (of_overlay default what) (becomes fresh world location change overlay upper is can)
-          ∙ same (merge_after fresh world location overlay upper change)
-          ∙ sym (ap (overlay_or default what) its)
+          ∙ same (merge_after fresh world location overlay upper change) ∙ sym (ap (overlay_or default what) its)
           ∙ ap (of_overlay default what) (sym (ones.one_merged x m e))
-      by false e =
-          ap (λ b. of_overlay default what (replaced_if_numbered nat_eq layer_later (cond b merged_later x))) e
+      by false e = ap (λ b. of_overlay default what (replaced_if_numbered nat_eq layer_later (cond b merged_later x))) e
           ∙ other (nat_eq layer.number x.number) refl
 
   -- a filesystem with another number stays
@@ -203,8 +196,7 @@ module _ (fresh : Fresh ℕ) (world : World ℕ) (names : List TaskName) (locati
     where
       by : (b : Bool) → nat_eq (filesystem_numbered nat_eq world k).number x.number ≡ b
           → nat_eq (filesystem_numbered nat_eq world k).number x.number ≡ false
-      by true e =
-          absurd (true≢false (sym (old_used world names is k used)
+      by true e = absurd (true≢false (sym (old_used world names is k used)
           ∙ ap (λ n. is_among nat_eq n (used_filesystems nat_eq world names))
           (eqb-true (filesystem_numbered nat_eq world k).number x.number e) ∙ unused))
       by false e = e
@@ -216,15 +208,12 @@ module _ (fresh : Fresh ℕ) (world : World ℕ) (names : List TaskName) (locati
 
   -- the overlay is there afterwards
   is_later : (w : World ℕ) → Among merged w.filesystems → Among merged_later (with_filesystems w step).filesystems
-  is_later w m =
-      subst (λ f. Among f (with_filesystems w step).filesystems)
-      (becomes fresh world location change overlay upper is can)
-      (among-map step w.filesystems merged m)
+  is_later w m = subst (λ f. Among f (with_filesystems w step).filesystems)
+      (becomes fresh world location change overlay upper is can) (among-map step w.filesystems merged m)
 
   changes_then : Copies change → (last : World ℕ) → Among merged_later last.filesystems → (x : Filesystem ℕ)
       → Among x world.filesystems → ChangesFilesystem last [] x (step x)
-  changes_then copies last m =
-      among_from_all (λ x. ChangesFilesystem last [] x (step x)) world.filesystems
+  changes_then copies last m = among_from_all (λ x. ChangesFilesystem last [] x (step x)) world.filesystems
       (subst (λ l. All (λ x. ChangesFilesystem last l x (step x)) world.filesystems)
       (none_lost fresh world location change overlay upper is can copies)
       (all_changed fresh world location change overlay upper is can last m))
@@ -240,15 +229,12 @@ module _ (fresh : Fresh ℕ) (world : World ℕ) (names : List TaskName) (locati
       → ChangesFilesystem (with_filesystems part step) [] x (step x)
   changes_in_part copies x m =
       let from = among-from_filter_map (part_of_filesystem nat_eq world names) world.filesystems x m in
-      ⊎_elim
-      (λ same. changes_then copies (with_filesystems part step)
+      ⊎_elim (λ same. changes_then copies (with_filesystems part step)
       (is_later part (there_in_part world names is number merged_used there)) x
       (subst (λ f. Among f world.filesystems) same.0 from.1))
       (λ low. subst (ChangesFilesystem (with_filesystems part step) [] x)
       (sym (unused_kept x (ap (λ (f : Filesystem ℕ). is_among nat_eq f.number (used_filesystems nat_eq world names))
-      (sym low.0) ∙ low.1)))
-      (unchanged (with_filesystems part step) [] x))
-      (shown_how world names from.0 x from.2)
+      (sym low.0) ∙ low.1))) (unchanged (with_filesystems part step) [] x)) (shown_how world names from.0 x from.2)
 
   -- the change is made
   pub stepped_in_world : with_change nat_eq fresh world location change ≡ with_filesystems world step
@@ -259,8 +245,7 @@ module _ (fresh : Fresh ℕ) (world : World ℕ) (names : List TaskName) (locati
       merge_changed nat_eq fresh stack (record { files = merged.files; real = overlay.real; upper = f.files }) change
 
   abbrev made_by : World ℕ → Filesystem ℕ → Merge ℕ → List (Filesystem ℕ)
-  made_by w f merge =
-      map (replaced_if_numbered nat_eq (with_files f merge.upper))
+  made_by w f merge = map (replaced_if_numbered nat_eq (with_files f merge.upper))
       (map (replaced_if_numbered nat_eq (record merged {
         files = merge.files;
         overlay = Some (record overlay { real = merge.real });
@@ -278,8 +263,7 @@ module _ (fresh : Fresh ℕ) (world : World ℕ) (names : List TaskName) (locati
     pub stepped_if_made : made_of (stack_of nat_eq w overlay upper) layer
         ≡ made_of (stack_of nat_eq world overlay upper) layer
         → with_change nat_eq fresh w location change ≡ with_filesystems w step
-    stepped_if_made same =
-        ap (λ f. filesystem_changed nat_eq fresh w f f.overlay change) shows
+    stepped_if_made same = ap (λ f. filesystem_changed nat_eq fresh w f f.overlay change) shows
         ∙ ap (λ o. filesystem_changed nat_eq fresh w merged o change) can.overlay_there
         ∙ ap (λ u. overlay_changed nat_eq fresh w merged overlay u change) can.upper_there
         ∙ ap (λ f. record w { filesystems = made_by w f (made_of (stack_of nat_eq w overlay upper) f) }) has
@@ -291,8 +275,7 @@ module _ (fresh : Fresh ℕ) (world : World ℕ) (names : List TaskName) (locati
     numbers_if_seen = cc (shows, can.overlay_there, can.upper_there, has)
 
   pub stepped_in_part : Copies change → with_change nat_eq fresh part location change ≡ with_filesystems part step
-  stepped_in_part copies =
-      stepped_if_made part (sym alike) layer_found
+  stepped_in_part copies = stepped_if_made part (sym alike) layer_found
       (by_no_layer fresh (stack_of nat_eq part overlay upper) (stack_of nat_eq world overlay upper)
       (record { files = merged.files; real = overlay.real; upper = layer.files }) change copies)
 
@@ -320,29 +303,23 @@ module _ (fresh : Fresh ℕ) (world : World ℕ) (names : List TaskName) (locati
 
   pub kept_on : (x : Filesystem ℕ) → is_among nat_eq x.number (used_filesystems nat_eq world names) ≡ false
       → moved_on x ≡ x
-  kept_on x unused =
-      ap (raised_if_changed nat_eq both_numbers)
-      (unused_kept x unused)
+  kept_on x unused = ap (raised_if_changed nat_eq both_numbers) (unused_kept x unused)
       ∙ ap (λ b. cond b (record x { change = raised x.change }) x)
       (λ i. apart_from_merged i || (apart_from_layer i || false))
     where
       apart_from_merged : nat_eq (filesystem_at nat_eq world location).number x.number ≡ false
-      apart_from_merged =
-          unused_apart number merged_used x unused
+      apart_from_merged = unused_apart number merged_used x unused
 
       apart_from_layer : nat_eq (filesystem_numbered nat_eq world upper.filesystem).number x.number ≡ false
-      apart_from_layer =
-          unused_apart upper.filesystem layer_used x unused
+      apart_from_layer = unused_apart upper.filesystem layer_used x unused
 
   -- so the part has what changed
   pub part_moved : (w : World ℕ) → AreOnes w
       → ((x : Filesystem ℕ) → is_among nat_eq x.number (used_filesystems nat_eq w names) ≡ false → moved_on x ≡ x)
       → part_of nat_eq (with_filesystems w moved_on) names ≡ with_filesystems (part_of nat_eq w names) moved_on
-  part_moved w ones unused =
-      part_with_layers w names moved_on renumbered_on
+  part_moved w ones unused = part_with_layers w names moved_on renumbered_on
       (λ x m. raised_same change_layers (λ f. refl) x
       ∙ overlays_stay w ones [] (λ (o : Overlay ℕ). map (λ (l : Layer ℕ). l.filesystem)
       (option_to_list o.upper ++ option_to_list o.work)) (λ merge. refl) x m)
       (λ x m. raised_same lowers_in (λ f. refl) x
-      ∙ overlays_stay w ones [] (λ (o : Overlay ℕ). o.lowers) (λ merge. refl) x m)
-      unused
+      ∙ overlays_stay w ones [] (λ (o : Overlay ℕ). o.lowers) (λ merge. refl) x m) unused

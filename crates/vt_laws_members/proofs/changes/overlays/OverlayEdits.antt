@@ -45,8 +45,7 @@ pub unwritten_run : (w : World ℕ) (name : TaskName) (call : Call) (supply : Fr
     (change : Change ℕ) (merged : Filesystem ℕ) (overlay : Overlay ℕ) → only_looks call ≡ false
     → filesystem_at nat_eq w location ≡ merged → merged.overlay ≡ Some overlay → overlay.upper ≡ None
     → finished nat_eq w name call (changed_at nat_eq w location)
-    (granted Done (with_change nat_eq supply w location change))
-    ≡ with_tasks w name Done w.tasks
+    (granted Done (with_change nat_eq supply w location change)) ≡ with_tasks w name Done w.tasks
 unwritten_run w name call supply location change merged overlay looks same overlaid none =
     ap (λ b. finished_by nat_eq (b || false) w name (changed_at nat_eq w location)
     (granted Done (with_change nat_eq supply w location change))) looks
@@ -77,11 +76,9 @@ module _ (world : World ℕ) (names : List TaskName) (name : TaskName) (call : C
 
   pub through_ends : ran name call world fresh (Some task)
       ≡ finished nat_eq world name call (changed_at nat_eq world location)
-      (granted Done (with_change nat_eq fresh world location change))
-      → ran name call part fresh (Some task)
+      (granted Done (with_change nat_eq fresh world location change)) → ran name call part fresh (Some task)
       ≡ finished nat_eq part name call (changed_at nat_eq part location)
-      (granted Done (with_change nat_eq fresh part location change))
-      → EndsAlike world names name call fresh fresh
+      (granted Done (with_change nat_eq fresh part location change)) → EndsAlike world names name call fresh fresh
   through_ends one two = by merged.overlay refl
     where
       layered : (overlay : Overlay ℕ) → merged.overlay ≡ Some overlay → (o : Option (Layer ℕ)) → overlay.upper ≡ o
@@ -114,8 +111,7 @@ edits_copy world location (Move from old to new object) none is asked = absurd n
 module _ (world : World ℕ) (names : List TaskName) (name : TaskName) (call : Call)
     (it : IsCallOfTheirs world names name call)
     (task : Task ℕ) (found_task : task_called world name ≡ Some task) (fresh : Fresh ℕ)
-    (serves : Serves nat_eq world fresh)
-    (location : Location ℕ) (change : Change ℕ)
+    (serves : Serves nat_eq world fresh) (location : Location ℕ) (change : Change ℕ)
     (judged : judge_in nat_eq fresh world task call ≡ Ok (ToChange location change))
     (is : is_overlay (filesystem_at nat_eq world location) ≡ true) (looks : only_looks call ≡ false)
     (stays : grown names name call (Ok Done) ≡ names)
@@ -130,8 +126,7 @@ module _ (world : World ℕ) (names : List TaskName) (name : TaskName) (call : C
   itself = ap (task_called world) (sym (name_found world name task found_task)) ∙ found_task
 
   pub walked_copy_ends : EndsAlike world names name call fresh fresh
-  walked_copy_ends =
-      through_ends world names name call it fresh task found_task looks stays location change
+  walked_copy_ends = through_ends world names name call it fresh task found_task looks stays location change
       (edits_copy world location change edit.1 is
       (permits_ask_well world fresh task call (ToChange location change) it.is serves itself judged).0)
       (theirs_directly world names it.is location ground) (filesystem_alike world names it.is location ground) is
@@ -162,14 +157,11 @@ overlay_chowns_end_alike world names name path uid gid it task called fresh serv
 
 pub overlay_part_writes_end_alike : OverlayPartWritesEndAlike
 overlay_part_writes_end_alike world names name descriptor offset byte bytes it task called fresh serves file at written
-    granted_so is =
-    through_ends world names name call it fresh task called refl refl file
+    granted_so is = through_ends world names name call it fresh task called refl refl file
     (SetBytes file.node (overwritten at (byte ∷ bytes) (bytes_in (node_at nat_eq world file)))) tt direct alike is
     (λ overlay upper overlaid has. permits_can_change world fresh task call (ToWritePart file at (byte ∷ bytes)) file
     (SetBytes file.node (overwritten at (byte ∷ bytes) (bytes_in (node_at nat_eq world file)))) overlay upper it.is
-    serves
-    itself judged refl overlaid has)
-    (ap (run_by world names name call it fresh fresh world fresh task) judged)
+    serves itself judged refl overlaid has) (ap (run_by world names name call it fresh fresh world fresh task) judged)
     (ap (run_by world names name call it fresh fresh part fresh task)
     (sym (same_judgement world names name call it fresh fresh task called) ∙ judged)
     ∙ ap (λ node. run_by world names name call it fresh fresh part fresh task
@@ -183,8 +175,7 @@ overlay_part_writes_end_alike world names name descriptor offset byte bytes it t
     part = part_of nat_eq world names
 
     theirs : Among file (locations (members world names)) × (written ≡ byte ∷ bytes)
-    theirs =
-        subst (λ j. IfOk j (Writes (locations (members world names)) (byte ∷ bytes))) granted_so
+    theirs = subst (λ j. IfOk j (Writes (locations (members world names)) (byte ∷ bytes))) granted_so
         (writes_theirs world names it.is it.sealed_off task
         (member_called world names it.is it.sealed_off name it.theirs task called) (byte ∷ bytes) descriptor offset)
 
@@ -195,8 +186,7 @@ overlay_part_writes_end_alike world names name descriptor offset byte bytes it t
     itself = ap (task_called world) (sym (name_found world name task called)) ∙ called
 
     direct : Among (mount_at nat_eq world file).filesystem (used_directly nat_eq world names)
-    direct =
-        among-append_right (map (λ mount. mount.filesystem) (own_mounts nat_eq world names))
+    direct = among-append_right (map (λ mount. mount.filesystem) (own_mounts nat_eq world names))
         (map (λ (location : Location ℕ). (mount_at nat_eq world location).filesystem) (locations (members world names)))
         (mount_at nat_eq world file).filesystem
         (among-map (λ (location : Location ℕ). (mount_at nat_eq world location).filesystem)

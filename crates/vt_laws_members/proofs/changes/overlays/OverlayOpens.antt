@@ -65,8 +65,7 @@ writes_above world fresh task asked permit other_way file wanted e = absurd cc
 module _ (world : World ℕ) (names : List TaskName) (name : TaskName) (path : List ℕ) (access : Access) (how : Creation)
     (it : IsCallOfTheirs world names name (OpenFile path access how))
     (task : Task ℕ) (called : task_called world name ≡ Some task) (fresh : Fresh ℕ) (file : Location ℕ)
-    (wanted : Access)
-    (ground : IsTheirs world names it.is.mounts file.mount)
+    (wanted : Access) (ground : IsTheirs world names it.is.mounts file.mount)
     (copied : is_copied_up nat_eq world file wanted ≡ true)
     (given : judge_in nat_eq fresh world task (OpenFile path access how) ≡ Ok (ToOpen file wanted))
     (overlay : Overlay ℕ) (upper : Layer ℕ) (can : CanChange fresh world file (CopyUp file.node) overlay upper) where
@@ -94,49 +93,40 @@ module _ (world : World ℕ) (names : List TaskName) (name : TaskName) (path : L
       → changed_at nat_eq w file ≡ numbers
       → run_by world names name call it fresh fresh w fresh task (Ok (ToOpen file wanted))
       ≡ opened_with w name moved numbers task file wanted
-  run_opened w copies made listed =
-      ap by copies
+  run_opened w copies made listed = ap by copies
       ∙ ap (λ l. granted (Opened (free_number task)) (numbers_raised nat_eq w name l (settled nat_eq
       (with_task (with_change nat_eq fresh w file (CopyUp file.node)) (with_descriptor task file wanted))))) listed
       ∙ ap (λ v. granted (Opened (free_number task)) (numbers_raised nat_eq w name numbers (settled nat_eq
       (with_task v (with_descriptor task file wanted))))) made
     where
       by : Bool → Outcome ℕ
-      by b =
-          finished nat_eq w name call (changed_if nat_eq b w file)
+      by b = finished nat_eq w name call (changed_if nat_eq b w file)
           (opened (with_copy nat_eq b fresh w file) task file wanted)
 
   copied_in_part : is_copied_up nat_eq part file wanted ≡ true
-  copied_in_part =
-      sym (ap (λ (f : Filesystem ℕ). opens_for_writing wanted
-      && overlay_or false (λ overlay. lies_only_in_lowers overlay file.node) f.overlay) alike)
-      ∙ copied
+  copied_in_part = sym (ap (λ (f : Filesystem ℕ). opens_for_writing wanted
+      && overlay_or false (λ overlay. lies_only_in_lowers overlay file.node) f.overlay) alike) ∙ copied
 
   pub open_through_ends : EndsAlike world names name call fresh fresh
-  open_through_ends =
-      opened_ends world names name path access how it fresh task called file ground wanted moved numbers
+  open_through_ends = opened_ends world names name path access how it fresh task called file ground wanted moved numbers
       (record {
         in_use = in_use_stepped world (all_in_use world it.is) moved
             (changes_in_world fresh world names file (CopyUp file.node) overlay upper it.is can direct alike tt);
         part_moved = part_moved fresh world names file (CopyUp file.node) overlay upper it.is can direct alike world
             (ones_in_world fresh world names file (CopyUp file.node) overlay upper it.is can direct alike)
             (kept_on fresh world names file (CopyUp file.node) overlay upper it.is can direct alike);
-      })
-      (record {
+      }) (record {
         in_use = in_use_stepped part (part_in_use world names it.is it.sealed_off) moved
             (changes_in_part fresh world names file (CopyUp file.node) overlay upper it.is can direct alike tt);
         part_moved = part_moved fresh world names file (CopyUp file.node) overlay upper it.is can direct alike part
             (ones_in_part fresh world names file (CopyUp file.node) overlay upper it.is can direct alike)
             (λ x e. kept_on fresh world names file (CopyUp file.node) overlay upper it.is can direct alike x
             (sym (ap (is_among nat_eq x.number) (same_used world names)) ∙ e));
-      })
-      (ap (run_by world names name call it fresh fresh world fresh task) given
-      ∙ run_opened world copied
+      }) (ap (run_by world names name call it fresh fresh world fresh task) given ∙ run_opened world copied
       (stepped_in_world fresh world names file (CopyUp file.node) overlay upper it.is can direct alike)
       (numbers_in_world fresh world names file (CopyUp file.node) overlay upper it.is can direct alike))
       (ap (run_by world names name call it fresh fresh part fresh task)
-      (sym (same_judgement world names name call it fresh fresh task called) ∙ given)
-      ∙ run_opened part copied_in_part
+      (sym (same_judgement world names name call it fresh fresh task called) ∙ given) ∙ run_opened part copied_in_part
       (stepped_in_part fresh world names file (CopyUp file.node) overlay upper it.is can direct alike tt)
       (numbers_in_part fresh world names file (CopyUp file.node) overlay upper it.is can direct alike))
 
@@ -156,16 +146,13 @@ overlay_opens_end_alike world names name path access how it task called fresh se
     parts = and_parts (opens_for_writing wanted) _ copied
 
     above : (opens_for_writing wanted && has_no_upper (looks_of nat_eq world) file) ≡ false
-    above =
-        writes_above world fresh task call (ToOpen file wanted)
+    above = writes_above world fresh task call (ToOpen file wanted)
         (calls_are_granted nat_eq (looks_of nat_eq world) (overfills nat_eq fresh world task) task call
         (ToOpen file wanted) given) file wanted refl
 
     ground : IsTheirs world names it.is.mounts file.mount
-    ground =
-        theirs_from world names it.is.mounts file.mount
-        (subst (λ j. IfOk j (OpensOn (is_theirs world names))) given
-        (opens_theirs world names it.is it.sealed_off task
+    ground = theirs_from world names it.is.mounts file.mount
+        (subst (λ j. IfOk j (OpensOn (is_theirs world names))) given (opens_theirs world names it.is it.sealed_off task
         (member_called world names it.is it.sealed_off name it.theirs task called) path access how))
 
     asks : change_asked fresh world (ToOpen file wanted) ≡ Some (file, CopyUp file.node)
@@ -173,20 +160,16 @@ overlay_opens_end_alike world names name path access how it task called fresh se
 
     layered : (overlay : Overlay ℕ) → (filesystem_at nat_eq world file).overlay ≡ Some overlay → (o : Option (Layer ℕ))
         → overlay.upper ≡ o → EndsAlike world names name call fresh fresh
-    layered overlay overlaid None none =
-        absurd (true≢false
+    layered overlay overlaid None none = absurd (true≢false
         (sym ((λ i. parts.0 i && overlay_or false (λ (v : Overlay ℕ). not (is_some v.upper)) (overlaid i))
         ∙ ap (λ o. not (is_some o)) none) ∙ above))
     layered overlay overlaid (Some upper) has =
         open_through_ends world names name path access how it task called fresh file wanted ground copied given overlay
-        upper
-        (permits_can_change world fresh task call (ToOpen file wanted) file
-        (CopyUp file.node) overlay upper it.is serves
-        itself given asks overlaid has)
+        upper (permits_can_change world fresh task call (ToOpen file wanted) file
+        (CopyUp file.node) overlay upper it.is serves itself given asks overlaid has)
 
     by : (o : Option (Overlay ℕ)) → (filesystem_at nat_eq world file).overlay ≡ o
         → EndsAlike world names name call fresh fresh
-    by None none =
-        absurd (true≢false (sym parts.1
+    by None none = absurd (true≢false (sym parts.1
         ∙ ap (overlay_or false (λ overlay. lies_only_in_lowers overlay file.node)) none))
     by (Some overlay) overlaid = layered overlay overlaid overlay.upper refl

@@ -41,10 +41,8 @@ module _ (top : ℕ) where
           → ((b : ℕ) → reaches n next b ≡ true → reaches m next b ≡ true)
           → is_among nat_eq top (elim o [ None ↦ d ∷ [] | Some b ↦ d ∷ chain m next b ]) ≡ true
       by None h later = h
-      by (Some b) h later =
-          ⊎_elim (or_left (nat_eq top d) (reaches m next b))
-          (λ f. or_right (nat_eq top d) (reaches m next b) (later b f))
-          (or_cases (nat_eq top d) (reaches n next b) h)
+      by (Some b) h later = ⊎_elim (or_left (nat_eq top d) (reaches m next b))
+          (λ f. or_right (nat_eq top d) (reaches m next b) (later b f)) (or_cases (nat_eq top d) (reaches n next b) h)
 
   -- so does a chain that stops there
   abbrev until : (ℕ → Option ℕ) → ℕ → Option ℕ
@@ -68,8 +66,7 @@ module _ (top : ℕ) where
 
 -- A tree is cut to some inodes, all under the directory among them.
 module _ (files : FileTree ℕ) (chosen : List ℕ) (tree : IsTree files.tree) (listed : ListsNumbers nat_eq files)
-    (top : ℕ)
-    (all : (object : ℕ) → is_some (files.tree.node object) ≡ true → is_under nat_eq files top object ≡ true
+    (top : ℕ) (all : (object : ℕ) → is_some (files.tree.node object) ≡ true → is_under nat_eq files top object ≡ true
     → is_among nat_eq object chosen ≡ true) where
   abbrev cut : FileTree ℕ
   cut = only_among nat_eq chosen files
@@ -79,15 +76,13 @@ module _ (files : FileTree ℕ) (chosen : List ℕ) (tree : IsTree files.tree) (
 
   in_cut : (object : ℕ) → is_some (files.tree.node object) ≡ true → is_among nat_eq object chosen ≡ true
       → Among object cut.numbers
-  in_cut object there e =
-      among-filter (λ n. is_among nat_eq n chosen) files.numbers object
+  in_cut object there e = among-filter (λ n. is_among nat_eq n chosen) files.numbers object
       (among_numbers files.numbers object (listed object ∙ there)) e
 
   -- a directory under it is kept
   directory_kept : (d : ℕ) → IsDirectory files.tree d → is_directory_under nat_eq files top d ≡ true
       → is_among nat_eq d chosen ≡ true
-  directory_kept d is h =
-      all d (directory_used files.tree d is)
+  directory_kept d is h = all d (directory_used files.tree d is)
       (ap (λ b. cond b (is_directory_under nat_eq files top d) (is_file_under nat_eq files top d)) is ∙ h)
 
   -- what has an entry is a directory
@@ -114,8 +109,7 @@ module _ (files : FileTree ℕ) (chosen : List ℕ) (tree : IsTree files.tree) (
       let how = parent_how d b e in
       cc (
         node_kept d kept,
-        node_kept (parent_in d (files.tree.node d)) (subst (λ n. is_among nat_eq n chosen ≡ true) (sym how.0)
-            above),
+        node_kept (parent_in d (files.tree.node d)) (subst (λ n. is_among nat_eq n chosen ≡ true) (sym how.0) above),
       )
 
   abbrev Ways : ℕ → Type 0
@@ -129,15 +123,12 @@ module _ (files : FileTree ℕ) (chosen : List ℕ) (tree : IsTree files.tree) (
       ⊎_elim (λ same. same) (λ none. absurd (true≢false (sym none))) (or_cases (nat_eq top d) false h) in
       ends d (ap (λ c. cond c None (named_parent nat_eq files.tree d)) at)
       (ap (λ c. cond c None (named_parent nat_eq cut.tree d)) at)
-  way (suc n) d l is h =
-      here (nat_eq top d) refl (λ b directory above. way n b (omega (arith, l)) directory above)
+  way (suc n) d l is h = here (nat_eq top d) refl (λ b directory above. way n b (omega (arith, l)) directory above)
     where
       on : nat_eq top d ≡ false
           → ((b : ℕ) → IsDirectory files.tree b → reaches top n (named_parent nat_eq files.tree) b ≡ true → Ways b)
-          → (o : Option ℕ) → named_parent nat_eq files.tree d ≡ o
-          → is_among nat_eq top
-          (elim o [ None ↦ d ∷ [] | Some b ↦ d ∷ chain n (named_parent nat_eq files.tree) b ]) ≡ true
-          → Ways d
+          → (o : Option ℕ) → named_parent nat_eq files.tree d ≡ o → is_among nat_eq top
+          (elim o [ None ↦ d ∷ [] | Some b ↦ d ∷ chain n (named_parent nat_eq files.tree) b ]) ≡ true → Ways d
       on e rest None f g = absurd (true≢false (sym g ∙ ap (λ b. b || false) e))
       on e rest (Some b) f g =
           let how = parent_how d b f in
@@ -149,17 +140,14 @@ module _ (files : FileTree ℕ) (chosen : List ℕ) (tree : IsTree files.tree) (
           (more top (named_parent nat_eq files.tree) (suc n) (length files.numbers) d l h) in
           let kept_above = directory_kept b directory
           (more top (named_parent nat_eq files.tree) n (length files.numbers) b (omega (arith, l)) above) in
-          goes_on d b
-          (ap (λ c. cond c None (named_parent nat_eq files.tree d)) e ∙ f)
+          goes_on d b (ap (λ c. cond c None (named_parent nat_eq files.tree d)) e ∙ f)
           (ap (λ c. cond c None (named_parent nat_eq cut.tree d)) e ∙ parent_kept d b f kept kept_above)
-          (in_cut d (directory_used files.tree d is) kept)
-          (rest b directory above)
+          (in_cut d (directory_used files.tree d is) kept) (rest b directory above)
 
       here : (b : Bool) → nat_eq top d ≡ b
           → ((b : ℕ) → IsDirectory files.tree b → reaches top n (named_parent nat_eq files.tree) b ≡ true → Ways b)
           → Ways d
-      here true e rest =
-          ends d (ap (λ c. cond c None (named_parent nat_eq files.tree d)) e)
+      here true e rest = ends d (ap (λ c. cond c None (named_parent nat_eq files.tree d)) e)
           (ap (λ c. cond c None (named_parent nat_eq cut.tree d)) e)
       here false e rest = on e rest (named_parent nat_eq files.tree d) refl h
 
@@ -193,8 +181,7 @@ module _ (files : FileTree ℕ) (chosen : List ℕ) (tree : IsTree files.tree) (
           let directory = entered at.0 object both.0 in
           let kept = directory_kept at.0 directory both.1 in
           any_from_among (λ d. has_entry_to nat_eq cut.tree d object && is_directory_under nat_eq cut top d) cut.numbers
-          at.0
-          (in_cut at.0 (directory_used files.tree at.0 directory) kept)
+          at.0 (in_cut at.0 (directory_used files.tree at.0 directory) kept)
           (and_from (has_entry_to nat_eq cut.tree at.0 object) (is_directory_under nat_eq cut top at.0)
           (ap (λ (node : Option (Node ℕ)). is_among nat_eq object (targets_in node)) (node_kept at.0 kept) ∙ both.0)
           (directory_in_cut at.0 directory both.1))
@@ -202,10 +189,8 @@ module _ (files : FileTree ℕ) (chosen : List ℕ) (tree : IsTree files.tree) (
   -- and what lies below it has a name there
   named_by : (b object : ℕ) → IsDirectory files.tree b → is_among nat_eq b chosen ≡ true
       → has_entry_to nat_eq files.tree b object ≡ true → Among object (named_in cut)
-  named_by b object directory kept entry =
-      among-flat_map (λ d. targets_in (cut.tree.node d)) cut.numbers b object
-      (in_cut b (directory_used files.tree b directory) kept)
-      (among_numbers (targets_in (cut.tree.node b)) object
+  named_by b object directory kept entry = among-flat_map (λ d. targets_in (cut.tree.node d)) cut.numbers b object
+      (in_cut b (directory_used files.tree b directory) kept) (among_numbers (targets_in (cut.tree.node b)) object
       (ap (λ (node : Option (Node ℕ)). is_among nat_eq object (targets_in node)) (node_kept b kept) ∙ entry))
 
   pub named_in_cut : (object : ℕ) → nat_eq top object ≡ false → is_under nat_eq files top object ≡ true
@@ -233,8 +218,7 @@ module _ (files : FileTree ℕ) (chosen : List ℕ) (tree : IsTree files.tree) (
       long (suc n) less g = up n (omega (arith, less)) (named_parent nat_eq files.tree object) refl g
 
       by : (b : Bool) → cond b (is_directory_under nat_eq files top object) (is_file_under nat_eq files top object)
-          ≡ true
-          → Among object (named_in cut)
+          ≡ true → Among object (named_in cut)
       by true g = long (length files.numbers) (omega arith) g
       by false g =
           let at = any_among (λ d. has_entry_to nat_eq files.tree d object && is_directory_under nat_eq files top d)

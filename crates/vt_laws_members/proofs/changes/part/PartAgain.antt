@@ -74,26 +74,21 @@ module _ (world : World ℕ) (names : List TaskName) (is : IsWorld nat_eq world)
   has_lower number = list_any (λ (layer : Layer ℕ). nat_eq number layer.filesystem) lowers
 
   pub shown_number : (x y : Filesystem ℕ) → shown x ≡ Some y → y.number ≡ x.number
-  shown_number x y e =
-      ⊎_elim (λ same. ap (λ (f : Filesystem ℕ). f.number) (sym same.0))
-      (λ low. ap (λ (f : Filesystem ℕ). f.number) (sym low.0))
-      (shown_how world names x y e)
+  shown_number x y e = ⊎_elim (λ same. ap (λ (f : Filesystem ℕ). f.number) (sym same.0))
+      (λ low. ap (λ (f : Filesystem ℕ). f.number) (sym low.0)) (shown_how world names x y e)
 
   -- what the part has of a filesystem is found there
   pub found_in_part : (x y : Filesystem ℕ) → Among x world.filesystems → shown x ≡ Some y
       → filesystem_numbered nat_eq part x.number ≡ y
-  found_in_part x y m e =
-      ap (λ o. unwrap_or o (no_filesystem x.number)) (search world.filesystems (λ z n. n) m)
+  found_in_part x y m e = ap (λ o. unwrap_or o (no_filesystem x.number)) (search world.filesystems (λ z n. n) m)
     where
       itself : (z : Filesystem ℕ) → Among z world.filesystems → nat_eq x.number z.number ≡ true → z ≡ x
-      itself z n h =
-          sym (found_filesystem world.filesystems is.files.one_filesystem z n)
+      itself z n h = sym (found_filesystem world.filesystems is.files.one_filesystem z n)
           ∙ ap (filesystem_numbered nat_eq world) (sym (eqb-true x.number z.number h))
           ∙ found_filesystem world.filesystems is.files.one_filesystem x m
 
       search : (list : List (Filesystem ℕ)) → ((z : Filesystem ℕ) → Among z list → Among z world.filesystems)
-          → Among x list
-          → find (λ (f : Filesystem ℕ). nat_eq x.number f.number) (filter_map shown list) ≡ Some y
+          → Among x list → find (λ (f : Filesystem ℕ). nat_eq x.number f.number) (filter_map shown list) ≡ Some y
       search [] all there = absurd there
       search (z ∷ rest) all there = by (nat_eq x.number z.number) refl (search rest (λ w n. all w (inr n)))
         where
@@ -103,8 +98,7 @@ module _ (world : World ℕ) (names : List TaskName) (is : IsWorld nat_eq world)
           skip None f h = refl
           skip (Some w) f h = cc (shown_number z w f)
 
-          by : (b : Bool) → nat_eq x.number z.number ≡ b
-              → (Among x rest
+          by : (b : Bool) → nat_eq x.number z.number ≡ b → (Among x rest
               → find (λ (f : Filesystem ℕ). nat_eq x.number f.number) (filter_map shown rest) ≡ Some y)
               → find (λ (f : Filesystem ℕ). nat_eq x.number f.number) (cons_option (shown z) (filter_map shown rest))
               ≡ Some y
@@ -112,8 +106,7 @@ module _ (world : World ℕ) (names : List TaskName) (is : IsWorld nat_eq world)
               ap (λ o. find (λ (f : Filesystem ℕ). nat_eq x.number f.number) (cons_option o (filter_map shown rest)))
               (ap shown (itself z (all z (inl refl)) h) ∙ e)
               ∙ ap (λ b. cond b (Some y) (find (λ (f : Filesystem ℕ). nat_eq x.number f.number)
-              (filter_map shown rest)))
-              (ap (nat_eq x.number) (shown_number x y e) ∙ eq-eqb x.number x.number refl)
+              (filter_map shown rest))) (ap (nat_eq x.number) (shown_number x y e) ∙ eq-eqb x.number x.number refl)
           by false h later = cc (
             skip (shown z) refl h,
             later (⊎_elim (λ same. absurd (true≢false (sym (eq-eqb x.number z.number (ap (λ (f : Filesystem ℕ).
@@ -136,8 +129,7 @@ module _ (world : World ℕ) (names : List TaskName) (is : IsWorld nat_eq world)
     itself = found_filesystem world.filesystems is.files.one_filesystem x m
 
     shown_so : shown x ≡ Some y
-    shown_so =
-        ap (λ b. cond b (Some x) (when (has_lower x.number) y)) unused ∙ ap (λ b. when b y) low
+    shown_so = ap (λ b. cond b (Some x) (when (has_lower x.number) y)) unused ∙ ap (λ b. when b y) low
 
     abbrev chosen : List ℕ
     chosen = filter (lies_in_own_lower nat_eq world names x.number) x.files.numbers
@@ -145,8 +137,7 @@ module _ (world : World ℕ) (names : List TaskName) (is : IsWorld nat_eq world)
     pub in_chosen : (layer : Layer ℕ) → Among layer lowers → nat_eq x.number layer.filesystem ≡ true → (object : ℕ)
         → is_some (x.files.tree.node object) ≡ true → is_under nat_eq x.files layer.directory object ≡ true
         → is_among nat_eq object chosen ≡ true
-    in_chosen layer at on object there under =
-        is_among_numbers chosen object
+    in_chosen layer at on object there under = is_among_numbers chosen object
         (among-filter (lies_in_own_lower nat_eq world names x.number) x.files.numbers object
         (among_numbers x.files.numbers object (listed object ∙ there))
         (any_from_among (lies_in_layer nat_eq world x.number object) lowers layer at
@@ -182,24 +173,20 @@ module _ (world : World ℕ) (names : List TaskName) (is : IsWorld nat_eq world)
 
   shown_again : (x y : Filesystem ℕ) → Among x world.filesystems → shown x ≡ Some y
       → part_of_filesystem nat_eq part names y ≡ Some y
-  shown_again x y m e =
-      ap (λ u. cond (is_among nat_eq y.number u) (Some y)
+  shown_again x y m e = ap (λ u. cond (is_among nat_eq y.number u) (Some y)
       (when (list_any (λ (layer : Layer ℕ). nat_eq y.number layer.filesystem) (own_lowers nat_eq part names))
       (part_of_lower nat_eq part names y))) (same_used world names)
       ∙ ap (λ l. cond (is_among nat_eq y.number used) (Some y)
       (when (list_any (λ (layer : Layer ℕ). nat_eq y.number layer.filesystem) l) (part_of_lower nat_eq part names y)))
-      (same_lowers world names)
-      ∙ ⊎_elim
+      (same_lowers world names) ∙ ⊎_elim
       (λ same. ap (λ b. cond b (Some y) (when (has_lower y.number) (part_of_lower nat_eq part names y)))
-      (ap (λ (f : Filesystem ℕ). is_among nat_eq f.number used) (sym same.0) ∙ same.1))
-      (λ low.
+      (ap (λ (f : Filesystem ℕ). is_among nat_eq f.number used) (sym same.0) ∙ same.1)) (λ low.
       ap (λ b. cond b (Some y) (when (has_lower y.number) (part_of_lower nat_eq part names y)))
       (ap (λ (f : Filesystem ℕ). is_among nat_eq f.number used) (sym low.0) ∙ low.1)
       ∙ ap (λ b. when b (part_of_lower nat_eq part names y))
       (ap (λ (f : Filesystem ℕ). has_lower f.number) (sym low.0) ∙ low.2)
       ∙ ap Some (subst (λ (f : Filesystem ℕ). part_of_lower nat_eq part names f ≡ f) low.0
-      (lower_again x m low.1 low.2)))
-      (shown_how world names x y e)
+      (lower_again x m low.1 low.2))) (shown_how world names x y e)
 
   pub same_shown : filter_map (part_of_filesystem nat_eq part names) part.filesystems ≡ part.filesystems
   same_shown = search world.filesystems (λ x m. m)
@@ -217,26 +204,18 @@ module _ (world : World ℕ) (names : List TaskName) (is : IsWorld nat_eq world)
           by (Some y) e later = cc (shown_again x y (all x (inl refl)) e)
 
   pub same_mounts : filter_map (part_of_mount nat_eq part names) part.mounts ≡ part.mounts
-  same_mounts =
-      ap (λ tasks. filter_map (keep world names tasks) (filter_map (keep world names theirs) world.mounts))
-      (same_members world names)
-      ∙ kept_again (keep world names theirs) keeps_again world.mounts
+  same_mounts = ap (λ tasks. filter_map (keep world names tasks) (filter_map (keep world names theirs) world.mounts))
+      (same_members world names) ∙ kept_again (keep world names theirs) keeps_again world.mounts
     where
       keeps_again : (x y : Mount ℕ) → keep world names theirs x ≡ Some y → keep world names theirs y ≡ Some y
-      keeps_again x y e =
-          ⊎_elim (λ same. ap (keep world names theirs) (sym same) ∙ e)
-          (λ stub. subst (λ z. keep world names theirs z ≡ Some z) stub.0
-          (ap (λ b. cond b (Some (seen_by_descriptor x))
-          (when (is_at nat_eq (locations theirs) x) (seen_by_descriptor x)))
-          stub.2
-          ∙ ap (λ b. when b (seen_by_descriptor x)) stub.3))
-          (kept_how world names theirs x y e)
+      keeps_again x y e = ⊎_elim (λ same. ap (keep world names theirs) (sym same) ∙ e)
+          (λ stub. subst (λ z. keep world names theirs z ≡ Some z) stub.0 (ap (λ b. cond b (Some (seen_by_descriptor x))
+          (when (is_at nat_eq (locations theirs) x) (seen_by_descriptor x))) stub.2
+          ∙ ap (λ b. when b (seen_by_descriptor x)) stub.3)) (kept_how world names theirs x y e)
 
   same_masters : part_of_master nat_eq part names ≡ part_of_master nat_eq world names
-  same_masters =
-      ap (λ l. λ (group : ℕ). cond (list_any (is_member_of nat_eq group) l)
-      (part_of_master nat_eq world names group) None)
-      (same_own world names)
+  same_masters = ap (λ l. λ (group : ℕ). cond (list_any (is_member_of nat_eq group) l)
+      (part_of_master nat_eq world names group) None) (same_own world names)
       ∙ (λ i group. twice (list_any (is_member_of nat_eq group) (own_mounts nat_eq world names)) (world.master group) i)
     where
       twice : (b : Bool) (o : Option ℕ) → cond b (cond b o None) None ≡ cond b o None
@@ -248,8 +227,7 @@ module _ (world : World ℕ) (names : List TaskName) (is : IsWorld nat_eq world)
       filter (λ (n : Namespace ℕ). list_any (λ (task : Task ℕ). nat_eq n.number task.namespace) tasks) list
 
   pub same_namespaces : kept_namespaces (members part names) part.namespaces ≡ part.namespaces
-  same_namespaces =
-      ap (λ tasks. kept_namespaces tasks part.namespaces) (same_members world names)
+  same_namespaces = ap (λ tasks. kept_namespaces tasks part.namespaces) (same_members world names)
       ∙ filter_again (λ (n : Namespace ℕ). list_any (λ (task : Task ℕ). nat_eq n.number task.namespace) theirs)
       world.namespaces
 

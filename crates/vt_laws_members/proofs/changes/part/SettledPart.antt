@@ -70,8 +70,7 @@ module _ (world : World ℕ) (names : List TaskName) (is : IsWorld nat_eq world)
         (among_from_contains (used_directly nat_eq world names) number m));
     filesystems = ap (λ u. filter_map (shown_of part u lowers) part.filesystems) (sym (same_used world names))
         ∙ ap (λ l. filter_map (shown_of part (used_filesystems nat_eq part names) l) part.filesystems)
-        (sym (same_lowers world names))
-        ∙ same_shown world names is;
+        (sym (same_lowers world names)) ∙ same_shown world names is;
     namespaces = same_namespaces world names is;
   }
 
@@ -109,8 +108,7 @@ module _ (world : World ℕ) (names : List TaskName) (is : IsWorld nat_eq world)
         inr (among-append_left (named_in y.files ++ located_in nat_eq part x.number ++ layers_in nat_eq part x.number)
         of_overlays layer.directory
         (in_third (named_in y.files) (located_in nat_eq part x.number) (layers_in nat_eq part x.number) layer.directory
-        (among-map (λ (l : Layer ℕ). l.directory)
-        (filter (λ (l : Layer ℕ). nat_eq x.number l.filesystem)
+        (among-map (λ (l : Layer ℕ). l.directory) (filter (λ (l : Layer ℕ). nat_eq x.number l.filesystem)
         (flat_map (of_overlay [] layers_of) part.filesystems)) layer
         (among-filter (λ (l : Layer ℕ). nat_eq x.number l.filesystem)
         (flat_map (of_overlay [] layers_of) part.filesystems) layer
@@ -138,8 +136,7 @@ module _ (world : World ℕ) (names : List TaskName) (is : IsWorld nat_eq world)
             subst (λ k. Among k (used_in nat_eq part y)) (eqb-true layer.directory object e) (layer_used layer at on)
         by layer at on under false e =
             inr (among-append_left (named_in y.files ++ located_in nat_eq part x.number ++ layers_in nat_eq part
-            x.number)
-            of_overlays object
+            x.number) of_overlays object
             (in_first (named_in y.files) (located_in nat_eq part x.number) (layers_in nat_eq part x.number) object
             (named_in_cut x.files (filter (lies_in_own_lower nat_eq world names x.number) x.files.numbers)
             (tree world names is x m unused low) (listed world names is x m unused low) layer.directory
@@ -154,24 +151,19 @@ module _ (world : World ℕ) (names : List TaskName) (is : IsWorld nat_eq world)
   whole : (chosen : Bool) (y : Filesystem ℕ) → Among y part.filesystems → only_used nat_eq part chosen y ≡ y
   whole chosen y n =
       let from = among-from_filter_map (part_of_filesystem nat_eq world names) world.filesystems y n in
-      ⊎_elim
-      (λ same. subst (λ (f : Filesystem ℕ). only_used nat_eq part chosen f ≡ f) same.0
+      ⊎_elim (λ same. subst (λ (f : Filesystem ℕ). only_used nat_eq part chosen f ≡ f) same.0
       (used_whole world part names apart sealed_off sees (part_one_number world names is) from.0 from.1 same.1 chosen))
       (λ low. subst (λ (f : Filesystem ℕ). only_used nat_eq part chosen f ≡ f) low.0
-      (lower_whole from.0 from.1 low.1 low.2 chosen))
-      (shown_how world names from.0 y from.2)
+      (lower_whole from.0 from.1 low.1 low.2 chosen)) (shown_how world names from.0 y from.2)
 
   inodes_live : (chosen : Filesystem ℕ → Bool) → without_dead_in nat_eq chosen part ≡ part
-  inodes_live chosen =
-      ap (λ list. record part { filesystems = list })
+  inodes_live chosen = ap (λ list. record part { filesystems = list })
       (map_same (λ f. only_used nat_eq part (chosen f) f) part.filesystems (λ y n. whole (chosen y) y n))
 
   groups_live : without_dead_groups nat_eq part ≡ part
-  groups_live =
-      λ i. record part {
-        master = λ group. same group
-            (list_any (is_member_of nat_eq group) (own_mounts nat_eq world names)) refl i;
-      }
+  groups_live = λ i. record part {
+    master = λ group. same group (list_any (is_member_of nat_eq group) (own_mounts nat_eq world names)) refl i;
+  }
     where
       none : (b : Bool) (o : Option ℕ) → o ≡ None → cond b o None ≡ o
       none true o e = refl
@@ -198,8 +190,7 @@ module _ (world : World ℕ) (names : List TaskName) (is : IsWorld nat_eq world)
 
 -- what a filter leaves passes
 all_left : {A : Type 0} (p : A → Bool) (xs : List A) → filter p xs ≡ xs → list_all p xs ≡ true
-all_left p xs e =
-    list_all_from_among p xs (λ x m. (among-from_filter p xs x (subst (Among x) (sym e) m)).1)
+all_left p xs e = list_all_from_among p xs (λ x m. (among-from_filter p xs x (subst (Among x) (sym e) m)).1)
 
 all_used : (used : List ℕ) (y : Filesystem ℕ) → only_used_of nat_eq used y ≡ y
     → list_all (λ n. is_among nat_eq n used) y.files.numbers ≡ true
@@ -208,8 +199,7 @@ all_used used y e = by (list_all (λ n. is_among nat_eq n used) y.files.numbers)
     by : (b : Bool) → list_all (λ n. is_among nat_eq n used) y.files.numbers ≡ b → only_used_by nat_eq b used y ≡ y
         → list_all (λ n. is_among nat_eq n used) y.files.numbers ≡ true
     by true f e = f
-    by false f e =
-        all_left (λ n. is_among nat_eq n used) y.files.numbers (ap (λ (z : Filesystem ℕ). z.files.numbers) e)
+    by false f e = all_left (λ n. is_among nat_eq n used) y.files.numbers (ap (λ (z : Filesystem ℕ). z.files.numbers) e)
 
 pub part_in_use : (world : World ℕ) (names : List TaskName) → IsWorld nat_eq world → sealed nat_eq world names ≡ true
     → AllInUse (part_of nat_eq world names)
@@ -232,11 +222,9 @@ part_in_use world names is sealed_off = record {
     by group none true e =
         let own = any_among (is_member_of nat_eq group) (own_mounts nat_eq world names) e in
         let from = among-from_filter (is_own_mount nat_eq world names) world.mounts own.0 own.1 in
-        absurd (true≢false
-        (sym (any_from_among (is_member_of nat_eq group) (part_of nat_eq world names).mounts own.0
+        absurd (true≢false (sym (any_from_among (is_member_of nat_eq group) (part_of nat_eq world names).mounts own.0
         (among-filter_map (keep world names (members world names)) world.mounts own.0 own.0 from.0
-        (own_whole world names is own.0 from.1)) own.2)
-        ∙ none))
+        (own_whole world names is own.0 from.1)) own.2) ∙ none))
     by group none false e = ap (λ b. cond b (world.master group) None) e
 
 pub part_is_settled : PartIsSettled

@@ -54,18 +54,15 @@ applied_ok fresh world task (ToPivot new put) = refl
 applied_ok fresh world task ToListMounts = refl
 
 module _ (world : World ℕ) (names : List TaskName) (name : TaskName) (call : Call)
-    (it : IsCallOfTheirs world names name call)
-    (fresh other : Fresh ℕ) where
+    (it : IsCallOfTheirs world names name call) (fresh other : Fresh ℕ) where
   abbrev part : World ℕ
   part = part_of nat_eq world names
 
   -- the two runs, by the task that is found
   pub by_runs : (found : Option (Task ℕ)) → task_called world name ≡ found
       → EndAlike (grown names name call (ran name call world fresh found).answer) (ran name call world fresh found)
-      (ran name call part other found)
-      → EndsAlike world names name call fresh other
-  by_runs found e alike =
-      subst (λ p. EndAlike (grown names name call (policy nat_eq fresh world name call).answer)
+      (ran name call part other found) → EndsAlike world names name call fresh other
+  by_runs found e alike = subst (λ p. EndAlike (grown names name call (policy nat_eq fresh world name call).answer)
       (policy nat_eq fresh world name call) p)
       (sym (ap (ran name call part other) (same_caller world names it.is it.sealed_off name it.theirs ∙ e)))
       (subst (λ o. EndAlike (grown names name call o.answer) o (ran name call part other found))
@@ -77,16 +74,13 @@ module _ (world : World ℕ) (names : List TaskName) (name : TaskName) (call : C
   -- the judgement is the same
   pub same_judgement : (task : Task ℕ) → task_called world name ≡ Some task
       → judge_in nat_eq fresh world task call ≡ judge_in nat_eq other part task call
-  same_judgement task e =
-      members_are_judged_by_their_part world names task call
-      (record {
-        is = it.is;
-        sealed_off = it.sealed_off;
-        member = contains_from_among (members world names) task
-            (member_called world names it.is it.sealed_off name it.theirs task e);
-        among_them = it.among_them;
-      })
-      fresh other
+  same_judgement task e = members_are_judged_by_their_part world names task call (record {
+    is = it.is;
+    sealed_off = it.sealed_off;
+    member = contains_from_among (members world names) task
+        (member_called world names it.is it.sealed_off name it.theirs task e);
+    among_them = it.among_them;
+  }) fresh other
 
   -- a call by its judgement
   abbrev pub run_by : World ℕ → Fresh ℕ → Task ℕ → Judgement ℕ → Outcome ℕ
@@ -105,8 +99,7 @@ module _ (world : World ℕ) (names : List TaskName) (name : TaskName) (call : C
 
   answer_kept : (w : World ℕ) (supply : Fresh ℕ) (task : Task ℕ) (j : Judgement ℕ)
       → (run_by w supply task j).answer ≡ (after w j (apply nat_eq supply w task)).answer
-  answer_kept w supply task j =
-      by (only_looks call || not (is_ok (after w j (apply nat_eq supply w task)).answer))
+  answer_kept w supply task j = by (only_looks call || not (is_ok (after w j (apply nat_eq supply w task)).answer))
     where
       by : (b : Bool) → (finished_by nat_eq b w name (filesystems_changed_by nat_eq w j)
           (after w j (apply nat_eq supply w task))).answer ≡ (after w j (apply nat_eq supply w task)).answer
@@ -119,14 +112,11 @@ module _ (world : World ℕ) (names : List TaskName) (name : TaskName) (call : C
     where
       judged : (task : Task ℕ) → task_called world name ≡ Some task → (j : Judgement ℕ)
           → judge_in nat_eq fresh world task call ≡ j → EndsAlike world names name call fresh other
-      judged task e (Ok permit) same =
-          absurd (true≢false
-          (sym (applied_ok fresh world task permit)
+      judged task e (Ok permit) same = absurd (true≢false (sym (applied_ok fresh world task permit)
           ∙ sym (ap is_ok (answer_kept world fresh task (Ok permit)))
           ∙ sym (ap (λ j. is_ok (run_by world fresh task j).answer) same)
           ∙ sym (ap (λ o. is_ok (ran name call world fresh o).answer) e) ∙ refused))
-      judged task e (Err deny) same =
-          by_runs (Some task) e
+      judged task e (Err deny) same = by_runs (Some task) e
           (subst (λ p. EndAlike (grown names name call (ran name call world fresh (Some task)).answer)
           (ran name call world fresh (Some task)) p)
           (sym (ap (run_by part other task) (sym (same_judgement task e) ∙ same) ∙ refused_by part other task deny))

@@ -40,10 +40,8 @@ module _ (world : World ℕ) (name : TaskName) (answer : Answer) (in_use : AllIn
   ended = record world { tasks = map (raised_task name) tasks; change = raised world.change }
 
   pub ends_so : with_tasks world name answer tasks ≡ granted answer ended
-  ends_so =
-      ap (λ w. granted answer (numbers_raised nat_eq world name [] w))
-      (nothing_goes (record world { tasks = tasks })
-      (in_use_later world tasks world.change in_use leaves.more))
+  ends_so = ap (λ w. granted answer (numbers_raised nat_eq world name [] w))
+      (nothing_goes (record world { tasks = tasks }) (in_use_later world tasks world.change in_use leaves.more))
       ∙ ap (granted answer) (tasks_raised world name tasks)
 
   pub part_of_ended : part_of nat_eq ended set
@@ -53,14 +51,12 @@ module _ (world : World ℕ) (name : TaskName) (answer : Answer) (in_use : AllIn
 pub tasks_end_alike : (world : World ℕ) (names set : List TaskName) (name : TaskName) (call : Call)
     → (it : IsCallOfTheirs world names name call) (task : Task ℕ) → task_called world name ≡ Some task
     → (fresh other : Fresh ℕ) (answer : Answer) → grown names name call (Ok answer) ≡ set
-    → (tasks tasks_too : List (Task ℕ))
-    → ran name call world fresh (Some task) ≡ with_tasks world name answer tasks
+    → (tasks tasks_too : List (Task ℕ)) → ran name call world fresh (Some task) ≡ with_tasks world name answer tasks
     → ran name call (part_of nat_eq world names) other (Some task)
     ≡ with_tasks (part_of nat_eq world names) name answer tasks_too
     → LeavesTasks world names set name tasks → LeavesTasks (part_of nat_eq world names) names set name tasks_too
     → filter (is_member_task set) (map (raised_task name) tasks)
-    ≡ filter (is_member_task set) (map (raised_task name) tasks_too)
-    → EndsAlike world names name call fresh other
+    ≡ filter (is_member_task set) (map (raised_task name) tasks_too) → EndsAlike world names name call fresh other
 tasks_end_alike world names set name call it task found fresh other answer stays tasks tasks_too one two leaves
     leaves_too same =
     let part : World ℕ = part_of nat_eq world names in

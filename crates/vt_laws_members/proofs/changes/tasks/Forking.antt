@@ -74,15 +74,13 @@ module _ (world : World ℕ) (names : List TaskName) (name : TaskName) (is : IsW
 
   -- no task has the child's name
   child_apart : (t : Task ℕ) → Among t world.tasks → same_name t.name (child_name task) ≡ false
-  child_apart t m =
-      false_from_ne_true (same_name t.name (child_name task)) (λ h.
+  child_apart t m = false_from_ne_true (same_name t.name (child_name task)) (λ h.
       let less = is.tasks.forks_counted task t (task.forks + 1) [] (contains_from_among world.tasks task there)
       (contains_from_among world.tasks t m) (same_task_name t.name (child_name task) h) in
       absurd (omega (arith, less)))
 
   member_alike : (t : Task ℕ) → Among t world.tasks → is_member_task set (both t) ≡ is_member_task names t
-  member_alike t m =
-      ap (λ n. same_name n (child_name task) || is_among same_name n names) (both_named t)
+  member_alike t m = ap (λ n. same_name n (child_name task) || is_among same_name n names) (both_named t)
       ∙ ap (λ b. b || is_among same_name t.name names) (child_apart t m)
 
   kid_member : is_member_task set kid ≡ true
@@ -140,8 +138,7 @@ module _ (world : World ℕ) (names : List TaskName) (name : TaskName) (is : IsW
 
     own_same : (n : ℕ) → list_any (λ (t : Task ℕ). nat_eq n t.namespace) (members ended set)
         ≡ list_any (λ (t : Task ℕ). nat_eq n t.namespace) old
-    own_same n =
-        any_new (λ (t : Task ℕ). nat_eq n t.namespace)
+    own_same n = any_new (λ (t : Task ℕ). nat_eq n t.namespace)
         (λ t m. ap (nat_eq n) (raised_is (λ (x : Task ℕ). x.namespace) (λ x. refl) (replaced t)
         ∙ replaced_is (λ (x : Task ℕ). x.namespace) refl t m))
         (λ h. sym (ap (nat_eq n) (raised_is (λ (x : Task ℕ). x.namespace) (λ x. refl) child)) ∙ h)
@@ -181,8 +178,7 @@ module _ (world : World ℕ) (names : List TaskName) (name : TaskName) (is : IsW
 
     direct_by : (p : ℕ → Bool) → list_any p (used_directly nat_eq ended set)
         ≡ list_any p (mounted ++ map shows (locations (members ended set)))
-    direct_by p i =
-        list_any p (map (λ (m : Mount ℕ). m.filesystem)
+    direct_by p i = list_any p (map (λ (m : Mount ℕ). m.filesystem)
         (filter (λ (m : Mount ℕ). holds_of (λ k. own_same k i) m.namespace) w.mounts)
         ++ map shows (locations (members ended set)))
 
@@ -202,8 +198,7 @@ module _ (world : World ℕ) (names : List TaskName) (name : TaskName) (is : IsW
     kept_same : (m : Mount ℕ) → Among m w.mounts → keep w names (members ended set) m ≡ keep w names old m
     kept_same m n i =
         cond (holds_of (λ k. own_same k i) m.namespace || roots_same (λ (l : Location ℕ). nat_eq l.mount m.number) i)
-        (Some m)
-        (when (places_same (λ (l : Location ℕ). nat_eq l.mount m.number) i) (seen_by_descriptor m))
+        (Some m) (when (places_same (λ (l : Location ℕ). nat_eq l.mount m.number) i) (seen_by_descriptor m))
 
     pub leaves : LeavesTasks w names set name (map replaced w.tasks ++ child ∷ [])
     leaves = record {
@@ -226,8 +221,7 @@ forks_end_alike world names name words it task called fresh other credentials gr
     (sym (same_judgement world names name (Fork words) it fresh other task called) ∙ granted_so))
     (leaves world names name it.is task called credentials world (λ t m. m) member)
     (leaves world names name it.is task called credentials part in_world
-    (subst (Among task) (sym (same_members world names)) member))
-    (alike world.tasks (λ t m. m)
+    (subst (Among task) (sym (same_members world names)) member)) (alike world.tasks (λ t m. m)
     ∙ sym (alike part.tasks in_world ∙ ap (λ l. map (both world names name it.is task called credentials) l
     ++ kid world names name it.is task called credentials ∷ []) (same_members world names)))
   where

@@ -22,8 +22,7 @@ module _ (world : World ℕ) (tasks : List (Task ℕ)) (change : ℕ) (is : AllI
         (more at.0 at.1) at.2
 
     lives_too : (mount : Mount ℕ) → mount_lives nat_eq world mount ≡ true → mount_lives nat_eq later mount ≡ true
-    lives_too mount h =
-        ⊎_elim (or_left (is_some mount.namespace) (is_located nat_eq later mount.number))
+    lives_too mount h = ⊎_elim (or_left (is_some mount.namespace) (is_located nat_eq later mount.number))
         (λ at. or_right (is_some mount.namespace) (is_located nat_eq later mount.number) (located_too mount.number at))
         (or_cases (is_some mount.namespace) (is_located nat_eq world mount.number) h)
 
@@ -38,27 +37,21 @@ module _ (world : World ℕ) (tasks : List (Task ℕ)) (change : ℕ) (is : AllI
         ++ filter_map (λ (mount : Mount ℕ). mount.mount_point) world.mounts)) object m in
         let in_it = among-from_filter (within filesystem) (all_locations world ++ map root_of world.mounts
         ++ filter_map (λ (mount : Mount ℕ). mount.mount_point) world.mounts) from.0 from.1 in
-        subst (λ k. Among k (located_in nat_eq later filesystem)) (sym from.2)
-        (among-map (λ (l : Location ℕ). l.node)
+        subst (λ k. Among k (located_in nat_eq later filesystem)) (sym from.2) (among-map (λ (l : Location ℕ). l.node)
         (filter (within filesystem) (flat_map locations_of tasks ++ map root_of world.mounts
         ++ filter_map (λ (mount : Mount ℕ). mount.mount_point) world.mounts)) from.0
         (among-filter (within filesystem) (flat_map locations_of tasks ++ map root_of world.mounts
         ++ filter_map (λ (mount : Mount ℕ). mount.mount_point) world.mounts) from.0 (wider from.0 in_it.0) in_it.1))
       where
-        wider : (location : Location ℕ)
-            → Among location (all_locations world ++ map root_of world.mounts
+        wider : (location : Location ℕ) → Among location (all_locations world ++ map root_of world.mounts
             ++ filter_map (λ (mount : Mount ℕ). mount.mount_point) world.mounts)
             → Among location (flat_map locations_of tasks ++ map root_of world.mounts
             ++ filter_map (λ (mount : Mount ℕ). mount.mount_point) world.mounts)
-        wider location n =
-            ⊎_elim
-            (λ first.
+        wider location n = ⊎_elim (λ first.
             among-append_left (flat_map locations_of tasks ++ map root_of world.mounts)
-            (filter_map (λ (mount : Mount ℕ). mount.mount_point) world.mounts) location
-            (⊎_elim
+            (filter_map (λ (mount : Mount ℕ). mount.mount_point) world.mounts) location (⊎_elim
             (λ at. among-append_left (flat_map locations_of tasks) (map root_of world.mounts) location
-            (more location at))
-            (among-append_right (flat_map locations_of tasks) (map root_of world.mounts) location)
+            (more location at)) (among-append_right (flat_map locations_of tasks) (map root_of world.mounts) location)
             (among-append (all_locations world) (map root_of world.mounts) location first)))
             (among-append_right (flat_map locations_of tasks ++ map root_of world.mounts)
             (filter_map (λ (mount : Mount ℕ). mount.mount_point) world.mounts) location)
@@ -84,13 +77,10 @@ module _ (world : World ℕ) (tasks : List (Task ℕ)) (change : ℕ) (is : AllI
             → Among object (named_in filesystem.files ++ located_in nat_eq later filesystem.number
             ++ layers_in nat_eq world filesystem.number
             ++ flat_map (objects_of_overlay nat_eq filesystem.number) world.filesystems)
-        by n =
-            ⊎_elim
+        by n = ⊎_elim
             (λ three. among-append_left (named ++ located_in nat_eq later filesystem.number ++ layered) merged object
-            (⊎_elim
-            (λ two. among-append_left (named ++ located_in nat_eq later filesystem.number) layered object
-            (⊎_elim
-            (among-append_left named (located_in nat_eq later filesystem.number) object)
+            (⊎_elim (λ two. among-append_left (named ++ located_in nat_eq later filesystem.number) layered object
+            (⊎_elim (among-append_left named (located_in nat_eq later filesystem.number) object)
             (λ at. among-append_right named (located_in nat_eq later filesystem.number) object
             (found_too filesystem.number object at))
             (among-append named (located_in nat_eq world filesystem.number) object two)))
@@ -104,15 +94,12 @@ module _ (world : World ℕ) (tasks : List (Task ℕ)) (change : ℕ) (is : AllI
       mounts = list_all_from_among (mount_lives nat_eq later) world.mounts (λ mount m.
           lives_too mount (among_from_list_all (mount_lives nat_eq world) world.mounts is.mounts mount m));
       filesystems = is.filesystems;
-      inodes =
-          all_from_among (λ (f : Filesystem ℕ). list_all (is_inode_used later f) f.files.numbers
-          ≡ true) world.filesystems
-          (λ f m. list_all_from_among (is_inode_used later f) f.files.numbers (λ object n.
+      inodes = all_from_among (λ (f : Filesystem ℕ). list_all (is_inode_used later f) f.files.numbers
+          ≡ true) world.filesystems (λ f m. list_all_from_among (is_inode_used later f) f.files.numbers (λ object n.
           is_among_numbers (used_in nat_eq later f) object
           (used_too f object (among_numbers (used_in nat_eq world f) object
           (among_from_list_all (is_inode_used world f) f.files.numbers
           (among_from_all (λ (f : Filesystem ℕ). list_all (is_inode_used world f) f.files.numbers
-          ≡ true) world.filesystems
-          is.inodes f m) object n)))));
+          ≡ true) world.filesystems is.inodes f m) object n)))));
       groups = is.groups;
     }

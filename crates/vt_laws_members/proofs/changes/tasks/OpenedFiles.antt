@@ -76,8 +76,7 @@ module _ (world : World ℕ) (names : List TaskName) (name : TaskName) (path : L
         leaves world names name it.is task found file wanted (with_filesystems w moved_on) within whole direct
 
     numbers_so : numbers_raised nat_eq w name numbers
-        (record (with_filesystems w moved) { tasks = map replaced w.tasks })
-        ≡ later w
+        (record (with_filesystems w moved) { tasks = map replaced w.tasks }) ≡ later w
     numbers_so i = record {
       mounts = w.mounts;
       master = w.master;
@@ -88,22 +87,19 @@ module _ (world : World ℕ) (names : List TaskName) (name : TaskName) (path : L
     }
 
     ends_so : opened_with w name moved numbers task file wanted ≡ granted (Opened (free_number task)) (later w)
-    ends_so =
-        ap (λ v. granted (Opened (free_number task)) (numbers_raised nat_eq w name numbers v))
+    ends_so = ap (λ v. granted (Opened (free_number task)) (numbers_raised nat_eq w name numbers v))
         (nothing_goes (record (with_filesystems w moved) { tasks = map replaced w.tasks })
         (in_use_later (with_filesystems w moved) (map replaced w.tasks) w.change moves.in_use leaves_tasks.more))
         ∙ ap (granted (Opened (free_number task))) numbers_so
 
-    part_of_later : part_of nat_eq (later w) names
-        ≡ record (with_filesystems (part_of nat_eq w names) moved_on) {
-          tasks = filter (is_member_task names) (map (raised_task name) (map replaced w.tasks));
-        }
-    part_of_later =
-        cc (
-          retasked (with_filesystems w moved_on) names names (map (raised_task name) (map replaced w.tasks))
-              (raised w.change) leaves_tasks.sees,
-          moves.part_moved,
-        )
+    part_of_later : part_of nat_eq (later w) names ≡ record (with_filesystems (part_of nat_eq w names) moved_on) {
+      tasks = filter (is_member_task names) (map (raised_task name) (map replaced w.tasks));
+    }
+    part_of_later = cc (
+      retasked (with_filesystems w moved_on) names names (map (raised_task name) (map replaced w.tasks))
+          (raised w.change) leaves_tasks.sees,
+      moves.part_moved,
+    )
 
   module _ (in_world : MovesIn world) (in_part : MovesIn part) where
     its : (t : Task ℕ) → Among t part.tasks → Among t world.tasks
@@ -125,8 +121,7 @@ module _ (world : World ℕ) (names : List TaskName) (name : TaskName) (path : L
         )
 
     parts_alike : part_of nat_eq (later world) names ≡ part_of nat_eq (later part) names
-    parts_alike =
-        part_of_later world in_world (λ t m. m) (whole_in_world world names it.is file ground)
+    parts_alike = part_of_later world in_world (λ t m. m) (whole_in_world world names it.is file ground)
         (theirs_directly world names it.is file ground)
         ∙ (λ i. record (with_filesystems (sym (part_again world names it.is) i) moved_on) { tasks = members_alike i })
         ∙ sym (part_of_later part in_part its (whole_in_part world names it.is file ground)

@@ -84,8 +84,7 @@ module _ (world : World ℕ) (names : List TaskName) (is : IsWorld nat_eq world)
 
   opens_new : (place : Place ℕ) (access : Access) (mode : ℕ)
       → IfOk (create_file_permit nat_eq one task place access mode) Opens
-  opens_new place access mode =
-      of_rules Opens (make_rules one task place (unnumbered place (new_file task mode [])))
+  opens_new place access mode = of_rules Opens (make_rules one task place (unnumbered place (new_file task mode [])))
       (Ok (open_new_permit task place access mode)) tt
 
   opens_either : (place : Place ℕ) (access : Access) (mode : ℕ) (o : Option (Location ℕ)) → IsFound o
@@ -95,21 +94,18 @@ module _ (world : World ℕ) (names : List TaskName) (is : IsWorld nat_eq world)
 
   opens_by : (path : List ℕ) (access : Access) (how : Creation)
       → IfOk (open_by_permit nat_eq one task path access how) Opens
-  opens_by path access NoCreation =
-      of_walk StandsHere Opens (object_walk nat_eq one task path)
+  opens_by path access NoCreation = of_walk StandsHere Opens (object_walk nat_eq one task path)
       (λ here. open_file_permit nat_eq one task here.location access)
       (object_agrees one other task On alike.walks alike.directory alike.rules.removed path).1
       (λ here on. opens_there here.location access on)
-  opens_by path access (OrCreate mode) =
-      of_walk IsPlaced Opens (file_walk nat_eq one task path)
+  opens_by path access (OrCreate mode) = of_walk IsPlaced Opens (file_walk nat_eq one task path)
       (λ place. unless (file_word_rules place)
       (opened_or_created_permit nat_eq one task place access mode place.object))
       (file_agrees one other task On alike.walks alike.directory alike.rules.removed path).1
       (λ place at. of_rules Opens (file_word_rules place)
       (opened_or_created_permit nat_eq one task place access mode place.object)
       (opens_either place access mode place.object at.1))
-  opens_by path access (Exclusive mode) =
-      of_walk IsPlaced Opens (new_walk nat_eq one task path)
+  opens_by path access (Exclusive mode) = of_walk IsPlaced Opens (new_walk nat_eq one task path)
       (λ place. unless (exclusive_word_rules place) (create_file_permit nat_eq one task place access mode))
       (new_agrees one other task On alike.walks alike.directory alike.rules.removed path).1
       (λ place at. of_rules Opens (exclusive_word_rules place) (create_file_permit nat_eq one task place access mode)
@@ -135,8 +131,7 @@ module _ (new : Descriptor ℕ) where
           → (Among location (places (inserted new rest)) → (location ≡ new.location) ⊎ Among location (places rest))
           → (location ≡ new.location) ⊎ Among location (places (first ∷ rest))
       by true m later = m
-      by false m later =
-          ⊎_elim (λ here. inr (inl here)) (λ n. ⊎_elim inl (λ k. inr (inr k)) (later n)) m
+      by false m later = ⊎_elim (λ here. inr (inl here)) (λ n. ⊎_elim inl (λ k. inr (inr k)) (later n)) m
 
   stays_there : (list : List (Descriptor ℕ)) (location : Location ℕ) → Among location (places list)
       → Among location (places (inserted new list))
@@ -181,13 +176,12 @@ module _ (world : World ℕ) (names : List TaskName) (name : TaskName) (is : IsW
   replaced_how t m = by (same_name new.name t.name) refl
     where
       by : (b : Bool) → same_name new.name t.name ≡ b → ((cond b new t ≡ new) × (task ≡ t)) ⊎ (cond b new t ≡ t)
-      by true e =
-          inl (
-            refl,
-            only_task world.tasks is.tasks.one_task task t
-                (found_among (λ (x : Task ℕ). same_name name x.name) world.tasks task found) m
-                (same_task_name new.name t.name e),
-          )
+      by true e = inl (
+        refl,
+        only_task world.tasks is.tasks.one_task task t
+            (found_among (λ (x : Task ℕ). same_name name x.name) world.tasks task found) m
+            (same_task_name new.name t.name e),
+      )
       by false e = inr refl
 
   replaced_is : {A : Type 0} (what : Task ℕ → A) → what new ≡ what task → (t : Task ℕ) → Among t world.tasks
@@ -214,30 +208,22 @@ module _ (world : World ℕ) (names : List TaskName) (name : TaskName) (is : IsW
   -- its locations
   were_its : (t : Task ℕ) → Among t world.tasks → (location : Location ℕ) → Among location (locations_of (replaced t))
       → (location ≡ file) ⊎ Among location (locations_of t)
-  were_its t m location at =
-      ⊎_elim
-      (λ its.
+  were_its t m location at = ⊎_elim (λ its.
       let here : Among location (locations_of new) = subst (λ x. Among location (locations_of x)) its.0 at in
       ⊎_elim (λ root. inr (subst (λ x. Among location (locations_of x)) its.1 (inl root)))
       (λ rest. ⊎_elim (λ directory. inr (subst (λ x. Among location (locations_of x)) its.1 (inr (inl directory))))
-      (λ open_file. ⊎_elim inl
-      (λ old. inr (subst (λ x. Among location (locations_of x)) its.1 (inr (inr old))))
+      (λ open_file. ⊎_elim inl (λ old. inr (subst (λ x. Among location (locations_of x)) its.1 (inr (inr old))))
       (was_there descriptor task.descriptors location open_file)) rest) here)
-      (λ same. inr (subst (λ x. Among location (locations_of x)) same at))
-      (replaced_how t m)
+      (λ same. inr (subst (λ x. Among location (locations_of x)) same at)) (replaced_how t m)
 
   stay_its : (t : Task ℕ) → Among t world.tasks → (location : Location ℕ) → Among location (locations_of t)
       → Among location (locations_of (replaced t))
-  stay_its t m location at =
-      ⊎_elim
-      (λ its.
+  stay_its t m location at = ⊎_elim (λ its.
       let here : Among location (locations_of task) = subst (λ x. Among location (locations_of x)) (sym its.1) at in
-      subst (λ x. Among location (locations_of x)) (sym its.0)
-      (⊎_elim (λ root. inl root)
+      subst (λ x. Among location (locations_of x)) (sym its.0) (⊎_elim (λ root. inl root)
       (λ rest. ⊎_elim (λ directory. inr (inl directory))
       (λ old. inr (inr (stays_there descriptor task.descriptors location old))) rest) here))
-      (λ same. subst (λ x. Among location (locations_of x)) (sym same) at)
-      (replaced_how t m)
+      (λ same. subst (λ x. Among location (locations_of x)) (sym same) at) (replaced_how t m)
 
   -- in a world with some of these tasks, where the file's mount is whole in the part, and its filesystem used
   module _ (w : World ℕ) (within : (t : Task ℕ) → Among t w.tasks → Among t world.tasks)
@@ -290,23 +276,19 @@ module _ (world : World ℕ) (names : List TaskName) (name : TaskName) (is : IsW
     at_same : (m : Mount ℕ) → Among m w.mounts
         → (is_own w names old m || is_at nat_eq (roots_and_directories old) m) ≡ false
         → is_at nat_eq (locations (members ended names)) m ≡ is_at nat_eq (locations old) m
-    at_same m n none =
-        same_truth (is_at nat_eq (locations (members ended names)) m) (is_at nat_eq (locations old) m)
+    at_same m n none = same_truth (is_at nat_eq (locations (members ended names)) m) (is_at nat_eq (locations old) m)
         (λ h. let at = any_among (λ (l : Location ℕ). nat_eq l.mount m.number) (locations (members ended names)) h in
-        ⊎_elim
-        (λ same. absurd (true≢false (sym (whole m n
+        ⊎_elim (λ same. absurd (true≢false (sym (whole m n
         (sym (ap (λ (l : Location ℕ). nat_eq l.mount m.number) same) ∙ at.2)) ∙ none)))
         (λ before. any_from_among (λ (l : Location ℕ). nat_eq l.mount m.number) (locations old) at.0 before at.2)
-        (were at.0 at.1))
-        (λ h. let at = any_among (λ (l : Location ℕ). nat_eq l.mount m.number) (locations old) h in
+        (were at.0 at.1)) (λ h. let at = any_among (λ (l : Location ℕ). nat_eq l.mount m.number) (locations old) h in
         any_from_among (λ (l : Location ℕ). nat_eq l.mount m.number) (locations (members ended names)) at.0
         (stay at.0 at.1) at.2)
 
     kept_by : (m : Mount ℕ) → keep w names (members ended names) m
         ≡ cond (is_own w names old m || is_at nat_eq (roots_and_directories old) m) (Some m)
         (when (is_at nat_eq (locations (members ended names)) m) (seen_by_descriptor m))
-    kept_by m i =
-        cond (holds_of (λ k. own_same k i) m.namespace || is_at nat_eq (roots_same i) m) (Some m)
+    kept_by m i = cond (holds_of (λ k. own_same k i) m.namespace || is_at nat_eq (roots_same i) m) (Some m)
         (when (is_at nat_eq (locations (members ended names)) m) (seen_by_descriptor m))
 
     kept_same : (m : Mount ℕ) → Among m w.mounts → keep w names (members ended names) m ≡ keep w names old m
@@ -328,20 +310,16 @@ module _ (world : World ℕ) (names : List TaskName) (name : TaskName) (is : IsW
 
     used_same : (n : ℕ) → Among n (mounted ++ map shows (locations (members ended names)))
         → Among n (mounted ++ map shows (locations old))
-    used_same n m =
-        ⊎_elim (among-append_left mounted (map shows (locations old)) n)
+    used_same n m = ⊎_elim (among-append_left mounted (map shows (locations old)) n)
         (λ at. let l = among-from_map shows (locations (members ended names)) n at in
-        ⊎_elim
-        (λ same. subst (λ k. Among k (mounted ++ map shows (locations old))) (sym (l.2 ∙ ap shows same)) used)
+        ⊎_elim (λ same. subst (λ k. Among k (mounted ++ map shows (locations old))) (sym (l.2 ∙ ap shows same)) used)
         (λ before. among-append_right mounted (map shows (locations old)) n
         (subst (λ k. Among k (map shows (locations old))) (sym l.2) (among-map shows (locations old) l.0 before)))
-        (were l.0 l.1))
-        (among-append mounted (map shows (locations (members ended names))) n m)
+        (were l.0 l.1)) (among-append mounted (map shows (locations (members ended names))) n m)
 
     used_still : (n : ℕ) → Among n (mounted ++ map shows (locations old))
         → Among n (mounted ++ map shows (locations (members ended names)))
-    used_still n m =
-        ⊎_elim (among-append_left mounted (map shows (locations (members ended names))) n)
+    used_still n m = ⊎_elim (among-append_left mounted (map shows (locations (members ended names))) n)
         (λ at. let l = among-from_map shows (locations old) n at in
         among-append_right mounted (map shows (locations (members ended names))) n
         (subst (λ k. Among k (map shows (locations (members ended names)))) (sym l.2)
@@ -350,8 +328,7 @@ module _ (world : World ℕ) (names : List TaskName) (name : TaskName) (is : IsW
 
     direct_by : (p : ℕ → Bool) → list_any p (used_directly nat_eq ended names)
         ≡ list_any p (mounted ++ map shows (locations (members ended names)))
-    direct_by p i =
-        list_any p (map (λ (m : Mount ℕ). m.filesystem)
+    direct_by p i = list_any p (map (λ (m : Mount ℕ). m.filesystem)
         (filter (λ (m : Mount ℕ). holds_of (λ k. own_same k i) m.namespace) w.mounts)
         ++ map shows (locations (members ended names)))
 
@@ -380,14 +357,12 @@ module _ (world : World ℕ) (names : List TaskName) (name : TaskName) (is : IsW
 pub opens_end_alike : OpensEndAlike
 opens_end_alike world names name path access how it task called fresh other file wanted granted_so not_copied =
     tasks_end_alike world names names name (OpenFile path access how) it task called fresh other
-    (Opened (free_number task))
-    refl (map changed world.tasks) (map changed part.tasks)
+    (Opened (free_number task)) refl (map changed world.tasks) (map changed part.tasks)
     (ap (run_by world names name (OpenFile path access how) it fresh other world fresh task) granted_so
     ∙ ap (opened_by world fresh) not_copied)
     (ap (run_by world names name (OpenFile path access how) it fresh other part other task)
     (sym (same_judgement world names name (OpenFile path access how) it fresh other task called) ∙ granted_so)
-    ∙ ap (opened_by part other) copied_alike)
-    (leaves world names name it.is task called file wanted world (λ t m. m)
+    ∙ ap (opened_by part other) copied_alike) (leaves world names name it.is task called file wanted world (λ t m. m)
     (whole_in_world world names it.is file ground) used_in_world)
     (leaves world names name it.is task called file wanted part in_world
     (whole_in_part world names it.is file ground) (used_in_part world names it.is file ground))
@@ -405,13 +380,11 @@ opens_end_alike world names name path access how it task called fresh other file
     changed = replaced_if_called (with_descriptor task file wanted)
 
     opened_by : World ℕ → Fresh ℕ → Bool → Outcome ℕ
-    opened_by w supply b =
-        finished nat_eq w name (OpenFile path access how) (changed_if nat_eq b w file)
+    opened_by w supply b = finished nat_eq w name (OpenFile path access how) (changed_if nat_eq b w file)
         (opened (with_copy nat_eq b supply w file) task file wanted)
 
     ground : IsTheirs world names it.is.mounts file.mount
-    ground =
-        theirs_from world names it.is.mounts file.mount
+    ground = theirs_from world names it.is.mounts file.mount
         (subst (λ j. IfOk j (OpensOn (is_theirs world names))) granted_so
         (opens_theirs world names it.is it.sealed_off task member path access how))
 

@@ -15,16 +15,14 @@ same_bool_itself true = refl
 same_bool_itself false = refl
 
 same_flags_itself : (flags : MountFlags) → same_flags flags flags ≡ true
-same_flags_itself flags =
-    and_from (same_bool flags.read_only flags.read_only && same_bool flags.noexec flags.noexec)
+same_flags_itself flags = and_from (same_bool flags.read_only flags.read_only && same_bool flags.noexec flags.noexec)
     (same_bool flags.nosymfollow flags.nosymfollow)
     (and_from (same_bool flags.read_only flags.read_only) (same_bool flags.noexec flags.noexec)
     (same_bool_itself flags.read_only) (same_bool_itself flags.noexec)) (same_bool_itself flags.nosymfollow)
 
 same_point_itself : (point : Option (Location ℕ)) → same_option (same_location nat_eq) point point ≡ true
 same_point_itself None = refl
-same_point_itself (Some location) =
-    and_from (nat_eq location.mount location.mount) (nat_eq location.node location.node)
+same_point_itself (Some location) = and_from (nat_eq location.mount location.mount) (nat_eq location.node location.node)
     (eq-eqb location.mount location.mount refl) (eq-eqb location.node location.node refl)
 
 same_group_itself : (group : Option ℕ) → same_option nat_eq group group ≡ true
@@ -42,15 +40,13 @@ module _ (before : World ℕ) (name : TaskName) (tasks : List (Task ℕ)) where
   left = record before { tasks = tasks }
 
   same_mount_itself : (mount : Mount ℕ) → same_mount nat_eq before left mount mount ≡ true
-  same_mount_itself mount =
-      and_from (nat_eq mount.number mount.number && same_option
+  same_mount_itself mount = and_from (nat_eq mount.number mount.number && same_option
       (same_location nat_eq) mount.mount_point mount.mount_point
       && same_flags mount.flags mount.flags && same_propagation nat_eq mount.propagation mount.propagation)
       (same_option nat_eq (master_above before mount) (master_above left mount))
       (and_from (nat_eq mount.number mount.number
       && same_option (same_location nat_eq) mount.mount_point mount.mount_point && same_flags mount.flags mount.flags)
-      (same_propagation nat_eq mount.propagation mount.propagation)
-      (and_from (nat_eq mount.number mount.number
+      (same_propagation nat_eq mount.propagation mount.propagation) (and_from (nat_eq mount.number mount.number
       && same_option (same_location nat_eq) mount.mount_point mount.mount_point) (same_flags mount.flags mount.flags)
       (and_from (nat_eq mount.number mount.number)
       (same_option (same_location nat_eq) mount.mount_point mount.mount_point)

@@ -15,8 +15,7 @@ use Rattle.vt_laws_sealed.proofs.part.Kept.{among-each_once, among-from_each_onc
 use Rattle.vt_laws_sealed.proofs.part.part.PartOfPart.{keep}
 
 any_once : (p : ℕ → Bool) (xs : List ℕ) → list_any p (each_once nat_eq xs) ≡ list_any p xs
-any_once p xs =
-    same_truth (list_any p (each_once nat_eq xs)) (list_any p xs)
+any_once p xs = same_truth (list_any p (each_once nat_eq xs)) (list_any p xs)
     (λ h. let at = any_among p (each_once nat_eq xs) h in
     any_from_among p xs at.0 (among-from_each_once xs at.0 at.1) at.2)
     (λ h. let at = any_among p xs h in any_from_among p (each_once nat_eq xs) at.0 (among-each_once xs at.0 at.1) at.2)
@@ -55,14 +54,11 @@ module _ (world : World ℕ) (names set : List TaskName) (tasks : List (Task ℕ
   module _ (alike : SeeAlike) where
     used_same : (n : ℕ) → is_among nat_eq n (used_filesystems nat_eq later set)
         ≡ is_among nat_eq n (used_filesystems nat_eq world names)
-    used_same n =
-        spread (used_directly nat_eq later set)
-        ∙ (λ i. alike.direct (nat_eq n) i
+    used_same n = spread (used_directly nat_eq later set) ∙ (λ i. alike.direct (nat_eq n) i
         || alike.direct (λ k. list_any (nat_eq n) (change_layers (filesystem_numbered nat_eq world k))) i)
         ∙ sym (spread (used_directly nat_eq world names))
       where
-        spread : (direct : List ℕ)
-            → list_any (nat_eq n)
+        spread : (direct : List ℕ) → list_any (nat_eq n)
             (each_once nat_eq (direct ++ flat_map (λ k. change_layers (filesystem_numbered nat_eq world k)) direct))
             ≡ (list_any (nat_eq n) direct
             || list_any (λ k. list_any (nat_eq n) (change_layers (filesystem_numbered nat_eq world k))) direct)
@@ -92,8 +88,7 @@ module _ (world : World ℕ) (names set : List TaskName) (tasks : List (Task ℕ
     masters_same group = ap (λ l. cond (list_any (is_member_of nat_eq group) l) (world.master group) None) owned_same
 
     shown_same : (x : Filesystem ℕ) → part_of_filesystem nat_eq later set x ≡ part_of_filesystem nat_eq world names x
-    shown_same x i =
-        cond (used_same x.number i) (Some x)
+    shown_same x i = cond (used_same x.number i) (Some x)
         (when (lowers_same (λ layer. nat_eq x.number layer.filesystem) i) (record x {
           files = only_among nat_eq
               (filter (λ object. lowers_same (lies_in_layer nat_eq world x.number object) i) x.files.numbers) x.files;

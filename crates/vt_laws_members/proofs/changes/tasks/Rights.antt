@@ -32,8 +32,7 @@ any_mapped p q f (x ∷ xs) same = cc (same x (inl refl), any_mapped p q f xs (�
 -- Each task is changed in what it may do, and sees what it saw.
 module _ (world : World ℕ) (names : List TaskName) (f : Task ℕ → Task ℕ) (named : (t : Task ℕ) → (f t).name ≡ t.name)
     (spaced : (t : Task ℕ) → Among t world.tasks → (f t).namespace ≡ t.namespace)
-    (rooted : (t : Task ℕ) → Among t world.tasks
-    → ((f t).root ∷ (f t).directory ∷ []) ≡ (t.root ∷ t.directory ∷ []))
+    (rooted : (t : Task ℕ) → Among t world.tasks → ((f t).root ∷ (f t).directory ∷ []) ≡ (t.root ∷ t.directory ∷ []))
     (change : ℕ) where
   abbrev changed : World ℕ
   changed = record world { tasks = map f world.tasks; change = change }
@@ -72,30 +71,26 @@ module _ (world : World ℕ) (names : List TaskName) (f : Task ℕ → Task ℕ)
       mounts = λ mount m i.
           cond (holds_of (λ n. own_alike n i) mount.namespace || is_at nat_eq (roots_alike i) mount) (Some mount)
           (when (is_at nat_eq (places_alike i) mount) (seen_by_descriptor mount));
-      direct = λ p i. list_any p
-          (map (λ (mount : Mount ℕ). mount.filesystem)
+      direct = λ p i. list_any p (map (λ (mount : Mount ℕ). mount.filesystem)
           (filter (λ (mount : Mount ℕ). holds_of (λ n. own_alike n i) mount.namespace) world.mounts)
           ++ map (λ (location : Location ℕ). (mount_at nat_eq world location).filesystem) (places_alike i));
     }
 
 -- tasks of one name are one
 pub only_task : (tasks : List (Task ℕ)) → any_pair (λ (a b : Task ℕ). same_name a.name b.name) tasks ≡ false
-    → (a b : Task ℕ)
-    → Among a tasks → Among b tasks → a.name ≡ b.name → a ≡ b
+    → (a b : Task ℕ) → Among a tasks → Among b tasks → a.name ≡ b.name → a ≡ b
 only_task [] one a b m n e = absurd m
 only_task (first ∷ rest) one a b m n e =
     let parts = or_parts (list_any (λ (x : Task ℕ). same_name first.name x.name) rest)
     (any_pair (λ (x y : Task ℕ). same_name x.name y.name) rest) one in
-    ⊎_elim
-    (λ here. ⊎_elim (λ too. here ∙ sym too)
+    ⊎_elim (λ here. ⊎_elim (λ too. here ∙ sym too)
     (λ later. absurd (differ b later parts.0 (ap (λ (t : Task ℕ). t.name) (sym here) ∙ e))) n)
     (λ later. ⊎_elim (λ here. absurd (differ a later parts.0 (ap (λ (t : Task ℕ). t.name) (sym here) ∙ sym e)))
     (λ too. only_task rest parts.1 a b later too e) n) m
   where
     differ : (t : Task ℕ) → Among t rest → list_any (λ (x : Task ℕ). same_name first.name x.name) rest ≡ false
         → first.name ≡ t.name → ⊥
-    differ t m none same =
-        true≢false (sym (ap (same_name first.name) (sym same) ∙ same_name_itself first.name)
+    differ t m none same = true≢false (sym (ap (same_name first.name) (sym same) ∙ same_name_itself first.name)
         ∙ none_among (λ (x : Task ℕ). same_name first.name x.name) rest none t m)
 
 -- A task with other rights
@@ -144,16 +139,13 @@ module _ (world : World ℕ) (names : List TaskName) (name : TaskName) (call : C
   leaves : (w : World ℕ) → ((t : Task ℕ) → Among t w.tasks → Among t world.tasks)
       → LeavesTasks w names names name (map replaced w.tasks)
   leaves w within = record {
-    more = λ location m.
-        subst (Among location)
+    more = λ location m. subst (Among location)
         (sym (flat_map-step replaced locations_of w.tasks (λ t n. replaced_is locations_of placed t (within t n)))) m;
     sees = subst (λ l. SeeAlike w names names l (raised w.change)) (sym (map_twice (raised_task name) replaced w.tasks))
-        (sees_alike w names both both_named
-        (λ t m. raised_is (λ (x : Task ℕ). x.namespace) (λ x. refl) (replaced t)
+        (sees_alike w names both both_named (λ t m. raised_is (λ (x : Task ℕ). x.namespace) (λ x. refl) (replaced t)
         ∙ replaced_is (λ (x : Task ℕ). x.namespace) spaced t (within t m))
         (λ t m. raised_is (λ (x : Task ℕ). x.root ∷ x.directory ∷ []) (λ x. refl) (replaced t)
-        ∙ replaced_is (λ (x : Task ℕ). x.root ∷ x.directory ∷ []) rooted t (within t m))
-        (raised w.change)
+        ∙ replaced_is (λ (x : Task ℕ). x.root ∷ x.directory ∷ []) rooted t (within t m)) (raised w.change)
         (λ t m. raised_is locations_of (λ x. refl) (replaced t) ∙ replaced_is locations_of placed t (within t m)));
   }
 
@@ -180,18 +172,15 @@ umasks_end_alike world names name mode it fresh other = by (task_called world na
   where
     by : (o : Option (Task ℕ)) → task_called world name ≡ o → EndsAlike world names name (Umask mode) fresh other
     by None e = unnamed_ends_alike world names name (Umask mode) it fresh other e
-    by (Some task) e =
-        rights_end world names name (Umask mode) it task e
-        (record task { umask = permission_bits mode }) refl refl refl refl
-        Done fresh other refl refl refl
+    by (Some task) e = rights_end world names name (Umask mode) it task e
+        (record task { umask = permission_bits mode }) refl refl refl refl Done fresh other refl refl refl
 
 pub drops_end_alike : DropsEndAlike
 drops_end_alike world names name which it fresh other = by (task_called world name) refl
   where
     by : (o : Option (Task ℕ)) → task_called world name ≡ o → EndsAlike world names name (Drop which) fresh other
     by None e = unnamed_ends_alike world names name (Drop which) it fresh other e
-    by (Some task) e =
-        rights_end world names name (Drop which) it task e
+    by (Some task) e = rights_end world names name (Drop which) it task e
         (record task { credentials = with_dropped task.credentials (capabilities_of which task.credentials) })
         refl refl refl refl Done fresh other refl refl refl
 
@@ -206,8 +195,7 @@ itself_again task tasks one = map_same (replaced_if_called task) tasks (λ t m. 
 
 pub idle_end_alike : (world : World ℕ) (names : List TaskName) (name : TaskName) (call : Call)
     → IsCallOfTheirs world names name call → (task : Task ℕ) → task_called world name ≡ Some task
-    → (fresh other : Fresh ℕ)
-    → (answer : Answer) → grown names name call (Ok answer) ≡ names
+    → (fresh other : Fresh ℕ) → (answer : Answer) → grown names name call (Ok answer) ≡ names
     → ran name call world fresh (Some task) ≡ with_tasks world name answer world.tasks
     → ran name call (part_of nat_eq world names) other (Some task)
     ≡ with_tasks (part_of nat_eq world names) name answer (part_of nat_eq world names).tasks
@@ -220,8 +208,7 @@ idle_end_alike world names name call it task found fresh other answer stays one 
     (λ t m e. alone t (among-from_filter (is_member_task names) world.tasks t m).0 e))))
   where
     alone : (t : Task ℕ) → Among t world.tasks → t.name ≡ task.name → t ≡ task
-    alone t m e =
-        only_task world.tasks it.is.tasks.one_task t task m
+    alone t m e = only_task world.tasks it.is.tasks.one_task t task m
         (found_among (λ (x : Task ℕ). same_name name x.name) world.tasks task found) e
 
 -- a rename of two names of one object, and a write of no bytes

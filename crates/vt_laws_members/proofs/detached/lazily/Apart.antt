@@ -50,8 +50,7 @@ module _ (world : World ℕ) (names : List TaskName) (is : IsWorld nat_eq world)
       part.tasks world.change part.change (same_members world names) (set_stays world names is sealed_off gone own_go) b
 
   abbrev there : World ℕ
-  there =
-      ended_part world names is sealed_off names gone own_go
+  there = ended_part world names is sealed_off names gone own_go
       (all_last world names is sealed_off gone own_go) world.tasks
       part.tasks world.change part.change (same_members world names) (set_stays world names is sealed_off gone own_go) b
 
@@ -91,8 +90,7 @@ module _ (world : World ℕ) (names : List TaskName) (is : IsWorld nat_eq world)
   module _ (P : ℕ → Type 0) (up : (g lower : ℕ) → world.master lower ≡ Some g → P lower → P g) where
     from_heir : (o : Option ℕ) → ((s : ℕ) → o ≡ Some s → P s) → (g : ℕ) → heir nat_eq t o ≡ Some g → P g
     from_heir None start g e = none_is_some g e
-    from_heir (Some s) start g e =
-        along_chain world.master P up (length t.mounts) s g (start s refl)
+    from_heir (Some s) start g e = along_chain world.master P up (length t.mounts) s g (start s refl)
         (is_among_numbers (groups_up t s) g (found_among (has_members nat_eq t.mounts) (groups_up t s) g e))
 
     from_kind : (c : Bool) (kind : Propagation ℕ) → ((s : ℕ) → source_of kind ≡ Some s → P s) → (g : ℕ)
@@ -113,8 +111,7 @@ module _ (world : World ℕ) (names : List TaskName) (is : IsWorld nat_eq world)
     master_reached : (m : Mount ℕ) → is_going nat_eq gone m.number ≡ false
         → ((s : ℕ) → source_of m.propagation ≡ Some s → P s) → (g : ℕ) → master_of here (after m).propagation ≡ Some g
         → P g
-    master_reached m stays start g e =
-        from_kind b m.propagation start g
+    master_reached m stays start g e = from_kind b m.propagation start g
         (sym (told (cond b (inherited nat_eq t m.propagation) m.propagation))
         ∙ ap (master_of here) (sym (kind_after m stays)) ∙ e)
 
@@ -128,14 +125,12 @@ module _ (world : World ℕ) (names : List TaskName) (is : IsWorld nat_eq world)
       let from = among-from_map after world.mounts y m in
       let placed : holds_of p (after from.0).namespace ≡ true =
       ap (λ (q : Mount ℕ). holds_of p q.namespace) (sym from.2) ∙ h in
-      ⊎_elim
-      (λ out. absurd (true≢false (sym placed ∙ ap (holds_of p) out.0)))
+      ⊎_elim (λ out. absurd (true≢false (sym placed ∙ ap (holds_of p) out.0)))
       (λ stays. (from.0, from.1, from.2, stays.2, ap (holds_of p) (sym stays.0) ∙ placed))
       (placed_so b t world gone from.0)
 
   group_was : (x : Mount ℕ) (g : ℕ) → group_of (after x).propagation ≡ Some g → group_of x.propagation ≡ Some g
-  group_was x g e =
-      member_group g x (member_was b t world gone g x (ap (holds_of (nat_eq g)) e ∙ eq-eqb g g refl))
+  group_was x g e = member_group g x (member_was b t world gone g x (ap (holds_of (nat_eq g)) e ∙ eq-eqb g g refl))
 
   -- a mount receives nothing from one that is a member of none of these groups
   none_held : (z : Mount ℕ) (o : Option ℕ) → ((g : ℕ) → o ≡ Some g → is_member_of nat_eq g z ≡ true → ⊥)
@@ -146,8 +141,7 @@ module _ (world : World ℕ) (names : List TaskName) (is : IsWorld nat_eq world)
   hears_not : (P : ℕ → Type 0) (y z : Mount ℕ) → ((g : ℕ) → group_of y.propagation ≡ Some g → P g)
       → ((g : ℕ) → master_of here y.propagation ≡ Some g → P g)
       → ((g : ℕ) → P g → is_member_of nat_eq g z ≡ true → ⊥) → receives_events_of nat_eq here y z ≡ false
-  hears_not P y z grouped mastered never =
-      or_from (holds_of (λ g. is_member_of nat_eq g z) (group_of y.propagation))
+  hears_not P y z grouped mastered never = or_from (holds_of (λ g. is_member_of nat_eq g z) (group_of y.propagation))
       (holds_of (λ g. is_member_of nat_eq g z) (master_of here y.propagation))
       (none_held z (group_of y.propagation) (λ g e. never g (grouped g e)))
       (none_held z (master_of here y.propagation) (λ g e. never g (mastered g e)))
@@ -167,16 +161,14 @@ module _ (world : World ℕ) (names : List TaskName) (is : IsWorld nat_eq world)
       let other : Among u.0 (other_mounts nat_eq world names) =
       among-filter (λ (q : Mount ℕ). holds_of IsOther q.namespace) world.mounts u.0 u.1 u.4 in
       or_from (receives_events_of nat_eq here y z) (receives_events_of nat_eq here z y)
-      (hears_not (IsHeard world names is sealed_off) y z
-      (λ g e. heard_by_own world names is sealed_off x.0 mine g
+      (hears_not (IsHeard world names is sealed_off) y z (λ g e. heard_by_own world names is sealed_off x.0 mine g
       (group_source x.0.propagation g (group_was x.0 g (ap (λ (q : Mount ℕ). group_of q.propagation) (sym x.2) ∙ e))))
       (λ g e. master_reached (IsHeard world names is sealed_off) (above_heard world names is sealed_off) x.0 x.3
       (heard_by_own world names is sealed_off x.0 mine) g
       (ap (λ (q : Mount ℕ). master_of here q.propagation) (sym x.2) ∙ e))
       (λ g heard h. none_hears world names is.mounts events g u.0 heard.0 other
       (member_was b t world gone g u.0 (ap (is_member_of nat_eq g) (sym u.2) ∙ h))))
-      (hears_not (OtherLives world names is.mounts events) z y
-      (λ g e. start u.0 u.1 other g
+      (hears_not (OtherLives world names is.mounts events) z y (λ g e. start u.0 u.1 other g
       (group_source u.0.propagation g (group_was u.0 g (ap (λ (q : Mount ℕ). group_of q.propagation) (sym u.2) ∙ e))))
       (λ g e. master_reached (OtherLives world names is.mounts events)
       (other_above world names is.mounts events) u.0 u.3
@@ -192,8 +184,7 @@ module _ (world : World ℕ) (names : List TaskName) (is : IsWorld nat_eq world)
       )
 
   pub apart_here : shares_no_events nat_eq here names ≡ true
-  apart_here =
-      list_all_from_among
+  apart_here = list_all_from_among
       (λ own. list_all (λ other. not (share_events nat_eq here own other)) (other_mounts nat_eq here names))
       (own_mounts nat_eq here names)
       (λ y m. list_all_from_among (λ other. not (share_events nat_eq here y other)) (other_mounts nat_eq here names)
@@ -207,10 +198,7 @@ module _ (world : World ℕ) (names : List TaskName) (is : IsWorld nat_eq world)
       let from = among-from_map after_part part.mounts y m in
       ap (λ (q : Mount ℕ). holds_of (λ n. not (is_own_namespace nat_eq there names n)) q.namespace) from.2
       ∙ ap (λ ts. holds_of (λ n. not (list_any (λ (q : Task ℕ). nat_eq n q.namespace) ts))
-      (after_part from.0).namespace)
-      (same_members world names)
-      ∙ ⊎_elim
-      (λ out. ap (holds_of IsOther) out.0)
+      (after_part from.0).namespace) (same_members world names) ∙ ⊎_elim (λ out. ap (holds_of IsOther) out.0)
       (λ stays. ap (holds_of IsOther) stays.0 ∙ of_part from.0 from.1)
       (placed_so b (left_part world names is sealed_off gone own_go) part gone from.0)
     where
@@ -225,11 +213,8 @@ module _ (world : World ℕ) (names : List TaskName) (is : IsWorld nat_eq world)
           (part_mount world names is from.0 z from.1 from.2)
 
   pub apart_there : shares_no_events nat_eq there names ≡ true
-  apart_there =
-      ap (λ list. list_all (λ own. list_all (λ other. not (share_events nat_eq there own other)) list)
-      (own_mounts nat_eq there names))
-      (filter_none (λ (y : Mount ℕ). holds_of (λ n. not
+  apart_there = ap (λ list. list_all (λ own. list_all (λ other. not (share_events nat_eq there own other)) list)
+      (own_mounts nat_eq there names)) (filter_none (λ (y : Mount ℕ). holds_of (λ n. not
       (is_own_namespace nat_eq there names n)) y.namespace) there.mounts
       (none_from_among (λ (y : Mount ℕ). holds_of (λ n. not (is_own_namespace nat_eq there names n)) y.namespace)
-      there.mounts none_other_there))
-      ∙ list_all_from_among (λ own. true) (own_mounts nat_eq there names) (λ y m. refl)
+      there.mounts none_other_there)) ∙ list_all_from_among (λ own. true) (own_mounts nat_eq there names) (λ y m. refl)

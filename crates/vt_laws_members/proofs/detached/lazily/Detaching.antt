@@ -66,13 +66,10 @@ module _ (world : World ℕ) (names : List TaskName) (is : IsWorld nat_eq world)
   left_there = folded (unmounted_if_there nat_eq) part turns
 
   -- all that goes, in both
-  all_gone : (gone : List ℕ)
-      × ((m : Mount ℕ) → Among m world.mounts
-      → is_going nat_eq gone m.number ≡ true
+  all_gone : (gone : List ℕ) × ((m : Mount ℕ) → Among m world.mounts → is_going nat_eq gone m.number ≡ true
       → is_own world names (members world names) m ≡ true)
       × TookAway world (lazily_unmounted nat_eq world number) gone × TookAway part left_there gone
-  all_gone =
-      events_alike world names is sealed_off number turns world part [] (begun world is.mounts number)
+  all_gone = events_alike world names is sealed_off number turns world part [] (begun world is.mounts number)
       (subst (IsUnderWay part in_part number part) same (begun part in_part number))
       (λ m n none. absurd (true≢false (sym none))) (took_none world is.mounts) (took_none part in_part)
       (turns_own world names is sealed_off number there own)
@@ -89,8 +86,7 @@ module _ (world : World ℕ) (names : List TaskName) (is : IsWorld nat_eq world)
   pub lazy_parts : part_of nat_eq (numbers_raised nat_eq world name [] (settled nat_eq
       (lazily_unmounted nat_eq world number))) names
       ≡ part_of nat_eq (numbers_raised nat_eq part name [] (settled nat_eq (lazily_unmounted nat_eq part number))) names
-  lazy_parts =
-      ap (λ w. part_of nat_eq (numbers_raised nat_eq world name [] w) names)
+  lazy_parts = ap (λ w. part_of nat_eq (numbers_raised nat_eq world name [] w) names)
       (settled_but_groups (lazily_unmounted nat_eq world number) (taken_away nat_eq world gone) same_here)
       ∙ taken_parts world names is sealed_off gone all_gone.1 name
       (kept_but_groups (lazily_unmounted nat_eq world number) (taken_away nat_eq world gone) same_here all_gone.2.kept)
@@ -121,20 +117,17 @@ module _ (world : World ℕ) (names : List TaskName) (name : TaskName) (path : L
       (ap (task_called world) (sym (name_found world name task found)) ∙ found) refl judged).names.0
 
   is_there : Among (mount_numbered nat_eq world number) world.mounts
-  is_there =
-      ⊎_elim (λ m. m)
+  is_there = ⊎_elim (λ m. m)
       (λ none. none_is_some task.namespace (sym (ap (λ (m : Mount ℕ). m.namespace) none) ∙ in_callers))
       (found_or_none world.mounts number)
 
   is_theirs : is_own world names (members world names) (mount_numbered nat_eq world number) ≡ true
-  is_theirs =
-      in_own world names it.is task (member_called world names it.is it.sealed_off name it.theirs task found)
+  is_theirs = in_own world names it.is task (member_called world names it.is it.sealed_off name it.theirs task found)
       (mount_numbered nat_eq world number)
       (ap (holds_of (nat_eq task.namespace)) in_callers ∙ eq-eqb task.namespace task.namespace refl)
 
   abbrev outcome : World ℕ → Outcome ℕ
-  outcome w =
-      granted Done (numbers_raised nat_eq w name [] (settled nat_eq (lazily_unmounted nat_eq w number)))
+  outcome w = granted Done (numbers_raised nat_eq w name [] (settled nat_eq (lazily_unmounted nat_eq w number)))
 
   granted_ends : EndsAlike world names name (Lazy path) fresh other
   granted_ends =
@@ -147,8 +140,7 @@ module _ (world : World ℕ) (names : List TaskName) (name : TaskName) (path : L
       (sym (same_judgement world names name (Lazy path) it fresh other task found) ∙ judged) in
       subst (λ p. EndAlike (grown names name (Lazy path) (policy nat_eq fresh world name (Lazy path)).answer)
       (policy nat_eq fresh world name (Lazy path)) p) (sym second)
-      (subst (λ o. EndAlike (grown names name (Lazy path) o.answer) o (outcome its_part)) (sym first)
-      (record {
+      (subst (λ o. EndAlike (grown names name (Lazy path) o.answer) o (outcome its_part)) (sym first) (record {
         answer = refl;
         part = lazy_parts world names it.is it.sealed_off name number is_there is_theirs;
       }))
@@ -161,11 +153,9 @@ lazy_umounts_detach_alike world names name path it fresh other = by (task_called
     judged_by task e (Ok permit) judged =
         let its = detaches world fresh task path (Lazy path) permit
         (calls_are_granted nat_eq (looks_of nat_eq world) (overfills nat_eq fresh world task) task
-        (Lazy path) permit judged)
-        refl in
+        (Lazy path) permit judged) refl in
         granted_ends world names name path it fresh other task e its.0 (judged ∙ ap Ok its.1)
-    judged_by task e (Err deny) judged =
-        denial_ends_alike world names name (Lazy path) it fresh other
+    judged_by task e (Err deny) judged = denial_ends_alike world names name (Lazy path) it fresh other
         (ap (λ o. is_ok (ran name (Lazy path) world fresh o).answer) e
         ∙ ap (λ j. is_ok (run_by world names name (Lazy path) it fresh other world fresh task j).answer) judged)
 

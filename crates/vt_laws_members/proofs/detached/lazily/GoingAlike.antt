@@ -31,8 +31,7 @@ use Rattle.vt_laws_members.proofs.judging.MountTrees.{stands_where}
 -- a mount in no namespace receives from no group
 alone_source : (world : World ℕ) (mount : Mount ℕ) → MountInvariants nat_eq world → Among mount world.mounts
     → mount.namespace ≡ None → source_of mount.propagation ≡ None
-alone_source world mount is m none =
-    private_none mount.propagation
+alone_source world mount is m none = private_none mount.propagation
     (and_parts (not (is_some mount.mount_point)) (is_private mount.propagation)
     (sym (ap (λ n. is_some n || (not (is_some mount.mount_point) && is_private mount.propagation)) none)
     ∙ among_from_list_all is_nowhere_or_attached world.mounts is.nowhere mount m)).1
@@ -66,8 +65,7 @@ module _ (world : World ℕ) (names : List TaskName) (invariants : MountInvarian
   -- Children
 
   own_whole : (mount : Mount ℕ) → owns mount ≡ true → kept mount ≡ Some mount
-  own_whole mount own =
-      kept_whole world names theirs mount
+  own_whole mount own = kept_whole world names theirs mount
       (or_left (owns mount) (is_at nat_eq (roots_and_directories theirs) mount) own)
 
   own_theirs : (mount : Mount ℕ) → Among mount world.mounts → owns mount ≡ true → On mount.number
@@ -80,10 +78,8 @@ module _ (world : World ℕ) (names : List TaskName) (invariants : MountInvarian
       child_theirs world names invariants at.0 child (subst On at.2 own) m at.1
 
   children_alike : (number : ℕ) → On number → children nat_eq part.mounts number ≡ children nat_eq world.mounts number
-  children_alike number own =
-      filter_both kept (stands_on nat_eq number) (stands_on nat_eq number) world.mounts
-      (λ x m h. (own_whole x (child_own number x own m h), h))
-      (λ x y m h e.
+  children_alike number own = filter_both kept (stands_on nat_eq number) (stands_on nat_eq number) world.mounts
+      (λ x m h. (own_whole x (child_own number x own m h), h)) (λ x y m h e.
       ⊎_elim (λ same. ap (stands_on nat_eq number) (sym same) ∙ h) (λ stub. ap (stands_on nat_eq number) (sym stub.0))
       (kept_how world names theirs x y e))
 
@@ -95,16 +91,14 @@ module _ (world : World ℕ) (names : List TaskName) (invariants : MountInvarian
     where
       side : Among receiver world.mounts → (group : ℕ) → group_of mount.propagation ≡ Some group
           → receives nat_eq world group receiver ≡ true → (o : Option ℕ) → receiver.namespace ≡ o → owns receiver ≡ true
-      side there group e hears None f =
-          absurd (true≢false (sym hears
+      side there group e hears None f = absurd (true≢false (sym hears
           ∙ ap (holds_of (λ source. is_among nat_eq group (groups_up world source)))
           (alone_source world receiver invariants there f)))
       side there group e hears (Some n) f = which (is_own_namespace nat_eq world names n) refl
         where
           which : (b : Bool) → is_own_namespace nat_eq world names n ≡ b → owns receiver ≡ true
           which true its = ap (holds_of (is_own_namespace nat_eq world names)) f ∙ its
-          which false other =
-              absurd (true≢false
+          which false other = absurd (true≢false
               (sym hears ∙ no_event_of_theirs_reaches_others world names mount receiver group apart
               (contains_from_among (own_mounts nat_eq world names) mount
               (among-filter (is_own_mount nat_eq world names) world.mounts mount m own))
@@ -128,8 +122,7 @@ module _ (world : World ℕ) (names : List TaskName) (invariants : MountInvarian
       by : (o : Option ℕ) → group_of mount.propagation ≡ o
           → unwrap_or (option_map (receivers nat_eq part) o) [] ≡ unwrap_or (option_map (receivers nat_eq world) o) []
       by None e = refl
-      by (Some group) e =
-          their_groups_receive_alike world names mount group apart
+      by (Some group) e = their_groups_receive_alike world names mount group apart
           (contains_from_among (own_mounts nat_eq world names) mount
           (among-filter (is_own_mount nat_eq world names) world.mounts mount m own)) e
 
@@ -157,8 +150,7 @@ module _ (world : World ℕ) (names : List TaskName) (invariants : MountInvarian
       at = record { mount = receiver.number; node = node }
 
       by : (o : Option (Mount ℕ)) → ((child : Mount ℕ) → o ≡ Some child → Among child world.mounts
-          × (owns child ≡ true))
-          → then_some o (λ (child : Mount ℕ). when (may_go nat_eq part child) child)
+          × (owns child ≡ true)) → then_some o (λ (child : Mount ℕ). when (may_go nat_eq part child) child)
           ≡ then_some o (λ (child : Mount ℕ). when (may_go nat_eq world child) child)
       by None its = refl
       by (Some child) its =
@@ -193,8 +185,7 @@ module _ (world : World ℕ) (names : List TaskName) (invariants : MountInvarian
       )
     where
       by_parent : World ℕ → Mount ℕ → Bool → List ℕ
-      by_parent w parent true =
-          map (λ (gone : Mount ℕ). gone.number) (filter_map (goes_at nat_eq w point.node)
+      by_parent w parent true = map (λ (gone : Mount ℕ). gone.number) (filter_map (goes_at nat_eq w point.node)
           (receivers_of nat_eq w parent))
       by_parent w parent false = mount.number ∷ []
 
@@ -227,8 +218,7 @@ module _ (world : World ℕ) (names : List TaskName) (invariants : MountInvarian
 
       which : (child : Mount ℕ) → child_at nat_eq world.mounts at ≡ Some child → (b : Bool) → when b child ≡ Some gone
           → Among gone world.mounts × (owns gone ≡ true)
-      which child f true e =
-          subst (λ (x : Mount ℕ). Among x world.mounts × (owns x ≡ true)) (same_Some child gone e)
+      which child f true e = subst (λ (x : Mount ℕ). Among x world.mounts × (owns x ≡ true)) (same_Some child gone e)
           (standing_own at child (own_theirs receiver m own) f)
       which child f false e = none_is_some gone e
 

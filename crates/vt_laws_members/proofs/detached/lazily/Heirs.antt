@@ -146,8 +146,7 @@ module _ (world : World ℕ) (live : AllGroupsLive world) where
       above : (group : ℕ) → Lives (members world) world.master group
           → (not (members world group) || is_lost_group nat_eq world (world.master group)) ≡ false
       above group (has_no_master it has e) = (λ i. not (has i) || is_lost_group nat_eq world (e i))
-      above group (has_master it next has e later) =
-          (λ i. not (has i) || is_lost_group nat_eq world (e i))
+      above group (has_master it next has e later) = (λ i. not (has i) || is_lost_group nat_eq world (e i))
           ∙ ap not (live_members world.master (members world) next later)
 
       by : (o : Option ℕ) → source_of mount.propagation ≡ o → lost_a_group nat_eq world mount ≡ false

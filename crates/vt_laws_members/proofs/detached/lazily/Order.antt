@@ -23,11 +23,9 @@ use Rattle.vt_laws_members.proofs.changes.letting_go.PartMounts.{part_mounts}
 depth_of_root : (w : World ℕ) (mount : Mount ℕ) → mount.mount_point ≡ None → depth_of nat_eq w mount ≡ 1
 depth_of_root w mount e = by (length w.mounts)
   where
-    by : (n : ℕ)
-        → length (chain n (λ (child : Mount ℕ). option_map (mount_at nat_eq w) child.mount_point) mount) ≡ 1
+    by : (n : ℕ) → length (chain n (λ (child : Mount ℕ). option_map (mount_at nat_eq w) child.mount_point) mount) ≡ 1
     by zero = refl
-    by (suc n) =
-        ap length (chain_ends (λ (child : Mount ℕ). option_map (mount_at nat_eq w) child.mount_point) n mount
+    by (suc n) = ap length (chain_ends (λ (child : Mount ℕ). option_map (mount_at nat_eq w) child.mount_point) n mount
         (ap (option_map (mount_at nat_eq w)) e))
 
 -- another one is one deeper than its parent
@@ -59,8 +57,7 @@ module _ (world : World ℕ) (names : List TaskName) (is : IsWorld nat_eq world)
       depth_of nat_eq part (mount_numbered nat_eq part k) ≡ depth_of nat_eq world (mount_numbered nat_eq world k)
 
   root_alike : (k : ℕ) → On k → (mount_numbered nat_eq world k).mount_point ≡ None → DeepAlike k
-  root_alike k on e =
-      depth_of_root part (mount_numbered nat_eq part k)
+  root_alike k on e = depth_of_root part (mount_numbered nat_eq part k)
       (ap (λ (m : Mount ℕ). m.mount_point) (same_mount world names is.mounts k on) ∙ e)
       ∙ sym (depth_of_root world (mount_numbered nat_eq world k) e)
 
@@ -115,25 +112,21 @@ module _ (world : World ℕ) (names : List TaskName) (is : IsWorld nat_eq world)
       → folded (λ done mount. insert_deepest nat_eq part mount done) sorted list
       ≡ folded (λ done mount. insert_deepest nat_eq world mount done) sorted list
   sorted_alike [] sorted all all_sorted = refl
-  sorted_alike (mount ∷ rest) sorted all all_sorted =
-      cc (
-        inserted_alike mount (all mount (inl refl)) sorted all_sorted,
-        sorted_alike rest (insert_deepest nat_eq world mount sorted) (λ x m. all x (inr m)) (λ x m. ⊎_elim (λ e.
-            subst SameDepth (sym e) (all mount (inl refl))) (all_sorted x) (among_inserted world mount sorted x m)),
-      )
+  sorted_alike (mount ∷ rest) sorted all all_sorted = cc (
+    inserted_alike mount (all mount (inl refl)) sorted all_sorted,
+    sorted_alike rest (insert_deepest nat_eq world mount sorted) (λ x m. all x (inr m)) (λ x m. ⊎_elim (λ e.
+        subst SameDepth (sym e) (all mount (inl refl))) (all_sorted x) (among_inserted world mount sorted x m)),
+  )
 
   -- what stands in a tree of theirs is theirs
   tree_own : (n : ℕ) (top x : Mount ℕ) → Among top world.mounts → is_own world names theirs top ≡ true
-      → Among x (tree_from nat_eq n world.mounts top)
-      → Among x world.mounts × (is_own world names theirs x ≡ true)
+      → Among x (tree_from nat_eq n world.mounts top) → Among x world.mounts × (is_own world names theirs x ≡ true)
   tree_own zero top x m own at =
       ⊎_elim (λ e. subst (λ (y : Mount ℕ). Among y world.mounts × (is_own world names theirs y ≡ true)) (sym e)
-      (m, own))
-      (λ none. absurd none) at
+      (m, own)) (λ none. absurd none) at
   tree_own (suc n) top x m own at =
       ⊎_elim (λ e. subst (λ (y : Mount ℕ). Among y world.mounts × (is_own world names theirs y ≡ true)) (sym e)
-      (m, own))
-      (λ later.
+      (m, own)) (λ later.
       let from = among-from_flat_map (tree_from nat_eq n world.mounts)
       (children nat_eq world.mounts top.number) x later in
       let child = among-from_filter (stands_on nat_eq top.number) world.mounts from.0 from.1 in

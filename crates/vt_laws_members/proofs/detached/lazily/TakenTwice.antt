@@ -81,13 +81,12 @@ module _ (world : World ℕ) (first second : List ℕ) where
 
   -- on a root mount
   fall_from_root : (a b c : ℕ) (place : Location ℕ) → down place ≡ None → FallAlike a b c place
-  fall_from_root a b c place e =
-      cc (
-        end-here falls a place (rests (is_going nat_eq first place.mount) (down place) e),
-        end-here falls_then b place (rests (is_going nat_eq second place.mount) (mount_at nat_eq left
-            place).mount_point (root_stays world first place.mount e)),
-        end-here falls_at_once c place (rests (is_going nat_eq (first ++ second) place.mount) (down place) e),
-      )
+  fall_from_root a b c place e = cc (
+    end-here falls a place (rests (is_going nat_eq first place.mount) (down place) e),
+    end-here falls_then b place (rests (is_going nat_eq second place.mount) (mount_at nat_eq left
+        place).mount_point (root_stays world first place.mount e)),
+    end-here falls_at_once c place (rests (is_going nat_eq (first ++ second) place.mount) (down place) e),
+  )
     where
       rests : (goes : Bool) (o : Option (Location ℕ)) → o ≡ None → (if goes then o else None) ≡ None
       rests true o e = e
@@ -96,10 +95,8 @@ module _ (world : World ℕ) (first second : List ℕ) where
   -- on a mount that stays at first, and has fallen then
   fallen_point : (place below : Location ℕ) → is_going nat_eq first place.mount ≡ false → down place ≡ Some below
       → (mount_at nat_eq left place).mount_point ≡ Some (end_of falls (length world.mounts) below)
-  fallen_point place below stays e =
-      ap (λ (mount : Mount ℕ). mount.mount_point) (taken world first place.mount)
-      ∙ ap (λ (mount : Mount ℕ). mount.mount_point)
-      (staying_is_placed world first (mount_at nat_eq world place)
+  fallen_point place below stays e = ap (λ (mount : Mount ℕ). mount.mount_point) (taken world first place.mount)
+      ∙ ap (λ (mount : Mount ℕ). mount.mount_point) (staying_is_placed world first (mount_at nat_eq world place)
       (ap (is_going nat_eq first) (number_found world.mounts place.mount) ∙ stays))
       ∙ ap (option_map (mount_point_left nat_eq world first)) e
 
@@ -115,8 +112,7 @@ module _ (world : World ℕ) (first second : List ℕ) where
       through gone false f = ap (λ b. if b then down place else None) f
 
       by : (one : Bool) → is_going nat_eq first place.mount ≡ one
-          → (other : Bool) → is_going nat_eq second place.mount ≡ other
-          → FallAlike (suc a) (suc b) (suc c) place
+          → (other : Bool) → is_going nat_eq second place.mount ≡ other → FallAlike (suc a) (suc b) (suc c) place
       by true f other g = cc (
         end-more falls a place below (through first true f),
         goes,
@@ -133,8 +129,7 @@ module _ (world : World ℕ) (first second : List ℕ) where
       )
       by false f false g = cc (
         end-here falls (suc a) place (through first false f),
-        end-here falls_then (suc b) place (ap (λ t. if t then (mount_at nat_eq left place).mount_point else None)
-            g),
+        end-here falls_then (suc b) place (ap (λ t. if t then (mount_at nat_eq left place).mount_point else None) g),
         end-here falls_at_once (suc c) place (through (first ++ second) false (goes_at_once place.mount ∙ (λ i. f i
             || g i))),
       )
@@ -156,8 +151,7 @@ module _ (world : World ℕ) (first second : List ℕ) where
       where
         by : (o : Option (Location ℕ)) → down place ≡ o
             → ((a b c : ℕ) (below : Location ℕ) → rank_at below ≤ n → rank_at below ≤ a → rank_at below ≤ b
-            → rank_at below ≤ c → FallAlike a b c below)
-            → FallAlike a b c place
+            → rank_at below ≤ c → FallAlike a b c below) → FallAlike a b c place
         by None e later = fall_from_root a b c place e
         by (Some below) e later =
             let child : rank_at place ≡ suc (rank_at below) = rank_child world one all place.mount below e in
@@ -171,10 +165,8 @@ module _ (world : World ℕ) (first second : List ℕ) where
             let in_first : rank_at below ≤ x.0 = omega (arith, child, more, u) in
             let in_second : rank_at below ≤ y.0 = omega (arith, child, more_then, v) in
             let in_all : rank_at below ≤ z.0 = omega (arith, child, more_at_once, w) in
-            subst (λ k. FallAlike k b c place) (sym u)
-            (subst (λ k. FallAlike (suc x.0) k c place) (sym v)
-            (subst (λ k. FallAlike (suc x.0) (suc y.0) k place) (sym w)
-            (fall_further x.0 y.0 z.0 place below e
+            subst (λ k. FallAlike k b c place) (sym u) (subst (λ k. FallAlike (suc x.0) k c place) (sym v)
+            (subst (λ k. FallAlike (suc x.0) (suc y.0) k place) (sym w) (fall_further x.0 y.0 z.0 place below e
             (later x.0 (suc y.0) z.0 below few_below in_first (omega (arith, in_second)) in_all)
             (later (length world.mounts) y.0 z.0 below few_below (rank_bounded world one all below.mount)
             in_second in_all))))
@@ -258,8 +250,7 @@ module _ (world : World ℕ) (first second : List ℕ) where
       still false false mount e = e
 
       none : has_members nat_eq firstly.mounts group ≡ false → has_members nat_eq at_once.mounts group ≡ false
-      none e =
-          none_from_among (is_member_of nat_eq group) at_once.mounts (λ x m.
+      none e = none_from_among (is_member_of nat_eq group) at_once.mounts (λ x m.
           let from = among-from_map (after_going nat_eq world (first ++ second)) world.mounts x m in
           let mount = from.0 in
           ap (is_member_of nat_eq group) from.2
@@ -317,8 +308,7 @@ module _ (world : World ℕ) (first second : List ℕ) where
         )
 
     same_heir : (group : ℕ) → LivesAt group → SameHeir (Some group)
-    same_heir group (has_no_master it has e) =
-        heir_by_master it (has_no_master it has e) (subst SameHeir (sym e) refl)
+    same_heir group (has_no_master it has e) = heir_by_master it (has_no_master it has e) (subst SameHeir (sym e) refl)
     same_heir group (has_master it next has e later) =
         heir_by_master it (has_master it next has e later) (subst SameHeir (sym e) (same_heir next later))
 
@@ -345,16 +335,14 @@ module _ (world : World ℕ) (first second : List ℕ) where
     )
       where
         still : (goes : Bool) (fall : Location ℕ → Location ℕ) (mount : Mount ℕ)
-            → is_member_of nat_eq group mount ≡ false
-            → holds_of (nat_eq group) (group_if goes fall mount) ≡ false
+            → is_member_of nat_eq group mount ≡ false → holds_of (nat_eq group) (group_if goes fall mount) ≡ false
         still true fall mount e = refl
         still false fall mount e = e
 
         members_at_first : (b : Bool) → has_members nat_eq world.mounts group ≡ b
             → has_members nat_eq world.mounts group ≡ true
         members_at_first true e = e
-        members_at_first false e =
-            absurd (true≢false (sym has
+        members_at_first false e = absurd (true≢false (sym has
             ∙ none_from_among (is_member_of nat_eq group) at_once.mounts (λ x m.
             let from = among-from_map (after_going nat_eq world (first ++ second)) world.mounts x m in
             ap (is_member_of nat_eq group) from.2
@@ -373,28 +361,26 @@ module _ (world : World ℕ) (first second : List ℕ) where
     mount_alike true true mount m = refl
     mount_alike true false mount m = refl
     mount_alike false true mount m = refl
-    mount_alike false false mount m =
-        λ i. record mount {
-          mount_point = same_points kept.one_number kept.standing mount.mount_point i;
-          propagation = same_kind kept.groups mount.propagation
-              (among_from_all (HasLivingGroups nat_eq world) world.mounts kept.groups mount m) i;
-        }
+    mount_alike false false mount m = λ i. record mount {
+      mount_point = same_points kept.one_number kept.standing mount.mount_point i;
+      propagation = same_kind kept.groups mount.propagation
+          (among_from_all (HasLivingGroups nat_eq world) world.mounts kept.groups mount m) i;
+    }
 
     same_mounts : (taken_away nat_eq left second).mounts ≡ (taken_away nat_eq world (first ++ second)).mounts
-    same_mounts =
-        cc (
-          mounts-regrouped secondly,
-          mounts_then,
-          map_twice (inheriting nat_eq secondly) twice world.mounts,
-          map_alike (λ mount. inheriting nat_eq secondly (twice mount)) (λ mount. inheriting nat_eq at_once
-              (after_going nat_eq world (first ++ second) mount)) world.mounts (λ mount m. ap (λ b. inheriting nat_eq
-              secondly (gone_if b (mount_point_left nat_eq left second) (inheriting nat_eq firstly (after_going nat_eq
-              world first mount)))) (twice_goes mount) ∙ mount_alike (is_going nat_eq first mount.number) (is_going
-              nat_eq second mount.number) mount m ∙ ap (λ b. inheriting nat_eq at_once (gone_if b (mount_point_left
-              nat_eq world (first ++ second)) mount)) (sym (goes_at_once mount.number))),
-          map_twice (inheriting nat_eq at_once) (after_going nat_eq world (first ++ second)) world.mounts,
-          mounts-regrouped at_once,
-        )
+    same_mounts = cc (
+      mounts-regrouped secondly,
+      mounts_then,
+      map_twice (inheriting nat_eq secondly) twice world.mounts,
+      map_alike (λ mount. inheriting nat_eq secondly (twice mount)) (λ mount. inheriting nat_eq at_once
+          (after_going nat_eq world (first ++ second) mount)) world.mounts (λ mount m. ap (λ b. inheriting nat_eq
+          secondly (gone_if b (mount_point_left nat_eq left second) (inheriting nat_eq firstly (after_going nat_eq
+          world first mount)))) (twice_goes mount) ∙ mount_alike (is_going nat_eq first mount.number) (is_going
+          nat_eq second mount.number) mount m ∙ ap (λ b. inheriting nat_eq at_once (gone_if b (mount_point_left
+          nat_eq world (first ++ second)) mount)) (sym (goes_at_once mount.number))),
+      map_twice (inheriting nat_eq at_once) (after_going nat_eq world (first ++ second)) world.mounts,
+      mounts-regrouped at_once,
+    )
 
     same_masters : (group : ℕ) → (without_dead_groups nat_eq (taken_away nat_eq left second)).master group
         ≡ (without_dead_groups nat_eq (taken_away nat_eq world (first ++ second))).master group

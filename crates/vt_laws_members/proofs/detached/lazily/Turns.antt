@@ -51,8 +51,7 @@ going_but_groups one other same kept mount =
 -- what is left if these mounts went already
 pub record TookAway (start now : World ℕ) (gone : List ℕ) : Type 0 where
   pub kept : MountInvariants nat_eq now
-  pub at_once : (more : List ℕ)
-      → SameButGroups (taken_away nat_eq now more) (taken_away nat_eq start (gone ++ more))
+  pub at_once : (more : List ℕ) → SameButGroups (taken_away nat_eq now more) (taken_away nat_eq start (gone ++ more))
 
 pub took_none : (start : World ℕ) → MountInvariants nat_eq start → TookAway start start []
 took_none start kept = record { kept = kept; at_once = λ more. refl }
@@ -117,8 +116,7 @@ module _ (world : World ℕ) (names : List TaskName) (is : IsWorld nat_eq world)
 
     -- the mount is in both what it is after
     in_there : Among (after mount) there.mounts
-    in_there =
-        subst (λ m. Among m there.mounts) (mount_alike world names is sealed_off gone own_go b mount mine)
+    in_there = subst (λ m. Among m there.mounts) (mount_alike world names is sealed_off gone own_go b mount mine)
         (among-map after_part part.mounts mount (own_in_part world names is sealed_off mount mine))
 
     number_after : (after mount).number ≡ mount.number
@@ -129,21 +127,17 @@ module _ (world : World ℕ) (names : List TaskName) (is : IsWorld nat_eq world)
     found_in w kept m = cc (number_after, found_itself w.mounts kept.one_number (after mount) m)
 
     is_now : mount_numbered nat_eq now mount.number ≡ after mount
-    is_now =
-        found_in now it.kept
+    is_now = found_in now it.kept
         (subst (λ list. Among (after mount) list) (sym (ap (λ (w : World ℕ). w.mounts) same_here))
         (among-map after world.mounts mount at))
 
     is_now_there : mount_numbered nat_eq now_part mount.number ≡ after mount
-    is_now_there =
-        found_in now_part it_there.kept
+    is_now_there = found_in now_part it_there.kept
         (subst (λ list. Among (after mount) list) (sym (ap (λ (w : World ℕ). w.mounts) same_there)) in_there)
 
     -- a mount that is attached still is theirs
     own_after : is_some (after mount).namespace ≡ true → is_own world names theirs (after mount) ≡ true
-    own_after h =
-        ⊎_elim
-        (λ out. absurd (true≢false (sym h ∙ ap is_some out.0)))
+    own_after h = ⊎_elim (λ out. absurd (true≢false (sym h ∙ ap is_some out.0)))
         (λ stays. ap (holds_of (λ n. list_any (λ (t : Task ℕ). nat_eq n t.namespace) theirs)) stays.0 ∙ own)
         (placed_so b (left world names is sealed_off gone own_go) world gone mount)
 
@@ -155,13 +149,11 @@ module _ (world : World ℕ) (names : List TaskName) (is : IsWorld nat_eq world)
 
     list_there : is_some (after mount).namespace ≡ true
         → going nat_eq now_part (mount_numbered nat_eq now_part mount.number) ≡ list
-    list_there h =
-        ap (going nat_eq now_part) is_now_there
+    list_there h = ap (going nat_eq now_part) is_now_there
         ∙ going_but_groups now_part there same_there it_there.kept (after mount)
         ∙ sym (going_alike there names kept_there (apart_there world names is sealed_off gone own_go b) (after mount)
         in_there (ap (λ ts. is_own world names ts (after mount)) (same_members world names) ∙ own_after h))
-        ∙ ap (λ w. going nat_eq w (after mount))
-        (one_part world names is names here there
+        ∙ ap (λ w. going nat_eq w (after mount)) (one_part world names is names here there
         (ended_less world names is sealed_off names gone own_go
         (all_last world names is sealed_off gone own_go) world.tasks
         part.tasks world.change part.change (same_members world names)
@@ -170,9 +162,7 @@ module _ (world : World ℕ) (names : List TaskName) (is : IsWorld nat_eq world)
         (among-map after world.mounts mount at) (own_after h)
 
     own_list : is_some (after mount).namespace ≡ true → OwnGo (gone ++ list)
-    own_list h m n goes =
-        ⊎_elim (own_go m n)
-        (λ later.
+    own_list h m n goes = ⊎_elim (own_go m n) (λ later.
         let its = going_own here names kept_here (apart_here world names is sealed_off gone own_go b) (after mount)
         m.number (among-map after world.mounts mount at) (own_after h) (among_numbers list m.number later) in
         let from = among-from_map after world.mounts its.0 its.1 in
@@ -181,8 +171,7 @@ module _ (world : World ℕ) (names : List TaskName) (is : IsWorld nat_eq world)
         world.tasks part.tasks world.change part.change (same_members world names)
         (set_stays world names is sealed_off gone own_go) b from.0
         (ap (is_own world names theirs) (sym from.2) ∙ its.2) in
-        let number : from.0.number ≡ m.number =
-        sym (ap (λ (q : Mount ℕ). q.number) from.2
+        let number : from.0.number ≡ m.number = sym (ap (λ (q : Mount ℕ). q.number) from.2
         ∙ (shape_kept b (left world names is sealed_off gone own_go) world gone from.0).number) ∙ its.3 in
         let same : from.0 ≡ m =
         sym (numbered world names is.mounts from.0 from.1) ∙ ap (mount_numbered nat_eq world) number
@@ -199,8 +188,7 @@ module _ (world : World ℕ) (names : List TaskName) (is : IsWorld nat_eq world)
         → MountInvariants nat_eq (unmounted_if_there nat_eq now_part mount)
         → (all : List ℕ) × OwnGo all × TookAway world (unmounted_if_there nat_eq now mount) all
         × TookAway part (unmounted_if_there nat_eq now_part mount) all
-    event_alike kept kept_too =
-        by (is_some (after mount).namespace) refl
+    event_alike kept kept_too = by (is_some (after mount).namespace) refl
         (ap (λ (m : Mount ℕ). is_some m.namespace) is_now) (ap (λ (m : Mount ℕ). is_some m.namespace) is_now_there)
         kept kept_too
       where
@@ -216,8 +204,7 @@ module _ (world : World ℕ) (names : List TaskName) (is : IsWorld nat_eq world)
             (unmounted_by now_part (is_some (mount_numbered nat_eq now_part mount.number).namespace)) all
         by true e f g k l =
             let taken : unmounted_by now (is_some (mount_numbered nat_eq now mount.number).namespace)
-            ≡ taken_away nat_eq now list =
-            ap (unmounted_by now) (f ∙ e) ∙ ap (taken_away nat_eq now) list_here in
+            ≡ taken_away nat_eq now list = ap (unmounted_by now) (f ∙ e) ∙ ap (taken_away nat_eq now) list_here in
             let taken_too : unmounted_by now_part (is_some (mount_numbered nat_eq now_part mount.number).namespace)
             ≡ taken_away nat_eq now_part list =
             ap (unmounted_by now_part) (g ∙ e) ∙ ap (taken_away nat_eq now_part) (list_there e) in (

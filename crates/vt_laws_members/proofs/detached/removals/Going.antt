@@ -36,8 +36,7 @@ has_point w points mount h =
   where
     by : (point : ℕ × ℕ) (o : Option (Location ℕ)) → mount.mount_point ≡ o
         → holds_of (λ (l : Location ℕ). nat_eq l.node point.1
-        && nat_eq (mount_at nat_eq w l).filesystem point.0) o ≡ true
-        → (l : Location ℕ) × (mount.mount_point ≡ Some l)
+        && nat_eq (mount_at nat_eq w l).filesystem point.0) o ≡ true → (l : Location ℕ) × (mount.mount_point ≡ Some l)
     by point None e k = absurd (true≢false (sym k))
     by point (Some l) e k = (l, e)
 
@@ -70,14 +69,11 @@ module _ (world : World ℕ) (names : List TaskName) (is : IsWorld nat_eq world)
       by : (o : Option (Location ℕ)) → mount.mount_point ≡ o
           → list_any (λ (point : ℕ × ℕ). holds_of (here part point) mount.mount_point) points
           ≡ list_any (λ (point : ℕ × ℕ). holds_of (here world point) mount.mount_point) points
-      by None e =
-          ap (λ o. list_any (λ (point : ℕ × ℕ). holds_of (here part point) o) points) e
+      by None e = ap (λ o. list_any (λ (point : ℕ × ℕ). holds_of (here part point) o) points) e
           ∙ sym (ap (λ o. list_any (λ (point : ℕ × ℕ). holds_of (here world point) o) points) e)
-      by (Some l) e =
-          ap (λ o. list_any (λ (point : ℕ × ℕ). holds_of (here part point) o) points) e
+      by (Some l) e = ap (λ o. list_any (λ (point : ℕ × ℕ). holds_of (here part point) o) points) e
           ∙ ap (λ (x : Mount ℕ). list_any (λ (point : ℕ × ℕ). nat_eq l.node point.1
-          && nat_eq x.filesystem point.0) points)
-          (same_mount world names is.mounts l.mount
+          && nat_eq x.filesystem point.0) points) (same_mount world names is.mounts l.mount
           (parent_theirs world names is.mounts mount.number l (mount, m, refl, inl own)
           (ap (λ (x : Mount ℕ). x.mount_point) (numbered world names is.mounts mount m) ∙ e)))
           ∙ sym (ap (λ o. list_any (λ (point : ℕ × ℕ). holds_of (here world point) o) points) e)
@@ -105,25 +101,19 @@ module _ (world : World ℕ) (names : List TaskName) (is : IsWorld nat_eq world)
     same_points = cc (filesystem_alike world names is gone on)
 
     not_there : (x y : Mount ℕ) → Among x world.mounts → stands world points x ≡ false
-        → keep world names theirs x ≡ Some y
-        → (b : Bool) → stands part points y ≡ b → b ≡ false
+        → keep world names theirs x ≡ Some y → (b : Bool) → stands part points y ≡ b → b ≡ false
     not_there x y m h e false f = refl
     not_there x y m h e true f =
         let l = has_point part points y f in
-        absurd
-        (⊎_elim
-        (λ same.
+        absurd (⊎_elim (λ same.
         let there : Among y world.mounts = subst (λ k. Among k world.mounts) same m in
-        ⊎_elim
-        (λ own. true≢false (sym f ∙ stands_alike y there own points ∙ ap (stands world points) (sym same) ∙ h))
-        (λ none. nowhere_stands world names is.mounts y l.0 there none l.1)
-        (part_mount world names is x y m e))
+        ⊎_elim (λ own. true≢false (sym f ∙ stands_alike y there own points ∙ ap (stands world points) (sym same) ∙ h))
+        (λ none. nowhere_stands world names is.mounts y l.0 there none l.1) (part_mount world names is x y m e))
         (λ stub. none_is_some l.0 (ap (λ (k : Mount ℕ). k.mount_point) stub.0 ∙ l.1))
         (kept_how world names theirs x y e))
 
     same_tops : mounts_on nat_eq part gone ≡ tops
-    same_tops =
-        ap (λ list. filter (stands part list) part.mounts) same_points
+    same_tops = ap (λ list. filter (stands part list) part.mounts) same_points
         ∙ filter_both (keep world names theirs) (stands part points) (stands world points) world.mounts
         (λ x m h. (own_whole world names is x (top_own x m h), stands_alike x m (top_own x m h) points ∙ h))
         (λ x y m h e. not_there x y m h e (stands part points y) refl)
@@ -152,8 +142,7 @@ module _ (world : World ℕ) (names : List TaskName) (is : IsWorld nat_eq world)
           of.0,
           of.1,
           ap (λ (x : Mount ℕ). x.namespace) (sym (numbered world names is.mounts mount m))
-              ∙ ap (λ n. (mount_numbered nat_eq world n).namespace) from.2
-              ∙ same_namespace_in of.0.number from.0.number
+              ∙ ap (λ n. (mount_numbered nat_eq world n).namespace) from.2 ∙ same_namespace_in of.0.number from.0.number
               (lies_in_tree world is.mounts.one_number is.mounts.standing (length world.mounts) of.0 from.0 of.2)
               ∙ ap (λ (x : Mount ℕ). x.namespace) (numbered world names is.mounts of.0 there),
         )

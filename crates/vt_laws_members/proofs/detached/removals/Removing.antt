@@ -59,14 +59,12 @@ use Rattle.vt_laws_members.proofs.detached.removals.TreeParts.{changed_parts}
 
 -- the outcome of a call that changes a plain tree, where something else changed before
 abbrev left_with : World ℕ → World ℕ → TaskName → Filesystem ℕ → FileTree ℕ → Outcome ℕ
-left_with before now name old files =
-    granted Done (numbers_raised nat_eq before name (old.number ∷ [])
+left_with before now name old files = granted Done (numbers_raised nat_eq before name (old.number ∷ [])
     (settled nat_eq (with_filesystems now (swap old files))))
 
 changes_tree : (before now : World ℕ) (name : TaskName) (call : Call) (supply : Fresh ℕ) (location : Location ℕ)
     (change : Change ℕ) (old : Filesystem ℕ) → only_looks call ≡ false → filesystem_at nat_eq now location ≡ old
-    → is_overlay old ≡ false
-    → finished nat_eq before name call (changed_at nat_eq now location)
+    → is_overlay old ≡ false → finished nat_eq before name call (changed_at nat_eq now location)
     (granted Done (with_change nat_eq supply now location change))
     ≡ left_with before now name old (Changes.changed nat_eq old.files change)
 changes_tree before now name call supply location change old looks e plain =
@@ -81,8 +79,7 @@ module _ (world : World ℕ) (names : List TaskName) (name : TaskName) (call : C
     (it : IsCallOfTheirs world names name call)
     (fresh other : Fresh ℕ) (task : Task ℕ) (found : task_called world name ≡ Some task)
     (stays : grown names name call (Ok Done) ≡ names) (looks : only_looks call ≡ false) (gone : Location ℕ)
-    (permit : Permit ℕ)
-    (judged : judge_in nat_eq fresh world task call ≡ Ok permit)
+    (permit : Permit ℕ) (judged : judge_in nat_eq fresh world task call ≡ Ok permit)
     (judged_too : judge_in nat_eq (unused_numbers world) world task call ≡ Ok permit) (location : Location ℕ)
     (change : Change ℕ) (asks : change_asked (unused_numbers world) world permit ≡ Some (location, change))
     (names_it : Names change) (plain : is_overlay (filesystem_at nat_eq world location) ≡ false)
@@ -111,21 +108,16 @@ module _ (world : World ℕ) (names : List TaskName) (name : TaskName) (call : C
   on = theirs_from world names it.is.mounts location.mount (ap (is_theirs world names) (sym free.3) ∙ free.0)
 
   alone : used_alone nat_eq world names (mount_at nat_eq world location).filesystem ≡ true
-  alone =
-      naming_alone world names name call it fresh other (unused_numbers world)
-      (unused_serve world) task found stays permit
-      judged_too location change asks names_it plain
+  alone = naming_alone world names name call it fresh other (unused_numbers world)
+      (unused_serve world) task found stays permit judged_too location change asks names_it plain
 
   only_own : (mount : Mount ℕ) → Among mount (mounts_on nat_eq world gone) → (n : ℕ) → mount.namespace ≡ Some n
       → is_own_namespace nat_eq world names n ≡ true
-  only_own =
-      own_here world names it.is gone
-      (plain_points world names it.is gone
+  only_own = own_here world names it.is gone (plain_points world names it.is gone
       (ap (λ (f : Filesystem ℕ). f.overlay) one_filesystem ∙ no_overlay old.overlay plain)
       (ap (λ (f : Filesystem ℕ). used_alone nat_eq world names f.number) one_filesystem
       ∙ ap (used_alone nat_eq world names)
-      (found_numbered (mount_at nat_eq world location).filesystem world.filesystems)
-      ∙ alone))
+      (found_numbered (mount_at nat_eq world location).filesystem world.filesystems) ∙ alone))
 
   abbrev list : List ℕ
   list = going_with world names it.is gone on_gone only_own
@@ -144,8 +136,7 @@ module _ (world : World ℕ) (names : List TaskName) (name : TaskName) (call : C
   same_list = ap (taken_away nat_eq part) (sym (same_going world names it.is gone on_gone only_own))
 
   kept_part : MountInvariants nat_eq (taken_away nat_eq part list)
-  kept_part =
-      subst (MountInvariants nat_eq) (sym same_list)
+  kept_part = subst (MountInvariants nat_eq) (sym same_list)
       (points_keep_mounts part gone (part_mounts world names it.is it.sealed_off))
 
   -- the mount of the directory is in the caller's namespace, and stays
@@ -164,9 +155,7 @@ module _ (world : World ℕ) (names : List TaskName) (name : TaskName) (call : C
 
   run_here : run_by world names name call it fresh other world fresh task (Ok permit)
       ≡ left_with world here name old files
-  run_here =
-      runs world fresh
-      ∙ ap (λ w. finished nat_eq world name call (changed_at nat_eq w location)
+  run_here = runs world fresh ∙ ap (λ w. finished nat_eq world name call (changed_at nat_eq w location)
       (granted Done (with_change nat_eq fresh w location change)))
       (world_taken world names it.is it.sealed_off list own)
       ∙ changes_tree world here name call fresh location change old looks
@@ -174,9 +163,7 @@ module _ (world : World ℕ) (names : List TaskName) (name : TaskName) (call : C
 
   run_there : run_by world names name call it fresh other part other task (Ok permit)
       ≡ left_with part there name old files
-  run_there =
-      runs part other
-      ∙ ap (λ w. finished nat_eq part name call (changed_at nat_eq w location)
+  run_there = runs part other ∙ ap (λ w. finished nat_eq part name call (changed_at nat_eq w location)
       (granted Done (with_change nat_eq other w location change)))
       (sym same_list ∙ part_taken world names it.is it.sealed_off list own)
       ∙ changes_tree part there name call other location change old looks
@@ -220,14 +207,11 @@ removals_end_alike world names name path it task found fresh other parent entry 
     (ToRemoveDirectory parent entry directory) judged judged parent
     (Remove parent.node entry directory.node) refl tt plain
     (names_there world names name (Rmdir path) it task found (ToRemoveDirectory parent entry directory) refl
-    judged).0.reached
-    (removed_free world names it.is it.sealed_off task
+    judged).0.reached (removed_free world names it.is it.sealed_off task
     (member_called world names it.is it.sealed_off name it.theirs task found) fresh (Rmdir path)
     (ToRemoveDirectory parent entry directory)
     (calls_are_granted nat_eq (looks_of nat_eq world) (overfills nat_eq fresh world task) task (Rmdir path)
-    (ToRemoveDirectory parent entry directory) judged)
-    parent entry directory refl)
-    (λ w supply. refl)
+    (ToRemoveDirectory parent entry directory) judged) parent entry directory refl) (λ w supply. refl)
 
 pub replacements_end_alike : ReplacementsEndAlike
 replacements_end_alike world names name one two it task found fresh other from old to new object over judged plain =
@@ -239,17 +223,12 @@ replacements_end_alike world names name one two it task found fresh other from o
     by : (o : Option (Location ℕ))
         → judge_in nat_eq fresh world task (Rename one two) ≡ Ok (ToRename from old to new object o)
         → EndsAlike world names name (Rename one two) fresh other
-    by None so =
-        renames_end_alike world names name one two it task found fresh other from old to new object so plain
-    by (Some gone) so =
-        removal_ends world names name (Rename one two) it fresh other task found refl refl gone
+    by None so = renames_end_alike world names name one two it task found fresh other from old to new object so plain
+    by (Some gone) so = removal_ends world names name (Rename one two) it fresh other task found refl refl gone
         (ToRename from old to new object (Some gone)) so so from change refl tt plain
         (names_there world names name (Rename one two) it task found (ToRename from old to new object (Some gone))
-        refl so).0.reached
-        (replaced_free world names it.is it.sealed_off task
+        refl so).0.reached (replaced_free world names it.is it.sealed_off task
         (member_called world names it.is it.sealed_off name it.theirs task found) fresh (Rename one two)
         (ToRename from old to new object (Some gone))
         (calls_are_granted nat_eq (looks_of nat_eq world) (overfills nat_eq fresh world task) task (Rename one two)
-        (ToRename from old to new object (Some gone)) so)
-        from old to new object gone refl)
-        (λ w supply. refl)
+        (ToRename from old to new object (Some gone)) so) from old to new object gone refl) (λ w supply. refl)

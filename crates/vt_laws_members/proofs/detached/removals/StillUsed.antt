@@ -28,8 +28,7 @@ mapped_filesystem f number filesystem n (x ∷ rest) =
     pick : Bool → Mount ℕ → Option (Mount ℕ) → ℕ
     pick b m o = (unwrap_or (cond b (Some m) o) (no_mount n)).filesystem
 
-    by : (b : Bool)
-        → (unwrap_or (find (λ (m : Mount ℕ). nat_eq n m.number) (map f rest)) (no_mount n)).filesystem
+    by : (b : Bool) → (unwrap_or (find (λ (m : Mount ℕ). nat_eq n m.number) (map f rest)) (no_mount n)).filesystem
         ≡ (unwrap_or (find (λ (m : Mount ℕ). nat_eq n m.number) rest) (no_mount n)).filesystem
         → pick b (f x) (find (λ (m : Mount ℕ). nat_eq n m.number) (map f rest))
         ≡ pick b x (find (λ (m : Mount ℕ). nat_eq n m.number) rest)
@@ -60,16 +59,13 @@ module _ (world : World ℕ) (names : List TaskName) (is : IsWorld nat_eq world)
 
   -- the filesystem of the location
   pub seen_here : filesystem_at nat_eq here location ≡ filesystem_at nat_eq world location
-  seen_here =
-      ap (filesystem_numbered nat_eq world)
-      (mapped_filesystem after
+  seen_here = ap (filesystem_numbered nat_eq world) (mapped_filesystem after
       (λ m. (shape_kept is_flagged (left world names is sealed_off gone own_go) world gone m).number)
       (λ m. (shape_kept is_flagged (left world names is sealed_off gone own_go) world gone m).filesystem)
       location.mount world.mounts)
 
   pub seen_there : filesystem_at nat_eq there location ≡ filesystem_at nat_eq part location
-  seen_there =
-      ap (filesystem_numbered nat_eq part)
+  seen_there = ap (filesystem_numbered nat_eq part)
       (mapped_filesystem (ended_mount is_flagged (left_part world names is sealed_off gone own_go) part gone)
       (λ m. (shape_kept is_flagged (left_part world names is sealed_off gone own_go) part gone m).number)
       (λ m. (shape_kept is_flagged (left_part world names is sealed_off gone own_go) part gone m).filesystem)
@@ -92,13 +88,11 @@ module _ (world : World ℕ) (names : List TaskName) (is : IsWorld nat_eq world)
 
     by_mount : is_own world names theirs on.0 ≡ true → Among number (used_directly nat_eq here names)
     by_mount own =
-        let own_after : is_own world names theirs (after on.0) ≡ true =
-        ⊎_elim
+        let own_after : is_own world names theirs (after on.0) ≡ true = ⊎_elim
         (λ out. absurd (true≢false (sym out.2 ∙ stays own)))
         (λ its. ap (holds_of (λ n. list_any (λ (t : Task ℕ). nat_eq n t.namespace) theirs)) its.0 ∙ own)
         (placed_so is_flagged (left world names is sealed_off gone own_go) world gone on.0) in
-        among-append_left shown placed number
-        (subst (λ n. Among n shown)
+        among-append_left shown placed number (subst (λ n. Among n shown)
         ((shape_kept is_flagged (left world names is sealed_off gone own_go) world gone on.0).filesystem ∙ of_mount)
         (among-map (λ (m : Mount ℕ). m.filesystem) (own_mounts nat_eq here names) (after on.0)
         (among-filter (is_own_mount nat_eq here names) here.mounts (after on.0)
@@ -108,21 +102,17 @@ module _ (world : World ℕ) (names : List TaskName) (is : IsWorld nat_eq world)
         → Among number (used_directly nat_eq here names)
     by_task l m e =
         let task = among-from_flat_map (λ (t : Task ℕ). t.root ∷ t.directory ∷ []) theirs l m in
-        among-append_right shown placed number
-        (subst (λ n. Among n placed)
+        among-append_right shown placed number (subst (λ n. Among n placed)
         (filesystem_after world names is sealed_off names gone own_go
         (all_last world names is sealed_off gone own_go) world.tasks part.tasks world.change part.change
         (same_members world names) (set_stays world names is sealed_off gone own_go) is_flagged on.0 on.1 l e
         ∙ ap (λ k. (mount_numbered nat_eq world k).filesystem) (e ∙ on.2))
         (among-map (λ (k : Location ℕ). (mount_at nat_eq here k).filesystem) (locations theirs) l
-        (among-flat_map locations_of theirs task.0 l task.1
-        (⊎_elim (λ root. inl root)
+        (among-flat_map locations_of theirs task.0 l task.1 (⊎_elim (λ root. inl root)
         (λ rest. ⊎_elim (λ directory. inr (inl directory)) (λ none. absurd none) rest) task.2))))
 
     pub still_direct : Among number (used_directly nat_eq here names)
-    still_direct =
-        ⊎_elim by_mount
-        (λ stood.
+    still_direct = ⊎_elim by_mount (λ stood.
         let at = any_among (λ (l : Location ℕ). nat_eq l.mount on.0.number) (roots_and_directories theirs) stood.1 in
         by_task at.0 at.1 (eqb-true at.0.mount on.0.number at.2)) on.3
 

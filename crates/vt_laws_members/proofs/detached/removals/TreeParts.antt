@@ -56,8 +56,7 @@ raise_overlaid number x = by (list_any (λ n. nat_eq n x.number) (number ∷ [])
 
 -- the other filesystems keep theirs
 apart_from : (number : ℕ) (used : List ℕ) → is_among nat_eq number used ≡ true → (k : ℕ)
-    → is_among nat_eq k used ≡ false
-    → (b : Bool) → nat_eq number k ≡ b → b ≡ false
+    → is_among nat_eq k used ≡ false → (b : Bool) → nat_eq number k ≡ b → b ≡ false
 apart_from number used is_used k unused false e = refl
 apart_from number used is_used k unused true e =
     absurd (true≢false (sym is_used ∙ ap (λ n. is_among nat_eq n used) (eqb-true number k e) ∙ unused))
@@ -67,10 +66,8 @@ raise_kept number x e = ap (λ b. cond (b || false) (record x { change = raised 
 
 -- what the sweep leaves is used if it was
 settled_used : (w : World ℕ) (set : List TaskName) (used : List ℕ) (lowers : List (Layer ℕ))
-    → Ready (without_dead_mounts nat_eq w) set used lowers
-    → used_filesystems nat_eq (settled nat_eq w) set ≡ used
-settled_used w set used lowers it =
-    used_later merged set (λ f. only_used nat_eq merged (not (is_overlay f)) f)
+    → Ready (without_dead_mounts nat_eq w) set used lowers → used_filesystems nat_eq (settled nat_eq w) set ≡ used
+settled_used w set used lowers it = used_later merged set (λ f. only_used nat_eq merged (not (is_overlay f)) f)
     (λ f. number-only_used merged (not (is_overlay f)) f) (λ f m. changes_kept merged (not (is_overlay f)) f)
     ∙ used_later left set (λ f. only_used nat_eq left (is_overlay f) f)
     (λ f. number-only_used left (is_overlay f) f) (λ f m. changes_kept left (is_overlay f) f)
@@ -95,8 +92,7 @@ raised_part before w set name number is_used =
     retasked renamed set set (map (raised_task name) w.tasks) (raised w.change)
     (raised_sees renamed set name (raised w.change))
     ∙ (λ i. record (part_with_files (settled nat_eq w) set (raise number) (raise_numbered number)
-    (λ x m. raise_overlaid number x)
-    (λ x unused. raise_kept number x
+    (λ x m. raise_overlaid number x) (λ x unused. raise_kept number x
     (apart_from number (used_filesystems nat_eq (settled nat_eq w) set) is_used x.number unused
     (nat_eq number x.number) refl)) i) {
       namespaces = filter (λ (n : Namespace ℕ). is_own_namespace nat_eq w set n.number)
@@ -114,8 +110,7 @@ module _ (world : World ℕ) (names : List TaskName) (is : IsWorld nat_eq world)
     (own_go : (m : Mount ℕ) → Among m world.mounts → is_going nat_eq gone m.number ≡ true
     → is_own world names (members world names) m ≡ true)
     (kept_world : MountInvariants nat_eq (taken_away nat_eq world gone))
-    (kept_part : MountInvariants nat_eq (taken_away nat_eq (part_of nat_eq world names) gone))
-    (location : Location ℕ)
+    (kept_part : MountInvariants nat_eq (taken_away nat_eq (part_of nat_eq world names) gone)) (location : Location ℕ)
     (used : is_among nat_eq (mount_at nat_eq world location).filesystem (used_filesystems nat_eq world names) ≡ true)
     (alone : used_alone nat_eq world names (mount_at nat_eq world location).filesystem ≡ true)
     (still : is_among nat_eq (mount_at nat_eq world location).filesystem
@@ -168,33 +163,24 @@ module _ (world : World ℕ) (names : List TaskName) (is : IsWorld nat_eq world)
 
   -- both worlds are ready to be swept
   ready_here : Ready (without_dead_mounts nat_eq changed_here) names used_now lowers_now
-  ready_here =
-      ready_with_tree (without_dead_mounts nat_eq here) names used_now lowers_now
+  ready_here = ready_with_tree (without_dead_mounts nat_eq here) names used_now lowers_now
       (ended_ready world names is sealed_off names gone own_go (all_last world names is sealed_off gone own_go)
       world.tasks part.tasks world.change part.change (same_members world names)
       (set_stays world names is sealed_off gone own_go) (λ l m. m) (λ m n out its. its)
-      (group_lost world names is sealed_off gone own_go) kept_here)
-      old files (one_in_world world names is number used)
+      (group_lost world names is sealed_off gone own_go) kept_here) old files (one_in_world world names is number used)
       (InWorld.alone world names is sealed_off names gone own_go (all_last world names is sealed_off gone own_go)
       world.tasks part.tasks world.change part.change (same_members world names)
       (set_stays world names is sealed_off gone own_go) (λ l m. m) (λ m n out its. its)
       (group_lost world names is sealed_off gone own_go) kept_here old.number
-      (ap (used_alone nat_eq world names) is_old ∙ alone))
-      old_still
+      (ap (used_alone nat_eq world names) is_old ∙ alone)) old_still
 
   ready_there : Ready (without_dead_mounts nat_eq changed_there) names used_now lowers_now
-  ready_there =
-      ready_with_tree (without_dead_mounts nat_eq there) names used_now lowers_now
+  ready_there = ready_with_tree (without_dead_mounts nat_eq there) names used_now lowers_now
       (ended_part_ready world names is sealed_off names gone own_go (all_last world names is sealed_off gone own_go)
       world.tasks part.tasks world.change part.change (same_members world names)
       (set_stays world names is sealed_off gone own_go) all_members (λ m n out its. its)
-      (group_lost world names is sealed_off gone own_go) kept_there)
-      old files (one_in_part world names is number used)
-      (record {
-        itself = none_other old.number;
-        overlays = λ merged m has. none_other merged.number;
-      })
-      old_still
+      (group_lost world names is sealed_off gone own_go) kept_there) old files (one_in_part world names is number used)
+      (record { itself = none_other old.number; overlays = λ merged m has. none_other merged.number }) old_still
     where
       none_other : (n : ℕ) → NoOthers (without_dead_mounts nat_eq there) names n
       none_other =
@@ -205,33 +191,26 @@ module _ (world : World ℕ) (names : List TaskName) (is : IsWorld nat_eq world)
 
   -- their parts before the sweep
   abbrev is_less : AreLess world names names here there
-  is_less =
-      ended_less world names is sealed_off names gone own_go (all_last world names is sealed_off gone own_go)
+  is_less = ended_less world names is sealed_off names gone own_go (all_last world names is sealed_off gone own_go)
       world.tasks part.tasks world.change part.change (same_members world names)
       (set_stays world names is sealed_off gone own_go) (group_lost world names is sealed_off gone own_go)
 
   part_before : part_of nat_eq changed_here names ≡ with_filesystems (part_of nat_eq here names) h
-  part_before =
-      part_with_files here names h (swap_numbered old files)
+  part_before = part_with_files here names h (swap_numbered old files)
       (λ x m. swap_overlaid old files x (one_in_world world names is number used x m))
       (λ x unused. swap_kept old files x
       (apart_from old.number used_now old_still x.number unused (nat_eq old.number x.number) refl))
 
   part_before_there : part_of nat_eq changed_there names ≡ with_filesystems (part_of nat_eq there names) h
-  part_before_there =
-      part_with_files there names h (swap_numbered old files)
-      (λ x m. swap_overlaid old files x (one_in_part world names is number used x m))
-      (λ x unused. swap_kept old files x
+  part_before_there = part_with_files there names h (swap_numbered old files)
+      (λ x m. swap_overlaid old files x (one_in_part world names is number used x m)) (λ x unused. swap_kept old files x
       (apart_from old.number used_now old_still x.number
       (ap (is_among nat_eq x.number) (sym (less_used world names is names here there is_less)) ∙ unused)
       (nat_eq old.number x.number) refl))
 
   swept_alike : part_of nat_eq (settled nat_eq changed_here) names ≡ part_of nat_eq (settled nat_eq changed_there) names
-  swept_alike =
-      part_of_settled changed_here names used_now lowers_now ready_here
-      ∙ ap (swept_of names) (part_before
-      ∙ ap (λ w. with_filesystems w h) (sym (one_part world names is names here there is_less))
-      ∙ sym part_before_there)
+  swept_alike = part_of_settled changed_here names used_now lowers_now ready_here ∙ ap (swept_of names) (part_before
+      ∙ ap (λ w. with_filesystems w h) (sym (one_part world names is names here there is_less)) ∙ sym part_before_there)
       ∙ sym (part_of_settled changed_there names used_now lowers_now ready_there)
 
   abbrev spaces : List (Task ℕ) → Namespace ℕ → Bool
@@ -240,20 +219,16 @@ module _ (world : World ℕ) (names : List TaskName) (is : IsWorld nat_eq world)
   pub changed_parts : (name : TaskName)
       → part_of nat_eq (numbers_raised nat_eq world name (old.number ∷ []) (settled nat_eq changed_here)) names
       ≡ part_of nat_eq (numbers_raised nat_eq part name (old.number ∷ []) (settled nat_eq changed_there)) names
-  changed_parts name =
-      raised_part world changed_here names name old.number
+  changed_parts name = raised_part world changed_here names name old.number
       (ap (is_among nat_eq old.number) (settled_used changed_here names used_now lowers_now ready_here) ∙ old_still)
       ∙ (λ i. record (with_filesystems (swept_alike i) (raise old.number)) {
         namespaces = (sym (raised_alike world names is sealed_off names gone own_go
             (all_last world names is sealed_off gone own_go) world.tasks part.tasks world.change part.change
             (same_members world names) (set_stays world names is sealed_off gone own_go)
-            (group_lost world names is sealed_off gone own_go))
-            ∙ ap (λ ts. filter (spaces ts)
+            (group_lost world names is sealed_off gone own_go)) ∙ ap (λ ts. filter (spaces ts)
             (map (raised_namespace nat_eq part (settled nat_eq there)) there.namespaces))
             (sym (same_members world names))) i;
-        tasks = (raised_members names name world.tasks
-            ∙ ap (map (raised_task name)) (sym (same_members world names))
+        tasks = (raised_members names name world.tasks ∙ ap (map (raised_task name)) (sym (same_members world names))
             ∙ sym (raised_members names name part.tasks)) i;
-      })
-      ∙ sym (raised_part part changed_there names name old.number
+      }) ∙ sym (raised_part part changed_there names name old.number
       (ap (is_among nat_eq old.number) (settled_used changed_there names used_now lowers_now ready_there) ∙ old_still))

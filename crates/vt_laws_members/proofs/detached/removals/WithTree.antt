@@ -60,8 +60,7 @@ module _ (a : World ℕ) (set : List TaskName) (used : List ℕ) (lowers : List 
     where
       by : (x : Filesystem ℕ) → Among x a.filesystems → y ≡ h x → (b : Bool) → nat_eq old.number x.number ≡ b
           → (y.number ≡ old.number) ⊎ ((x : Filesystem ℕ) × Among x a.filesystems × (y ≡ x))
-      by x n same true e =
-          inl (ap (λ (f : Filesystem ℕ). f.number) same ∙ swap_numbered old files x
+      by x n same true e = inl (ap (λ (f : Filesystem ℕ). f.number) same ∙ swap_numbered old files x
           ∙ sym (eqb-true old.number x.number e))
       by x n same false e = inr (x, n, same ∙ swap_kept old files x e)
 
@@ -75,21 +74,17 @@ module _ (a : World ℕ) (set : List TaskName) (used : List ℕ) (lowers : List 
     overlays = λ y m has. let from = was y m in
         let none : NoOthers a set from.0.number = its.overlays from.0 from.1
         (sym (layered_was n from.0 from.1) ∙ ap (has_layer_on nat_eq n) (sym from.2) ∙ has) in
-        subst (NoOthers later set)
-        (sym (ap (λ (f : Filesystem ℕ). f.number) from.2 ∙ swap_numbered old files from.0))
+        subst (NoOthers later set) (sym (ap (λ (f : Filesystem ℕ). f.number) from.2 ∙ swap_numbered old files from.0))
         (record { mounts = none.mounts; locations = none.locations });
   }
 
   free_still : (y : Filesystem ℕ) → Among y later.filesystems → is_among nat_eq y.number used ≡ true
       → Alone later set y.number ⊎ AllNamed y
-  free_still y m u =
-      ⊎_elim (λ same. inl (subst (Alone later set) (sym same) (alone_still old.number alone)))
-      (λ from.
+  free_still y m u = ⊎_elim (λ same. inl (subst (Alone later set) (sym same) (alone_still old.number alone))) (λ from.
       let x : Filesystem ℕ = from.0 in
       subst (λ (f : Filesystem ℕ). Alone later set f.number ⊎ AllNamed f) (sym from.2)
       (⊎_elim (λ its. inl (alone_still x.number its)) (λ named. inr named)
-      (it.free x from.1 (ap (λ (f : Filesystem ℕ). is_among nat_eq f.number used) (sym from.2) ∙ u))))
-      (which y m)
+      (it.free x from.1 (ap (λ (f : Filesystem ℕ). is_among nat_eq f.number used) (sym from.2) ∙ u)))) (which y m)
 
   plain_still : (y merged : Filesystem ℕ) → Among y later.filesystems → Among merged later.filesystems
       → has_layer_on nat_eq y.number merged ≡ true → y.overlay ≡ None
@@ -106,14 +101,12 @@ module _ (a : World ℕ) (set : List TaskName) (used : List ℕ) (lowers : List 
 
   cut_still : (y : Filesystem ℕ) → Among y later.filesystems → is_among nat_eq y.number used ≡ false
       → list_any (λ (layer : Layer ℕ). nat_eq y.number layer.filesystem) lowers ≡ true → IsCut y.number lowers y.files
-  cut_still y m unused low =
-      ⊎_elim
+  cut_still y m unused low = ⊎_elim
       (λ same. absurd (true≢false (sym in_use ∙ ap (λ n. is_among nat_eq n used) (sym same) ∙ unused)))
       (λ from. subst (λ (f : Filesystem ℕ). IsCut f.number lowers f.files) (sym from.2)
       (it.cut from.0 from.1 (ap (λ (f : Filesystem ℕ). is_among nat_eq f.number used) (sym from.2) ∙ unused)
       (ap (λ (f : Filesystem ℕ). list_any (λ (layer : Layer ℕ). nat_eq f.number layer.filesystem) lowers) (sym from.2)
-      ∙ low)))
-      (which y m)
+      ∙ low))) (which y m)
 
   pub ready_with_tree : Ready later set used lowers
   ready_with_tree = record {
@@ -129,8 +122,7 @@ module _ (a : World ℕ) (set : List TaskName) (used : List ℕ) (lowers : List 
     stood = it.stood;
     one_filesystem = pair-map (λ (x y : Filesystem ℕ). nat_eq x.number y.number)
         (λ (x y : Filesystem ℕ). nat_eq x.number y.number) h a.filesystems
-        (λ x y m n e. (λ i. nat_eq (swap_numbered old files x i) (swap_numbered old files y i)) ∙ e)
-        it.one_filesystem;
+        (λ x y m n e. (λ i. nat_eq (swap_numbered old files x i) (swap_numbered old files y i)) ∙ e) it.one_filesystem;
     plain = plain_still;
     free = free_still;
     cut = cut_still;

@@ -79,17 +79,13 @@ either true plain merged = merged refl
 either false plain merged = plain refl
 
 module _ (world : World ℕ) (names : List TaskName) (name : TaskName) (call : Call)
-    (it : IsCallOfTheirs world names name call)
-    (fresh : Fresh ℕ) where
+    (it : IsCallOfTheirs world names name call) (fresh : Fresh ℕ) where
   -- by its permit
   fit_ends : only_looks call ≡ false → ((task : Task ℕ) → task_called world name ≡ Some task → (permit : Permit ℕ)
       → judge_in nat_eq fresh world task call ≡ Ok permit → Fits call permit
-      → EndsAlike world names name call fresh fresh)
-      → EndsAlike world names name call fresh fresh
-  fit_ends looks ends =
-      by_permit world names name call it fresh fresh looks (λ task called permit judged.
-      ends task called permit judged
-      (permits_fit world fresh task call permit
+      → EndsAlike world names name call fresh fresh) → EndsAlike world names name call fresh fresh
+  fit_ends looks ends = by_permit world names name call it fresh fresh looks (λ task called permit judged.
+      ends task called permit judged (permits_fit world fresh task call permit
       (calls_are_granted nat_eq (looks_of nat_eq world) (overfills nat_eq fresh world task) task call permit judged)))
 
   module _ (serves : Serves nat_eq world fresh) (task : Task ℕ) (called : task_called world name ≡ Some task) where
@@ -115,8 +111,7 @@ pub each_mkdir_ends_alike : EachMkdirEndsAlike
 each_mkdir_ends_alike world names name path mode it fresh serves =
     fit_ends world names name (Mkdir path mode) it fresh refl (λ task called.
     making_ends world names name (Mkdir path mode) it fresh serves task called
-    (mkdirs_end_alike world names name path mode)
-    (overlay_mkdirs_end_alike world names name path mode))
+    (mkdirs_end_alike world names name path mode) (overlay_mkdirs_end_alike world names name path mode))
 
 pub each_symlink_ends_alike : EachSymlinkEndsAlike
 each_symlink_ends_alike world names name text path it fresh serves =
@@ -140,8 +135,7 @@ pub each_chmod_ends_alike : EachChmodEndsAlike
 each_chmod_ends_alike world names name path mode it fresh serves =
     fit_ends world names name (Chmod path mode) it fresh refl (λ task called.
     change_ends world names name (Chmod path mode) it fresh serves task called
-    (chmods_end_alike world names name path mode)
-    (overlay_chmods_end_alike world names name path mode))
+    (chmods_end_alike world names name path mode) (overlay_chmods_end_alike world names name path mode))
 
 pub each_chown_ends_alike : EachChownEndsAlike
 each_chown_ends_alike world names name path uid gid it fresh serves =
@@ -173,8 +167,7 @@ each_open_ends_alike world names name path access how it fresh serves =
     of : (task : Task ℕ) → task_called world name ≡ Some task → (permit : Permit ℕ)
         → judge_in nat_eq fresh world task (OpenFile path access how) ≡ Ok permit → Opens permit
         → EndsAlike world names name (OpenFile path access how) fresh fresh
-    of task called (ToOpen file wanted) judged any =
-        either (is_copied_up nat_eq world file wanted)
+    of task called (ToOpen file wanted) judged any = either (is_copied_up nat_eq world file wanted)
         (opens_end_alike world names name path access how it task called fresh fresh file wanted judged)
         (overlay_opens_end_alike world names name path access how it task called fresh serves file wanted judged)
     of task called (ToOpenNew directory entry node wanted) judged any =
@@ -203,8 +196,7 @@ each_part_write_ends_alike world names name descriptor offset (byte ∷ bytes) i
         → judge_in nat_eq fresh world task (Pwrite descriptor offset (byte ∷ bytes)) ≡ Ok permit
         → WritesPart (byte ∷ bytes) permit
         → EndsAlike world names name (Pwrite descriptor offset (byte ∷ bytes)) fresh fresh
-    of task called (ToWritePart file at written) judged same =
-        either (is_overlay (filesystem_at nat_eq world file))
+    of task called (ToWritePart file at written) judged same = either (is_overlay (filesystem_at nat_eq world file))
         (part_writes_end_alike world names name descriptor offset byte bytes it task called fresh fresh file at written
         judged)
         (overlay_part_writes_end_alike world names name descriptor offset byte bytes it task called fresh serves file at

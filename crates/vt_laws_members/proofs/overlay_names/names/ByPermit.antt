@@ -13,8 +13,7 @@ use Rattle.vt_laws_members.proofs.changes.looks.Told.{ran}
 use Rattle.vt_laws_members.proofs.changes.tasks.Denied.{denial_ends_alike, run_by, unnamed_ends_alike}
 
 module _ (world : World ℕ) (names : List TaskName) (name : TaskName) (call : Call)
-    (it : IsCallOfTheirs world names name call)
-    (fresh other : Fresh ℕ) (looks : only_looks call ≡ false) where
+    (it : IsCallOfTheirs world names name call) (fresh other : Fresh ℕ) (looks : only_looks call ≡ false) where
   pub by_permit : ((task : Task ℕ) → task_called world name ≡ Some task → (permit : Permit ℕ)
       → judge_in nat_eq fresh world task call ≡ Ok permit → EndsAlike world names name call fresh other)
       → EndsAlike world names name call fresh other
@@ -23,8 +22,7 @@ module _ (world : World ℕ) (names : List TaskName) (name : TaskName) (call : C
       judged_by : (task : Task ℕ) → task_called world name ≡ Some task → (j : Judgement ℕ)
           → judge_in nat_eq fresh world task call ≡ j → EndsAlike world names name call fresh other
       judged_by task called (Ok permit) judged = granted_so task called permit judged
-      judged_by task called (Err deny) judged =
-          denial_ends_alike world names name call it fresh other
+      judged_by task called (Err deny) judged = denial_ends_alike world names name call it fresh other
           (ap (λ o. is_ok (ran name call world fresh o).answer) called
           ∙ ap (λ j. is_ok (run_by world names name call it fresh other world fresh task j).answer) judged
           ∙ ap (λ b. is_ok (finished_by nat_eq (b || true) world name [] (denied world deny)).answer) looks)

@@ -74,8 +74,7 @@ module _ (world : World ℕ) (names : List TaskName) (is : IsWorld nat_eq world)
       (group_lost world names is sealed_off gone own_go) kept_here
 
   none_other : (n : ℕ) → NoOthers living_part names n
-  none_other =
-      InPart.alone world names is sealed_off names gone own_go (all_last world names is sealed_off gone own_go)
+  none_other = InPart.alone world names is sealed_off names gone own_go (all_last world names is sealed_off gone own_go)
       world.tasks part.tasks world.change part.change (same_members world names)
       (set_stays world names is sealed_off gone own_go) all_members (λ m n out its. its)
       (group_lost world names is sealed_off gone own_go) kept_there
@@ -87,34 +86,28 @@ module _ (world : World ℕ) (names : List TaskName) (is : IsWorld nat_eq world)
       (theirs_there : ChangesTheirs living_part names used_now step) where
     -- both worlds are ready to be swept
     ready_here : Ready (without_dead_mounts nat_eq (with_filesystems here step)) names used_now lowers_now
-    ready_here =
-        stepped_ready living names used_now lowers_now
+    ready_here = stepped_ready living names used_now lowers_now
         (ended_ready world names is sealed_off names gone own_go (all_last world names is sealed_off gone own_go)
         world.tasks part.tasks world.change part.change (same_members world names)
         (set_stays world names is sealed_off gone own_go) (λ l m. m) (λ m n out its. its)
-        (group_lost world names is sealed_off gone own_go) kept_here)
-        step theirs
+        (group_lost world names is sealed_off gone own_go) kept_here) step theirs
 
     ready_there : Ready (without_dead_mounts nat_eq (with_filesystems there step)) names used_now lowers_now
-    ready_there =
-        stepped_ready living_part names used_now lowers_now
+    ready_there = stepped_ready living_part names used_now lowers_now
         (ended_part_ready world names is sealed_off names gone own_go (all_last world names is sealed_off gone own_go)
         world.tasks part.tasks world.change part.change (same_members world names)
         (set_stays world names is sealed_off gone own_go) all_members (λ m n out its. its)
-        (group_lost world names is sealed_off gone own_go) kept_there)
-        step theirs_there
+        (group_lost world names is sealed_off gone own_go) kept_there) step theirs_there
 
     -- their parts before the sweep
     abbrev is_less : AreLess world names names here there
-    is_less =
-        ended_less world names is sealed_off names gone own_go (all_last world names is sealed_off gone own_go)
+    is_less = ended_less world names is sealed_off names gone own_go (all_last world names is sealed_off gone own_go)
         world.tasks part.tasks world.change part.change (same_members world names)
         (set_stays world names is sealed_off gone own_go) (group_lost world names is sealed_off gone own_go)
 
     parts_before : part_of nat_eq (with_filesystems here step) names
         ≡ part_of nat_eq (with_filesystems there step) names
-    parts_before =
-        part_with_layers here names step theirs.numbered theirs.changing theirs.lowering theirs.kept
+    parts_before = part_with_layers here names step theirs.numbered theirs.changing theirs.lowering theirs.kept
         ∙ ap (λ w. with_filesystems w step) (sym (one_part world names is names here there is_less))
         ∙ sym (part_with_layers there names step theirs_there.numbered theirs_there.changing theirs_there.lowering
         (λ x unused. theirs_there.kept x
@@ -122,8 +115,7 @@ module _ (world : World ℕ) (names : List TaskName) (is : IsWorld nat_eq world)
 
     swept_alike : part_of nat_eq (settled nat_eq (with_filesystems here step)) names
         ≡ part_of nat_eq (settled nat_eq (with_filesystems there step)) names
-    swept_alike =
-        part_of_settled (with_filesystems here step) names used_now lowers_now ready_here
+    swept_alike = part_of_settled (with_filesystems here step) names used_now lowers_now ready_here
         ∙ ap (swept_of names) parts_before
         ∙ sym (part_of_settled (with_filesystems there step) names used_now lowers_now ready_there)
 
@@ -140,12 +132,10 @@ module _ (world : World ℕ) (names : List TaskName) (is : IsWorld nat_eq world)
           namespaces = (sym (raised_alike world names is sealed_off names gone own_go
               (all_last world names is sealed_off gone own_go) world.tasks part.tasks world.change part.change
               (same_members world names) (set_stays world names is sealed_off gone own_go)
-              (group_lost world names is sealed_off gone own_go))
-              ∙ ap (λ ts. filter (spaces ts)
+              (group_lost world names is sealed_off gone own_go)) ∙ ap (λ ts. filter (spaces ts)
               (map (raised_namespace nat_eq part (settled nat_eq there)) there.namespaces))
               (sym (same_members world names))) i;
-          tasks = (raised_members names name world.tasks
-              ∙ ap (map (raised_task name)) (sym (same_members world names))
+          tasks = (raised_members names name world.tasks ∙ ap (map (raised_task name)) (sym (same_members world names))
               ∙ sym (raised_members names name part.tasks)) i;
         })
         ∙ sym (raised_part (with_filesystems there step) names used_now lowers_now ready_there numbers used part name)

@@ -48,8 +48,7 @@ plain_mark world location change none asked = absurd none
 pub all_opaques_end_alike : AllOpaquesEndAlike
 all_opaques_end_alike world names name path mark it fresh other =
     by_permit world names name call it fresh other refl (λ task called permit judged.
-    granted_so task called permit
-    (opaques_mark world fresh task call permit
+    granted_so task called permit (opaques_mark world fresh task call permit
     (calls_are_granted nat_eq (looks_of nat_eq world) (overfills nat_eq fresh world task) task call permit judged) path
     mark refl) judged judged)
   where
@@ -81,8 +80,7 @@ whiteouts_made world fresh task asked permit granted path e = absurd cc
 pub all_whiteouts_end_alike : AllWhiteoutsEndAlike
 all_whiteouts_end_alike world names name path it fresh serves =
     by_permit world names name call it fresh fresh refl (λ task called permit judged.
-    granted_so task called permit
-    (whiteouts_made world fresh task call permit
+    granted_so task called permit (whiteouts_made world fresh task call permit
     (calls_are_granted nat_eq (looks_of nat_eq world) (overfills nat_eq fresh world task) task call permit judged) path
     refl) judged)
   where
@@ -93,8 +91,7 @@ all_whiteouts_end_alike world names name path it fresh serves =
         (node : Node ℕ) → is_kind White (kind_of node.content) ≡ true
         → judge_in nat_eq fresh world task call ≡ Ok (ToMake directory entry node) → (b : Bool)
         → is_overlay (filesystem_at nat_eq world directory) ≡ b → EndsAlike world names name call fresh fresh
-    made_so task called directory entry node white judged true is =
-        absurd (true≢false (sym white
+    made_so task called directory entry node white judged true is = absurd (true≢false (sym white
         ∙ (permits_ask_well world fresh task call (ToMake directory entry node) it.is serves
         (ap (task_called world) (sym (name_found world name task called)) ∙ called) judged).0.1 is))
     made_so task called directory entry node white judged false is =

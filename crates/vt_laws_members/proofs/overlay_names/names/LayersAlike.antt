@@ -26,8 +26,7 @@ ViewsAlike one other = (path : List (List ℕ)) → node_led (view_of one) path 
 module _ (one other : OpenLayer ℕ) (down : one.directory ≡ other.directory) (same : ViewsAlike one other) where
   node_same : (way : List (List ℕ)) (k : ℕ) → led one.tree one.directory way ≡ Some k
       → led other.tree other.directory way ≡ Some k → one.tree.node k ≡ other.tree.node k
-  node_same way k e f =
-      sym (ap (λ o. then_some o one.tree.node) e) ∙ same way ∙ ap (λ o. then_some o other.tree.node) f
+  node_same way k e f = sym (ap (λ o. then_some o one.tree.node) e) ∙ same way ∙ ap (λ o. then_some o other.tree.node) f
 
   leads_on : (path way : List (List ℕ)) (k : ℕ) → led one.tree one.directory way ≡ Some k
       → led other.tree other.directory way ≡ Some k → led one.tree k path ≡ led other.tree k path
@@ -42,15 +41,12 @@ module _ (one other : OpenLayer ℕ) (down : one.directory ≡ other.directory) 
           → led one.tree next rest ≡ led other.tree next rest)
           → option_and_then (λ next. led one.tree next rest) o ≡ option_and_then (λ next. led other.tree next rest) o
       by None there later = refl
-      by (Some next) there later =
-          later next
-          (led-append one.tree one.directory way word k next e
+      by (Some next) there later = later next (led-append one.tree one.directory way word k next e
           (ap (λ n. entry_named word (entries_in n)) (node_same way k e f) ∙ there))
           (led-append other.tree other.directory way word k next f there)
 
   pub leads_alike : (path : List (List ℕ)) → (view_of one).leads path ≡ (view_of other).leads path
-  leads_alike path =
-      leads_on path [] one.directory refl (ap Some (sym down)) ∙ ap (λ d. led other.tree d path) down
+  leads_alike path = leads_on path [] one.directory refl (ap Some (sym down)) ∙ ap (λ d. led other.tree d path) down
 
   pub cuts_alike : (path : List (List ℕ)) → cuts (view_of one) path ≡ cuts (view_of other) path
   cuts_alike path i = list_any (λ prefix. hides (same prefix i)) (prefixes path)
@@ -60,8 +56,7 @@ abbrev pub AllAlike : List (OpenLayer ℕ) → List (OpenLayer ℕ) → Type 0
 AllAlike [] [] = ⊤
 AllAlike [] (other ∷ others) = ⊥
 AllAlike (one ∷ ones) [] = ⊥
-AllAlike (one ∷ ones) (other ∷ others) =
-    (one.directory ≡ other.directory) × ViewsAlike one other × AllAlike ones others
+AllAlike (one ∷ ones) (other ∷ others) = (one.directory ≡ other.directory) × ViewsAlike one other × AllAlike ones others
 
 -- the same object is shown
 shown_alike : (ones others : List (OpenLayer ℕ)) → AllAlike ones others → (depth : ℕ) (path : List (List ℕ))
@@ -72,11 +67,9 @@ shown_alike (one ∷ ones) [] none depth path = absurd none
 shown_alike (one ∷ ones) (other ∷ others) same depth path =
     let leads = leads_alike one other same.0 same.1 path in
     ap (λ o. shown_over (view_of one) depth o (cuts (view_of one) path)
-    (shown_from (depth + 1) (map view_of ones) path))
-    leads
+    (shown_from (depth + 1) (map view_of ones) path)) leads
     ∙ (λ i. shown_over (view_of one) depth ((view_of other).leads path) (cuts_alike one other same.0 same.1 path i)
-    (shown_alike ones others same.2 (depth + 1) path i))
-    ∙ by ((view_of other).leads path) refl
+    (shown_alike ones others same.2 (depth + 1) path i)) ∙ by ((view_of other).leads path) refl
   where
     lower : Option (Shown ℕ)
     lower = shown_from (depth + 1) (map view_of others) path
@@ -90,8 +83,7 @@ shown_alike (one ∷ ones) (other ∷ others) same depth path =
             ≡ shown_over (view_of other) depth None b lower
         same_none true = refl
         same_none false = refl
-    by (Some object) e =
-        ap (λ n. when (not (is_kind_in White n)) (record { layer = depth; object = object }))
+    by (Some object) e = ap (λ n. when (not (is_kind_in White n)) (record { layer = depth; object = object }))
         (node_same one other same.0 same.1 path object (leads_alike one other same.0 same.1 path ∙ e) e)
 
 -- of one kind
@@ -99,8 +91,7 @@ abbrev is_directory_at : ℕ → OpenLayer ℕ → Bool
 is_directory_at object layer = is_directory_node (layer.tree.node object)
 
 kind_alike : (ones others : List (OpenLayer ℕ)) → AllAlike ones others → (depth : ℕ) (path : List (List ℕ))
-    (seen : Shown ℕ) → shown_from depth (map view_of others) path ≡ Some seen
-    → (n : ℕ) × (seen.layer ≡ depth + n)
+    (seen : Shown ℕ) → shown_from depth (map view_of others) path ≡ Some seen → (n : ℕ) × (seen.layer ≡ depth + n)
     × (holds_of (is_directory_at seen.object) (slice_get ones n)
     ≡ holds_of (is_directory_at seen.object) (slice_get others n))
 kind_alike [] [] same depth path seen e = none_is_some seen e
@@ -111,8 +102,7 @@ kind_alike (one ∷ ones) (other ∷ others) same depth path seen e =
     (kind_alike ones others same.2 (depth + 1) path seen)
   where
     first : (object : ℕ) → (view_of other).leads path ≡ Some object → (white : Bool)
-        → when (not white) (record { layer = depth; object = object }) ≡ Some seen
-        → (n : ℕ) × (seen.layer ≡ depth + n)
+        → when (not white) (record { layer = depth; object = object }) ≡ Some seen → (n : ℕ) × (seen.layer ≡ depth + n)
         × (holds_of (is_directory_at seen.object) (slice_get (one ∷ ones) n)
         ≡ holds_of (is_directory_at seen.object) (slice_get (other ∷ others) n))
     first object there true h = none_is_some seen h
@@ -129,8 +119,7 @@ kind_alike (one ∷ ones) (other ∷ others) same depth path seen e =
         → shown_over (view_of other) depth o b (shown_from (depth + 1) (map view_of others) path) ≡ Some seen
         → (shown_from (depth + 1) (map view_of others) path ≡ Some seen → (n : ℕ) × (seen.layer ≡ (depth + 1) + n)
         × (holds_of (is_directory_at seen.object) (slice_get ones n)
-        ≡ holds_of (is_directory_at seen.object) (slice_get others n)))
-        → (n : ℕ) × (seen.layer ≡ depth + n)
+        ≡ holds_of (is_directory_at seen.object) (slice_get others n))) → (n : ℕ) × (seen.layer ≡ depth + n)
         × (holds_of (is_directory_at seen.object) (slice_get (one ∷ ones) n)
         ≡ holds_of (is_directory_at seen.object) (slice_get (other ∷ others) n))
     by (Some object) there b h later = first object there (is_kind_in White ((view_of other).node object)) h
@@ -144,8 +133,7 @@ kind_alike (one ∷ ones) (other ∷ others) same depth path seen e =
 
 -- Two stacks of one directory and one mounter
 module _ (one other : Stack ℕ) (directory_same : one.directory ≡ other.directory)
-    (mounter_same : one.mounter ≡ other.mounter)
-    (same : AllAlike one.lowers other.lowers) where
+    (mounter_same : one.mounter ≡ other.mounter) (same : AllAlike one.lowers other.lowers) where
   lowers_shown : (merge : Merge ℕ) (directory : ℕ) (name : List ℕ)
       → shown_in_lowers_at nat_eq one merge directory name ≡ shown_in_lowers_at nat_eq other merge directory name
   lowers_shown merge directory name i =
@@ -157,8 +145,7 @@ module _ (one other : Stack ℕ) (directory_same : one.directory ≡ other.direc
       → hides_directory nat_eq one merge directory name ≡ hides_directory nat_eq other merge directory name
   hides_same merge directory name =
       (λ i. is_directory_shown (record { tree = merge.upper.tree; directory = directory_same i } ∷ one.lowers)
-      (lowers_shown merge directory name i))
-      ∙ by (cuts (view_of top) (without_last path))
+      (lowers_shown merge directory name i)) ∙ by (cuts (view_of top) (without_last path))
     where
       path : List (List ℕ)
       path = path_to nat_eq merge directory name
@@ -172,8 +159,7 @@ module _ (one other : Stack ℕ) (directory_same : one.directory ≡ other.direc
       of_seen (Some seen) e =
           let at = kind_alike one.lowers other.lowers same 1 path seen e in
           let place : seen.layer ≡ suc at.0 = (let h : 1 + at.0 ≡ suc at.0 = omega arith in at.1 ∙ h) in
-          ap (λ n. holds_of (is_directory_at seen.object) (slice_get (top ∷ one.lowers) n)) place
-          ∙ at.2
+          ap (λ n. holds_of (is_directory_at seen.object) (slice_get (top ∷ one.lowers) n)) place ∙ at.2
           ∙ sym (ap (λ n. holds_of (is_directory_at seen.object) (slice_get (top ∷ other.lowers) n)) place)
 
       by : (b : Bool)
@@ -186,8 +172,7 @@ module _ (one other : Stack ℕ) (directory_same : one.directory ≡ other.direc
       → name_left nat_eq fresh one merge upper directory name ≡ name_left nat_eq fresh other merge upper directory name
   left_same fresh merge upper directory name =
       ap (λ o. name_left_by nat_eq (is_some o) fresh one upper (upper_of merge directory) name)
-      (lowers_shown merge directory name)
-      ∙ by (is_some (shown_in_lowers_at nat_eq other merge directory name))
+      (lowers_shown merge directory name) ∙ by (is_some (shown_in_lowers_at nat_eq other merge directory name))
     where
       by : (b : Bool) → name_left_by nat_eq b fresh one upper (upper_of merge directory) name
           ≡ name_left_by nat_eq b fresh other upper (upper_of merge directory) name
@@ -207,18 +192,15 @@ module _ (one other : Stack ℕ) (directory_same : one.directory ≡ other.direc
       made copied b = record {
         files = changed nat_eq copied.files (Make directory name number node);
         real = with_real nat_eq copied.real number (Upper (odds fresh 0));
-        upper = with_mark nat_eq b (with_name nat_eq
-            (with_inode nat_eq copied.upper (odds fresh 0)
+        upper = with_mark nat_eq b (with_name nat_eq (with_inode nat_eq copied.upper (odds fresh 0)
             (record { attr = node.attr; content = content_with_parent (upper_of copied directory) node.content }))
             (upper_of copied directory) name (odds fresh 0)) (odds fresh 0);
       }
   made_same fresh merge (AddName directory name object) = refl
-  made_same fresh merge (Remove directory name object) =
-      ap (λ u. record copied {
-        files = changed nat_eq copied.files (Remove directory name object);
-        upper = without_contents nat_eq u (upper_directory_named copied directory name);
-      })
-      (left_same (odds fresh) copied copied.upper directory name)
+  made_same fresh merge (Remove directory name object) = ap (λ u. record copied {
+    files = changed nat_eq copied.files (Remove directory name object);
+    upper = without_contents nat_eq u (upper_directory_named copied directory name);
+  }) (left_same (odds fresh) copied copied.upper directory name)
     where
       copied : Merge ℕ
       copied = copied_up nat_eq (evens fresh) merge directory

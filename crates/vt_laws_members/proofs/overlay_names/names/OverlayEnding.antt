@@ -51,13 +51,10 @@ pub tasks_stay : (world : World ℕ) (names : List TaskName) (is : IsWorld nat_e
 tasks_stay world names is sealed_off = record {
   own = λ n. refl;
   roots = λ l m. let from = among-from_flat_map (λ (t : Task ℕ). t.root ∷ t.directory ∷ []) (members world names) l m in
-      ⊎_elim
+      ⊎_elim (λ e. subst (λ (k : Location ℕ). IsTheirs world names is.mounts k.mount) (sym e)
+      (root_theirs world names is from.0 from.1)) (λ rest. ⊎_elim
       (λ e. subst (λ (k : Location ℕ). IsTheirs world names is.mounts k.mount) (sym e)
-      (root_theirs world names is from.0 from.1))
-      (λ rest. ⊎_elim
-      (λ e. subst (λ (k : Location ℕ). IsTheirs world names is.mounts k.mount) (sym e)
-      (directory_theirs world names is from.0 from.1))
-      (λ none. absurd none) rest) from.2;
+      (directory_theirs world names is from.0 from.1)) (λ none. absurd none) rest) from.2;
   places = λ l m. inl m;
   others = λ l m. m;
 }
@@ -94,9 +91,7 @@ module _ (world : World ℕ) (names : List TaskName) (name : TaskName) (call : C
   supply = numbers_left fresh permit
 
   on : IsTheirs world names it.is.mounts location.mount
-  on =
-      theirs_from world names it.is.mounts location.mount
-      (granted_theirs world names it.is it.sealed_off task
+  on = theirs_from world names it.is.mounts location.mount (granted_theirs world names it.is it.sealed_off task
       (member_called world names it.is it.sealed_off name it.theirs task found) fresh call permit judged location change
       asks names_it)
 
@@ -114,24 +109,20 @@ module _ (world : World ℕ) (names : List TaskName) (name : TaskName) (call : C
 
   pub naming_through_ends : ran name call world fresh (Some task)
       ≡ finished nat_eq world name call (changed_at nat_eq world location)
-      (granted Done (with_change nat_eq supply world location change))
-      → ran name call part fresh (Some task)
+      (granted Done (with_change nat_eq supply world location change)) → ran name call part fresh (Some task)
       ≡ finished nat_eq part name call (changed_at nat_eq part location)
-      (granted Done (with_change nat_eq supply part location change))
-      → EndsAlike world names name call fresh fresh
+      (granted Done (with_change nat_eq supply part location change)) → EndsAlike world names name call fresh fresh
   naming_through_ends one two = by merged.overlay refl
     where
       layered : (overlay : Overlay ℕ) → merged.overlay ≡ Some overlay → (o : Option (Layer ℕ)) → overlay.upper ≡ o
           → EndsAlike world names name call fresh fresh
-      layered overlay overlaid None none =
-          idle_end_alike world names name call it task found fresh fresh Done stays
+      layered overlay overlaid None none = idle_end_alike world names name call it task found fresh fresh Done stays
           (one ∙ unwritten_run world name call supply location change merged overlay looks refl overlaid none)
           (two ∙ unwritten_run part name call supply location change merged overlay looks (sym alike) overlaid none)
       layered overlay overlaid (Some upper) has =
           let may = can overlay upper overlaid has in
           changed_ends world names name call it supply location change overlay upper may direct alike world.tasks
-          part.tasks
-          (tasks_stay world names it.is it.sealed_off) (same_members world names)
+          part.tasks (tasks_stay world names it.is it.sealed_off) (same_members world names)
           (λ t m. (among-from_filter (is_member_task names) world.tasks t m).1) direct task found fresh Done stays
           (one ∙ stepped_run world world name call supply location change _ _ looks
           (changed_in_world world names name call it supply location change overlay upper may direct alike)
@@ -149,8 +140,7 @@ pub overlay_makings_end : (world : World ℕ) (names : List TaskName) (name : Ta
     → only_looks call ≡ false → grown names name call (Ok Done) ≡ names → OverlayMakingEndsAlike world names name call
 overlay_makings_end world names name call looks stays it task found fresh serves directory entry node judged is =
     naming_through_ends world names name call it fresh serves task found looks stays (ToMake directory entry node)
-    judged
-    directory (Make directory.node entry (evens fresh 0) node) refl tt is
+    judged directory (Make directory.node entry (evens fresh 0) node) refl tt is
     (ap (run_by world names name call it fresh fresh world fresh task) judged)
     (ap (run_by world names name call it fresh fresh (part_of nat_eq world names) fresh task)
     (sym (same_judgement world names name call it fresh fresh task found) ∙ judged))
@@ -175,8 +165,7 @@ pub overlay_changes_end : (world : World ℕ) (names : List TaskName) (name : Ta
     → is_overlay (filesystem_at nat_eq world location) ≡ true → EndsAlike world names name call fresh fresh
 overlay_changes_end world names name call it task found fresh serves looks stays location change judged names_it is =
     naming_through_ends world names name call it fresh serves task found looks stays (ToChange location change) judged
-    location change refl names_it is
-    (ap (run_by world names name call it fresh fresh world fresh task) judged)
+    location change refl names_it is (ap (run_by world names name call it fresh fresh world fresh task) judged)
     (ap (run_by world names name call it fresh fresh (part_of nat_eq world names) fresh task)
     (sym (same_judgement world names name call it fresh fresh task found) ∙ judged))
 
@@ -192,8 +181,7 @@ links_name world fresh task asked permit other_way first second e location chang
 pub overlay_links_end_alike : OverlayLinksEndAlike
 overlay_links_end_alike world names name first second it task found fresh serves location change judged is =
     overlay_changes_end world names name (LinkTo first second) it task found fresh serves refl refl location change
-    judged
-    (links_name world fresh task (LinkTo first second) (ToChange location change)
+    judged (links_name world fresh task (LinkTo first second) (ToChange location change)
     (calls_are_granted nat_eq (looks_of nat_eq world) (overfills nat_eq fresh world task) task (LinkTo first second)
     (ToChange location change) judged) first second refl location change refl) is
 

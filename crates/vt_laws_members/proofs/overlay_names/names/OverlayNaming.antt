@@ -48,8 +48,7 @@ all_alike : (one other : World ℕ) (list : List (Layer ℕ))
     → ((l : Layer ℕ) → Among l list → ViewsAlike (open_layer nat_eq one l) (open_layer nat_eq other l))
     → AllAlike (map (open_layer nat_eq one) list) (map (open_layer nat_eq other) list)
 all_alike one other [] same = tt
-all_alike one other (l ∷ rest) same =
-    (refl, same l (inl refl), all_alike one other rest (λ k m. same k (inr m)))
+all_alike one other (l ∷ rest) same = (refl, same l (inl refl), all_alike one other rest (λ k m. same k (inr m)))
 
 -- They use alone each overlay that they use, and the filesystem of its upper layer: neither is wholly locked.
 module _ (world : World ℕ) (names : List TaskName) (is : IsWorld nat_eq world)
@@ -58,8 +57,7 @@ module _ (world : World ℕ) (names : List TaskName) (is : IsWorld nat_eq world)
     (direct : Among number (used_directly nat_eq world names)) where
   free : (n : ℕ) → is_among nat_eq n (used_filesystems nat_eq world names) ≡ true
       → (wholly_locked nat_eq world names n ≡ true → ⊥) → used_alone nat_eq world names n ≡ true
-  free n used whole =
-      ⊎_elim (λ h. h) (λ locked. absurd (whole locked))
+  free n used whole = ⊎_elim (λ h. h) (λ locked. absurd (whole locked))
       (or_cases (used_alone nat_eq world names n) (wholly_locked nat_eq world names n)
       (used_are_free world names sealed_off n (among_numbers (used_filesystems nat_eq world names) n used)))
 
@@ -67,8 +65,7 @@ module _ (world : World ℕ) (names : List TaskName) (is : IsWorld nat_eq world)
   no_layer : wholly_locked nat_eq world names number ≡ true → ⊥
   no_layer locked =
       let how = whole_how world names is sealed_off number locked in
-      true≢false
-      (sym (ap (λ o. is_some o) overlaid)
+      true≢false (sym (ap (λ o. is_some o) overlaid)
       ∙ ap (λ n. is_overlay (filesystem_numbered nat_eq world n)) how.inside
       ∙ layer_plain world names is how.merged (among-from_filter is_overlay world.filesystems how.merged how.overlaid).0
       how.layer how.layered)
@@ -79,8 +76,7 @@ module _ (world : World ℕ) (names : List TaskName) (is : IsWorld nat_eq world)
   -- and an upper layer is no lower one
   pub upper_alone : (upper : Layer ℕ) → overlay.upper ≡ Some upper
       → used_alone nat_eq world names upper.filesystem ≡ true
-  upper_alone upper has =
-      free upper.filesystem (upper_in_use world names number overlay upper overlaid has direct)
+  upper_alone upper has = free upper.filesystem (upper_in_use world names number overlay upper overlaid has direct)
       (not_whole world names is sealed_off (filesystem_numbered nat_eq world number)
       (overlay_there world names is number overlay overlaid) overlay overlaid upper
       (among-append_left (option_to_list overlay.upper) (option_to_list overlay.work) upper
@@ -121,13 +117,11 @@ module _ (world : World ℕ) (names : List TaskName) (name : TaskName) (call : C
   two_number = found_numbered upper.filesystem world.filesystems
 
   pub one_alone : used_alone nat_eq world names one.number ≡ true
-  one_alone =
-      ap (used_alone nat_eq world names) one_number
+  one_alone = ap (used_alone nat_eq world names) one_number
       ∙ merged_alone world names it.is it.sealed_off number overlay can.overlay_there direct
 
   pub two_alone : used_alone nat_eq world names two.number ≡ true
-  two_alone =
-      ap (used_alone nat_eq world names) two_number
+  two_alone = ap (used_alone nat_eq world names) two_number
       ∙ upper_alone world names it.is it.sealed_off number overlay can.overlay_there direct upper can.upper_there
 
   -- The change is one of filesystems that they use alone.
@@ -139,13 +133,11 @@ module _ (world : World ℕ) (names : List TaskName) (name : TaskName) (call : C
     stays : {A : Type 0} (default : A) (what : Overlay ℕ → A)
         → ((real : ℕ → Option (Real ℕ)) → what (record overlay { real = real }) ≡ what overlay)
         → (x : Filesystem ℕ) → Among x w.filesystems → of_overlay default what (moved x) ≡ of_overlay default what x
-    stays default what same =
-        overlays_stay supply world names location change overlay upper it.is can direct alike w
+    stays default what same = overlays_stay supply world names location change overlay upper it.is can direct alike w
         (record { one_merged = ones; one_layer = twos }) default what (λ merge. same merge.real)
 
     kept : (x : Filesystem ℕ) → is_among nat_eq x.number used ≡ false → moved x ≡ x
-    kept x unused =
-        step_kept supply world names location change overlay upper it.is can direct alike x
+    kept x unused = step_kept supply world names location change overlay upper it.is can direct alike x
         (apart one.number one_used (nat_eq one.number x.number) refl)
         (apart two.number two_used (nat_eq two.number x.number) refl)
       where
@@ -175,8 +167,7 @@ module _ (world : World ℕ) (names : List TaskName) (name : TaskName) (call : C
 
   -- lower layers show the same in the part
   lowers_same : AllAlike (map (open_layer nat_eq part) overlay.lowers) (map (open_layer nat_eq world) overlay.lowers)
-  lowers_same =
-      all_alike part world overlay.lowers (λ l m.
+  lowers_same = all_alike part world overlay.lowers (λ l m.
       lower_view world names it.is l
       (among-flat_map (λ n. lowers_in (filesystem_numbered nat_eq world n)) (used_directly nat_eq world names) number l
       direct (subst (λ o. Among l (overlay_or [] (λ (v : Overlay ℕ). v.lowers) o)) (sym can.overlay_there) m))
@@ -215,13 +206,11 @@ module _ (world : World ℕ) (names : List TaskName) (name : TaskName) (call : C
     later = record world { tasks = tasks }
 
     one_used_now : is_among nat_eq one.number (used_filesystems nat_eq later names) ≡ true
-    one_used_now =
-        ap (λ n. is_among nat_eq n (used_filesystems nat_eq later names)) one_number
+    one_used_now = ap (λ n. is_among nat_eq n (used_filesystems nat_eq later names)) one_number
         ∙ used_directly_used later names number direct_now
 
     two_used_now : is_among nat_eq two.number (used_filesystems nat_eq later names) ≡ true
-    two_used_now =
-        ap (λ n. is_among nat_eq n (used_filesystems nat_eq later names)) two_number
+    two_used_now = ap (λ n. is_among nat_eq n (used_filesystems nat_eq later names)) two_number
         ∙ upper_in_use later names number overlay upper can.overlay_there can.upper_there direct_now
 
     alone_there : (n : ℕ) → Alone
@@ -234,20 +223,15 @@ module _ (world : World ℕ) (names : List TaskName) (name : TaskName) (call : C
     }
 
     numbers_used : (n : ℕ) → Among n numbers → is_among nat_eq n (used_filesystems nat_eq later names) ≡ true
-    numbers_used n m =
-        ⊎_elim
-        (λ e. ap (λ k. is_among nat_eq k (used_filesystems nat_eq later names)) e ∙ one_used_now)
-        (λ rest. ⊎_elim
-        (λ e. ap (λ k. is_among nat_eq k (used_filesystems nat_eq later names)) e ∙ two_used_now)
+    numbers_used n m = ⊎_elim (λ e. ap (λ k. is_among nat_eq k (used_filesystems nat_eq later names)) e ∙ one_used_now)
+        (λ rest. ⊎_elim (λ e. ap (λ k. is_among nat_eq k (used_filesystems nat_eq later names)) e ∙ two_used_now)
         (λ none. absurd none) rest) m
 
     pub changed_ends : (task : Task ℕ) → task_called world name ≡ Some task → (fresh : Fresh ℕ)
-        (answer : Answer) → grown names name call (Ok answer) ≡ names
-        → ran name call world fresh (Some task)
+        (answer : Answer) → grown names name call (Ok answer) ≡ names → ran name call world fresh (Some task)
         ≡ granted answer (numbers_raised nat_eq world name numbers
         (settled nat_eq (with_filesystems (record world { tasks = tasks }) moved)))
-        → ran name call part fresh (Some task)
-        ≡ granted answer (numbers_raised nat_eq part name numbers
+        → ran name call part fresh (Some task) ≡ granted answer (numbers_raised nat_eq part name numbers
         (settled nat_eq (with_filesystems (record part { tasks = tasks_too }) moved)))
         → EndsAlike world names name call fresh fresh
     changed_ends task called fresh answer same_set =
@@ -264,5 +248,4 @@ module _ (world : World ℕ) (names : List TaskName) (name : TaskName) (call : C
         (one_in_part world names it.is number (used_directly_used world names number direct))
         (one_in_part world names it.is upper.filesystem
         (upper_in_use world names number overlay upper can.overlay_there can.upper_there direct))
-        (alone_there one.number) (alone_there two.number))
-        numbers numbers_used task called fresh fresh answer same_set
+        (alone_there one.number) (alone_there two.number)) numbers numbers_used task called fresh fresh answer same_set

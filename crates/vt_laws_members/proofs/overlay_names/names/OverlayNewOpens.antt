@@ -74,12 +74,10 @@ module _ (world : World ℕ) (names : List TaskName) (name : TaskName) (call : C
     directory = directory_theirs world names it.is task member;
     places = λ l m. ⊎_elim (λ root. inl (inl root)) (λ rest. ⊎_elim (λ directory. inl (inr (inl directory)))
         (λ open_file. let from = among-from_map at_file mine.descriptors l open_file in
-        ⊎_elim
-        (λ new. inr (subst (λ (k : Location ℕ). IsTheirs world names it.is.mounts k.mount)
+        ⊎_elim (λ new. inr (subst (λ (k : Location ℕ). IsTheirs world names it.is.mounts k.mount)
         (sym (from.2 ∙ ap at_file new)) ground))
         (λ old. inl (inr (inr (subst (λ k. Among k (map at_file task.descriptors)) (sym from.2)
-        (among-map at_file task.descriptors from.0 old)))))
-        (among-inserted _ task.descriptors from.0 from.1)) rest) m;
+        (among-map at_file task.descriptors from.0 old))))) (among-inserted _ task.descriptors from.0 from.1)) rest) m;
   }
 
   pub lets : LetsGo world names it.is it.sealed_off names (map replaced world.tasks)
@@ -95,8 +93,7 @@ module _ (world : World ℕ) (names : List TaskName) (name : TaskName) (call : C
   -- so the set uses its filesystem
   file_used : Among (mount_at nat_eq world file).filesystem
       (used_directly nat_eq (record world { tasks = map replaced world.tasks }) names)
-  file_used =
-      among-append_right
+  file_used = among-append_right
       (map (λ mount. mount.filesystem) (own_mounts nat_eq (record world { tasks = map replaced world.tasks }) names))
       (map shows (locations (members (record world { tasks = map replaced world.tasks }) names))) (shows file)
       (among-map shows (locations (members (record world { tasks = map replaced world.tasks }) names)) file
@@ -124,14 +121,12 @@ opened_run : (w : World ℕ) (name : TaskName) (path : List ℕ) (access : Acces
 opened_run w name path access how supply location change task file wanted step numbers made listed =
     ap (λ l. granted (Opened (free_number task)) (numbers_raised nat_eq w name l
     (settled nat_eq (with_task (with_change nat_eq supply w location change) (with_descriptor task file wanted)))))
-    listed
-    ∙ ap (λ v. granted (Opened (free_number task)) (numbers_raised nat_eq w name numbers
+    listed ∙ ap (λ v. granted (Opened (free_number task)) (numbers_raised nat_eq w name numbers
     (settled nat_eq (with_task v (with_descriptor task file wanted))))) made
 
 pub overlay_new_opens_end_alike : OverlayNewOpensEndAlike
 overlay_new_opens_end_alike world names name path access how it task found fresh serves directory entry node wanted
-    judged is =
-    by merged.overlay refl
+    judged is = by merged.overlay refl
   where
     call : Call
     call = OpenFile path access how
@@ -152,9 +147,7 @@ overlay_new_opens_end_alike world names name path access how it task found fresh
     itself = ap (task_called world) (sym (name_found world name task found)) ∙ found
 
     ground : IsTheirs world names it.is.mounts directory.mount
-    ground =
-        theirs_from world names it.is.mounts directory.mount
-        (granted_theirs world names it.is it.sealed_off task
+    ground = theirs_from world names it.is.mounts directory.mount (granted_theirs world names it.is it.sealed_off task
         (member_called world names it.is it.sealed_off name it.theirs task found) fresh call
         (ToOpenNew directory entry node wanted) judged directory change refl tt)
 
@@ -171,9 +164,7 @@ overlay_new_opens_end_alike world names name path access how it task found fresh
 
     layered : (overlay : Overlay ℕ) → merged.overlay ≡ Some overlay → (o : Option (Layer ℕ)) → overlay.upper ≡ o
         → EndsAlike world names name call fresh fresh
-    layered overlay overlaid None none =
-        absurd (true≢false
-        (sym (ap (λ o. not (is_some o)) none)
+    layered overlay overlaid None none = absurd (true≢false (sym (ap (λ o. not (is_some o)) none)
         ∙ sym (ap (overlay_or false (λ (v : Overlay ℕ). not (is_some v.upper))) overlaid) ∙ spared.layer))
     layered overlay overlaid (Some upper) has =
         let may =
@@ -188,8 +179,7 @@ overlay_new_opens_end_alike world names name path access how it task found fresh
         (all_in_set world names name call it task found (with_descriptor task file wanted)
         (stands world names name call it task found file wanted ground))
         (file_used world names name call it task found file wanted ground) task found fresh
-        (Opened (free_number task)) refl
-        (ap (run_by world names name call it fresh fresh world fresh task) judged
+        (Opened (free_number task)) refl (ap (run_by world names name call it fresh fresh world fresh task) judged
         ∙ opened_run world name path access how (odds fresh) directory change task file wanted _ _
         (changed_in_world world names name call it (odds fresh) directory change overlay upper may direct alike)
         (listed_in_world world names name call it (odds fresh) directory change overlay upper may direct alike))

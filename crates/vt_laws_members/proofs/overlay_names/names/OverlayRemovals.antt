@@ -85,15 +85,11 @@ module _ (world : World ℕ) (names : List TaskName) (is : IsWorld nat_eq world)
 
   pub points_alone : (point : ℕ × ℕ) → Among point (points_of nat_eq world gone)
       → used_alone nat_eq world names point.0 ≡ true
-  points_alone point m =
-      ⊎_elim
-      (λ same. ap (λ (p : ℕ × ℕ). used_alone nat_eq world names p.0) same
+  points_alone point m = ⊎_elim (λ same. ap (λ (p : ℕ × ℕ). used_alone nat_eq world names p.0) same
       ∙ ap (used_alone nat_eq world names) (found_numbered number world.filesystems)
-      ∙ merged_alone world names is sealed_off number overlay overlaid direct)
-      (λ more. above overlay.upper refl
+      ∙ merged_alone world names is sealed_off number overlay overlaid direct) (λ more. above overlay.upper refl
       (subst (λ o. Among point (overlay_or [] (λ (v : Overlay ℕ).
-      upper_points world (filesystem_at nat_eq world gone) v gone.node) o)) overlaid more))
-      m
+      upper_points world (filesystem_at nat_eq world gone) v gone.node) o)) overlaid more)) m
     where
       object_of : Layer ℕ → Option ℕ → Option (ℕ × ℕ)
       object_of layer o = option_map (λ object. (layer.filesystem, object)) o
@@ -101,14 +97,10 @@ module _ (world : World ℕ) (names : List TaskName) (is : IsWorld nat_eq world)
       of_object : (layer : Layer ℕ) → overlay.upper ≡ Some layer → (o : Option ℕ)
           → Among point (option_to_list (object_of layer o)) → used_alone nat_eq world names point.0 ≡ true
       of_object layer has None n = absurd n
-      of_object layer has (Some object) n =
-          ⊎_elim
-          (λ same. ap (λ (p : ℕ × ℕ). used_alone nat_eq world names p.0) same
-          ∙ upper_alone world names is sealed_off number overlay overlaid direct layer has)
-          (λ none. absurd none) n
+      of_object layer has (Some object) n = ⊎_elim (λ same. ap (λ (p : ℕ × ℕ). used_alone nat_eq world names p.0) same
+          ∙ upper_alone world names is sealed_off number overlay overlaid direct layer has) (λ none. absurd none) n
 
-      above : (o : Option (Layer ℕ)) → overlay.upper ≡ o
-          → Among point (option_to_list (then_some o
+      above : (o : Option (Layer ℕ)) → overlay.upper ≡ o → Among point (option_to_list (then_some o
           (λ layer. object_of layer (upper_object (overlay.real gone.node)))))
           → used_alone nat_eq world names point.0 ≡ true
       above None e n = absurd n
@@ -155,9 +147,7 @@ module _ (world : World ℕ) (names : List TaskName) (name : TaskName) (call : C
     module _ (overlay : Overlay ℕ) (overlaid : merged.overlay ≡ Some overlay) where
       abbrev only_own : (mount : Mount ℕ) → Among mount (mounts_on nat_eq world gone) → (n : ℕ)
           → mount.namespace ≡ Some n → is_own_namespace nat_eq world names n ≡ true
-      only_own =
-          own_here world names it.is gone
-          (points_alone world names it.is it.sealed_off gone overlay
+      only_own = own_here world names it.is gone (points_alone world names it.is it.sealed_off gone overlay
           (ap (λ (f : Filesystem ℕ). f.overlay) one_filesystem ∙ overlaid)
           (theirs_directly world names it.is gone on_gone))
 
@@ -175,8 +165,7 @@ module _ (world : World ℕ) (names : List TaskName) (name : TaskName) (call : C
       kept_world = points_keep_mounts world gone it.is.mounts
 
       kept_part : MountInvariants nat_eq (taken_away nat_eq part list)
-      kept_part =
-          subst (MountInvariants nat_eq) (sym same_list)
+      kept_part = subst (MountInvariants nat_eq) (sym same_list)
           (points_keep_mounts part gone (part_mounts world names it.is it.sealed_off))
 
       abbrev here : World ℕ
@@ -203,18 +192,14 @@ module _ (world : World ℕ) (names : List TaskName) (name : TaskName) (call : C
       run_here : run_by world names name call it fresh fresh world fresh task (Ok permit)
           ≡ finished nat_eq world name call (changed_at nat_eq here location)
           (granted Done (with_change nat_eq supply here location change))
-      run_here =
-          runs world
-          ∙ ap (λ w. finished nat_eq world name call (changed_at nat_eq w location)
+      run_here = runs world ∙ ap (λ w. finished nat_eq world name call (changed_at nat_eq w location)
           (granted Done (with_change nat_eq supply w location change)))
           (world_taken world names it.is it.sealed_off list own)
 
       run_there : run_by world names name call it fresh fresh part fresh task (Ok permit)
           ≡ finished nat_eq part name call (changed_at nat_eq there location)
           (granted Done (with_change nat_eq supply there location change))
-      run_there =
-          runs part
-          ∙ ap (λ w. finished nat_eq part name call (changed_at nat_eq w location)
+      run_there = runs part ∙ ap (λ w. finished nat_eq part name call (changed_at nat_eq w location)
           (granted Done (with_change nat_eq supply w location change)))
           (sym same_list ∙ part_taken world names it.is it.sealed_off list own)
 
@@ -228,8 +213,7 @@ module _ (world : World ℕ) (names : List TaskName) (name : TaskName) (call : C
           → run_by world names name call it fresh fresh world fresh task (Ok permit) ≡ granted Done one
           → run_by world names name call it fresh fresh part fresh task (Ok permit) ≡ granted Done other
           → part_of nat_eq one names ≡ part_of nat_eq other names → EndsAlike world names name call fresh fresh
-      ends one other runs_so runs_too same =
-          by_runs world names name call it fresh fresh (Some task) found
+      ends one other runs_so runs_too same = by_runs world names name call it fresh fresh (Some task) found
           (subst (λ p. EndAlike (grown names name call (ran name call world fresh (Some task)).answer)
           (ran name call world fresh (Some task)) p)
           (sym (ap (run_by world names name call it fresh fresh part fresh task)
@@ -240,14 +224,11 @@ module _ (world : World ℕ) (names : List TaskName) (name : TaskName) (call : C
           (record { answer = refl; part = same }))))
 
       layered : (o : Option (Layer ℕ)) → overlay.upper ≡ o → EndsAlike world names name call fresh fresh
-      layered None none =
-          ends (numbers_raised nat_eq world name [] (settled nat_eq here))
+      layered None none = ends (numbers_raised nat_eq world name [] (settled nat_eq here))
           (numbers_raised nat_eq part name [] (settled nat_eq there))
           (run_here ∙ unwritten_after world here name call supply location change merged overlay looks seen overlaid
-          none)
-          (run_there ∙ unwritten_after part there name call supply location change merged overlay looks seen_too
-          overlaid none)
-          (sym (ap (λ w. part_of nat_eq (numbers_raised nat_eq world name [] (settled nat_eq w)) names)
+          none) (run_there ∙ unwritten_after part there name call supply location change merged overlay looks seen_too
+          overlaid none) (sym (ap (λ w. part_of nat_eq (numbers_raised nat_eq world name [] (settled nat_eq w)) names)
           (world_taken world names it.is it.sealed_off list own))
           ∙ taken_parts world names it.is it.sealed_off list own name kept_world kept_part
           ∙ ap (λ w. part_of nat_eq (numbers_raised nat_eq part name [] (settled nat_eq w)) names)
@@ -280,8 +261,7 @@ module _ (world : World ℕ) (names : List TaskName) (name : TaskName) (call : C
           (one_in_part world names it.is upper.filesystem
           (upper_in_use world names number overlay upper overlaid has direct))
           (alone_there world names it.is it.sealed_off list own kept_world kept_part merged.number)
-          (alone_there world names it.is it.sealed_off list own kept_world kept_part two.number))
-          name both both_used)
+          (alone_there world names it.is it.sealed_off list own kept_world kept_part two.number)) name both both_used)
         where
           number : ℕ
           number = (mount_at nat_eq world location).filesystem
@@ -290,8 +270,7 @@ module _ (world : World ℕ) (names : List TaskName) (name : TaskName) (call : C
           two = filesystem_numbered nat_eq world upper.filesystem
 
           can : CanChange supply world location change overlay upper
-          can =
-              permits_can_change world fresh task call permit location change overlay upper it.is serves
+          can = permits_can_change world fresh task call permit location change overlay upper it.is serves
               (ap (task_called world) (sym (name_found world name task found)) ∙ found) judged asks overlaid has
 
           step : Filesystem ℕ → Filesystem ℕ
@@ -307,18 +286,15 @@ module _ (world : World ℕ) (names : List TaskName) (name : TaskName) (call : C
           direct_then = still_direct world names it.is it.sealed_off list own location on directory_stays
 
           one_used : is_among nat_eq merged.number used_then ≡ true
-          one_used =
-              ap (λ n. is_among nat_eq n used_then) (found_numbered number world.filesystems)
+          one_used = ap (λ n. is_among nat_eq n used_then) (found_numbered number world.filesystems)
               ∙ used_directly_used here names number direct_then
 
           two_used : is_among nat_eq two.number used_then ≡ true
-          two_used =
-              ap (λ n. is_among nat_eq n used_then) (found_numbered upper.filesystem world.filesystems)
+          two_used = ap (λ n. is_among nat_eq n used_then) (found_numbered upper.filesystem world.filesystems)
               ∙ upper_in_use here names number overlay upper overlaid has direct_then
 
           both_used : (n : ℕ) → Among n both → is_among nat_eq n used_then ≡ true
-          both_used n m =
-              ⊎_elim (λ e. ap (λ k. is_among nat_eq k used_then) e ∙ one_used)
+          both_used n m = ⊎_elim (λ e. ap (λ k. is_among nat_eq k used_then) e ∙ one_used)
               (λ rest. ⊎_elim (λ e. ap (λ k. is_among nat_eq k used_then) e ∙ two_used) (λ none. absurd none) rest) m
 
     pub removal_through_ends : EndsAlike world names name call fresh fresh
@@ -333,19 +309,15 @@ overlay_rmdirs_end_alike world names name path it task found fresh serves parent
     removal_through_ends world names name (Rmdir path) it fresh serves task found refl refl directory
     (ToRemoveDirectory parent entry directory) judged parent (Remove parent.node entry directory.node) refl is
     (names_there world names name (Rmdir path) it task found (ToRemoveDirectory parent entry directory) refl
-    judged).0.reached
-    (removed_free world names it.is it.sealed_off task
+    judged).0.reached (removed_free world names it.is it.sealed_off task
     (member_called world names it.is it.sealed_off name it.theirs task found) fresh (Rmdir path)
     (ToRemoveDirectory parent entry directory)
     (calls_are_granted nat_eq (looks_of nat_eq world) (overfills nat_eq fresh world task) task (Rmdir path)
-    (ToRemoveDirectory parent entry directory) judged)
-    parent entry directory refl)
-    (λ w. refl)
+    (ToRemoveDirectory parent entry directory) judged) parent entry directory refl) (λ w. refl)
 
 pub overlay_renames_end_alike : OverlayRenamesEndAlike
 overlay_renames_end_alike world names name first second it task found fresh serves from old to new object replaced
-    judged is =
-    by replaced judged
+    judged is = by replaced judged
   where
     change : Change ℕ
     change = Move from.node old to.node new object.node
@@ -353,8 +325,7 @@ overlay_renames_end_alike world names name first second it task found fresh serv
     by : (o : Option (Location ℕ))
         → judge_in nat_eq fresh world task (Rename first second) ≡ Ok (ToRename from old to new object o)
         → EndsAlike world names name (Rename first second) fresh fresh
-    by None so =
-        naming_through_ends world names name (Rename first second) it fresh serves task found refl refl
+    by None so = naming_through_ends world names name (Rename first second) it fresh serves task found refl refl
         (ToRename from old to new object None) so from change refl tt is
         (ap (run_by world names name (Rename first second) it fresh fresh world fresh task) so)
         (ap (run_by world names name (Rename first second) it fresh fresh (part_of nat_eq world names) fresh task)
@@ -368,6 +339,5 @@ overlay_renames_end_alike world names name first second it task found fresh serv
         (member_called world names it.is it.sealed_off name it.theirs task found) fresh (Rename first second)
         (ToRename from old to new object (Some gone))
         (calls_are_granted nat_eq (looks_of nat_eq world) (overfills nat_eq fresh world task) task
-        (Rename first second) (ToRename from old to new object (Some gone)) so)
-        from old to new object gone refl)
+        (Rename first second) (ToRename from old to new object (Some gone)) so) from old to new object gone refl)
         (λ w. refl)

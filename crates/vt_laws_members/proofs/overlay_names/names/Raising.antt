@@ -40,8 +40,7 @@ module _ (w : World ℕ) (set : List TaskName) (used : List ℕ) (lowers : List 
           → cond b (record x { change = raised x.change }) x ≡ x
       by true e =
           let at = any_among (λ n. nat_eq n x.number) numbers e in
-          absurd (true≢false (sym (theirs at.0 at.1)
-          ∙ ap (λ n. is_among nat_eq n used) (eqb-true at.0 x.number at.2)
+          absurd (true≢false (sym (theirs at.0 at.1) ∙ ap (λ n. is_among nat_eq n used) (eqb-true at.0 x.number at.2)
           ∙ ap (is_among nat_eq x.number) (sym (used_of_settled w set used lowers ready)) ∙ unused))
       by false e = refl
 
@@ -53,10 +52,8 @@ module _ (w : World ℕ) (set : List TaskName) (used : List ℕ) (lowers : List 
             (map (raised_namespace nat_eq before (settled nat_eq w)) w.namespaces);
         tasks = filter (is_member_task set) (map (raised_task name) w.tasks);
       }
-  raised_part before name =
-      retasked renamed set set (map (raised_task name) w.tasks) (raised w.change)
-      (raised_sees renamed set name (raised w.change))
-      ∙ (λ i. record (part_with_layers (settled nat_eq w) set raise
+  raised_part before name = retasked renamed set set (map (raised_task name) w.tasks) (raised w.change)
+      (raised_sees renamed set name (raised w.change)) ∙ (λ i. record (part_with_layers (settled nat_eq w) set raise
       (raise_keeps (λ (x : Filesystem ℕ). x.number) (λ x. refl))
       (λ x m. raise_keeps change_layers (λ y. refl) x) (λ x m. raise_keeps lowers_in (λ y. refl) x) raise_kept i) {
         namespaces = filter (λ (n : Namespace ℕ). is_own_namespace nat_eq w set n.number)

@@ -34,8 +34,7 @@ module _ (before : World ℕ) (in_use : AllInUse before) (private_ones : Detache
     (tasks : List (Task ℕ)) (step : Filesystem ℕ → Filesystem ℕ) (name : TaskName) (numbers used : List ℕ)
     (lowers : List (Layer ℕ))
     (ready : Ready (without_dead_mounts nat_eq (with_filesystems (record before { tasks = tasks }) step)) set used
-    lowers)
-    (theirs : (n : ℕ) → Among n numbers → is_among nat_eq n used ≡ true) where
+    lowers) (theirs : (n : ℕ) → Among n numbers → is_among nat_eq n used ≡ true) where
   abbrev changed : World ℕ
   changed = with_filesystems (record before { tasks = tasks }) step
 
@@ -43,8 +42,7 @@ module _ (before : World ℕ) (in_use : AllInUse before) (private_ones : Detache
       ≡ record (with_filesystems (part_of nat_eq (settled nat_eq changed) set) (raised_if_changed nat_eq numbers)) {
         tasks = filter (is_member_task set) (map (raised_task name) tasks);
       }
-  part_of_raised =
-      raised_part changed set used lowers ready numbers theirs before name
+  part_of_raised = raised_part changed set used lowers ready numbers theirs before name
       ∙ (λ i. record (with_filesystems (part_of nat_eq (settled nat_eq changed) set)
       (raised_if_changed nat_eq numbers)) {
         namespaces = filter (λ (n : Namespace ℕ). is_own_namespace nat_eq changed set n.number)
@@ -83,26 +81,22 @@ module _ (world : World ℕ) (names set : List TaskName) (name : TaskName) (call
       (theirs_there : ChangesTheirs living_part set used_now step)
     where
       ready : Ready (without_dead_mounts nat_eq (with_filesystems now step)) set used_now lowers_now
-      ready =
-          stepped_ready living set used_now lowers_now
+      ready = stepped_ready living set used_now lowers_now
           (world_ready world names it.is it.sealed_off set tasks world.change lets) step theirs
 
       ready_there : Ready (without_dead_mounts nat_eq (with_filesystems now_part step)) set used_now lowers_now
-      ready_there =
-          stepped_ready living_part set used_now lowers_now
+      ready_there = stepped_ready living_part set used_now lowers_now
           (part_ready world names it.is it.sealed_off set tasks tasks_too world.change part.change lets same all) step
           theirs_there
 
       used_there : used_filesystems nat_eq now_part set ≡ used_now
-      used_there =
-          less_used world names it.is set now now_part
+      used_there = less_used world names it.is set now now_part
           (now_less world names it.is set tasks tasks_too world.change part.change
           (sees_less world names it.is it.sealed_off set tasks world.change lets) same)
 
       parts_stepped : part_of nat_eq (with_filesystems now step) set
           ≡ part_of nat_eq (with_filesystems now_part step) set
-      parts_stepped =
-          part_with_layers now set step theirs.numbered theirs.changing theirs.lowering theirs.kept
+      parts_stepped = part_with_layers now set step theirs.numbered theirs.changing theirs.lowering theirs.kept
           ∙ ap (λ w. with_filesystems w step)
           (sym (part_of_less world names it.is set tasks tasks_too world.change part.change
           (sees_less world names it.is it.sealed_off set tasks world.change lets) same))
@@ -111,8 +105,7 @@ module _ (world : World ℕ) (names set : List TaskName) (name : TaskName) (call
 
       swept_parts : part_of nat_eq (settled nat_eq (with_filesystems now step)) set
           ≡ part_of nat_eq (settled nat_eq (with_filesystems now_part step)) set
-      swept_parts =
-          part_of_settled (with_filesystems now step) set used_now lowers_now ready
+      swept_parts = part_of_settled (with_filesystems now step) set used_now lowers_now ready
           ∙ ap (swept_of set) parts_stepped
           ∙ sym (part_of_settled (with_filesystems now_part step) set used_now lowers_now ready_there)
 
@@ -127,15 +120,12 @@ module _ (world : World ℕ) (names set : List TaskName) (name : TaskName) (call
         parts_left : part_of nat_eq ends_here set ≡ part_of nat_eq ends_there set
         parts_left =
             part_of_raised world (all_in_use world it.is) (private_in_world world it.is) set tasks step name numbers
-            used_now
-            lowers_now ready used
+            used_now lowers_now ready used
             ∙ (λ i. record (with_filesystems (swept_parts i) (raised_if_changed nat_eq numbers)) {
               tasks = (raised_members set name tasks ∙ ap (map (raised_task name)) (sym same)
                   ∙ sym (raised_members set name tasks_too)) i;
-            })
-            ∙ sym (part_of_raised part (part_in_use world names it.is it.sealed_off)
-            (private_in_part world names it.is) set
-            tasks_too step name numbers used_now lowers_now ready_there used)
+            }) ∙ sym (part_of_raised part (part_in_use world names it.is it.sealed_off)
+            (private_in_part world names it.is) set tasks_too step name numbers used_now lowers_now ready_there used)
 
         pub stepped_ends : (task : Task ℕ) → task_called world name ≡ Some task → (fresh other : Fresh ℕ)
             (answer : Answer)

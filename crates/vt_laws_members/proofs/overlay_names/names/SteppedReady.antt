@@ -19,8 +19,7 @@ use Rattle.vt_laws_members.proofs.changes.letting_go.Ready.{AllNamed, Alone, IsC
 pub record ChangesTheirs (a : World ℕ) (set : List TaskName) (used : List ℕ) (step : Filesystem ℕ → Filesystem ℕ)
     : Type 0 where
   pub numbered : (x : Filesystem ℕ) → (step x).number ≡ x.number
-  pub layers : (x : Filesystem ℕ) → Among x a.filesystems
-      → of_overlay [] layers_of (step x) ≡ of_overlay [] layers_of x
+  pub layers : (x : Filesystem ℕ) → Among x a.filesystems → of_overlay [] layers_of (step x) ≡ of_overlay [] layers_of x
   pub changing : (x : Filesystem ℕ) → Among x a.filesystems → change_layers (step x) ≡ change_layers x
   pub lowering : (x : Filesystem ℕ) → Among x a.filesystems → lowers_in (step x) ≡ lowers_in x
   pub overlaid : (x : Filesystem ℕ) → Among x a.filesystems → is_overlay (step x) ≡ is_overlay x
@@ -40,8 +39,7 @@ module _ (a : World ℕ) (set : List TaskName) (used : List ℕ) (lowers : List 
 
   layered_was : (n : ℕ) (x : Filesystem ℕ) → Among x a.filesystems → has_layer_on nat_eq n (step x) ≡ true
       → has_layer_on nat_eq n x ≡ true
-  layered_was n x m h =
-      layers_on a n x
+  layered_was n x m h = layers_on a n x
       ∙ sym (ap (list_any (λ (layer : Layer ℕ). nat_eq n layer.filesystem)) (theirs.layers x m))
       ∙ sym (layers_on a n (step x)) ∙ h
 
@@ -56,10 +54,8 @@ module _ (a : World ℕ) (set : List TaskName) (used : List ℕ) (lowers : List 
     itself = nobody_still n k same alone.itself;
     overlays = λ y m has.
         let from = was y m in
-        nobody_still from.0.number y.number (sym (number_was y from.0 from.2))
-        (alone.overlays from.0 from.1
-        (layered_was n from.0 from.1
-        (subst (λ f. has_layer_on nat_eq n f ≡ true) from.2
+        nobody_still from.0.number y.number (sym (number_was y from.0 from.2)) (alone.overlays from.0 from.1
+        (layered_was n from.0 from.1 (subst (λ f. has_layer_on nat_eq n f ≡ true) from.2
         (subst (λ i. has_layer_on nat_eq i y ≡ true) (sym same) has))));
   }
 
@@ -71,20 +67,17 @@ module _ (a : World ℕ) (set : List TaskName) (used : List ℕ) (lowers : List 
       let flat = it.plain one.0 two.0 one.1 two.1
       (layered_was one.0.number two.0 two.1 (subst (λ f. has_layer_on nat_eq one.0.number f ≡ true) two.2
       (subst (λ k. has_layer_on nat_eq k merged ≡ true) (number_was y one.0 one.2) has))) in
-      none_from_not_some y.overlay
-      (ap is_overlay one.2 ∙ theirs.overlaid one.0 one.1 ∙ ap is_some flat)
+      none_from_not_some y.overlay (ap is_overlay one.2 ∙ theirs.overlaid one.0 one.1 ∙ ap is_some flat)
 
   free_still : (y : Filesystem ℕ) → Among y later.filesystems → is_among nat_eq y.number used ≡ true
       → Alone later set y.number ⊎ AllNamed y
   free_still y m u =
       let from = was y m in
       let same : from.0.number ≡ y.number = sym (number_was y from.0 from.2) in
-      ⊎_elim
-      (λ stays. ⊎_elim (λ alone. inl (alone_still from.0.number y.number same alone))
+      ⊎_elim (λ stays. ⊎_elim (λ alone. inl (alone_still from.0.number y.number same alone))
       (λ named. inr (subst AllNamed (sym (from.2 ∙ stays)) named))
       (it.free from.0 from.1 (ap (λ n. is_among nat_eq n used) same ∙ u)))
-      (λ alone. inl (alone_still from.0.number y.number same alone))
-      (theirs.moved from.0 from.1)
+      (λ alone. inl (alone_still from.0.number y.number same alone)) (theirs.moved from.0 from.1)
 
   cut_still : (y : Filesystem ℕ) → Among y later.filesystems → is_among nat_eq y.number used ≡ false
       → list_any (λ (layer : Layer ℕ). nat_eq y.number layer.filesystem) lowers ≡ true → IsCut y.number lowers y.files
@@ -99,8 +92,7 @@ module _ (a : World ℕ) (set : List TaskName) (used : List ℕ) (lowers : List 
   pub stepped_ready : Ready later set used lowers
   stepped_ready = record {
     used_are = used_later a set step theirs.numbered theirs.changing ∙ it.used_are;
-    lowers_are = lowers_later a set step theirs.numbered theirs.lowering
-        ∙ it.lowers_are;
+    lowers_are = lowers_later a set step theirs.numbered theirs.lowering ∙ it.lowers_are;
     one = it.one;
     lives = it.lives;
     located = it.located;
@@ -109,8 +101,7 @@ module _ (a : World ℕ) (set : List TaskName) (used : List ℕ) (lowers : List 
     one_filesystem = pair-map (λ (x y : Filesystem ℕ). nat_eq x.number y.number)
         (λ (x y : Filesystem ℕ). nat_eq x.number y.number) step a.filesystems
         (λ x y m n e. ap (λ k. nat_eq k (step y).number) (theirs.numbered x)
-        ∙ ap (nat_eq x.number) (theirs.numbered y) ∙ e)
-        it.one_filesystem;
+        ∙ ap (nat_eq x.number) (theirs.numbered y) ∙ e) it.one_filesystem;
     plain = plain_still;
     free = free_still;
     cut = cut_still;

@@ -1,4 +1,5 @@
 -- Each change that fits, with the sweep after it.
+use Rattle.std.proofs.lemmas.Grind.{common_steps}
 use Rattle.std.proofs.Common.{◌≡◌, ◌≢◌, refl, sym, ap, subst, ◌∙◌, ⊎_elim, ℕ, nat_eq, true, false, cond, List, [], map, Option, Some, None, is_some, arith}
 use Rattle.std.proofs.lemmas.Bool.Decides.{eqb_tells}
 use Rattle.std.specs.List.{list_all}
@@ -7,7 +8,7 @@ use Rattle.vt_spec.specs.Language.Changes as Changes
 use Rattle.vt_spec.specs.Language.Changes.{Change, node_with_attr, node_with_mark, node_with_parent}
 use Rattle.vt_spec.specs.Language.Changes.Change.{AddName, CopyUp, Make, Move, Remove, SetAttr, SetBytes, SetMark}
 use Rattle.vt_spec.specs.Lists.{Fresh, any_pair, is_among}
-use Rattle.vt_spec.specs.Machine.Filesystems.{filesystem_changed, with_change, with_files}
+use Rattle.vt_spec.specs.Machine.Filesystems.{with_change, with_files}
 use Rattle.vt_spec.specs.Machine.Mounts.{Location}
 use Rattle.vt_spec.specs.Machine.Settled.{settled}
 use Rattle.vt_spec.specs.Machine.World.{Filesystem, Overlay, World, filesystem_at, filesystem_numbered, is_overlay}
@@ -52,13 +53,11 @@ module _ (base : ℕ → ℕ) (files : FileTree ℕ) (inodes : Inodes ℕ) (root
   is_bare n e = ap entries_in (sym (start.same n)) ∙ e
 
   moves : (from : ℕ) (old : List ℕ) (to : ℕ) (new : List ℕ) (object : ℕ)
-      → entry_named old (entries_in (node from)) ≡ Some object
-      → is_directory_node (node to) ≡ true
+      → entry_named old (entries_in (node from)) ≡ Some object → is_directory_node (node to) ≡ true
       → (o : Option ℕ) → entry_named new (entries_in (node to)) ≡ o → MayReplace (tree_of inodes) object o
       → Tallied (Changes.changed_node nat_eq (Changes.with_name nat_eq
       (Changes.without_name nat_eq (Changes.without_parent nat_eq files o) from old) to new object) object
-      (node_with_parent to))
-      (without_replaced nat_eq
+      (node_with_parent to)) (without_replaced nat_eq
       (with_changed nat_eq (with_changed nat_eq (with_changed nat_eq inodes from (Changes.node_without_entry old)) to
       (node_with_entry new object)) object (node_with_parent to)) o)
   moves from old to new object leads is None finds may =
@@ -66,11 +65,9 @@ module _ (base : ℕ → ℕ) (files : FileTree ℕ) (inodes : Inodes ℕ) (root
       (λ n gone. absurd (omega arith))
   moves from old to new object leads is (Some gone) finds may =
       Names.moved base node files.numbers inodes start from old to new object (Some gone) leads is finds
-      (other_if object gone (λ e. may.0 (sym e)))
-      (λ n some. ⊎_elim
+      (other_if object gone (λ e. may.0 (sym e))) (λ n some. ⊎_elim
       (λ t. ap (λ m. entries_in (node m)) t.1 ∙ is_bare gone may.2)
-      (λ t. absurd (let none : one_if n gone ≡ 0 = ap (λ b. cond b 1 0) t.0 in omega arith))
-      (eqb_tells n gone))
+      (λ t. absurd (let none : one_if n gone ≡ 0 = ap (λ b. cond b 1 0) t.0 in omega arith)) (eqb_tells n gone))
 
   tallied : (change : Change ℕ) → Fits inodes change → LinksWhatIsThere inodes change
       → Tallied (Changes.changed nat_eq files change) (changed nat_eq inodes change)
@@ -81,17 +78,13 @@ module _ (base : ℕ → ℕ) (files : FileTree ℕ) (inodes : Inodes ℕ) (root
       (is_there directory fits.0) (leads_to directory name None fits.1) links
   tallied (Remove directory name object) fits links =
       Names.removed_name base node files.numbers inodes start directory name object
-      (leads_to directory name (Some object) fits.0)
-      (is_bare object fits.1)
+      (leads_to directory name (Some object) fits.0) (is_bare object fits.1)
   tallied (Move from old to new object) fits links =
-      subst (λ o. Tallied (Changes.with_moved nat_eq files from old to new object)
-      (without_replaced nat_eq
+      subst (λ o. Tallied (Changes.with_moved nat_eq files from old to new object) (without_replaced nat_eq
       (with_changed nat_eq (with_changed nat_eq (with_changed nat_eq inodes from (Changes.node_without_entry old)) to
-      (node_with_entry new object)) object (node_with_parent to)) o))
-      (sym same)
+      (node_with_entry new object)) object (node_with_parent to)) o)) (sym same)
       (moves from old to new object (leads_to from old (Some object) fits.0) (is_there to fits.1)
-      (entry_named new (entries_in (node to))) refl
-      (subst (MayReplace (tree_of inodes) object) same fits.2))
+      (entry_named new (entries_in (node to))) refl (subst (MayReplace (tree_of inodes) object) same fits.2))
     where
       same : entry_named new (entries_in (node_in (inodes.inode to))) ≡ entry_named new (entries_in (node to))
       same = ap (λ x. entry_named new (entries_in x)) (start.same to)
@@ -120,21 +113,7 @@ module _ (base : ℕ → ℕ) (files : FileTree ℕ) (inodes : Inodes ℕ) (root
   root_of_files (CopyUp object) = refl
 
   root_of_inodes : (change : Change ℕ) → (changed nat_eq inodes change).root ≡ inodes.root
-  root_of_inodes (Make directory name number new) = refl
-  root_of_inodes (AddName directory name object) = refl
-  root_of_inodes (Remove directory name object) = refl
-  root_of_inodes (Move from old to new object) = by (entry_named new (entries_in (node_in (inodes.inode to))))
-    where
-      by : (o : Option ℕ) → (without_replaced nat_eq
-          (with_changed nat_eq (with_changed nat_eq
-          (with_changed nat_eq inodes from (Changes.node_without_entry old)) to
-          (node_with_entry new object)) object (node_with_parent to)) o).root ≡ inodes.root
-      by None = refl
-      by (Some gone) = refl
-  root_of_inodes (SetBytes file bytes) = refl
-  root_of_inodes (SetAttr object attr) = refl
-  root_of_inodes (SetMark directory opaque) = refl
-  root_of_inodes (CopyUp object) = refl
+  root_of_inodes change = grind (arith, common_steps)
 
   pub root_is : (change : Change ℕ)
       → (changed nat_eq inodes change).root ≡ (Changes.changed nat_eq files change).tree.root
@@ -170,9 +149,7 @@ module _ (fresh : Fresh ℕ) (world : World ℕ) (location : Location ℕ) (inod
       (worlds_have_trees world is.in_world) old old_there
 
   pub start : IsStart (base_of world old) old.files.tree.node old.files.numbers inodes
-  start =
-      counted_start world old inodes tree
-      (among_from_all (λ f. list_all (is_inode_used world f) f.files.numbers
+  start = counted_start world old inodes tree (among_from_all (λ f. list_all (is_inode_used world f) f.files.numbers
       ≡ true) world.filesystems in_use.inodes old old_there) is.counted
 
   pub new_tallied : IsTallied (base_of world old) files.tree.node files.numbers (changed nat_eq inodes change)
@@ -186,16 +163,10 @@ module _ (fresh : Fresh ℕ) (world : World ℕ) (location : Location ℕ) (inod
 
   -- before the sweep
   pub raw_is : with_change nat_eq fresh world location change ≡ with_tree world number files
-  raw_is = by old.overlay is.plain
-    where
-      by : (o : Option (Overlay ℕ)) → is_some o ≡ false
-          → filesystem_changed nat_eq fresh world old o change ≡ with_tree world number files
-      by None e = refl
-      by (Some overlay) e = cc
+  raw_is = grind (arith, common_steps)
 
   pub after_is : after_change fresh world location change ≡ done
-  after_is =
-      ap (settled nat_eq) raw_is
+  after_is = ap (settled nat_eq) raw_is
       ∙ Swept.settled_is world number files in_use one is.plain filesystem_there new_tallied.once
 
   found : filesystem_numbered nat_eq done number ≡ with_files old left
@@ -217,8 +188,7 @@ module _ (fresh : Fresh ℕ) (world : World ℕ) (location : Location ℕ) (inod
       (root_of_files (base_of world old) old.files inodes is.counted.root start change) new_tallied
 
   pub left_times : (n : ℕ) → times_in n left.numbers ≡ cond (is_some ((changed nat_eq inodes change).inode n)) 1 0
-  left_times =
-      Swept.times_left world number files in_use one is.plain filesystem_there (changed nat_eq inodes change)
+  left_times = Swept.times_left world number files in_use one is.plain filesystem_there (changed nat_eq inodes change)
       (root_is (base_of world old) old.files inodes is.counted.root start change)
       (root_of_files (base_of world old) old.files inodes is.counted.root start change) new_tallied
 
@@ -253,8 +223,7 @@ pub is_change_of_plain : (world : World ℕ) (location : Location ℕ) (inodes :
     → IsChange world location inodes change → IsChangeOfPlain world location inodes change
 is_change_of_plain world location inodes change is = record {
   in_world = is.in_world;
-  plain = among_from_all (λ f. is_overlay f ≡ false) world.filesystems is.plain
-      (filesystem_at nat_eq world location)
+  plain = among_from_all (λ f. is_overlay f ≡ false) world.filesystems is.plain (filesystem_at nat_eq world location)
       (found_is world.filesystems (filesystem_of world location)
       (there_if_counted world (filesystem_of world location) inodes is.counted));
   counted = is.counted;

@@ -1,4 +1,5 @@
 -- The counts of a tree's inodes where names come, go and move, before anything is swept.
+use Rattle.std.proofs.lemmas.Grind.{common_steps}
 use Rattle.std.proofs.Common.{◌≡◌, ◌≢◌, refl, sym, ap, subst, ◌∙◌, ⊎_elim, ◌⊎◌, ℕ, ◌+◌, ◌≤◌, nat_eq, eq-eqb, ne_eqb, Bool, true, false, true≢false, cond, List, [], ◌∷◌, ◌++◌, Option, Some, None, is_some, arith}
 use Rattle.std.specs.Cmp.Lexicographic.{bytes_decides}
 use Rattle.std.specs.FinMap.Entries.{is_sorted}
@@ -44,23 +45,10 @@ module _ (base : ℕ → ℕ) (node : ℕ → Option (Node ℕ)) (numbers : List
 
   apart : number ≢ directory
   apart e = true≢false (sym (there_directory base node numbers inodes start directory is)
-      ∙ ap (λ n. is_some (node n)) (sym e)
-      ∙ ap is_some no_node)
+      ∙ ap (λ n. is_some (node n)) (sym e) ∙ ap is_some no_node)
 
   pub either_way : (n : ℕ) → node_made n ≡ node_made_there n
-  either_way n =
-      sym (ap (λ b. cond (nat_eq n directory) (node_with_entry name number (cond b (Some new) (node directory)))
-      (cond (nat_eq n number) (Some new) (node n))) (ne_eqb directory number (λ e. apart (sym e)))
-      ∙ ⊎_elim
-      (λ t. ap (λ b. cond (nat_eq n directory) (node_with_entry name number (node directory))
-      (cond b (Some new) (node n))) t.0
-      ∙ ap (λ b. cond b (node_with_entry name number (node directory)) (Some new))
-      (ne_eqb n directory (λ e. apart (sym t.1 ∙ e)))
-      ∙ sym (ap (λ b. cond b (Some new) (node_on n)) t.0))
-      (λ t. ap (λ b. cond (nat_eq n directory) (node_with_entry name number (node directory))
-      (cond b (Some new) (node n))) t.0
-      ∙ sym (ap (λ b. cond b (Some new) (node_on n)) t.0))
-      (eqb_tells n number))
+  either_way n = grind (arith, common_steps, ne_eqb, apart, eqb_tells)
 
   made_new : node_made number ≡ Some new
   made_new = ap (λ b. cond b (Some new) (node_on number)) (eq-eqb number number refl)
@@ -74,8 +62,7 @@ module _ (base : ℕ → ℕ) (node : ℕ → Option (Node ℕ)) (numbers : List
 
   vacant_on : inodes_on.inode number ≡ None
   vacant_on = ap (λ b. cond b (inode_with_node (node_with_entry name number (node_in (inodes.inode directory)))
-      (inodes.inode directory))
-      (inodes.inode number)) (ne_eqb number directory apart) ∙ vacant
+      (inodes.inode directory)) (inodes.inode number)) (ne_eqb number directory apart) ∙ vacant
 
   more : (n : ℕ) → one_if n number + made_uses n ≡ uses_of base node_made (number ∷ numbers) n
   more n =
@@ -92,24 +79,11 @@ module _ (base : ℕ → ℕ) (node : ℕ → Option (Node ℕ)) (numbers : List
       omega arith
 
   made_once : (n : ℕ) → one_if n number + times_in n numbers ≡ cond (is_some (node_made n)) 1 0
-  made_once n =
-      ⊎_elim
-      (λ t. (let one : one_if n number ≡ 1 = ap (λ b. cond b 1 0) t.0 in let none : times_in n numbers
-      ≡ 0 = ap (λ m. times_in m numbers) t.1 ∙ no_number in
-      let all : one_if n number + times_in n numbers ≡ 1 = omega arith in all)
-      ∙ sym (ap (λ b. cond (is_some (cond b (Some new) (node_on n))) 1 0) t.0))
-      (λ t. (let one : one_if n number ≡ 0 = ap (λ b. cond b 1 0) t.0 in let all : one_if n number + times_in n numbers
-      ≡ times_in n numbers = omega arith in all)
-      ∙ start.tallied.once n
-      ∙ ap (λ b. cond b 1 0) (sym (part_at is_some node directory (node_with_entry name number)
-      (is_some-node_with_entry name number (node directory)) n))
-      ∙ sym (ap (λ b. cond (is_some (cond b (Some new) (node_on n))) 1 0) t.0))
-      (eqb_tells n number)
+  made_once n = grind (arith, common_steps, one_if, times_in, no_number, part_at, is_some-node_with_entry, eqb_tells)
 
   pub made : IsTallied base node_made_there (number ∷ numbers) (with_new nat_eq inodes directory name number new)
   made = subst (λ f. IsTallied base f (number ∷ numbers) (with_new nat_eq inodes directory name number new))
-      (λ i. λ n. either_way n i)
-      (record {
+      (λ i. λ n. either_way n i) (record {
         counted = other_uses (λ n. one_if n number + made_uses n) (uses_of base node_made (number ∷ numbers)) node_made
             (with_new nat_eq inodes directory name number new) more
             (counted_new made_uses node_on inodes_on counted_on number new vacant_on);
@@ -118,8 +92,7 @@ module _ (base : ℕ → ℕ) (node : ℕ → Option (Node ℕ)) (numbers : List
 
 -- A name less
 module _ (base : ℕ → ℕ) (node : ℕ → Option (Node ℕ)) (numbers : List ℕ) (inodes : Inodes ℕ)
-    (start : IsStart base node numbers inodes)
-    (directory : ℕ) (name : List ℕ) (object : ℕ)
+    (start : IsStart base node numbers inodes) (directory : ℕ) (name : List ℕ) (object : ℕ)
     (leads : entry_named name (entries_in (node directory)) ≡ Some object) where
   abbrev uses : ℕ → ℕ
   uses = uses_of base node numbers
@@ -165,8 +138,7 @@ module _ (base : ℕ → ℕ) (node : ℕ → Option (Node ℕ)) (numbers : List
   apart_r : object ≢ directory
   apart_r e =
       let none : times_in object (targets_in (node directory)) ≡ 0 =
-      ap (λ n. times_in object (targets_in (node n))) (sym e)
-      ∙ ap (λ l. times_in object (targets l)) empty in
+      ap (λ n. times_in object (targets_in (node n))) (sym e) ∙ ap (λ l. times_in object (targets l)) empty in
       let some = is_target base node numbers inodes start directory name object leads in absurd (omega arith)
 
   removed_entries : (n : ℕ) → entries_in (node_removed n) ≡ entries_in (node_less n)
@@ -198,8 +170,7 @@ module _ (base : ℕ → ℕ) (node : ℕ → Option (Node ℕ)) (numbers : List
         unpinned_counts uses_r (uses_of base node_removed numbers) node_removed
         (with_changed nat_eq inodes_less object (node_with_parent object)) object second one_less
         (λ none. ap targets (removed_entries object
-        ∙ ap entries_in (at_other node directory (node_without_entry name) object apart_r)
-        ∙ empty));
+        ∙ ap entries_in (at_other node directory (node_without_entry name) object apart_r) ∙ empty));
     once = λ n. start.tallied.once n ∙ ap (λ b. cond b 1 0) (sym
         (part_at is_some node_less object (node_with_parent object)
         (is_some-node_with_parent object (node_less object)) n
@@ -257,18 +228,15 @@ module _ (base : ℕ → ℕ) (node : ℕ → Option (Node ℕ)) (numbers : List
       ∙ to_is
 
   order_from : (n : ℕ) → is_sorted name_cmp (entries_in (node_from n)) ≡ true
-  order_from =
-      sorted_at node from (node_without_entry old) start.in_order
+  order_from = sorted_at node from (node_without_entry old) start.in_order
       (ap (is_sorted name_cmp) (entries-node_without_entry old (node from))
       ∙ sorted_without old (entries_in (node from)) (start.in_order from))
 
   -- the new name still leads where it led
   finds_from : entry_named new (entries_in (node_from to)) ≡ replaced
-  finds_from =
-      ⊎_elim
+  finds_from = ⊎_elim
       (λ t. ap (λ b. entry_named new (entries_in (cond b (node_without_entry old (node from)) (node to)))) t.0
-      ∙ ap (entry_named new) (entries-node_without_entry old (node from))
-      ∙ here t.1 (bytes_eq new old) refl)
+      ∙ ap (entry_named new) (entries-node_without_entry old (node from)) ∙ here t.1 (bytes_eq new old) refl)
       (λ t. ap (λ b. entry_named new (entries_in (cond b (node_without_entry old (node from)) (node to)))) t.0 ∙ finds)
       (eqb_tells to from)
     where
@@ -282,8 +250,7 @@ module _ (base : ℕ → ℕ) (node : ℕ → Option (Node ℕ)) (numbers : List
           let self = one_if-itself object in
           absurd (omega (arith, other))
       here same false e = find_without old new (entries_in (node from)) e
-          ∙ ap (λ n. entry_named new (entries_in (node n))) (sym same)
-          ∙ finds
+          ∙ ap (λ n. entry_named new (entries_in (node n))) (sym same) ∙ finds
 
   on_targets : (n : ℕ) → times_in n (targets_in (node_with_entry new object (node_from to))) + one_if_some n replaced
       ≡ times_in n (targets_in (node_from to)) + one_if n object
@@ -313,8 +280,7 @@ module _ (base : ℕ → ℕ) (node : ℕ → Option (Node ℕ)) (numbers : List
   some_moved n = by replaced
     where
       under : is_some (node_under n) ≡ is_some (node n)
-      under =
-          part_at is_some node_to object (node_with_parent to) (is_some-node_with_parent to (node_to object)) n
+      under = part_at is_some node_to object (node_with_parent to) (is_some-node_with_parent to (node_to object)) n
           ∙ part_at is_some node_from to (node_with_entry new object)
           (is_some-node_with_entry new object (node_from to)) n
           ∙ part_at is_some node from (node_without_entry old) (is_some-node_without_entry old (node from)) n
@@ -335,8 +301,7 @@ module _ (base : ℕ → ℕ) (node : ℕ → Option (Node ℕ)) (numbers : List
       let two = named_changed n node_from to (node_with_entry new object (node_from to)) numbers
       (once_directory base node numbers inodes start to to_is) in
       let same : times_in n (named_by (node_moved replaced) numbers) ≡ times_in n (named_by node_to numbers) =
-      ap (times_in n)
-      (named_moved numbers) in
+      ap (times_in n) (named_moved numbers) in
       let a = off n in
       let b = on_targets n in
       omega arith
@@ -351,41 +316,27 @@ module _ (base : ℕ → ℕ) (node : ℕ → Option (Node ℕ)) (numbers : List
   same_under = changed_same node_to inodes_to object (node_with_parent to) same_to refl (λ some. (_, refl))
 
   counted_under : Counts.IsCounted uses_m node_under inodes_under
-  counted_under =
-      changed_counts uses_m node_to inodes_to object (node_with_parent to)
+  counted_under = changed_counts uses_m node_to inodes_to object (node_with_parent to)
       (changed_counts uses_m node_from inodes_from to (node_with_entry new object)
       (changed_counts uses_m node inodes from (node_without_entry old) start.tallied.counted (start.same from) refl
-      (λ some. (_, refl)))
-      (same_from to) refl (λ some. (_, refl)))
-      (same_to object) refl (λ some. (_, refl))
+      (λ some. (_, refl))) (same_from to) refl (λ some. (_, refl))) (same_to object) refl (λ some. (_, refl))
 
   -- a replaced object has no entries, and is neither of the directories
   none_or_one : (n : ℕ) → (one_if_some n replaced ≡ 0) ⊎ (1 ≤ one_if_some n replaced)
   none_or_one n = zero_or_some (one_if_some n replaced)
 
   full_stays : (d n : ℕ) → 1 ≤ times_in n (targets_in (node d)) → one_if_some d replaced ≡ 0
-  full_stays d n full =
-      ⊎_elim (λ none. none)
-      (λ gone. absurd (let none : times_in n (targets_in (node d))
-      ≡ 0 = ap (λ l. times_in n (targets l)) (empty d gone) in omega arith))
-      (none_or_one d)
+  full_stays d n full = ⊎_elim (λ none. none) (λ gone. absurd (let none : times_in n (targets_in (node d))
+      ≡ 0 = ap (λ l. times_in n (targets l)) (empty d gone) in omega arith)) (none_or_one d)
 
   from_stays : one_if_some from replaced ≡ 0
   from_stays = full_stays from object object_target
 
   gone_target : (n : ℕ) → one_if_some n replaced ≤ times_in n (targets_in (node to))
-  gone_target n =
-      let found : one_if_some n (entry_named new (entries_in (node to))) ≤ times_in n
-      (targets (entries_in (node to))) = found_target n new (entries_in (node to)) in
-      let it : one_if_some n (entry_named new (entries_in (node to))) ≡ one_if_some n replaced =
-      ap (one_if_some n) finds in
-      omega arith
+  gone_target n = grind (arith, common_steps, one_if_some, times_in, targets, found_target)
 
   to_stays : one_if_some to replaced ≡ 0
-  to_stays =
-      ⊎_elim (λ none. none)
-      (λ gone. full_stays to to (let t = gone_target to in omega arith))
-      (none_or_one to)
+  to_stays = ⊎_elim (λ none. none) (λ gone. full_stays to to (let t = gone_target to in omega arith)) (none_or_one to)
 
   counted_moved : Counts.IsCounted (uses_of base (node_moved replaced) numbers) (node_moved replaced)
       (without_replaced nat_eq inodes_under replaced)
@@ -393,15 +344,13 @@ module _ (base : ℕ → ℕ) (node : ℕ → Option (Node ℕ)) (numbers : List
     where
       by : (o : Option ℕ) → replaced ≡ o → Counts.IsCounted (uses_of base (node_moved replaced) numbers) (node_moved o)
           (without_replaced nat_eq inodes_under o)
-      by None e =
-          other_uses uses_m (uses_of base (node_moved replaced) numbers) node_under inodes_under
+      by None e = other_uses uses_m (uses_of base (node_moved replaced) numbers) node_under inodes_under
           (λ n. let l = less n in let none : one_if_some n replaced
           ≡ 0 = ap (one_if_some n) e in omega arith) counted_under
       by (Some gone) e =
           let one : one_if_some gone replaced ≡ 1 = ap (one_if_some gone) e ∙ one_if-itself gone in
           let second = changed_counts uses_m node_under inodes_under gone (node_with_parent gone) counted_under
-          (same_under gone) refl
-          (λ some. (_, refl)) in
+          (same_under gone) refl (λ some. (_, refl)) in
           unpinned_counts uses_m (uses_of base (node_moved replaced) numbers) (node_moved (Some gone))
           (with_changed nat_eq inodes_under gone (node_with_parent gone)) gone second
           (λ n. ap (λ o. one_if_some n o + uses_of base (node_moved replaced) numbers n) (sym e) ∙ less n)

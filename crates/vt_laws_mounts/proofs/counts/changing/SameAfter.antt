@@ -1,5 +1,6 @@
 -- The world with the changed inodes in it is the world after the change.
-use Rattle.std.proofs.Common.{◌≡◌, refl, sym, ap, subst, ◌∙◌, ℕ, nat_eq, Bool, true, false, cond, List, [], ◌∷◌, map, is_some}
+use Rattle.std.proofs.Common.{arith, ◌≡◌, refl, sym, ap, subst, ◌∙◌, ℕ, nat_eq, List, [], ◌∷◌, map, is_some}
+use Rattle.std.proofs.lemmas.Grind.{common_steps}
 use Rattle.vt_spec.specs.FileTree.{FileTree}
 use Rattle.vt_spec.specs.Machine.Filesystems.{with_files}
 use Rattle.vt_spec.specs.Machine.SameWorlds.{SameFilesystem, SameFilesystems, SameWorlds}
@@ -14,20 +15,11 @@ use Rattle.vt_laws_rules.proofs.same.SameMany.{same_filesystem_itself}
 
 -- two worlds that differ in the order of the numbers of one filesystem
 same_filesystems : (one other : Filesystem ℕ) → one.number ≡ other.number → SameFilesystem one other
-    → (filesystems : List (Filesystem ℕ))
-    → SameFilesystems (map (replaced_if_numbered nat_eq one) filesystems)
+    → (filesystems : List (Filesystem ℕ)) → SameFilesystems (map (replaced_if_numbered nat_eq one) filesystems)
     (map (replaced_if_numbered nat_eq other) filesystems)
 same_filesystems one other number same [] = tt
-same_filesystems one other number same (first ∷ rest) = (
-  subst (λ n. SameFilesystem (cond (nat_eq one.number first.number) one first)
-      (cond (nat_eq n first.number) other first)) number
-      (by (nat_eq one.number first.number)),
-  same_filesystems one other number same rest,
-)
-  where
-    by : (b : Bool) → SameFilesystem (cond b one first) (cond b other first)
-    by true = same
-    by false = same_filesystem_itself first
+same_filesystems one other number same (first ∷ rest) =
+    grind (arith, common_steps, same_filesystem_itself, same_filesystems one other number same rest)
 
 pub counted_changes_are_swept_beside_overlays : CountedChangesAreSweptBesideOverlays
 counted_changes_are_swept_beside_overlays fresh world location inodes change is files tree once lists =
@@ -49,15 +41,13 @@ counted_changes_are_swept_beside_overlays fresh world location inodes change is 
     left = Changes.left fresh world location inodes change is
 
     same_tree : files.tree ≡ left.tree
-    same_tree =
-        tree ∙ (λ i. record {
-          root = (Changes.counted_then fresh world location inodes change is).root i;
-          node = λ n. (Changes.counted_then fresh world location inodes change is).node n i;
-        })
+    same_tree = tree ∙ (λ i. record {
+      root = (Changes.counted_then fresh world location inodes change is).root i;
+      node = λ n. (Changes.counted_then fresh world location inodes change is).node n i;
+    })
 
     same_numbers : Rattle.std.specs.List.Sorted.IsPermutation files.numbers left.numbers
-    same_numbers =
-        same_numbers_are_permuted files.numbers left.numbers once
+    same_numbers = same_numbers_are_permuted files.numbers left.numbers once
         (Changes.counted_then fresh world location inodes change is).once
         (λ n. lists n ∙ ap (λ t. is_some (t.node n)) tree ∙ there ((changed nat_eq inodes change).inode n)
         ∙ sym (among_by_times n left.numbers (is_some ((changed nat_eq inodes change).inode n))

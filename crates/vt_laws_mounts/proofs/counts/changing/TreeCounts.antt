@@ -1,4 +1,5 @@
 -- The counts of a tree's inodes after each change of the tree, before anything is swept.
+use Rattle.std.proofs.lemmas.Grind.{common_steps}
 use Rattle.std.proofs.Common.{◌≡◌, ◌≢◌, refl, sym, ap, subst, ◌∙◌, ⊎_elim, ℕ, suc, ◌+◌, ◌-◌, ◌≤◌, nat_eq, Bool, true, false, cond, List, [], ◌∷◌, ◌++◌, length, Option, Some, None, is_some, arith}
 use Rattle.std.specs.FinMap.Entries.{is_sorted}
 use Rattle.std.proofs.lemmas.Bool.Decides.{eqb_tells, leb_tells}
@@ -9,8 +10,7 @@ use Rattle.vt_laws_mounts.proofs.counts.counting.Counts as Counts
 use Rattle.vt_laws_mounts.proofs.counts.counting.Counts.{at_or, counted_changed, counted_pinned, counted_some, one_if-itself, other_if, some_inode}
 use Rattle.vt_laws_mounts.proofs.counts.counting.Entries.{at_place, named_by, named_changed, one_if, one_if_some, part_at, targets, times_put}
 use Rattle.vt_laws_mounts.proofs.counts.counting.Times.{length_removed, removed, times_in, times_removed}
-use Rattle.vt_spec.proofs.Nodes.{directory_is_there}
-use Rattle.vt_spec.proofs.Nodes.{entries-node_with_entry, is_some-node_with_entry}
+use Rattle.vt_spec.proofs.Nodes.{directory_is_there, entries-node_with_entry, is_some-node_with_entry}
 
 abbrev pub uses_of : (ℕ → ℕ) → (ℕ → Option (Node ℕ)) → List ℕ → ℕ → ℕ
 uses_of base node numbers n = base n + times_in n (named_by node numbers)
@@ -33,8 +33,7 @@ other_uses uses now node inodes same counted = subst (λ u. Counts.IsCounted u n
 
 -- A node that is changed where it is, if it is there
 pub changed_counts : (uses : ℕ → ℕ) (node : ℕ → Option (Node ℕ)) (inodes : Inodes ℕ) (place : ℕ)
-    (change : Option (Node ℕ)
-    → Option (Node ℕ)) → Counts.IsCounted uses node inodes
+    (change : Option (Node ℕ) → Option (Node ℕ)) → Counts.IsCounted uses node inodes
     → node_in (inodes.inode place) ≡ node place → change None ≡ None
     → ((some : Node ℕ) → (new : Node ℕ) × (change (Some some) ≡ Some new))
     → Counts.IsCounted uses (at_place node place change) (with_changed nat_eq inodes place change)
@@ -55,42 +54,26 @@ changed_counts uses node inodes place change counted same none some = by (inodes
 
         inode_kept : (n : ℕ) → inodes.inode n ≡ cond (nat_eq n place)
             (inode_with_node (change (node_in (inodes.inode place))) (inodes.inode place)) (inodes.inode n)
-        inode_kept n =
-            ⊎_elim
-            (λ t. ap inodes.inode t.1 ∙ is
-            ∙ sym (ap (λ o. inode_with_node (change (node_in o)) o) is ∙ still_none (change None))
-            ∙ sym (ap (λ b. cond b (inode_with_node (change (node_in (inodes.inode place))) (inodes.inode place))
-            (inodes.inode n)) t.0))
-            (λ t. sym (ap (λ b. cond b (inode_with_node (change (node_in (inodes.inode place))) (inodes.inode place))
-            (inodes.inode n)) t.0))
-            (eqb_tells n place)
+        inode_kept n = grind (arith, common_steps, still_none, eqb_tells)
 
         node_kept : (n : ℕ) → node n ≡ at_place node place change n
-        node_kept n =
-            ⊎_elim
-            (λ t. ap node t.1 ∙ no_node ∙ sym (ap change no_node ∙ none)
+        node_kept n = ⊎_elim (λ t. ap node t.1 ∙ no_node ∙ sym (ap change no_node ∙ none)
             ∙ sym (ap (λ b. cond b (change (node place)) (node n)) t.0))
-            (λ t. sym (ap (λ b. cond b (change (node place)) (node n)) t.0))
-            (eqb_tells n place)
+            (λ t. sym (ap (λ b. cond b (change (node place)) (node n)) t.0)) (eqb_tells n place)
     by (Some inode) is = counted_changed uses node inodes counted place inode is change (some inode.node).0
         (some inode.node).1
 
 -- the nodes of inodes that are changed
 pub changed_same : (node : ℕ → Option (Node ℕ)) (inodes : Inodes ℕ) (place : ℕ)
-    (change : Option (Node ℕ) → Option (Node ℕ))
-    → ((n : ℕ) → node_in (inodes.inode n) ≡ node n)
+    (change : Option (Node ℕ) → Option (Node ℕ)) → ((n : ℕ) → node_in (inodes.inode n) ≡ node n)
     → change None ≡ None → ((some : Node ℕ) → (new : Node ℕ) × (change (Some some) ≡ Some new))
     → (n : ℕ) → node_in ((with_changed nat_eq inodes place change).inode n) ≡ at_place node place change n
-changed_same node inodes place change same none some n =
-    ⊎_elim
+changed_same node inodes place change same none some n = ⊎_elim
     (λ t. ap (λ b. node_in (cond b (inode_with_node (change (node_in (inodes.inode place))) (inodes.inode place))
-    (inodes.inode n))) t.0
-    ∙ by (inodes.inode place) (same place)
+    (inodes.inode n))) t.0 ∙ by (inodes.inode place) (same place)
     ∙ sym (ap (λ b. cond b (change (node place)) (node n)) t.0))
     (λ t. ap (λ b. node_in (cond b (inode_with_node (change (node_in (inodes.inode place))) (inodes.inode place))
-    (inodes.inode n))) t.0
-    ∙ same n ∙ sym (ap (λ b. cond b (change (node place)) (node n)) t.0))
-    (eqb_tells n place)
+    (inodes.inode n))) t.0 ∙ same n ∙ sym (ap (λ b. cond b (change (node place)) (node n)) t.0)) (eqb_tells n place)
   where
     by : (o : Option (Inode ℕ)) → node_in o ≡ node place
         → node_in (inode_with_node (change (node_in o)) o) ≡ change (node place)
@@ -128,8 +111,7 @@ module _ (uses left : ℕ → ℕ) (node : ℕ → Option (Node ℕ)) (inodes : 
 
   abbrev Left : Bool → Type 0
   Left b = Counts.IsCounted left node (record (with_inode nat_eq inodes place (cond b None one_less)) {
-    count = count_after inodes.count
-        (cond b None one_less);
+    count = count_after inodes.count (cond b None one_less);
   })
 
   last : inode.uses ≤ 1 → Left true
@@ -157,31 +139,13 @@ module _ (uses left : ℕ → ℕ) (node : ℕ → Option (Node ℕ)) (inodes : 
   }
 
   stays : 2 ≤ inode.uses → Left false
-  stays high = record {
-    uses_are = at_or (λ n o. uses_in o ≡ left n) inodes.inode place one_less
-        (let h = left_here in omega arith) left_there;
-    in_use = at_or (λ n o. is_some o ≡ true → 1 ≤ uses_in o) inodes.inode place one_less (λ e. omega arith)
-        (λ n apart. counted.in_use n);
-    kept = at_or (λ n o. is_some o ≡ true → node n ≡ node_in o) inodes.inode place one_less (λ e. here_node)
-        (λ n apart. counted.kept n);
-    emptied = at_or (λ n o. is_some o ≡ false → targets_in (node n) ≡ []) inodes.inode place one_less (λ e. cc)
-        (λ n apart. counted.emptied n);
-    list = counted.list;
-    listed = at_or (λ n o. times_in n counted.list ≡ cond (is_some o) 1 0) inodes.inode place one_less here_listed
-        (λ n apart. counted.listed n);
-    as_many = counted.as_many;
-  }
+  stays high = grind (arith, common_steps, at_or, left_here, left_there, counted, here_node, times_in, here_listed)
 
   unpinned_here : Counts.IsCounted left node (unpinned nat_eq inodes place)
-  unpinned_here =
-      subst (λ o. Counts.IsCounted left node (record (with_inode nat_eq inodes place (used_once_less o)) {
-        count = cond (is_some o)
-            (count_after inodes.count (used_once_less o)) inodes.count;
-      })) (sym is)
-      (⊎_elim
-      (λ t. subst Left (sym t.0) (last t.1))
-      (λ t. subst Left (sym t.0) (stays (let h = t.1 in omega arith)))
-      (leb_tells inode.uses 1))
+  unpinned_here = subst (λ o. Counts.IsCounted left node (record (with_inode nat_eq inodes place (used_once_less o)) {
+    count = cond (is_some o) (count_after inodes.count (used_once_less o)) inodes.count;
+  })) (sym is) (⊎_elim (λ t. subst Left (sym t.0) (last t.1))
+      (λ t. subst Left (sym t.0) (stays (let h = t.1 in omega arith))) (leb_tells inode.uses 1))
 
 pub unpinned_counts : (uses left : ℕ → ℕ) (node : ℕ → Option (Node ℕ)) (inodes : Inodes ℕ) (place : ℕ)
     → Counts.IsCounted uses node inodes
@@ -210,8 +174,7 @@ module _ (base : ℕ → ℕ) (node : ℕ → Option (Node ℕ)) (numbers : List
       → IsTallied base (at_place node place change) numbers (with_changed nat_eq inodes place change)
   rewritten place change entries none some = record {
     counted = other_uses uses (uses_of base (at_place node place change) numbers) (at_place node place change)
-        (with_changed nat_eq inodes place change)
-        (λ n. ap (λ l. base n + times_in n l) (sym (names numbers)))
+        (with_changed nat_eq inodes place change) (λ n. ap (λ l. base n + times_in n l) (sym (names numbers)))
         (changed_counts uses node inodes place change counted (start.same place) none some);
     once = λ n. once n ∙ ap (λ b. cond b 1 0) (sym (part_at is_some node place change (there (node place)) n));
   }
@@ -249,8 +212,7 @@ module _ (base : ℕ → ℕ) (node : ℕ → Option (Node ℕ)) (numbers : List
 
   -- Another name
   pub linked : (directory : ℕ) (name : List ℕ) (object : ℕ) → is_directory_node (node directory) ≡ true
-      → entry_named name (entries_in (node directory)) ≡ None
-      → is_some (inodes.inode object) ≡ true
+      → entry_named name (entries_in (node directory)) ≡ None → is_some (inodes.inode object) ≡ true
       → IsTallied base (at_place node directory (node_with_entry name object)) numbers
       (with_name nat_eq inodes directory name object)
   linked directory name object is free there = record {
@@ -272,8 +234,7 @@ module _ (base : ℕ → ℕ) (node : ℕ → Option (Node ℕ)) (numbers : List
 
       counted_on : Counts.IsCounted uses node_on inodes_on
       counted_on = changed_counts uses node inodes directory (node_with_entry name object) counted
-          (start.same directory) refl
-          (λ some. (_, refl))
+          (start.same directory) refl (λ some. (_, refl))
 
       object_used : 1 ≤ uses object
       object_used = let some = counted.in_use object there in let e = counted.uses_are object in omega arith

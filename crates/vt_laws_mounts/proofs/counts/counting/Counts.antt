@@ -1,8 +1,9 @@
 -- Inodes that count their uses, after each step of a change.
+use Rattle.std.proofs.lemmas.Grind.{common_steps}
 use Rattle.std.proofs.Common.{◌≡◌, ◌≢◌, refl, sym, ap, subst, ◌∙◌, ⊎_elim, ℕ, ◌+◌, ◌≤◌, nat_eq, eq-eqb, ne_eqb, true, false, cond, List, [], ◌∷◌, length, Option, Some, None, is_some, arith}
 use Rattle.std.proofs.lemmas.Bool.Decides.{eqb_tells}
 use Rattle.vt_spec.specs.FileTree.{targets_in}
-use Rattle.vt_spec.specs.Inodes.{Inode, Inodes, inode_with_node, node_in, pinned, used_once_more, uses_in, with_changed, with_inode}
+use Rattle.vt_spec.specs.Inodes.{Inode, Inodes, node_in, pinned, uses_in, with_changed, with_inode}
 use Rattle.vt_spec.specs.Tree.{Node}
 use Rattle.vt_laws_mounts.proofs.counts.counting.Entries.{changed_at, one_if}
 use Rattle.vt_laws_mounts.proofs.counts.counting.Times.{times_in}
@@ -21,11 +22,9 @@ pub record IsCounted (uses : ℕ → ℕ) (node : ℕ → Option (Node ℕ)) (in
 pub at_or : (P : ℕ → Option (Inode ℕ) → Type 0) (inode : ℕ → Option (Inode ℕ)) (place : ℕ) (new : Option (Inode ℕ))
     → P place new → ((number : ℕ) → number ≢ place → P number (inode number))
     → (number : ℕ) → P number (cond (nat_eq number place) new (inode number))
-at_or P inode place new here there number =
-    ⊎_elim
+at_or P inode place new here there number = ⊎_elim
     (λ t. subst (λ b. P number (cond b new (inode number))) (sym t.0) (subst (λ n. P n new) (sym t.1) here))
-    (λ t. subst (λ b. P number (cond b new (inode number))) (sym t.0) (there number t.1))
-    (eqb_tells number place)
+    (λ t. subst (λ b. P number (cond b new (inode number))) (sym t.0) (there number t.1)) (eqb_tells number place)
 
 pub one_if-itself : (number : ℕ) → one_if number number ≡ 1
 one_if-itself number = ap (λ b. cond b 1 0) (eq-eqb number number refl)
@@ -44,8 +43,7 @@ some_inode None e = cc
 some_inode (Some inode) e = (inode, refl)
 
 module _ (uses : ℕ → ℕ) (node : ℕ → Option (Node ℕ)) (inodes : Inodes ℕ) (counted : IsCounted uses node inodes)
-    (place : ℕ)
-    (inode : Inode ℕ) (is : inodes.inode place ≡ Some inode) where
+    (place : ℕ) (inode : Inode ℕ) (is : inodes.inode place ≡ Some inode) where
   here_uses : inode.uses ≡ uses place
   here_uses = sym (ap uses_in is) ∙ counted.uses_are place
 
@@ -60,67 +58,26 @@ module _ (uses : ℕ → ℕ) (node : ℕ → Option (Node ℕ)) (inodes : Inode
 
   -- one use more
   pub counted_pinned : IsCounted (λ number. one_if number place + uses number) node (pinned nat_eq inodes place)
-  counted_pinned = subst (λ o. IsCounted (λ number. one_if number place + uses number) node
-      (with_inode nat_eq inodes place o)) (sym (ap used_once_more is)) (record {
-        uses_are = at_or (λ number o. uses_in o ≡ one_if number place + uses number) inodes.inode place more
-            (let e = here_uses in let one : one_if place place ≡ 1 = one_if-itself place in omega arith)
-            (λ number apart. let e = counted.uses_are number in let none : one_if number place
-            ≡ 0 = other_if number place apart in
-            omega arith);
-        in_use =
-            at_or (λ number o. is_some o ≡ true → 1 ≤ uses_in o) inodes.inode place more (λ e. omega arith)
-            (λ number apart. counted.in_use number);
-        kept =
-            at_or (λ number o. is_some o ≡ true → node number ≡ node_in o) inodes.inode place more (λ e. here_node)
-            (λ number apart. counted.kept number);
-        emptied =
-            at_or (λ number o. is_some o ≡ false → targets_in (node number) ≡ []) inodes.inode place more (λ e. cc)
-            (λ number apart. counted.emptied number);
-        list = counted.list;
-        listed =
-            at_or (λ number o. times_in number counted.list ≡ cond (is_some o) 1 0) inodes.inode place more here_listed
-            (λ number apart. counted.listed number);
-        as_many = counted.as_many;
-      })
-    where
-      more : Option (Inode ℕ)
-      more = Some (record { node = inode.node; uses = inode.uses + 1 })
+  counted_pinned =
+      grind (arith, common_steps, one_if, at_or, here_uses, one_if-itself, other_if, here_node, times_in, here_listed)
 
   -- another node
   pub counted_changed : (change : Option (Node ℕ) → Option (Node ℕ)) (new : Node ℕ)
       → change (Some inode.node) ≡ Some new
       → IsCounted uses (changed_at node place (change (node place))) (with_changed nat_eq inodes place change)
-  counted_changed change new becomes =
-      subst (λ o. IsCounted uses (changed_at node place (change (node place)))
-      (with_inode nat_eq inodes place (inode_with_node (change (node_in o)) o))) (sym is)
-      (subst (λ o. IsCounted uses (changed_at node place (change (node place)))
-      (with_inode nat_eq inodes place (inode_with_node o (Some inode)))) (sym becomes) (record {
-        uses_are = at_or (λ number o. uses_in o ≡ uses number) inodes.inode place now here_uses
-            (λ number apart. counted.uses_are number);
-        in_use =
-            at_or (λ number o. is_some o ≡ true → 1 ≤ uses_in o) inodes.inode place now (λ e. here_in_use)
-            (λ number apart. counted.in_use number);
-        kept = at_or (λ number o. is_some o ≡ true
-            → changed_at node place (change (node place)) number ≡ node_in o) inodes.inode place now
-            (λ e. ap (λ b. cond b (change (node place)) (node place)) (eq-eqb place place refl) ∙ ap change here_node
-            ∙ becomes)
-            (λ number apart e. ap (λ b. cond b (change (node place)) (node number)) (ne_eqb number place apart)
-            ∙ counted.kept number e);
-        emptied =
-            at_or (λ number o. is_some o ≡ false
-            → targets_in (changed_at node place (change (node place)) number) ≡ []) inodes.inode place now (λ e. cc)
-            (λ number apart e. ap (λ b. targets_in (cond b (change (node place)) (node number)))
-            (ne_eqb number place apart)
-            ∙ counted.emptied number e);
-        list = counted.list;
-        listed =
-            at_or (λ number o. times_in number counted.list ≡ cond (is_some o) 1 0) inodes.inode place now here_listed
-            (λ number apart. counted.listed number);
-        as_many = counted.as_many;
-      }))
-    where
-      now : Option (Inode ℕ)
-      now = Some (record { node = new; uses = inode.uses })
+  counted_changed change new becomes = grind (
+    arith,
+    common_steps,
+    changed_at,
+    at_or,
+    here_uses,
+    here_in_use,
+    eq-eqb,
+    here_node,
+    ne_eqb,
+    times_in,
+    here_listed,
+  )
 
 -- an inode more
 pub counted_new : (uses : ℕ → ℕ) (node : ℕ → Option (Node ℕ)) (inodes : Inodes ℕ) → IsCounted uses node inodes
@@ -133,15 +90,13 @@ counted_new uses node inodes counted number new vacant = record {
       let one : one_if number number ≡ 1 = one_if-itself number in omega arith)
       (λ other apart. let e = counted.uses_are other in let none : one_if other number
       ≡ 0 = other_if other number apart in omega arith);
-  in_use =
-      at_or (λ other o. is_some o ≡ true → 1 ≤ uses_in o) inodes.inode number now (λ e. omega arith)
+  in_use = at_or (λ other o. is_some o ≡ true → 1 ≤ uses_in o) inodes.inode number now (λ e. omega arith)
       (λ other apart. counted.in_use other);
   kept = at_or (λ other o. is_some o ≡ true
       → changed_at node number (Some new) other ≡ node_in o) inodes.inode number now
       (λ e. ap (λ b. cond b (Some new) (node number)) (eq-eqb number number refl))
       (λ other apart e. ap (λ b. cond b (Some new) (node other)) (ne_eqb other number apart) ∙ counted.kept other e);
-  emptied =
-      at_or (λ other o. is_some o ≡ false
+  emptied = at_or (λ other o. is_some o ≡ false
       → targets_in (changed_at node number (Some new) other) ≡ []) inodes.inode number now (λ e. cc)
       (λ other apart e. ap (λ b. targets_in (cond b (Some new) (node other))) (ne_eqb other number apart)
       ∙ counted.emptied other e);
@@ -161,8 +116,7 @@ counted_new uses node inodes counted number new vacant = record {
 
 -- what has a use is there
 pub counted_some : (uses : ℕ → ℕ) (node : ℕ → Option (Node ℕ)) (inodes : Inodes ℕ) → IsCounted uses node inodes
-    → (number : ℕ)
-    → 1 ≤ uses number → is_some (inodes.inode number) ≡ true
+    → (number : ℕ) → 1 ≤ uses number → is_some (inodes.inode number) ≡ true
 counted_some uses node inodes counted number some = by (inodes.inode number) (counted.uses_are number)
   where
     by : (o : Option (Inode ℕ)) → uses_in o ≡ uses number → is_some o ≡ true

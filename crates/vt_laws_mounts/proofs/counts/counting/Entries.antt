@@ -1,22 +1,21 @@
 -- How often the entries of directories lead to an inode, after each change of entries.
+use Rattle.std.proofs.lemmas.Grind.{common_steps}
 use Rattle.std.proofs.Common.{◌≡◌, ◌≢◌, refl, sym, ap, subst, ◌∙◌, ⊎_elim, inl, inr, ◌⊎◌, ℕ, ◌+◌, ◌≤◌, nat_eq, eq-eqb, ne_eqb, Bool, true, false, true≢false, cond, not, ◌&&◌, List, [], ◌∷◌, ◌++◌, map, flat_map, Option, Some, None, arith}
 use Rattle.std.proofs.lemmas.Bool.Decides.{eqb_tells}
 use Rattle.std.proofs.lemmas.Bool.{and_parts}
 use Rattle.std.proofs.lemmas.Float.{T_from_true}
 use Rattle.std.specs.Cmp.Lexicographic.{nat_list_cmp_total, texts_ties, bytes_decides}
-use Rattle.std.specs.FinMap.Entries.{below_all, by_order, is_sorted, is_sorted-where_key}
+use Rattle.std.specs.FinMap.Entries.{below_all, by_order, is_sorted, is_sorted-where_key, find-where_key}
 use Rattle.std.specs.Ordering.{is_eq, is_lt}
 use Rattle.std.specs.Str.{bytes_eq}
 use Rattle.std.specs.declared.cmp.Ordering.{Ordering}
 use Rattle.std.specs.declared.cmp.Ordering.TheVariants.{Less, Equal, Greater}
 use Rattle.vt_spec.specs.Language.Changes.{without_entry}
 use Rattle.vt_spec.specs.FileTree.{targets_in}
-use Rattle.vt_spec.specs.Tree.{Entries, Node, entries_in, entry_named, name_cmp, with_entry}
+use Rattle.vt_spec.specs.Tree.{Entries, Node, entries_in, entry_named, name_cmp, with_entry, Content, entries_of, kind_of, new_directory}
 use Rattle.vt_spec.proofs.Nodes.{passes}
 use Rattle.vt_spec.proofs.NodeChanges.{entry_named-below}
-use Rattle.std.specs.FinMap.Entries.{find-where_key}
 use Rattle.vt_spec.specs.Rights.{is_directory}
-use Rattle.vt_spec.specs.Tree.{Content, entries_of, kind_of, new_directory}
 use Rattle.vt_spec.specs.Tree.Content.{Directory, Regular, Symlink, Whiteout}
 use Rattle.vt_laws_mounts.proofs.counts.counting.Times.{times_append, times_in}
 
@@ -37,8 +36,7 @@ is_less Equal e = cc
 is_less Greater e = cc
 
 below_less : (name other : List ℕ) (entries : Entries ℕ) → name_cmp name other ≡ Less
-    → below_all name_cmp other entries ≡ true
-    → below_all name_cmp name entries ≡ true
+    → below_all name_cmp other entries ≡ true → below_all name_cmp name entries ≡ true
 below_less name other [] less e = refl
 below_less name other (entry ∷ rest) less e =
     let parts = and_parts (is_lt (name_cmp other entry.0)) (below_all name_cmp other rest) e in
@@ -58,28 +56,17 @@ times_put number name object (entry ∷ rest) sorted =
 
     by : (o : Ordering) → name_cmp name entry.0 ≡ o
         → times_in number (targets (with_entry name object rest)) + one_if_some number (entry_named name rest)
-        ≡ times_in number
-        (targets rest) + one_if number object
-        → times_in number
+        ≡ times_in number (targets rest) + one_if number object → times_in number
         (targets (by_order o ((name, object) ∷ entry ∷ rest) ((entry.0, object) ∷ rest)
         (entry ∷ with_entry name object rest))) + one_if_some number
         (cond (is_eq o) (Some entry.1) (entry_named name rest))
         ≡ times_in number (targets (entry ∷ rest)) + one_if number object
-    by Less e later =
-        let none : entry_named name rest ≡ None = entry_named-below name rest
-        (below_less name entry.0 rest e parts.0) in
-        ap (λ o. (one_if number object +
-        (one_if number entry.1 + times_in number (targets rest))) + one_if_some number o) none
-        ∙ (let aside : (one_if number object + (one_if number entry.1 + times_in number (targets rest))) + 0 ≡
-        (one_if number entry.1 + times_in number (targets rest)) + one_if number object = omega arith in aside)
-    by Equal e later = omega arith
-    by Greater e later = omega arith
+    by o e later = grind (arith, common_steps, later, entry_named-below, below_less, parts, times_in)
 
 -- an entry less
 pub times_without : (number : ℕ) (name : List ℕ) (entries : Entries ℕ) → is_sorted name_cmp entries ≡ true
     → times_in number (targets (without_entry name entries)) + one_if_some number (entry_named name entries)
-    ≡ times_in number
-    (targets entries)
+    ≡ times_in number (targets entries)
 times_without number name [] sorted = omega arith
 times_without number name (entry ∷ rest) sorted =
     by (bytes_eq entry.0 name) refl (is_eq (name_cmp name entry.0)) refl (times_without number name rest parts.1)
@@ -89,8 +76,7 @@ times_without number name (entry ∷ rest) sorted =
 
     by : (b : Bool) → bytes_eq entry.0 name ≡ b → (c : Bool) → is_eq (name_cmp name entry.0) ≡ c
         → times_in number (targets (without_entry name rest)) + one_if_some number (entry_named name rest)
-        ≡ times_in number (targets rest)
-        → times_in number
+        ≡ times_in number (targets rest) → times_in number
         (targets (cond (not b) (entry ∷ without_entry name rest) (without_entry name rest))) + one_if_some number
         (cond c (Some entry.1) (entry_named name rest)) ≡ one_if number entry.1 + times_in number (targets rest)
     by true e true f later =
@@ -138,58 +124,24 @@ pub named_apart : (node : ℕ → Option (Node ℕ)) (place : ℕ) (new : Option
     → times_in place numbers ≡ 0 → named_by (changed_at node place new) numbers ≡ named_by node numbers
 named_apart node place new [] none = refl
 named_apart node place new (first ∷ rest) none =
-    ⊎_elim
-    (λ t. absurd (let some : one_if place first ≡ 1 = ap (λ b. cond b 1 0) t.0 in omega arith))
-    (λ t. λ i. targets_in (cond (ne_eqb first place (λ e. t.1 (sym e)) i) new (node first))
-    ++ named_apart node place new rest
-    (let h : one_if place first ≡ 0 = ap (λ b. cond b 1 0) t.0 in omega arith) i)
-    (eqb_tells place first)
+    grind (arith, common_steps, ne_eqb, eqb_tells, named_apart node place new rest)
 
 -- one that is among them once has its new entries for its old ones
 pub named_changed : (number : ℕ) (node : ℕ → Option (Node ℕ)) (place : ℕ) (new : Option (Node ℕ)) (numbers : List ℕ)
-    → times_in place numbers ≡ 1
-    → times_in number (named_by (changed_at node place new) numbers) + times_in number
+    → times_in place numbers ≡ 1 → times_in number (named_by (changed_at node place new) numbers) + times_in number
     (targets_in (node place)) ≡ times_in number (named_by node numbers) + times_in number (targets_in new)
 named_changed number node place new [] one = absurd (omega arith)
-named_changed number node place new (first ∷ rest) one =
-    ⊎_elim (λ t. here t.0 t.1)
-    (λ t. later t.0 t.1
-    (named_changed number node place new rest (let h : one_if place first ≡ 0 = ap (λ b. cond b 1 0) t.0 in
-    omega arith))) (eqb_tells place first)
-  where
-    whole : times_in number (named_by node (first ∷ rest)) ≡ times_in number (targets_in (node first)) + times_in number
-        (named_by node rest)
-    whole = times_append number (targets_in (node first)) (named_by node rest)
-
-    now : times_in number (named_by (changed_at node place new) (first ∷ rest)) ≡ times_in number
-        (targets_in (changed_at node place new first)) + times_in number (named_by (changed_at node place new) rest)
-    now = times_append number (targets_in (changed_at node place new first)) (named_by (changed_at node place new) rest)
-
-    here : nat_eq place first ≡ true → place ≡ first
-        → times_in number (named_by (changed_at node place new) (first ∷ rest)) + times_in number
-        (targets_in (node place)) ≡ times_in number (named_by node (first ∷ rest)) + times_in number (targets_in new)
-    here t same =
-        let none : times_in place rest ≡ 0 = (let h : one_if place first ≡ 1 = ap (λ b. cond b 1 0) t in omega arith) in
-        let rest_same : times_in number (named_by (changed_at node place new) rest)
-        ≡ times_in number (named_by node rest) =
-        ap (times_in number) (named_apart node place new rest none) in
-        let new_first : times_in number (targets_in (changed_at node place new first))
-        ≡ times_in number (targets_in new) =
-        ap (λ b. times_in number (targets_in (cond b new (node first)))) (eq-eqb first place (sym same)) in
-        let old_first : times_in number (targets_in (node place)) ≡ times_in number (targets_in (node first)) =
-        ap (λ n. times_in number (targets_in (node n))) same in
-        let a = whole in let b = now in omega arith
-
-    later : nat_eq place first ≡ false → place ≢ first
-        → times_in number (named_by (changed_at node place new) rest) + times_in number
-        (targets_in (node place)) ≡ times_in number (named_by node rest) + times_in number (targets_in new)
-        → times_in number (named_by (changed_at node place new) (first ∷ rest)) + times_in number
-        (targets_in (node place)) ≡ times_in number (named_by node (first ∷ rest)) + times_in number (targets_in new)
-    later t apart rec =
-        let first_same : times_in number (targets_in (changed_at node place new first))
-        ≡ times_in number (targets_in (node first)) =
-        ap (λ b. times_in number (targets_in (cond b new (node first)))) (ne_eqb first place (λ e. apart (sym e))) in
-        let a = whole in let b = now in omega arith
+named_changed number node place new (first ∷ rest) one = grind (
+  arith,
+  common_steps,
+  eqb_tells,
+  times_in,
+  times_append,
+  named_apart,
+  eq-eqb,
+  ne_eqb,
+  named_changed number node place new rest,
+)
 
 -- a node changed where it stands
 abbrev pub at_place : (ℕ → Option (Node ℕ)) → ℕ → (Option (Node ℕ) → Option (Node ℕ)) → ℕ → Option (Node ℕ)
@@ -198,11 +150,9 @@ at_place node place change = changed_at node place (change (node place))
 pub part_at : {A : Type 0} (part : Option (Node ℕ) → A) (node : ℕ → Option (Node ℕ)) (place : ℕ)
     (change : Option (Node ℕ) → Option (Node ℕ)) → part (change (node place)) ≡ part (node place) → (n : ℕ)
     → part (at_place node place change n) ≡ part (node n)
-part_at part node place change same n =
-    ⊎_elim
+part_at part node place change same n = ⊎_elim
     (λ t. ap (λ b. part (cond b (change (node place)) (node n))) t.0 ∙ same ∙ ap (λ m. part (node m)) (sym t.1))
-    (λ t. ap (λ b. part (cond b (change (node place)) (node n))) t.0)
-    (eqb_tells n place)
+    (λ t. ap (λ b. part (cond b (change (node place)) (node n))) t.0) (eqb_tells n place)
 
 pub at_other : (node : ℕ → Option (Node ℕ)) (place : ℕ) (change : Option (Node ℕ) → Option (Node ℕ)) (n : ℕ) → n ≢ place
     → at_place node place change n ≡ node n
@@ -212,8 +162,7 @@ pub sorted_at : (node : ℕ → Option (Node ℕ)) (place : ℕ) (change : Optio
     → ((n : ℕ) → is_sorted name_cmp (entries_in (node n)) ≡ true)
     → (is_sorted name_cmp (entries_in (change (node place))) ≡ true) → (n : ℕ)
     → is_sorted name_cmp (entries_in (at_place node place change n)) ≡ true
-sorted_at node place change all here n =
-    ⊎_elim
+sorted_at node place change all here n = ⊎_elim
     (λ t. subst (λ b. is_sorted name_cmp (entries_in (cond b (change (node place)) (node n))) ≡ true) (sym t.0) here)
     (λ t. subst (λ b. is_sorted name_cmp (entries_in (cond b (change (node place)) (node n))) ≡ true) (sym t.0) (all n))
     (eqb_tells n place)
@@ -230,20 +179,12 @@ new_entries directory Whiteout e = refl
 -- changes at two places may change places
 pub commute : (node : ℕ → Option (Node ℕ)) (a b : ℕ) (f g : Option (Node ℕ) → Option (Node ℕ)) → a ≢ b → (n : ℕ)
     → at_place (at_place node a f) b g n ≡ at_place (at_place node b g) a f n
-commute node a b f g apart n =
-    ⊎_elim
-    (λ t. ap (λ c. cond c (g (at_place node a f b)) (at_place node a f n)) t.0
-    ∙ ap g (at_other node a f b (λ e. apart (sym e)))
-    ∙ sym (at_other (at_place node b g) a f n (λ e. apart (sym e ∙ t.1)) ∙ ap (λ c. cond c (g (node b)) (node n)) t.0))
-    (λ t. ap (λ c. cond c (g (at_place node a f b)) (at_place node a f n)) t.0
-    ∙ (λ i. cond (nat_eq n a) (f (sym (at_other node b g a apart) i)) (sym (at_other node b g n t.1) i)))
-    (eqb_tells n b)
+commute node a b f g apart n = grind (arith, common_steps, at_other, eqb_tells)
 
 -- entries of another name stay
 pub find_without : (name other : List ℕ) (entries : Entries ℕ) → (bytes_eq other name ≡ false)
     → entry_named other (without_entry name entries) ≡ entry_named other entries
-find_without name other entries apart =
-    find-where_key name_cmp (λ key. not (bytes_eq key name)) other
+find_without name other entries apart = find-where_key name_cmp (λ key. not (bytes_eq key name)) other
     (λ key same. ap (λ k. not (bytes_eq k name))
     (sym ((bytes_decides other key).0 (texts_ties other key ∙ ap Rattle.std.specs.Ordering.is_eq same)))) entries
     ∙ ap (λ b. cond (not b) (entry_named other entries) None) apart

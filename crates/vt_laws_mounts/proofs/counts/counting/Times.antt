@@ -1,5 +1,6 @@
 -- How often a number stands in a list.
-use Rattle.std.proofs.Common.{◌≡◌, ◌≢◌, refl, sym, ap, subst, ◌∙◌, ⊎_elim, ℕ, suc, ◌+◌, ◌≤◌, nat_eq, eq-eqb, Bool, true, false, cond, ◌&&◌, ◌||◌, List, [], ◌∷◌, ◌++◌, length, filter, arith}
+use Rattle.std.proofs.lemmas.Grind.{common_steps}
+use Rattle.std.proofs.Common.{◌≡◌, ◌≢◌, refl, ap, subst, ◌∙◌, ℕ, suc, ◌+◌, ◌≤◌, nat_eq, eq-eqb, Bool, true, false, cond, ◌&&◌, ◌||◌, List, [], ◌∷◌, ◌++◌, length, filter, arith}
 use Rattle.std.specs.List.{list_all}
 use Rattle.std.proofs.lemmas.Bool.Decides.{eqb_tells}
 use Rattle.vt_spec.specs.Lists.{is_among}
@@ -24,8 +25,7 @@ times_among number [] e = absurd (omega arith)
 times_among number (other ∷ rest) e = by (nat_eq number other) e (times_among number rest)
   where
     by : (b : Bool) → 1 ≤ cond b 1 0 + times_in number rest
-        → (1 ≤ times_in number rest → is_among nat_eq number rest ≡ true)
-        → (b || is_among nat_eq number rest) ≡ true
+        → (1 ≤ times_in number rest → is_among nat_eq number rest ≡ true) → (b || is_among nat_eq number rest) ≡ true
     by true e later = refl
     by false e later = later (omega arith)
 
@@ -37,25 +37,7 @@ removed number (other ∷ rest) = cond (nat_eq number other) rest (other ∷ rem
 pub times_removed : (number z : ℕ) (list : List ℕ) → 1 ≤ times_in number list
     → times_in z (number ∷ removed number list) ≡ times_in z list
 times_removed number z [] e = absurd (omega arith)
-times_removed number z (other ∷ rest) e = ⊎_elim here (later (times_removed number z rest)) (eqb_tells number other)
-  where
-    here : (nat_eq number other ≡ true) × (number ≡ other)
-        → times_in z (number ∷ removed number (other ∷ rest)) ≡ times_in z (other ∷ rest)
-    here t =
-        ap (λ b. cond (nat_eq z number) 1 0 + times_in z (cond b rest (other ∷ removed number rest))) t.0
-        ∙ ap (λ n. cond (nat_eq z n) 1 0 + times_in z rest) t.1
-
-    later : (1 ≤ times_in number rest → times_in z (number ∷ removed number rest) ≡ times_in z rest)
-        → (nat_eq number other ≡ false) × (number ≢ other)
-        → times_in z (number ∷ removed number (other ∷ rest)) ≡ times_in z (other ∷ rest)
-    later rec t =
-        let more : 1 ≤ 0 + times_in number rest = subst (λ b. 1 ≤ cond b 1 0 + times_in number rest) t.0 e in
-        let same : cond (nat_eq z number) 1 0 + times_in z (removed number rest) ≡ times_in z rest =
-        rec (omega arith) in
-        ap (λ b. cond (nat_eq z number) 1 0 + times_in z (cond b rest (other ∷ removed number rest))) t.0
-        ∙ (let aside : cond (nat_eq z number) 1 0 + (cond (nat_eq z other) 1 0 + times_in z (removed number rest))
-        ≡ cond
-        (nat_eq z other) 1 0 + times_in z rest = omega arith in aside)
+times_removed number z (other ∷ rest) e = grind (arith, common_steps, eqb_tells, times_removed number z rest)
 
 pub length_removed : (number : ℕ) (list : List ℕ) → 1 ≤ times_in number list
     → suc (length (removed number list)) ≡ length list
@@ -113,35 +95,5 @@ filter_all p (first ∷ rest) e = by (p first) e (filter_all p rest)
 
 pub times_filter : (p : ℕ → Bool) (number : ℕ) (list : List ℕ)
     → times_in number (filter p list) ≡ cond (p number) (times_in number list) 0
-times_filter p number [] = by (p number)
-  where
-    by : (b : Bool) → ◌≡◌ {A = ℕ} 0 (cond b 0 0)
-    by true = refl
-    by false = refl
-times_filter p number (first ∷ rest) =
-    ⊎_elim
-    (λ t. here (p first) (p number) (ap p t.1) t.0 (times_filter p number rest))
-    (λ t. later (p first) (p number) t.0 (times_filter p number rest))
-    (eqb_tells number first)
-  where
-    here : (a b : Bool) → b ≡ a → nat_eq number first ≡ true
-        → times_in number (filter p rest) ≡ cond b (times_in number rest) 0
-        → times_in number (cond a (first ∷ filter p rest) (filter p rest)) ≡ cond b
-        (cond (nat_eq number first) 1 0 + times_in number rest) 0
-    here true true e same h = ap (λ n. cond (nat_eq number first) 1 0 + n) h
-    here true false e same h = cc
-    here false true e same h = cc
-    here false false e same h = h
-
-    later : (a b : Bool) → nat_eq number first ≡ false
-        → times_in number (filter p rest) ≡ cond b (times_in number rest) 0
-        → times_in number (cond a (first ∷ filter p rest) (filter p rest)) ≡ cond b
-        (cond (nat_eq number first) 1 0 + times_in number rest) 0
-    later true true e h = ap (λ n. cond (nat_eq number first) 1 0 + n) h
-    later true false e h =
-        ap (λ c. cond c 1 0 + times_in number (filter p rest)) e
-        ∙ (let g : times_in number (filter p rest) ≡ 0 = h in omega arith)
-    later false true e h =
-        h ∙ (let g : times_in number rest ≡ 0 + times_in number rest = omega arith in g)
-        ∙ ap (λ c. cond c 1 0 + times_in number rest) (sym e)
-    later false false e h = h
+times_filter p number [] = grind (arith, common_steps)
+times_filter p number (first ∷ rest) = grind (arith, common_steps, eqb_tells, times_filter p number rest)

@@ -1,4 +1,5 @@
 -- Mounts and filesystems that go at zero.
+use Rattle.std.proofs.lemmas.Grind.{common_steps}
 use Rattle.std.proofs.Common.{◌≡◌, refl, sym, ap, ◌∙◌, ℕ, ◌+◌, nat_eq, eqb-true, Bool, true, false, true≢false, cond, not, ◌||◌, List, [], ◌∷◌, map, filter, find, Some, is_some, unwrap_or, arith}
 use Rattle.std.specs.List.{list_any}
 use Rattle.std.proofs.lemmas.Bool.{or_parts}
@@ -19,14 +20,12 @@ use Rattle.vt_spec.proofs.Found.{filter_all}
 use Rattle.vt_spec.proofs.Truths.{nat_eq-swapped}
 
 pub mount_goes_at_zero : MountGoesAtZero
-mount_goes_at_zero world number one =
-    mount_is_looked_up world number one
+mount_goes_at_zero world number one = mount_is_looked_up world number one
     ∙ ap (λ b. cond (is_some (mount_numbered nat_eq world number).namespace || b) world (without_mount world number))
     (located_while_counted world number)
 
 pub filesystem_goes_at_zero : FilesystemGoesAtZero
-filesystem_goes_at_zero world number plain =
-    filesystem_is_looked_up world number
+filesystem_goes_at_zero world number plain = filesystem_is_looked_up world number
     ∙ ap (λ b. cond (is_mounted nat_eq world number || b) world (without_filesystem world number))
     (no_layers number world world.filesystems (plain_of world plain))
     ∙ ap (λ b. cond b world (without_filesystem world number))
@@ -57,22 +56,8 @@ one_taken test (first ∷ rest) number one there =
         → times test (first ∷ rest) ≡ times test (cond (not (nat_eq first.number number)) (first ∷ left) left)
         + cond (test (unwrap_or (cond b (Some first) (find (λ mount. nat_eq number mount.number) rest))
         (no_mount number))) 1 0
-    by true e h later =
-        let all : left ≡ rest = filter_all (λ mount. not (nat_eq mount.number number)) rest
-        (λ mount m. ap not (nat_eq-swapped number mount.number false
-        (ap (λ k. nat_eq k mount.number) (eqb-true number first.number e)
-        ∙ fails (λ b. nat_eq first.number b.number) rest parts.0 mount m))) in
-        (let aside : cond (test first) 1 0 + times test rest
-        ≡ times test rest + cond (test first) 1 0 = omega arith in aside)
-        ∙ ap (λ l. times test l + cond (test first) 1 0) (sym all)
-        ∙ ap (λ b. times test (cond (not b) (first ∷ left) left) + cond (test first) 1 0)
-        (sym (nat_eq-swapped number first.number true e))
-    by false e h later =
-        (let l = later h in
-        let aside : cond (test first) 1 0 + times test rest ≡ (cond (test first) 1 0 + times test left) + cond
-        (test (mount_in nat_eq rest number)) 1 0 = omega arith in aside)
-        ∙ ap (λ b. times test (cond (not b) (first ∷ left) left) + cond (test (mount_in nat_eq rest number)) 1 0)
-        (sym (nat_eq-swapped number first.number false e))
+    by true e h later = grind (arith, common_steps, filter_all, nat_eq-swapped, eqb-true, fails, parts)
+    by false e h later = grind (arith, common_steps, nat_eq-swapped)
 
 pub mount_takes_its_count : MountTakesItsCount
 mount_takes_its_count world number filesystem one there = one_taken

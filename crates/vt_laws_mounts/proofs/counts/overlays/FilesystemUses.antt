@@ -1,7 +1,7 @@
 -- What filesystems use: directories of layers, and upper objects.
-use Rattle.std.proofs.Common.{◌≡◌, refl, sym, ap, ◌∙◌, ℕ, ◌+◌, nat_eq, Bool, true, false, true≢false, cond, not, ◌&&◌, List, [], ◌∷◌, ◌++◌, map, filter, flat_map, Option, Some, None, is_some, arith}
+use Rattle.std.proofs.lemmas.Grind.{common_steps}
+use Rattle.std.proofs.Common.{◌≡◌, refl, sym, ap, ◌∙◌, ℕ, ◌+◌, nat_eq, Bool, true, false, true≢false, cond, not, ◌&&◌, List, [], ◌∷◌, ◌++◌, map, filter, flat_map, Option, Some, None, arith}
 use Rattle.std.specs.Prelude.{All, filter_map, option_to_list}
-use Rattle.std.specs.List.{cons_option, list_any}
 use Rattle.std.proofs.lemmas.Bool.{or_parts}
 use Rattle.vt_spec.specs.Lists.{holds_of}
 use Rattle.vt_spec.specs.Machine.Locked.{of_overlay, overlay_or}
@@ -10,7 +10,6 @@ use Rattle.vt_spec.specs.Machine.Settled.{has_layer_on, layers_in, located_in, n
 use Rattle.vt_spec.specs.Machine.World.{Filesystem, Layer, Overlay, World, all_locations, filesystem_numbered, is_overlay, layers_of, upper_object}
 use Rattle.vt_spec.proofs.Lists.{filter_none}
 use Rattle.vt_laws_mounts.specs.LettingGo.Counts.{inode_uses, times}
-use Rattle.vt_laws_mounts.specs.LettingGo.InUse.{has_upper_in}
 use Rattle.vt_laws_mounts.specs.LettingGo.OneByOne.{Inode}
 use Rattle.vt_laws_mounts.specs.LettingGo.Overlays.{uppers_in, used_by_filesystem}
 use Rattle.vt_laws_mounts.proofs.letting_go.Lists.{all_from_among, among-from_flat_map, among_from_all, fails, flat_map-filter, flat_map_none, none_passes}
@@ -25,27 +24,13 @@ use Rattle.vt_laws_mounts.proofs.counts.using.Swept.{found_number, no_objects_in
 
 -- without an upper layer an overlay has none in any filesystem
 pub no_upper_is_in_any : NoUpperIsInAny
-no_upper_is_in_any world number none =
-    all_from_among (λ merged. has_upper_in number merged ≡ false) world.filesystems (λ f m.
-    by f.overlay (among_from_all (λ filesystem. of_overlay false (λ overlay. is_some overlay.upper) filesystem ≡ false)
-    world.filesystems none f m))
-  where
-    by : (o : Option (Overlay ℕ)) → overlay_or false (λ overlay. is_some overlay.upper) o ≡ false
-        → overlay_or false (λ overlay. holds_of (λ layer. nat_eq number layer.filesystem) overlay.upper) o ≡ false
-    by None e = refl
-    by (Some overlay) e = upper overlay.upper e
-      where
-        upper : (u : Option (Layer ℕ)) → is_some u ≡ false
-            → holds_of (λ layer. nat_eq number layer.filesystem) u ≡ false
-        upper None h = refl
-        upper (Some layer) h = absurd (true≢false h)
+no_upper_is_in_any world number none = grind (arith, common_steps, all_from_among, among_from_all, true≢false)
 
 -- Where no overlay has a layer in a filesystem
 module _ (world : World ℕ) (number : ℕ)
     (apart : All (λ merged. has_layer_on nat_eq number merged ≡ false) world.filesystems) where
   pub no_layers_there : layers_in nat_eq world number ≡ []
-  no_layers_there =
-      ap (map (λ (layer : Layer ℕ). layer.directory))
+  no_layers_there = ap (map (λ (layer : Layer ℕ). layer.directory))
       (filter_none (λ (layer : Layer ℕ). nat_eq number layer.filesystem)
       (flat_map (of_overlay [] layers_of) world.filesystems)
       (none_passes (λ (layer : Layer ℕ). nat_eq number layer.filesystem)
@@ -57,102 +42,45 @@ module _ (world : World ℕ) (number : ℕ)
       layer from.2)))
 
   pub no_upper_there : HasNoUpperIn number world
-  no_upper_there =
-      all_from_among (λ merged. has_upper_in number merged ≡ false) world.filesystems (λ f m.
-      by f.overlay
-      (among_from_all (λ merged. has_layer_on nat_eq number merged ≡ false) world.filesystems apart f m))
-    where
-      by : (o : Option (Overlay ℕ))
-          → overlay_or false (λ overlay. list_any (λ layer. nat_eq number layer.filesystem) (layers_of overlay)) o
-          ≡ false
-          → overlay_or false (λ overlay. holds_of (λ layer. nat_eq number layer.filesystem) overlay.upper) o ≡ false
-      by None e = refl
-      by (Some overlay) e = upper overlay.upper e
-        where
-          upper : (u : Option (Layer ℕ))
-              → list_any (λ layer. nat_eq number layer.filesystem)
-              (option_to_list u ++ option_to_list overlay.work ++ overlay.lowers) ≡ false
-              → holds_of (λ layer. nat_eq number layer.filesystem) u ≡ false
-          upper None h = refl
-          upper (Some layer) h = (or_parts (nat_eq number layer.filesystem)
-              (list_any (λ (other : Layer ℕ). nat_eq number other.filesystem)
-              (option_to_list overlay.work ++ overlay.lowers)) h).0
+  no_upper_there = grind (arith, common_steps, all_from_among, among_from_all, or_parts)
 
 -- How often filesystems use an inode
 module _ (k n : ℕ) where
   abbrev layers_at : List (Layer ℕ) → ℕ
-  layers_at layers = times_in n (map (λ layer. layer.directory)
-      (filter (λ layer. nat_eq k layer.filesystem) layers))
+  layers_at layers = times_in n (map (λ layer. layer.directory) (filter (λ layer. nat_eq k layer.filesystem) layers))
 
   layers_append : (one other : List (Layer ℕ)) → layers_at (one ++ other) ≡ layers_at one + layers_at other
   layers_append [] other = omega arith
-  layers_append (first ∷ rest) other = by (nat_eq k first.filesystem) (layers_append rest other)
-    where
-      by : (b : Bool) → layers_at (rest ++ other) ≡ layers_at rest + layers_at other
-          → times_in n (map (λ layer. layer.directory)
-          (cond b (first ∷ filter (λ (layer : Layer ℕ). nat_eq k layer.filesystem) (rest ++ other))
-          (filter (λ (layer : Layer ℕ). nat_eq k layer.filesystem) (rest ++ other))))
-          ≡ times_in n (map (λ layer. layer.directory)
-          (cond b (first ∷ filter (λ (layer : Layer ℕ). nat_eq k layer.filesystem) rest)
-          (filter (λ (layer : Layer ℕ). nat_eq k layer.filesystem) rest))) + layers_at other
-      by true e = omega arith
-      by false e = e
+  layers_append (first ∷ rest) other = grind (arith, common_steps, times_in, layers_append rest other)
 
   -- those of layers
   layers_are_uses : (layers : List (Layer ℕ))
       → times (is_inode k n) (map (λ (layer : Layer ℕ). (layer.filesystem, layer.directory)) layers) ≡ layers_at layers
   layers_are_uses [] = refl
-  layers_are_uses (first ∷ rest) = by (nat_eq k first.filesystem) (layers_are_uses rest)
-    where
-      by : (b : Bool)
-          → times (is_inode k n) (map (λ (layer : Layer ℕ). (layer.filesystem, layer.directory)) rest) ≡ layers_at rest
-          → cond (b && nat_eq n first.directory) 1 0
-          + times (is_inode k n) (map (λ (layer : Layer ℕ). (layer.filesystem, layer.directory)) rest)
-          ≡ times_in n (map (λ layer. layer.directory)
-          (cond b (first ∷ filter (λ (layer : Layer ℕ). nat_eq k layer.filesystem) rest)
-          (filter (λ (layer : Layer ℕ). nat_eq k layer.filesystem) rest)))
-      by true e = ap (λ m. cond (nat_eq n first.directory) 1 0 + m) e
-      by false e =
-          let later : times (is_inode k n) (map (λ (layer : Layer ℕ). (layer.filesystem, layer.directory)) rest)
-          ≡ layers_at rest = e in omega arith
+  layers_are_uses (first ∷ rest) = grind (arith, common_steps, times_in, layers_are_uses rest)
 
   -- those of upper objects
   abbrev of_object : Layer ℕ → Option ℕ → List Inode
   of_object upper object = map (λ x. (upper.filesystem, x)) (option_to_list object) ++ []
 
   objects_are_uses : (upper : Layer ℕ) (real : ℕ → Option ℕ) (b : Bool) → nat_eq k upper.filesystem ≡ b
-      → (numbers : List ℕ)
-      → times (is_inode k n) (flat_map (λ number. of_object upper (real number)) numbers)
+      → (numbers : List ℕ) → times (is_inode k n) (flat_map (λ number. of_object upper (real number)) numbers)
       ≡ times_in n (cond b (filter_map real numbers) [])
   objects_are_uses upper real true e [] = refl
   objects_are_uses upper real false e [] = refl
-  objects_are_uses upper real true e (first ∷ rest) = by (real first) (objects_are_uses upper real true e rest)
-    where
-      by : (o : Option ℕ)
-          → times (is_inode k n) (flat_map (λ number. of_object upper (real number)) rest)
-          ≡ times_in n (filter_map real rest)
-          → times (is_inode k n) (of_object upper o ++ flat_map (λ number. of_object upper (real number)) rest)
-          ≡ times_in n (cons_option o (filter_map real rest))
-      by None later = later
-      by (Some object) later = λ i. cond (e i && nat_eq n object) 1 0 + later i
-  objects_are_uses upper real false e (first ∷ rest) = by (real first) (objects_are_uses upper real false e rest)
-    where
-      by : (o : Option ℕ)
-          → times (is_inode k n) (flat_map (λ number. of_object upper (real number)) rest) ≡ 0
-          → times (is_inode k n) (of_object upper o ++ flat_map (λ number. of_object upper (real number)) rest) ≡ 0
-      by None later = later
-      by (Some object) later = λ i. cond (e i && nat_eq n object) 1 0 + later i
+  objects_are_uses upper real true e (first ∷ rest) =
+      grind (arith, common_steps, upper, times_in, objects_are_uses upper real true e rest)
+  objects_are_uses upper real false e (first ∷ rest) =
+      grind (arith, common_steps, upper, objects_are_uses upper real false e rest)
 
   no_uses : (numbers : List ℕ) → times (is_inode k n) (flat_map (λ (number : ℕ). []) numbers) ≡ 0
   no_uses [] = refl
   no_uses (first ∷ rest) = no_uses rest
 
   -- those of a filesystem,
-  filesystem_uses : (g : Filesystem ℕ)
-      → times (is_inode k n) (used_by_filesystem g)
+  filesystem_uses : (g : Filesystem ℕ) → times (is_inode k n) (used_by_filesystem g)
       ≡ layers_at (of_overlay [] layers_of g) + times_in n (objects_of_overlay nat_eq k g)
-  filesystem_uses g =
-      times_append (is_inode k n)
+  filesystem_uses g = times_append (is_inode k n)
       (map (λ (layer : Layer ℕ). (layer.filesystem, layer.directory)) (of_overlay [] layers_of g))
       (flat_map (λ number. of_overlay [] (uppers_in number) g) g.files.numbers)
       ∙ (λ i. layers_are_uses (of_overlay [] layers_of g) i + by g.overlay i)
@@ -192,31 +120,15 @@ module _ (k n : ℕ) where
       (flat_map (objects_of_overlay nat_eq k) rest) in
       omega arith
 
-  taken_apart : (one other : List (Filesystem ℕ))
-      → times (is_inode k n) (flat_map used_by_filesystem (one ++ other))
+  taken_apart : (one other : List (Filesystem ℕ)) → times (is_inode k n) (flat_map used_by_filesystem (one ++ other))
       ≡ times (is_inode k n) (flat_map used_by_filesystem one)
       + times (is_inode k n) (flat_map used_by_filesystem other)
   taken_apart [] other = omega arith
-  taken_apart (first ∷ rest) other =
-      let later = taken_apart rest other in
-      let one = times_append (is_inode k n) (used_by_filesystem first) (flat_map used_by_filesystem (rest ++ other)) in
-      let two = times_append (is_inode k n) (used_by_filesystem first) (flat_map used_by_filesystem rest) in
-      omega arith
+  taken_apart (first ∷ rest) other = grind (arith, common_steps, times_append, taken_apart rest other)
 
 -- What overlays use is all that filesystems use.
 plain_use_none : (g : Filesystem ℕ) → is_overlay g ≡ false → used_by_filesystem g ≡ []
-plain_use_none g e =
-    (λ i. map (λ (layer : Layer ℕ). (layer.filesystem, layer.directory)) (layers g.overlay e i)
-    ++ flat_map (λ number. objects g.overlay e number i) g.files.numbers)
-    ∙ flat_map_none (λ (number : ℕ). []) g.files.numbers (λ number m. refl)
-  where
-    layers : (o : Option (Overlay ℕ)) → is_some o ≡ false → overlay_or [] layers_of o ≡ []
-    layers None h = refl
-    layers (Some overlay) h = absurd (true≢false h)
-
-    objects : (o : Option (Overlay ℕ)) → is_some o ≡ false → (number : ℕ) → overlay_or [] (uppers_in number) o ≡ []
-    objects None h number = refl
-    objects (Some overlay) h number = absurd (true≢false h)
+plain_use_none g e = grind (arith, common_steps, flat_map_none, true≢false)
 
 used_by_overlays : (list : List (Filesystem ℕ))
     → flat_map used_by_filesystem (filter is_overlay list) ≡ flat_map used_by_filesystem list
@@ -228,8 +140,7 @@ exchanged_by : (world after : World ℕ) (gained lost : List Inode) (k : ℕ)
     → ((n : ℕ) → times (is_inode k n) (flat_map used_by_filesystem (filter is_overlay world.filesystems))
     + times (is_inode k n) gained
     ≡ times (is_inode k n) (flat_map used_by_filesystem (filter is_overlay after.filesystems))
-    + times (is_inode k n) lost)
-    → filesystem_numbered nat_eq after k ≡ filesystem_numbered nat_eq world k
+    + times (is_inode k n) lost) → filesystem_numbered nat_eq after k ≡ filesystem_numbered nat_eq world k
     → Exchanges gained lost k world after
 exchanged_by world after gained lost k mounts locations exchange same = record {
   same = same;
@@ -279,29 +190,24 @@ pub overlays_are_uses : OverlaysAreUses
 overlays_are_uses world after gained lost front back k mounts locations were are same =
     exchanged_by world after (flat_map used_by_filesystem gained) (flat_map used_by_filesystem lost) k mounts locations
     (λ n.
-    let before : used n (filter is_overlay world.filesystems) ≡ used n (front ++ (lost ++ back)) =
-    ap (used n) were in
+    let before : used n (filter is_overlay world.filesystems) ≡ used n (front ++ (lost ++ back)) = ap (used n) were in
     let then : used n (filter is_overlay after.filesystems) ≡ used n (front ++ (gained ++ back)) = ap (used n) are in
     let a = taken_apart k n front (lost ++ back) in let b = taken_apart k n lost back in
     let c = taken_apart k n front (gained ++ back) in let d = taken_apart k n gained back in
-    omega arith)
-    same
+    omega arith) same
   where
     used : ℕ → List (Filesystem ℕ) → ℕ
     used n list = times (is_inode k n) (flat_map used_by_filesystem list)
 
 pub overlays_take_their_uses : OverlaysTakeTheirUses
-overlays_take_their_uses world after stays k mounts locations are same =
-    exchanged_by world after []
+overlays_take_their_uses world after stays k mounts locations are same = exchanged_by world after []
     (flat_map used_by_filesystem (filter (λ merged. not (stays merged)) (filter is_overlay world.filesystems))) k mounts
-    locations
-    (λ n.
+    locations (λ n.
     let then : used n (filter is_overlay after.filesystems)
     ≡ used n (filter stays (filter is_overlay world.filesystems)) = ap (used n) are in
     let all = both n (filter is_overlay world.filesystems) in
     let none : times (is_inode k n) [] ≡ 0 = refl in
-    omega arith)
-    same
+    omega arith) same
   where
     used : ℕ → List (Filesystem ℕ) → ℕ
     used n list = times (is_inode k n) (flat_map used_by_filesystem list)
@@ -310,33 +216,10 @@ overlays_take_their_uses world after stays k mounts locations are same =
     both : (n : ℕ) (list : List (Filesystem ℕ))
         → used n list ≡ used n (filter stays list) + used n (filter (λ merged. not (stays merged)) list)
     both n [] = refl
-    both n (first ∷ rest) =
-        times_append (is_inode k n) (used_by_filesystem first) (flat_map used_by_filesystem rest)
-        ∙ by (stays first) (both n rest)
-      where
-        by : (b : Bool)
-            → used n rest ≡ used n (filter stays rest) + used n (filter (λ merged. not (stays merged)) rest)
-            → times (is_inode k n) (used_by_filesystem first) + used n rest
-            ≡ used n (cond b (first ∷ filter stays rest) (filter stays rest))
-            + used n (cond (not b) (first ∷ filter (λ merged. not (stays merged)) rest)
-            (filter (λ merged. not (stays merged)) rest))
-        by true later =
-            let e = later in
-            let here : used n (first ∷ filter stays rest)
-            ≡ times (is_inode k n) (used_by_filesystem first) + used n (filter stays rest) =
-            times_append (is_inode k n) (used_by_filesystem first) (flat_map used_by_filesystem (filter stays rest)) in
-            omega arith
-        by false later =
-            let e = later in
-            let here : used n (first ∷ filter (λ merged. not (stays merged)) rest)
-            ≡ times (is_inode k n) (used_by_filesystem first) + used n (filter (λ merged. not (stays merged)) rest) =
-            times_append (is_inode k n) (used_by_filesystem first)
-            (flat_map used_by_filesystem (filter (λ merged. not (stays merged)) rest)) in
-            omega arith
+    both n (first ∷ rest) = grind (arith, common_steps, times_append, both n rest)
 
 pub plain_ones_use_nothing : PlainOnesUseNothing
-plain_ones_use_nothing world after k mounts locations are same =
-    exchanged_by world after [] [] k mounts locations
+plain_ones_use_nothing world after k mounts locations are same = exchanged_by world after [] [] k mounts locations
     (λ n. ap (λ l. times (is_inode k n) (flat_map used_by_filesystem l) + 0) (sym are)) same
 
 pub new_tree_is_counted_beside_overlays : NewTreeIsCountedBesideOverlays

@@ -1,4 +1,5 @@
 -- Which filesystems live, overlays among them.
+use Rattle.std.proofs.lemmas.Grind.{common_steps}
 use Rattle.std.proofs.Common.{◌≡◌, refl, sym, ap, ◌∙◌, ⊎_elim, inl, inr, ℕ, ◌+◌, nat_eq, nat_lt, eqb-true, Bool, true, false, true≢false, cond, not, ◌&&◌, ◌||◌, List, [], ◌∷◌, ◌++◌, filter, flat_map, Option, Some, None, is_some, arith}
 use Rattle.std.specs.List.{list_all, list_any}
 use Rattle.std.proofs.lemmas.Bool.{and_parts, not-true, or_cases}
@@ -27,54 +28,23 @@ module _ (world : World ℕ) (number : ℕ) where
       ≡ list_any is_there
       (flat_map (of_overlay [] layers_of) (filter (λ merged. is_mounted nat_eq world merged.number) list))
   any_layered [] = refl
-  any_layered (first ∷ rest) = by (is_mounted nat_eq world first.number) (any_layered rest)
-    where
-      none : (b : Bool) → (b && false) ≡ false
-      none true = refl
-      none false = refl
-
-      by : (b : Bool)
-          → list_any (λ merged. has_layer_on nat_eq number merged && is_mounted nat_eq world merged.number) rest
-          ≡ list_any is_there
-          (flat_map (of_overlay [] layers_of) (filter (λ merged. is_mounted nat_eq world merged.number) rest))
-          → ((has_layer_on nat_eq number first && b)
-          || list_any (λ merged. has_layer_on nat_eq number merged && is_mounted nat_eq world merged.number) rest)
-          ≡ list_any is_there (flat_map (of_overlay [] layers_of)
-          (cond b (first ∷ filter (λ merged. is_mounted nat_eq world merged.number) rest)
-          (filter (λ merged. is_mounted nat_eq world merged.number) rest)))
-      by true later =
-          (λ i. (both (has_layer_on nat_eq number first) ∙ layers_on world number first) i || later i)
-          ∙ sym (list_any-append is_there (of_overlay [] layers_of first)
-          (flat_map (of_overlay [] layers_of) (filter (λ merged. is_mounted nat_eq world merged.number) rest)))
-        where
-          both : (b : Bool) → (b && true) ≡ b
-          both true = refl
-          both false = refl
-      by false later = ap (λ b. b || list_any (λ (merged : Filesystem ℕ).
-          has_layer_on nat_eq number merged && is_mounted nat_eq world merged.number) rest)
-          (none (has_layer_on nat_eq number first)) ∙ later
+  any_layered (first ∷ rest) = grind (arith, common_steps, layers_on, list_any-append, any_layered rest)
 
   counted_layers : list_any (λ merged. has_layer_on nat_eq number merged && is_mounted nat_eq world merged.number)
       world.filesystems ≡ nat_lt 0 (mounted_layer_count world number)
-  counted_layers =
-      any_layered world.filesystems
-      ∙ any_counted is_there
-      (flat_map (of_overlay [] layers_of)
+  counted_layers = any_layered world.filesystems ∙ any_counted is_there (flat_map (of_overlay [] layers_of)
       (filter (λ merged. is_mounted nat_eq world merged.number) world.filesystems))
 
 pub lives_while_counted : LivesWhileCounted
-lives_while_counted world f = λ i.
-    mounted_while_counted world f.number i || counted_layers world f.number i
+lives_while_counted world f = λ i. mounted_while_counted world f.number i || counted_layers world f.number i
 
 pub filesystem_goes_at_zero_beside_overlays : FilesystemGoesAtZeroBesideOverlays
-filesystem_goes_at_zero_beside_overlays world number =
-    filesystem_is_looked_up world number
+filesystem_goes_at_zero_beside_overlays world number = filesystem_is_looked_up world number
     ∙ (λ i. cond (mounted_while_counted world number i || counted_layers world number i) world
     (without_filesystem world number))
 
 pub lives_while_mounted : LivesWhileMounted
-lives_while_mounted world f apart =
-    ap (λ b. is_mounted nat_eq world f.number || b)
+lives_while_mounted world f apart = ap (λ b. is_mounted nat_eq world f.number || b)
     (none_passes (λ merged. has_layer_on nat_eq f.number merged && is_mounted nat_eq world merged.number)
     world.filesystems (λ merged m. ap (λ b. b && is_mounted nat_eq world merged.number)
     (among_from_all (λ g. has_layer_on nat_eq f.number g ≡ false) world.filesystems apart merged m)))
@@ -86,8 +56,7 @@ pub overlays_are_no_layers : OverlaysAreNoLayers
 overlays_are_no_layers world is =
     all_from_among (λ f. is_overlay f ≡ true → HasNoLayerIn f.number world) world.filesystems (λ f m e.
     all_from_among (λ merged. has_layer_on nat_eq f.number merged ≡ false) world.filesystems (λ merged n.
-    layers_on world f.number merged
-    ∙ by f m e merged.overlay
+    layers_on world f.number merged ∙ by f m e merged.overlay
     (passes (of_overlay true (λ o. list_all (is_plain_layer nat_eq world) (layers_of o))) world.filesystems
     is.overlays.plain_layers merged n)))
   where
@@ -103,8 +72,7 @@ overlays_are_no_layers world is =
         apart : (layer : Layer ℕ) → is_plain_layer nat_eq world layer ≡ true → (b : Bool)
             → nat_eq f.number layer.filesystem ≡ b → b ≡ false
         apart layer fits false g = refl
-        apart layer fits true g =
-            absurd (true≢false
+        apart layer fits true g = absurd (true≢false
             (sym e ∙ ap is_overlay (sym (found_filesystem world.filesystems is.files.one_filesystem f m))
             ∙ ap (λ n. is_overlay (filesystem_numbered nat_eq world n)) (eqb-true f.number layer.filesystem g)
             ∙ not-true (is_overlay (filesystem_numbered nat_eq world layer.filesystem))
@@ -113,14 +81,12 @@ overlays_are_no_layers world is =
 pub overlays_are_mounted : OverlaysAreMounted
 overlays_are_mounted world is =
     all_from_among (λ f. is_overlay f ≡ true → is_mounted nat_eq world f.number ≡ true) world.filesystems (λ f m e.
-    ⊎_elim (λ mounted. mounted)
-    (λ layer. absurd (true≢false (sym layer
+    ⊎_elim (λ mounted. mounted) (λ layer. absurd (true≢false (sym layer
     ∙ none_passes (λ merged. has_layer_on nat_eq f.number merged && is_mounted nat_eq world merged.number)
     world.filesystems (λ merged n. ap (λ b. b && is_mounted nat_eq world merged.number)
     (among_from_all (λ g. has_layer_on nat_eq f.number g ≡ false) world.filesystems
     (among_from_all (λ g. is_overlay g ≡ true → HasNoLayerIn g.number world) world.filesystems
-    (overlays_are_no_layers world is) f m e) merged n)))))
-    (or_cases (is_mounted nat_eq world f.number) _
+    (overlays_are_no_layers world is) f m e) merged n))))) (or_cases (is_mounted nat_eq world f.number) _
     (passes (filesystem_lives nat_eq world) world.filesystems (all_in_use world is).filesystems f m)))
 
 pub all_layers_are_mounted : AllLayersAreMounted
@@ -131,8 +97,7 @@ all_layers_are_mounted world number is =
         → flat_map (of_overlay [] layers_of) (filter (λ merged. is_mounted nat_eq world merged.number) list)
         ≡ flat_map (of_overlay [] layers_of) list
     kept [] within = refl
-    kept (first ∷ rest) within =
-        by (is_mounted nat_eq world first.number) refl (kept rest (λ f m. within f (inr m)))
+    kept (first ∷ rest) within = by (is_mounted nat_eq world first.number) refl (kept rest (λ f m. within f (inr m)))
       where
         no_layers : (o : Option (Overlay ℕ)) → is_some o ≡ false → overlay_or [] layers_of o ≡ []
         no_layers None e = refl
@@ -141,21 +106,18 @@ all_layers_are_mounted world number is =
         plain : (b : Bool) → is_overlay first ≡ b → is_mounted nat_eq world first.number ≡ false
             → is_overlay first ≡ false
         plain false e unmounted = e
-        plain true e unmounted =
-            absurd (true≢false (sym (among_from_all (λ f. is_overlay f ≡ true
+        plain true e unmounted = absurd (true≢false (sym (among_from_all (λ f. is_overlay f ≡ true
             → is_mounted nat_eq world f.number ≡ true) world.filesystems (overlays_are_mounted world is) first
             (within first (inl refl)) e) ∙ unmounted))
 
         by : (b : Bool) → is_mounted nat_eq world first.number ≡ b
             → flat_map (of_overlay [] layers_of) (filter (λ merged. is_mounted nat_eq world merged.number) rest)
-            ≡ flat_map (of_overlay [] layers_of) rest
-            → flat_map (of_overlay [] layers_of)
+            ≡ flat_map (of_overlay [] layers_of) rest → flat_map (of_overlay [] layers_of)
             (cond b (first ∷ filter (λ merged. is_mounted nat_eq world merged.number) rest)
             (filter (λ merged. is_mounted nat_eq world merged.number) rest))
             ≡ of_overlay [] layers_of first ++ flat_map (of_overlay [] layers_of) rest
         by true e later = ap (λ l. of_overlay [] layers_of first ++ l) later
-        by false e later =
-            later ∙ ap (λ l. l ++ flat_map (of_overlay [] layers_of) rest)
+        by false e later = later ∙ ap (λ l. l ++ flat_map (of_overlay [] layers_of) rest)
             (sym (no_layers first.overlay (plain (is_overlay first) refl e)))
 
 -- Layers are of overlays.
@@ -169,20 +131,13 @@ no_layers_of_plain g e = by g.overlay e
 
 of_overlays : (number : ℕ) (list : List (Filesystem ℕ))
     → layers_among number (filter is_overlay list) ≡ layers_among number list
-of_overlays number list =
-    ap (times (λ (layer : Layer ℕ). nat_eq number layer.filesystem))
+of_overlays number list = ap (times (λ (layer : Layer ℕ). nat_eq number layer.filesystem))
     (flat_map-filter is_overlay (of_overlay [] layers_of) list no_layers_of_plain)
 
 among_both : (number : ℕ) (one other : List (Filesystem ℕ))
     → layers_among number (one ++ other) ≡ layers_among number one + layers_among number other
 among_both number [] other = omega arith
-among_both number (first ∷ rest) other =
-    let later = among_both number rest other in
-    let a = times_append (λ (layer : Layer ℕ). nat_eq number layer.filesystem) (of_overlay [] layers_of first)
-    (flat_map (of_overlay [] layers_of) (rest ++ other)) in
-    let b = times_append (λ (layer : Layer ℕ). nat_eq number layer.filesystem) (of_overlay [] layers_of first)
-    (flat_map (of_overlay [] layers_of) rest) in
-    omega arith
+among_both number (first ∷ rest) other = grind (arith, common_steps, times_append, among_both number rest other)
 
 pub overlays_use_filesystems : OverlaysUseFilesystems
 overlays_use_filesystems world after gained lost front back number were are =
@@ -195,10 +150,8 @@ overlays_use_filesystems world after gained lost front back number were are =
     omega arith
 
 pub layers_left_are_mounted : LayersLeftAreMounted
-layers_left_are_mounted world after number are =
-    sym (of_overlays number after.filesystems)
-    ∙ ap (layers_among number) are
-    ∙ ap (layers_among number) (turned world.filesystems)
+layers_left_are_mounted world after number are = sym (of_overlays number after.filesystems)
+    ∙ ap (layers_among number) are ∙ ap (layers_among number) (turned world.filesystems)
     ∙ of_overlays number (filter mounted world.filesystems)
   where
     mounted : Filesystem ℕ → Bool
@@ -207,24 +160,4 @@ layers_left_are_mounted world after number are =
     turned : (list : List (Filesystem ℕ))
         → filter mounted (filter is_overlay list) ≡ filter is_overlay (filter mounted list)
     turned [] = refl
-    turned (first ∷ rest) = by (is_overlay first) (mounted first) refl refl (turned rest)
-      where
-        by : (a b : Bool) → is_overlay first ≡ a → mounted first ≡ b
-            → filter mounted (filter is_overlay rest) ≡ filter is_overlay (filter mounted rest)
-            → filter mounted (cond a (first ∷ filter is_overlay rest) (filter is_overlay rest))
-            ≡ filter is_overlay (cond b (first ∷ filter mounted rest) (filter mounted rest))
-        by true true e f later =
-            ap (λ x. cond x (first ∷ filter mounted (filter is_overlay rest))
-            (filter mounted (filter is_overlay rest))) f
-            ∙ ap (λ l. first ∷ l) later
-            ∙ sym (ap (λ x. cond x (first ∷ filter is_overlay (filter mounted rest))
-            (filter is_overlay (filter mounted rest))) e)
-        by true false e f later =
-            ap (λ x. cond x (first ∷ filter mounted (filter is_overlay rest))
-            (filter mounted (filter is_overlay rest))) f
-            ∙ later
-        by false true e f later =
-            later
-            ∙ sym (ap (λ x. cond x (first ∷ filter is_overlay (filter mounted rest))
-            (filter is_overlay (filter mounted rest))) e)
-        by false false e f later = later
+    turned (first ∷ rest) = grind (arith, common_steps, turned rest)

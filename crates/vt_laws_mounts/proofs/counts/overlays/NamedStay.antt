@@ -1,9 +1,10 @@
 -- The sweep leaves overlays whose inodes have names.
-use Rattle.std.proofs.Common.{◌≡◌, refl, sym, ap, ◌∙◌, ⊎_elim, inl, inr, ℕ, nat_eq, Bool, true, false, true≢false, cond, ◌||◌, List, [], ◌∷◌, ◌++◌, map, filter, flat_map}
+use Rattle.std.proofs.Common.{arith, ◌≡◌, refl, sym, ap, ◌∙◌, ⊎_elim, ℕ, nat_eq, Bool, true, false, true≢false, cond, ◌||◌, List, [], ◌∷◌, ◌++◌, map, filter, flat_map}
+use Rattle.std.proofs.lemmas.Grind.{common_steps}
 use Rattle.std.specs.List.{list_all}
 use Rattle.std.proofs.lemmas.Bool.{or_cases}
 use Rattle.vt_spec.specs.Lists.{is_among}
-use Rattle.vt_spec.specs.Machine.Settled.{filesystem_lives, layers_in, located_in, named_in, objects_of_overlay, only_used, only_used_by, used_in, without_dead_in, without_dead_mounts, settled}
+use Rattle.vt_spec.specs.Machine.Settled.{filesystem_lives, layers_in, located_in, named_in, objects_of_overlay, only_used, only_used_by, used_in, without_dead_mounts, settled}
 use Rattle.vt_spec.specs.Machine.World.{Filesystem, World, filesystem_numbered, is_overlay}
 use Rattle.vt_spec.proofs.Found.{is_among_left}
 use Rattle.vt_spec.proofs.Lists.{map_twice}
@@ -20,15 +21,7 @@ pub filter_stays : {A : Type 0} (step : A → A) (p : A → Bool) (list : List A
     → ((a : A) → Among a list → p (step a) ≡ p a) → ((a : A) → Among a list → p a ≡ true → step a ≡ a)
     → filter p (map step list) ≡ filter p list
 filter_stays step p [] same stays = refl
-filter_stays step p (first ∷ rest) same stays =
-    ap (λ b. cond b (step first ∷ filter p (map step rest)) (filter p (map step rest))) (same first (inl refl))
-    ∙ by (p first) refl (filter_stays step p rest (λ a m. same a (inr m)) (λ a m. stays a (inr m)))
-  where
-    by : (b : Bool) → p first ≡ b → filter p (map step rest) ≡ filter p rest
-        → cond b (step first ∷ filter p (map step rest)) (filter p (map step rest))
-        ≡ cond b (first ∷ filter p rest) (filter p rest)
-    by true e later = λ i. stays first (inl refl) e i ∷ later i
-    by false e later = later
+filter_stays step p (first ∷ rest) same stays = grind (arith, common_steps, stays, filter_stays step p rest)
 
 module _ (world : World ℕ) (named : OverlaysAreNamed world) where
   abbrev lives : World ℕ
@@ -38,17 +31,14 @@ module _ (world : World ℕ) (named : OverlaysAreNamed world) where
   swept f = after_second world (after_first world f)
 
   is_named : (f : Filesystem ℕ) → Among f lives.filesystems → is_overlay f ≡ true → has_only_named f ≡ true
-  is_named f m =
-      among_from_all (λ g. is_overlay g ≡ true → has_only_named g ≡ true) world.filesystems named f
+  is_named f m = among_from_all (λ g. is_overlay g ≡ true → has_only_named g ≡ true) world.filesystems named f
       (among-from_filter (filesystem_lives nat_eq (without_dead_mounts nat_eq world)) world.filesystems f m).0
 
   -- what is the root or has a name is used
   all_used : (f : Filesystem ℕ) → has_only_named f ≡ true
       → list_all (λ n. is_among nat_eq n (used_in nat_eq lives f)) f.files.numbers ≡ true
-  all_used f only =
-      all_pass (λ n. is_among nat_eq n (used_in nat_eq lives f)) f.files.numbers (λ n m.
-      ⊎_elim (λ root. or_first (nat_eq n f.files.tree.root) _ root)
-      (λ name. or_second (nat_eq n f.files.tree.root) _
+  all_used f only = all_pass (λ n. is_among nat_eq n (used_in nat_eq lives f)) f.files.numbers (λ n m.
+      ⊎_elim (λ root. or_first (nat_eq n f.files.tree.root) _ root) (λ name. or_second (nat_eq n f.files.tree.root) _
       (is_among_left n (named_in f.files ++ located_in nat_eq lives f.number ++ layers_in nat_eq lives f.number)
       (flat_map (objects_of_overlay nat_eq f.number) lives.filesystems)
       (is_among_left n (named_in f.files ++ located_in nat_eq lives f.number) (layers_in nat_eq lives f.number)
@@ -57,25 +47,15 @@ module _ (world : World ℕ) (named : OverlaysAreNamed world) where
       (passes (λ k. nat_eq k f.files.tree.root || is_among nat_eq k (named_in f.files)) f.files.numbers only n m)))
 
   stays : (f : Filesystem ℕ) → Among f lives.filesystems → is_overlay f ≡ true → swept f ≡ f
-  stays f m e =
-      ap (after_second world)
-      (ap (λ b. only_used nat_eq lives b f) e
+  stays f m e = ap (after_second world) (ap (λ b. only_used nat_eq lives b f) e
       ∙ ap (λ b. only_used_by nat_eq b (used_in nat_eq lives f) f) (all_used f (is_named f m e)))
       ∙ second_leaves world f e
 
   same_kind : (f : Filesystem ℕ) → is_overlay (swept f) ≡ is_overlay f
-  same_kind f =
-      one (without_dead_in nat_eq is_overlay lives) (after_first world f) _ ∙ one lives f (is_overlay f)
-    where
-      one : (some : World ℕ) (g : Filesystem ℕ) (chosen : Bool)
-          → is_overlay (only_used nat_eq some chosen g) ≡ is_overlay g
-      one some g true = overlay-left (used_in nat_eq some g) g
-          (list_all (λ n. is_among nat_eq n (used_in nat_eq some g)) g.files.numbers)
-      one some g false = refl
+  same_kind f = grind (arith, common_steps, after_first, overlay-left)
 
   all_stay : filter is_overlay (settled nat_eq world).filesystems ≡ filter is_overlay lives.filesystems
-  all_stay =
-      ap (filter is_overlay) (map_twice (after_second world) (after_first world) lives.filesystems)
+  all_stay = ap (filter is_overlay) (map_twice (after_second world) (after_first world) lives.filesystems)
       ∙ filter_stays swept is_overlay lives.filesystems (λ f m. same_kind f) stays
 
   one_stays : (number : ℕ) → is_overlay (filesystem_numbered nat_eq lives number) ≡ true
@@ -86,15 +66,13 @@ module _ (world : World ℕ) (named : OverlaysAreNamed world) where
       ∙ there (is_among nat_eq number (map (λ f. f.number) lives.filesystems)) refl)
       ∙ ap (after_second world) (found_mapped (after_first world) (number-first world) lives.filesystems number
       (there (is_among nat_eq number (map (λ f. f.number) lives.filesystems)) refl))
-      ∙ stays (filesystem_numbered nat_eq lives number)
-      (found_is lives.filesystems number
+      ∙ stays (filesystem_numbered nat_eq lives number) (found_is lives.filesystems number
       (there (is_among nat_eq number (map (λ f. f.number) lives.filesystems)) refl)) e
     where
       there : (b : Bool) → is_among nat_eq number (map (λ f. f.number) lives.filesystems) ≡ b
           → is_among nat_eq number (map (λ f. f.number) lives.filesystems) ≡ true
       there true h = h
-      there false h =
-          absurd (true≢false (sym e ∙ ap is_overlay (not_found lives.filesystems number h)))
+      there false h = absurd (true≢false (sym e ∙ ap is_overlay (not_found lives.filesystems number h)))
 
 pub named_overlays_stay : NamedOverlaysStay
 named_overlays_stay world named = all_stay world named

@@ -1,5 +1,6 @@
 -- Inodes that get some uses and lose some.
-use Rattle.std.proofs.Common.{◌≡◌, refl, sym, ap, subst, ◌∙◌, ⊎_elim, inl, inr, ℕ, ◌+◌, ◌≤◌, nat_eq, eqb-true, Bool, true, false, true≢false, cond, not, ◌&&◌, ◌||◌, List, [], ◌∷◌, ◌++◌, map, filter, find, flat_map, Option, Some, None, is_some, unwrap_or, arith}
+use Rattle.std.proofs.lemmas.Grind.{common_steps}
+use Rattle.std.proofs.Common.{◌≡◌, refl, sym, ap, subst, ◌∙◌, ⊎_elim, inl, inr, ℕ, ◌+◌, ◌≤◌, nat_eq, eqb-true, Bool, true, false, true≢false, cond, not, ◌&&◌, ◌||◌, List, [], ◌∷◌, ◌++◌, map, filter, find, flat_map, Option, None, is_some, unwrap_or, arith}
 use Rattle.std.specs.List.{list_all}
 use Rattle.std.proofs.lemmas.Bool.{and_parts}
 use Rattle.std.proofs.lemmas.Bool.Decides.{eqb_tells}
@@ -7,7 +8,7 @@ use Rattle.vt_spec.specs.FileTree.{targets_in}
 use Rattle.vt_spec.specs.Lists.{folded, holds_of, is_among}
 use Rattle.vt_spec.specs.Machine.Locked.{of_overlay, overlay_or}
 use Rattle.vt_spec.specs.Machine.Settled.{layers_in, located_in, named_in, objects_of_overlay, used_in}
-use Rattle.vt_spec.specs.Machine.World.{Filesystem, Overlay, World, filesystem_numbered, is_overlay, layers_of, no_filesystem}
+use Rattle.vt_spec.specs.Machine.World.{Filesystem, Overlay, World, filesystem_numbered, layers_of, no_filesystem}
 use Rattle.vt_spec.specs.Inodes.{Inodes, node_in}
 use Rattle.vt_spec.specs.Inodes as Trees
 use Rattle.vt_spec.specs.Tree.{Node}
@@ -42,8 +43,7 @@ module _ (k : ℕ) (node : ℕ → Option (Node ℕ)) where
   all_pinned [] uses inodes counted used = other_uses uses (λ n. uses n + 0) node inodes (λ n. omega arith) counted
   all_pinned (first ∷ rest) uses inodes counted used = by (nat_eq k first.0) refl (all_pinned rest)
     where
-      by : (b : Bool) → nat_eq k first.0 ≡ b
-          → ((some : ℕ → ℕ) (counts : Inodes ℕ) → Counts.IsCounted some node counts
+      by : (b : Bool) → nat_eq k first.0 ≡ b → ((some : ℕ → ℕ) (counts : Inodes ℕ) → Counts.IsCounted some node counts
           → ((inode : Inode) → Among inode rest → nat_eq k inode.0 ≡ true → 1 ≤ some inode.1)
           → Counts.IsCounted (λ n. some n + times (is_inode k n) rest) node (folded (pinned_if k) counts rest))
           → Counts.IsCounted (λ n. uses n +
@@ -60,11 +60,9 @@ module _ (k : ℕ) (node : ℕ → Option (Node ℕ)) where
           (later (λ n. one_if n first.1 + uses n) (Trees.pinned nat_eq inodes first.1)
           (counted_pinned uses node inodes counted first.1 inode.0 inode.1)
           (λ other m same. let some = used other (inr m) same in omega arith))
-      by false e later =
-          other_uses (λ n. uses n + times (is_inode k n) rest)
+      by false e later = other_uses (λ n. uses n + times (is_inode k n) rest)
           (λ n. uses n + (cond (nat_eq k first.0 && nat_eq n first.1) 1 0 + times (is_inode k n) rest)) node
-          (folded (pinned_if k) inodes rest)
-          (λ n. let here : one_when (nat_eq k first.0 && nat_eq n first.1)
+          (folded (pinned_if k) inodes rest) (λ n. let here : one_when (nat_eq k first.0 && nat_eq n first.1)
           ≡ 0 = ap (λ b. one_when (b && nat_eq n first.1)) e in omega arith)
           (later uses inodes counted (λ other m same. used other (inr m) same))
 
@@ -80,13 +78,11 @@ module _ (k : ℕ) (node : ℕ → Option (Node ℕ)) where
 
       by : (b : Bool) → nat_eq k first.0 ≡ b
           → ((some now : ℕ → ℕ) (counts : Inodes ℕ) → Counts.IsCounted some node counts
-          → ((n : ℕ) → now n + times (is_inode k n) rest ≡ some n)
-          → ((n : ℕ) → now n ≡ 0 → targets_in (node n) ≡ [])
+          → ((n : ℕ) → now n + times (is_inode k n) rest ≡ some n) → ((n : ℕ) → now n ≡ 0 → targets_in (node n) ≡ [])
           → Counts.IsCounted now node (folded (unpinned_if k) counts rest))
           → Counts.IsCounted left node (folded (unpinned_if k)
           (cond b (Trees.unpinned nat_eq inodes first.1) inodes) rest)
-      by true e later =
-          later abbrev_left left (Trees.unpinned nat_eq inodes first.1)
+      by true e later = later abbrev_left left (Trees.unpinned nat_eq inodes first.1)
           (unpinned_counts uses abbrev_left node inodes first.1 counted
           (λ n. let here : cond (nat_eq k first.0 && nat_eq n first.1) 1 0
           ≡ one_if n first.1 = ap (λ b. cond (b && nat_eq n first.1) 1 0) e in
@@ -94,53 +90,28 @@ module _ (k : ℕ) (node : ℕ → Option (Node ℕ)) where
           less n in omega arith)
           (λ none. empty first.1 (let all : left first.1 + times (is_inode k first.1) rest ≡ 0 = none in omega arith)))
           (λ n. refl) empty
-      by false e later =
-          later uses left inodes counted
-          (λ n. let here : one_when (nat_eq k first.0 && nat_eq n first.1)
+      by false e later = later uses left inodes counted (λ n. let here : one_when (nat_eq k first.0 && nat_eq n first.1)
           ≡ 0 = ap (λ b. one_when (b && nat_eq n first.1)) e in
           let all : left n + (cond (nat_eq k first.0 && nat_eq n first.1) 1 0 + times (is_inode k n) rest) ≡ uses n =
-          less n in omega arith)
-          empty
+          less n in omega arith) empty
 
   pub root_pinned : (gained : List Inode) (inodes : Inodes ℕ) → (folded (pinned_if k) inodes gained).root ≡ inodes.root
   root_pinned [] inodes = refl
-  root_pinned (first ∷ rest) inodes = root_pinned rest (pinned_if k inodes first) ∙ by (nat_eq k first.0)
-    where
-      by : (b : Bool) → (cond b (Trees.pinned nat_eq inodes first.1) inodes).root ≡ inodes.root
-      by true = refl
-      by false = refl
+  root_pinned (first ∷ rest) inodes = grind (arith, common_steps, root_pinned rest (pinned_if k inodes first))
 
   pub root_unpinned : (lost : List Inode) (inodes : Inodes ℕ) → (folded (unpinned_if k) inodes lost).root ≡ inodes.root
   root_unpinned [] inodes = refl
-  root_unpinned (first ∷ rest) inodes = root_unpinned rest (unpinned_if k inodes first) ∙ by (nat_eq k first.0)
-    where
-      by : (b : Bool) → (cond b (Trees.unpinned nat_eq inodes first.1) inodes).root ≡ inodes.root
-      by true = refl
-      by false = refl
+  root_unpinned (first ∷ rest) inodes = grind (arith, common_steps, root_unpinned rest (unpinned_if k inodes first))
 
 -- The world
 
 -- a filesystem among others that are changed one by one, with their numbers
 pub found_mapped : (step : Filesystem ℕ → Filesystem ℕ) → ((f : Filesystem ℕ) → (step f).number ≡ f.number)
-    → (filesystems : List (Filesystem ℕ)) (k : ℕ)
-    → is_among nat_eq k (map (λ f. f.number) filesystems) ≡ true
+    → (filesystems : List (Filesystem ℕ)) (k : ℕ) → is_among nat_eq k (map (λ f. f.number) filesystems) ≡ true
     → unwrap_or (find (λ f. nat_eq k f.number) (map step filesystems)) (no_filesystem k)
     ≡ step (unwrap_or (find (λ f. nat_eq k f.number) filesystems) (no_filesystem k))
 found_mapped step same [] k there = absurd (true≢false (sym there))
-found_mapped step same (first ∷ rest) k there =
-    ap (λ n. unwrap_or (cond (nat_eq k n) (Some (step first)) (find (λ f. nat_eq k f.number) (map step rest)))
-    (no_filesystem k))
-    (same first)
-    ∙ by (nat_eq k first.number) there (found_mapped step same rest k)
-  where
-    by : (b : Bool) → (b || is_among nat_eq k (map (λ f. f.number) rest)) ≡ true
-        → (is_among nat_eq k (map (λ f. f.number) rest) ≡ true
-        → unwrap_or (find (λ f. nat_eq k f.number) (map step rest))
-        (no_filesystem k) ≡ step (unwrap_or (find (λ f. nat_eq k f.number) rest) (no_filesystem k)))
-        → unwrap_or (cond b (Some (step first)) (find (λ f. nat_eq k f.number) (map step rest))) (no_filesystem k)
-        ≡ step (unwrap_or (cond b (Some first) (find (λ f. nat_eq k f.number) rest)) (no_filesystem k))
-    by true h later = refl
-    by false h later = later h
+found_mapped step same (first ∷ rest) k there = grind (arith, common_steps, there, found_mapped step same rest k)
 
 pub numbers_mapped : (step : Filesystem ℕ → Filesystem ℕ) → ((f : Filesystem ℕ) → (step f).number ≡ f.number)
     → (filesystems : List (Filesystem ℕ)) → map (λ f. f.number) (map step filesystems) ≡ map (λ f. f.number) filesystems
@@ -167,11 +138,9 @@ StandOnce filesystem = (n : ℕ) → times_in n filesystem.files.numbers ≡ con
 
 -- an inode is used or counted zero
 used_or_zero : (world : World ℕ) (filesystem : Filesystem ℕ) (n : ℕ) (b : Bool) → is_inode_used world filesystem n ≡ b
-    → b ≡ false
-    → inode_uses world filesystem n ≡ 0
+    → b ≡ false → inode_uses world filesystem n ≡ 0
 used_or_zero world filesystem n b e none =
-    Rattle.vt_laws_mounts.proofs.counts.Listed.none_times n (used_in nat_eq world filesystem)
-    (e ∙ none)
+    Rattle.vt_laws_mounts.proofs.counts.Listed.none_times n (used_in nat_eq world filesystem) (e ∙ none)
 
 -- One inode is looked at
 module _ (world : World ℕ) (inode : Inode) where
@@ -197,8 +166,7 @@ module _ (world : World ℕ) (inode : Inode) where
       by false = refl
 
   no_upper_step : (k : ℕ) → HasNoUpperIn k world → HasNoUpperIn k next
-  no_upper_step k apart =
-      all_from_among (λ merged. has_upper_in k merged ≡ false) next.filesystems (λ g m.
+  no_upper_step k apart = all_from_among (λ merged. has_upper_in k merged ≡ false) next.filesystems (λ g m.
       let from = among-from_map step world.filesystems g m in
       ap (has_upper_in k) from.2
       ∙ ap (overlay_or false (λ overlay. holds_of (λ layer. nat_eq k layer.filesystem) overlay.upper))
@@ -206,8 +174,7 @@ module _ (world : World ℕ) (inode : Inode) where
       ∙ among_from_all (λ merged. has_upper_in k merged ≡ false) world.filesystems apart from.0 from.1)
 
   layers_step : (k : ℕ) → layers_in nat_eq next k ≡ layers_in nat_eq world k
-  layers_step k =
-      ap (λ layers. map (λ layer. layer.directory) (filter (λ layer. nat_eq k layer.filesystem) layers))
+  layers_step k = ap (λ layers. map (λ layer. layer.directory) (filter (λ layer. nat_eq k layer.filesystem) layers))
       (flat_map-map step (of_overlay [] layers_of) world.filesystems
       (λ g. ap (overlay_or [] layers_of) (overlay_step g)))
 
@@ -218,8 +185,7 @@ module _ (world : World ℕ) (inode : Inode) where
 
     objects_same : flat_map (objects_of_overlay nat_eq f.number) next.filesystems
         ≡ flat_map (objects_of_overlay nat_eq f.number) world.filesystems
-    objects_same =
-        no_objects_in f.number next (subst (λ m. HasNoUpperIn m next) (sym is) (no_upper_step k apart))
+    objects_same = no_objects_in f.number next (subst (λ m. HasNoUpperIn m next) (sym is) (no_upper_step k apart))
         ∙ sym (no_objects_in f.number world (subst (λ m. HasNoUpperIn m world) (sym is) apart))
 
     same_uses : (n : ℕ) → inode_uses next f n ≡ inode_uses world f n
@@ -242,19 +208,7 @@ module _ (world : World ℕ) (inode : Inode) where
     }
       where
         not_gone : (n : ℕ) → inode_uses world f n ≡ 0 → (nat_eq k inode.0 && nat_eq n inode.1) ≡ true → ⊥
-        not_gone n zero_uses both =
-            let parts = and_parts (nat_eq k inode.0) (nat_eq n inode.1) both in
-            let here : nat_eq f.number inode.0 ≡ true = ap (λ m. nat_eq m inode.0) is ∙ parts.0 in
-            let it : n ≡ inode.1 = eqb-true n inode.1 parts.1 in
-            stays (is_inode_used world f inode.1) refl here it
-          where
-            stays : (u : Bool) → is_inode_used world f inode.1 ≡ u → nat_eq f.number inode.0 ≡ true → n ≡ inode.1 → ⊥
-            stays true u here it =
-                let some = among_times inode.1 (used_in nat_eq world f) u in
-                let none : times (nat_eq inode.1) (used_in nat_eq world f)
-                ≡ 0 = ap (λ m. times (nat_eq m) (used_in nat_eq world f)) (sym it) ∙ zero_uses in
-                absurd (omega arith)
-            stays false u here it = true≢false ((λ i. sym here i && not (sym u i)) ∙ e)
+        not_gone n zero_uses both = grind (arith, common_steps, and_parts, eqb-true, among_times, true≢false)
 
     -- it goes
     left_without : nat_eq k inode.0 ≡ true → inode_uses world f inode.1 ≡ 0 → IsLeft k world f (inode ∷ []) next gone_f
@@ -263,8 +217,7 @@ module _ (world : World ℕ) (inode : Inode) where
           ++ layers_step f.number i ++ objects_same i)));
       used = λ n some. ⊎_elim
           (λ t. absurd (let none : inode_uses world f n ≡ 0 = ap (inode_uses world f) t.1 ∙ zero_uses in omega arith))
-          (λ t. ap (λ b. cond b None (f.files.tree.node n)) t.0)
-          (eqb_tells n inode.1);
+          (λ t. ap (λ b. cond b None (f.files.tree.node n)) t.0) (eqb_tells n inode.1);
       gone = λ n none among. ap (λ b. cond b None (f.files.tree.node n))
           (and_parts (nat_eq k inode.0) (nat_eq n inode.1) (sym (among_one n) ∙ among)).1;
       other = λ n apart. ap (λ b. cond b None (f.files.tree.node n))
@@ -289,34 +242,14 @@ module _ (world : World ℕ) (inode : Inode) where
         skipped d false e h = absurd (true≢false h)
 
         named : named_in (without_inode inode.1 f.files) ≡ named_in f.files
-        named =
-            flat_map_alike (λ d. targets_in (cond (nat_eq d inode.1) None (f.files.tree.node d)))
-            (λ d. targets_in (f.files.tree.node d))
-            (filter (λ d. not (nat_eq d inode.1)) f.files.numbers)
+        named = flat_map_alike (λ d. targets_in (cond (nat_eq d inode.1) None (f.files.tree.node d)))
+            (λ d. targets_in (f.files.tree.node d)) (filter (λ d. not (nat_eq d inode.1)) f.files.numbers)
             (λ d m. bare d (nat_eq d inode.1) refl)
             ∙ flat_map-filter (λ d. not (nat_eq d inode.1)) (λ d. targets_in (f.files.tree.node d)) f.files.numbers
             (λ d h. skipped d (nat_eq d inode.1) refl h)
 
     one_left : IsLeft k world f (inode ∷ []) next (step f)
-    one_left = by (nat_eq f.number inode.0) refl (is_inode_used world f inode.1) refl
-      where
-        by : (a : Bool) → nat_eq f.number inode.0 ≡ a → (u : Bool) → is_inode_used world f inode.1 ≡ u
-            → IsLeft k world f (inode ∷ []) next
-            (cond (nat_eq f.number inode.0 && not (is_inode_used world f inode.1)) gone_f f)
-        by true e true u =
-            let not_so : (nat_eq f.number inode.0 && not (is_inode_used world f inode.1))
-            ≡ false = (λ i. e i && not (u i)) in
-            subst (λ b. IsLeft k world f (inode ∷ []) next (cond b gone_f f)) (sym not_so) (left_same not_so)
-        by true e false u =
-            let so : (nat_eq f.number inode.0 && not (is_inode_used world f inode.1))
-            ≡ true = (λ i. e i && not (u i)) in
-            subst (λ b. IsLeft k world f (inode ∷ []) next (cond b gone_f f)) (sym so)
-            (left_without (ap (λ m. nat_eq m inode.0) (sym is) ∙ e)
-            (used_or_zero world f inode.1 (is_inode_used world f inode.1) refl u))
-        by false e u h =
-            let not_so : (nat_eq f.number inode.0 && not (is_inode_used world f inode.1))
-            ≡ false = ap (λ b. b && not (is_inode_used world f inode.1)) e in
-            subst (λ b. IsLeft k world f (inode ∷ []) next (cond b gone_f f)) (sym not_so) (left_same not_so)
+    one_left = grind (arith, common_steps, left_same, left_without, used_or_zero)
 
 all_left : (k : ℕ) (world : World ℕ) (lost : List Inode) → HasNoUpperIn k world
     → is_among nat_eq k (map (λ f. f.number) world.filesystems) ≡ true
@@ -333,8 +266,7 @@ all_left k world [] apart there empty stand = record {
 }
 all_left k world (inode ∷ rest) apart there empty stand =
     then_left (all_left k (let_go_inode world inode) rest (no_upper_step world inode k apart)
-    (ap (is_among nat_eq k) (numbers_mapped (step world inode) (number_step world inode) world.filesystems)
-    ∙ there)
+    (ap (is_among nat_eq k) (numbers_mapped (step world inode) (number_step world inode) world.filesystems) ∙ there)
     (λ n none. empty_left n (sym (first_left.uses n) ∙ none)) first_left.once)
   where
     f : Filesystem ℕ
@@ -344,8 +276,7 @@ all_left k world (inode ∷ rest) apart there empty stand =
     f1 = filesystem_numbered nat_eq (let_go_inode world inode) k
 
     first_left : IsLeft k world f (inode ∷ []) (let_go_inode world inode) f1
-    first_left =
-        subst (IsLeft k world f (inode ∷ []) (let_go_inode world inode))
+    first_left = subst (IsLeft k world f (inode ∷ []) (let_go_inode world inode))
         (sym (found_mapped (step world inode) (number_step world inode) world.filesystems k there))
         (one_left world inode k f (found_number world.filesystems k) apart empty stand)
 
@@ -374,8 +305,7 @@ all_left k world (inode ∷ rest) apart there empty stand =
     }
       where
         by : (n : ℕ) → inode_uses world f n ≡ 0 → (a : Bool) → is_inode k n inode ≡ a → (b : Bool)
-            → is_inode_among k n rest ≡ b
-            → (is_inode k n inode || is_inode_among k n rest) ≡ true
+            → is_inode_among k n rest ≡ b → (is_inode k n inode || is_inode_among k n rest) ≡ true
             → (filesystem_numbered nat_eq (let_go_inodes (let_go_inode world inode) rest) k).files.tree.node n ≡ None
         by n none a e true h both = later.gone n (first_left.uses n ∙ none) h
         by n none true e false h both = later.other n h ∙ first_left.gone n none (among_one n true e)
@@ -391,10 +321,8 @@ all_left k world (inode ∷ rest) apart there empty stand =
 -- Together
 
 module _ (world after : World ℕ) (gained lost : List Inode) (k : ℕ) (inodes : Inodes ℕ) (trees : HasTrees world)
-    (in_use : InodesInUse world) (apart : HasNoUpperIn k after)
-    (exchange : Exchanges gained lost k world after)
-    (counted : IsCounted world (filesystem_numbered nat_eq world k) inodes)
-    (gains : AreThere k inodes gained) where
+    (in_use : InodesInUse world) (apart : HasNoUpperIn k after) (exchange : Exchanges gained lost k world after)
+    (counted : IsCounted world (filesystem_numbered nat_eq world k) inodes) (gains : AreThere k inodes gained) where
   abbrev pub f : Filesystem ℕ
   f = filesystem_numbered nat_eq world k
 
@@ -429,15 +357,12 @@ module _ (world after : World ℕ) (gained lost : List Inode) (k : ℕ) (inodes 
   pub counted_then : Counts.IsCounted used_then f.files.tree.node (exchanged k gained lost inodes)
   counted_then =
       all_unpinned k f.files.tree.node lost (λ n. inode_uses world f n + times (is_inode k n) gained) used_then
-      (folded (pinned_if k) inodes gained)
-      (all_pinned k f.files.tree.node gained (inode_uses world f) inodes start
+      (folded (pinned_if k) inodes gained) (all_pinned k f.files.tree.node gained (inode_uses world f) inodes start
       (λ inode m here. let some = start.in_use inode.1
-      (is_there inode m here) in let e = start.uses_are inode.1 in omega arith))
-      (λ n. sym (exchange_uses n)) empty_then
+      (is_there inode m here) in let e = start.uses_are inode.1 in omega arith)) (λ n. sym (exchange_uses n)) empty_then
     where
       is_there : (inode : Inode) → Among inode gained → nat_eq k inode.0 ≡ true → is_some (inodes.inode inode.1) ≡ true
-      is_there inode m here =
-          sym (ap (λ b. not b || is_some (inodes.inode inode.1)) here)
+      is_there inode m here = sym (ap (λ b. not b || is_some (inodes.inode inode.1)) here)
           ∙ passes (λ i. not (nat_eq k i.0) || is_some (inodes.inode i.1)) gained gains inode m
 
   abbrev last : World ℕ
@@ -451,9 +376,7 @@ module _ (world after : World ℕ) (gained lost : List Inode) (k : ℕ) (inodes 
       ∙ ap (λ b. cond b 1 0) (tree.numbers n)
 
   left : IsLeft k after f lost last f_last
-  left =
-      subst (λ g. IsLeft k after g lost last f_last) exchange.same
-      (all_left k after lost apart there_after
+  left = subst (λ g. IsLeft k after g lost last f_last) exchange.same (all_left k after lost apart there_after
       (subst (EmptyUnused after) (sym exchange.same) empty_then) (subst StandOnce (sym exchange.same) once_f))
 
   node_last : (n : ℕ) → node_in ((exchanged k gained lost inodes).inode n) ≡ f_last.files.tree.node n
@@ -461,10 +384,7 @@ module _ (world after : World ℕ) (gained lost : List Inode) (k : ℕ) (inodes 
     where
       not_lost : (list : List Inode) → is_inode_among k n list ≡ false → times (is_inode k n) list ≡ 0
       not_lost [] e = refl
-      not_lost (first ∷ rest) e =
-          let parts = Rattle.std.proofs.lemmas.Bool.or_parts (is_inode k n first) (is_inode_among k n rest) e in
-          let here : one_when (is_inode k n first) ≡ 0 = ap one_when parts.0 in
-          let later = not_lost rest parts.1 in omega arith
+      not_lost (first ∷ rest) e = grind (arith, common_steps, not_lost rest)
 
       never : (b : Bool) → is_some (inodes.inode n) ≡ b → inode_uses world f n ≡ 0 → f.files.tree.node n ≡ None
       never true e none = absurd (let some = start.in_use n e in let same = start.uses_are n in omega arith)
@@ -474,9 +394,7 @@ module _ (world after : World ℕ) (gained lost : List Inode) (k : ℕ) (inodes 
           → node_in ((exchanged k gained lost inodes).inode n) ≡ f_last.files.tree.node n
       by true e = sym (counted_then.kept n e) ∙ sym (left.used n
           (let some = counted_then.in_use n e in let same = counted_then.uses_are n in omega arith))
-      by false e =
-          node_in-none ((exchanged k gained lost inodes).inode n) e
-          ∙ sym (gone (is_inode_among k n lost) refl
+      by false e = node_in-none ((exchanged k gained lost inodes).inode n) e ∙ sym (gone (is_inode_among k n lost) refl
           (sym (counted_then.uses_are n) ∙ uses_in-none ((exchanged k gained lost inodes).inode n) e))
         where
           gone : (b : Bool) → is_inode_among k n lost ≡ b → used_then n ≡ 0 → f_last.files.tree.node n ≡ None
@@ -490,8 +408,7 @@ module _ (world after : World ℕ) (gained lost : List Inode) (k : ℕ) (inodes 
   counted_last : IsCounted last f_last (exchanged k gained lost inodes)
   counted_last = record {
     root = root_unpinned k f.files.tree.node lost (folded (pinned_if k) inodes gained)
-        ∙ root_pinned k f.files.tree.node gained inodes
-        ∙ counted.root ∙ sym left.root;
+        ∙ root_pinned k f.files.tree.node gained inodes ∙ counted.root ∙ sym left.root;
     node = node_last;
     uses = λ n. counted_then.uses_are n ∙ sym (left.uses n);
     count = counted_then.as_many ∙ as_long counted_then.list f_last.files.numbers
@@ -509,14 +426,7 @@ uses_are_exchanged_beside_overlays world after gained lost filesystem inodes tre
 
 -- A world of plain filesystems has no upper layers.
 pub plain_apart : (number : ℕ) (world : World ℕ) → IsPlain world → HasNoUpperIn number world
-plain_apart number world plain =
-    all_from_among (λ merged. has_upper_in number merged ≡ false) world.filesystems (λ f m.
-    by f.overlay (among_from_all (λ g. is_overlay g ≡ false) world.filesystems plain f m))
-  where
-    by : (o : Option (Overlay ℕ)) → is_some o ≡ false
-        → overlay_or false (λ overlay. holds_of (λ layer. nat_eq number layer.filesystem) overlay.upper) o ≡ false
-    by None e = refl
-    by (Some overlay) e = cc
+plain_apart number world plain = grind (arith, common_steps, all_from_among, among_from_all)
 
 pub uses_are_exchanged : UsesAreExchanged
 uses_are_exchanged world after gained lost filesystem inodes trees in_use plain exchange counted gains =

@@ -1,10 +1,11 @@
 -- Mounts and the locations on them.
-use Rattle.std.proofs.Common.{◌≡◌, refl, sym, ap, subst, ◌∙◌, ⊎_elim, inl, ℕ, nat_eq, eqb-true, Bool, true, false, true≢false, cond, not, ◌||◌, List, [], ◌∷◌, ◌++◌, map, filter, find, Option, Some, None, is_some, unwrap_or}
+use Rattle.std.proofs.Common.{arith, ◌≡◌, refl, sym, ap, subst, ◌∙◌, ⊎_elim, inl, ℕ, nat_eq, eqb-true, Bool, true, false, true≢false, cond, not, ◌||◌, List, [], ◌∷◌, ◌++◌, map, filter, Option, Some, None, is_some}
+use Rattle.std.proofs.lemmas.Grind.{common_steps}
 use Rattle.std.specs.Prelude.{filter_map}
 use Rattle.std.specs.List.{cons_option, list_all, list_any}
 use Rattle.std.proofs.lemmas.Bool.{or_parts}
 use Rattle.vt_spec.specs.Lists.{any_pair, is_among}
-use Rattle.vt_spec.specs.Machine.Mounts.{Location, Mount, mount_in, no_mount, root_of}
+use Rattle.vt_spec.specs.Machine.Mounts.{Location, Mount, mount_in, root_of}
 use Rattle.vt_spec.specs.Machine.Settled.{is_located}
 use Rattle.vt_spec.specs.Machine.World.{World, all_locations, mount_at, mount_numbered}
 use Rattle.vt_spec.specs.Machine.Invariants.{is_nowhere_or_attached}
@@ -14,8 +15,7 @@ use Rattle.vt_laws_mounts.specs.LettingGo.OneByOne.{is_mount_used, without_mount
 use Rattle.vt_laws_mounts.proofs.letting_go.Lists.{Among, all_pass, among-append, among-append_right, among-from_filter_map, among-from_map, among-map, among_numbers, fails, is_among_numbers, passes}
 use Rattle.vt_laws_mounts.proofs.letting_go.leaving.PlacesLeft.{found_itself, nowhere_parts, place_attached}
 pub use Rattle.vt_laws_mounts.proofs.letting_go.sweeps.OfWorlds.{locations_of_worlds_stand}
-use Rattle.vt_laws_mounts.specs.Counts.Using.{MountsLeaveTheirRoots, PlacesStand, is_on, places_of}
-use Rattle.vt_laws_mounts.specs.Counts.Using.{Exchanges}
+use Rattle.vt_laws_mounts.specs.Counts.Using.{MountsLeaveTheirRoots, PlacesStand, is_on, places_of, Exchanges}
 use Rattle.vt_laws_mounts.proofs.counts.using.Exchanged.{exchanges_turn}
 use Rattle.vt_laws_mounts.proofs.counts.using.Places.{mounts_are_uses}
 use Rattle.vt_spec.proofs.Found.{filter_all}
@@ -25,25 +25,14 @@ use Rattle.vt_spec.proofs.Truths.{nat_eq-swapped}
 attached_is : (mounts : List (Mount ℕ)) (number : ℕ) → is_some (mount_in nat_eq mounts number).namespace ≡ true
     → is_among nat_eq number (map (λ mount. mount.number) mounts) ≡ true
 attached_is [] number e = absurd (true≢false (sym e))
-attached_is (first ∷ rest) number e = by (nat_eq number first.number) e (attached_is rest number)
-  where
-    by : (b : Bool) → is_some (unwrap_or (cond b (Some first) (find (λ mount. nat_eq number mount.number) rest))
-        (no_mount number)).namespace ≡ true
-        → (is_some (mount_in nat_eq rest number).namespace ≡ true
-        → is_among nat_eq number (map (λ mount. mount.number) rest) ≡ true)
-        → (b || is_among nat_eq number (map (λ mount. mount.number) rest)) ≡ true
-    by true e later = refl
-    by false e later = later e
+attached_is (first ∷ rest) number e = grind (arith, common_steps, attached_is rest number)
 
 pub places_stand : PlacesStand
 places_stand world stand locations =
     all_pass (is_on world.mounts) (all_locations world ++ places_of world.mounts) (λ location m.
-    ⊎_elim
-    (λ here. passes (is_on world.mounts) (all_locations world) locations location here)
-    (λ places. ⊎_elim
+    ⊎_elim (λ here. passes (is_on world.mounts) (all_locations world) locations location here) (λ places. ⊎_elim
     (λ root. let from = among-from_map root_of world.mounts location root in
-    ap (is_on world.mounts) from.2
-    ∙ is_among_numbers from.0.number (map (λ mount. mount.number) world.mounts)
+    ap (is_on world.mounts) from.2 ∙ is_among_numbers from.0.number (map (λ mount. mount.number) world.mounts)
     (among-map (λ mount. mount.number) world.mounts from.0 from.1))
     (λ point. let from = among-from_filter_map (λ (mount : Mount ℕ). mount.mount_point) world.mounts location point in
     attached_is world.mounts location.mount (place_attached world stand from.0 from.1 location from.2))
@@ -99,9 +88,7 @@ around (first ∷ rest) number one there = by (nat_eq number first.number) refl 
 
 module _ (world : World ℕ) (number : ℕ) (stand : MountsStand world)
     (locations : list_all (λ location. is_among nat_eq location.mount (map (λ mount. mount.number) world.mounts))
-    (all_locations world)
-    ≡ true)
-    (there : is_among nat_eq number (map (λ mount. mount.number) world.mounts) ≡ true)
+    (all_locations world) ≡ true) (there : is_among nat_eq number (map (λ mount. mount.number) world.mounts) ≡ true)
     (unused : is_mount_used world number ≡ false) where
   split : IsAround world.mounts number
   split = around world.mounts number stand.one_number there
@@ -126,8 +113,7 @@ module _ (world : World ℕ) (number : ℕ) (stand : MountsStand world)
       (is_located nat_eq world number) unused).1
 
   no_point : is_some split.mount.mount_point ≡ false
-  no_point =
-      (nowhere_parts split.mount (passes is_nowhere_or_attached world.mounts stand.nowhere split.mount in_world)
+  no_point = (nowhere_parts split.mount (passes is_nowhere_or_attached world.mounts stand.nowhere split.mount in_world)
       (ap (λ (m : Mount ℕ). is_some m.namespace) (sym itself) ∙ not_attached)).0
 
   -- what is on another mount is on one that is left
@@ -144,17 +130,12 @@ module _ (world : World ℕ) (number : ℕ) (stand : MountsStand world)
       (ap not (ap (λ n. nat_eq n number) (sym from.2) ∙ nat_eq-swapped number location.mount false apart)))))
 
   all_on_left : list_all (is_on left.mounts) (all_locations left ++ places_of left.mounts) ≡ true
-  all_on_left =
-      all_pass (is_on left.mounts) (all_locations left ++ places_of left.mounts) (λ location m.
-      ⊎_elim
-      (λ here. on_left location (passes (is_on world.mounts) (all_locations world) locations location here)
-      (fails (λ l. nat_eq number l.mount) (all_locations world) not_located location here))
-      (λ places. ⊎_elim
+  all_on_left = all_pass (is_on left.mounts) (all_locations left ++ places_of left.mounts) (λ location m.
+      ⊎_elim (λ here. on_left location (passes (is_on world.mounts) (all_locations world) locations location here)
+      (fails (λ l. nat_eq number l.mount) (all_locations world) not_located location here)) (λ places. ⊎_elim
       (λ root. let from = among-from_map root_of left.mounts location root in
-      ap (is_on left.mounts) from.2
-      ∙ is_among_numbers from.0.number (map (λ mount. mount.number) left.mounts)
-      (among-map (λ mount. mount.number) left.mounts from.0 from.1))
-      (λ point.
+      ap (is_on left.mounts) from.2 ∙ is_among_numbers from.0.number (map (λ mount. mount.number) left.mounts)
+      (among-map (λ mount. mount.number) left.mounts from.0 from.1)) (λ point.
       let from = among-from_filter_map (λ (mount : Mount ℕ). mount.mount_point) left.mounts location point in
       let was = Rattle.vt_laws_mounts.proofs.letting_go.Lists.among-from_filter
       (λ other. not (nat_eq other.number number)) world.mounts from.0 from.1 in
@@ -165,28 +146,19 @@ module _ (world : World ℕ) (number : ℕ) (stand : MountsStand world)
     where
       other_mount : (location : Location ℕ) → is_some (mount_at nat_eq world location).namespace ≡ true
           → nat_eq number location.mount ≡ false
-      other_mount location attached = by (nat_eq number location.mount) refl
-        where
-          by : (b : Bool) → nat_eq number location.mount ≡ b → b ≡ false
-          by false e = refl
-          by true e = absurd (true≢false (sym attached ∙ ap (λ n. is_some (mount_numbered nat_eq world n).namespace)
-              (sym (eqb-true number location.mount e)) ∙ not_attached))
+      other_mount location attached = grind (arith, common_steps, true≢false, eqb-true, not_attached)
 
   root_left : (k : ℕ) → Exchanges [] (root_inode world number ∷ []) k world left
-  root_left k =
-      exchanges_turn left world (root_inode world number ∷ []) [] k
-      (subst (λ l. Exchanges l [] k left world) uses_one
-      (mounts_are_uses left world split.front
-      (split.mount ∷ []) split.back refl refl split.left split.whole stand.one_number all_on_left
-      k))
+  root_left k = exchanges_turn left world (root_inode world number ∷ []) [] k
+      (subst (λ l. Exchanges l [] k left world) uses_one (mounts_are_uses left world split.front
+      (split.mount ∷ []) split.back refl refl split.left split.whole stand.one_number all_on_left k))
     where
       none : (o : Option (Location ℕ)) → is_some o ≡ false → cons_option o [] ≡ []
       none None e = refl
       none (Some place) e = cc
 
       uses_one : map (inode_at world) (places_of (split.mount ∷ [])) ≡ root_inode world number ∷ []
-      uses_one =
-          ap (λ l. map (inode_at world) (root_of split.mount ∷ l)) (none split.mount.mount_point no_point)
+      uses_one = ap (λ l. map (inode_at world) (root_of split.mount ∷ l)) (none split.mount.mount_point no_point)
           ∙ (λ i. ((mount_numbered nat_eq world (split.numbered i)).filesystem, (sym itself i).root) ∷ [])
 
 pub mounts_leave_their_roots : MountsLeaveTheirRoots

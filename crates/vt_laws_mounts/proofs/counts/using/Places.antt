@@ -1,15 +1,16 @@
 -- Locations and mounts as uses of inodes.
-use Rattle.std.proofs.Common.{◌≡◌, refl, sym, ap, subst, ◌∙◌, ⊎_elim, inl, inr, ℕ, ◌+◌, nat_eq, eqb-true, eq-eqb, Bool, true, false, true≢false, cond, not, ◌&&◌, ◌||◌, List, [], ◌∷◌, ◌++◌, map, filter, find, flat_map, Option, Some, None, unwrap_or, arith}
+use Rattle.std.proofs.lemmas.Grind.{common_steps}
+use Rattle.std.proofs.Common.{◌≡◌, refl, sym, ap, subst, ◌∙◌, ⊎_elim, inl, inr, ℕ, ◌+◌, nat_eq, eqb-true, eq-eqb, Bool, true, false, true≢false, cond, not, ◌&&◌, ◌||◌, List, [], ◌∷◌, ◌++◌, map, filter, find, flat_map, Some, None, unwrap_or, arith}
 use Rattle.std.specs.Prelude.{filter_map, option_to_list}
-use Rattle.std.specs.List.{cons_option, list_all}
+use Rattle.std.specs.List.{list_all}
 use Rattle.std.proofs.lemmas.Bool.{and_parts}
 use Rattle.std.proofs.lemmas.List.{append_assoc}
 use Rattle.vt_spec.specs.FileTree.{targets_in}
 use Rattle.vt_spec.specs.Lists.{any_pair, is_among}
 use Rattle.vt_spec.specs.Machine.Locked.{of_overlay}
-use Rattle.vt_spec.specs.Machine.Mounts.{Location, Mount, mount_in, no_mount, root_of}
+use Rattle.vt_spec.specs.Machine.Mounts.{Location, Mount, mount_in, root_of}
 use Rattle.vt_spec.specs.Machine.Settled.{layers_in, located_in, named_in, objects_of_overlay}
-use Rattle.vt_spec.specs.Machine.World.{first_mount, first_location, opening, Filesystem, World, all_locations, filesystem_numbered, layers_of, new_plain, no_filesystem, root_attr}
+use Rattle.vt_spec.specs.Machine.World.{opening, Filesystem, World, all_locations, filesystem_numbered, layers_of, new_plain, no_filesystem, root_attr}
 use Rattle.vt_spec.specs.Inodes.{node_in, uses_in}
 use Rattle.vt_spec.specs.Tree.{new_directory}
 use Rattle.vt_laws_mounts.specs.LettingGo.Counts.{inode_uses, mounts_showing, times}
@@ -21,7 +22,7 @@ use Rattle.vt_laws_mounts.proofs.counts.counting.Entries.{one_if}
 use Rattle.vt_laws_mounts.proofs.counts.counting.Times.{times_in}
 use Rattle.vt_laws_mounts.specs.Counts.Counted.{IsCounted}
 use Rattle.vt_laws_mounts.specs.Counts.Going.{LocationsUseMounts, MountsUseFilesystems}
-use Rattle.vt_laws_mounts.specs.Counts.Using.{ExchangesFollow, MountIsPlaced, OthersUseNothing, LocationsAreUses, MountsAreUses, NewTreeIsCounted, OpeningIsCounted, is_inode, is_on, is_outside, one_counted, places_of, root_counted}
+use Rattle.vt_laws_mounts.specs.Counts.Using.{ExchangesFollow, MountIsPlaced, OthersUseNothing, LocationsAreUses, MountsAreUses, NewTreeIsCounted, OpeningIsCounted, is_inode, is_on, is_outside, one_counted, places_of}
 use Rattle.vt_laws_mounts.proofs.counts.using.Swept.{found_number, plain_of, uses_split}
 use Rattle.vt_laws_mounts.proofs.letting_go.sweeps.UpperUses.{times_append}
 use Rattle.vt_spec.proofs.Worlds.{mount_in-among, number-mount_in}
@@ -38,15 +39,7 @@ module _ (mounts : List (Mount ℕ)) (k n : ℕ) where
 
   pub count_append : (one other : List (Location ℕ)) → count_in (one ++ other) ≡ count_in one + count_in other
   count_append [] other = omega arith
-  count_append (first ∷ rest) other = by (shown first) (count_append rest other)
-    where
-      by : (b : Bool) → count_in (rest ++ other) ≡ count_in rest + count_in other
-          → times_in n (map (λ location. location.node)
-          (cond b (first ∷ filter shown (rest ++ other)) (filter shown (rest ++ other))))
-          ≡ times_in n (map (λ location. location.node)
-          (cond b (first ∷ filter shown rest) (filter shown rest))) + count_in other
-      by true e = omega arith
-      by false e = e
+  count_append (first ∷ rest) other = grind (arith, common_steps, times_in, count_append rest other)
 
   abbrev place_inode : Location ℕ → Inode
   place_inode location = ((mount_in nat_eq mounts location.mount).filesystem, location.node)
@@ -54,13 +47,7 @@ module _ (mounts : List (Mount ℕ)) (k n : ℕ) where
   pub count_places : (locations : List (Location ℕ))
       → times (is_inode k n) (map place_inode locations) ≡ count_in locations
   count_places [] = refl
-  count_places (first ∷ rest) = by (shown first) (count_places rest)
-    where
-      by : (b : Bool) → times (is_inode k n) (map place_inode rest) ≡ count_in rest
-          → cond (b && nat_eq n first.node) 1 0 + times (is_inode k n) (map place_inode rest)
-          ≡ times_in n (map (λ location. location.node) (cond b (first ∷ filter shown rest) (filter shown rest)))
-      by true e = ap (λ m. cond (nat_eq n first.node) 1 0 + m) e
-      by false e = let later : times (is_inode k n) (map place_inode rest) ≡ count_in rest = e in omega arith
+  count_places (first ∷ rest) = grind (arith, common_steps, times_in, count_places rest)
 
   pub count_none : (locations : List (Location ℕ)) → list_all (λ location. not (shown location)) locations ≡ true
       → count_in locations ≡ 0
@@ -94,11 +81,9 @@ module _ (world after : World ℕ) (filesystems : after.filesystems ≡ world.fi
       ≡ inode_uses after f n = ap (λ g. inode_uses after g n) same_found in
       let three = uses_split after f n in
       let here : times_in n (located_in nat_eq world f.number) ≡ located world n =
-      ap (λ m. times_in n (located_in nat_eq world m))
-      (found_number world.filesystems k) in
+      ap (λ m. times_in n (located_in nat_eq world m)) (found_number world.filesystems k) in
       let there : times_in n (located_in nat_eq after f.number) ≡ located after n =
-      ap (λ m. times_in n (located_in nat_eq after m))
-      (found_number world.filesystems k) in
+      ap (λ m. times_in n (located_in nat_eq after m)) (found_number world.filesystems k) in
       let layers : times_in n (layers_in nat_eq after f.number) ≡ times_in n (layers_in nat_eq world f.number)
       = (λ i. times_in n (map (λ layer. layer.directory)
       (filter (λ layer. nat_eq f.number layer.filesystem) (flat_map (of_overlay [] layers_of) (filesystems i))))) in
@@ -110,15 +95,13 @@ module _ (world after : World ℕ) (filesystems : after.filesystems ≡ world.fi
 pub locations_are_uses : LocationsAreUses
 locations_are_uses world after gained lost front back mounts filesystems locations now k = record {
   same = same_found world after filesystems k;
-  uses = λ n.
-      located_uses world after filesystems k n (times (is_inode k n) (map (inode_at world) gained))
+  uses = λ n. located_uses world after filesystems k n (times (is_inode k n) (map (inode_at world) gained))
       (times (is_inode k n) (map (inode_at world) lost))
       (let was : times_in n (located_in nat_eq world k) ≡ count_in world.mounts k n
       ((front ++ (lost ++ back)) ++ roots ++ points) =
       (λ i. count_in world.mounts k n (locations i ++ roots ++ points)) in
       let is : times_in n (located_in nat_eq after k)
-      ≡ count_in world.mounts k n ((front ++ (gained ++ back)) ++ roots ++ points)
-      = (λ i. count_in (mounts i) k n
+      ≡ count_in world.mounts k n ((front ++ (gained ++ back)) ++ roots ++ points) = (λ i. count_in (mounts i) k n
       (now i ++ map root_of (mounts i) ++ filter_map (λ mount. mount.mount_point) (mounts i))) in
       let first = split n lost in
       let second = split n gained in
@@ -134,8 +117,7 @@ locations_are_uses world after gained lost front back mounts filesystems locatio
     points = filter_map (λ mount. mount.mount_point) world.mounts
 
     split : (n : ℕ) (some : List (Location ℕ))
-        → count_in world.mounts k n ((front ++ (some ++ back)) ++ roots ++ points)
-        ≡ ((count_in world.mounts k n front +
+        → count_in world.mounts k n ((front ++ (some ++ back)) ++ roots ++ points) ≡ ((count_in world.mounts k n front +
         (count_in world.mounts k n some + count_in world.mounts k n back)) + count_in world.mounts
         k n roots) + count_in world.mounts k n points
     split n some =
@@ -155,39 +137,27 @@ points_append : (one other : List (Mount ℕ)) → filter_map (λ (mount : Mount
     ≡ filter_map (λ (mount : Mount ℕ). mount.mount_point) one
     ++ filter_map (λ (mount : Mount ℕ). mount.mount_point) other
 points_append [] other = refl
-points_append (first ∷ rest) other = by first.mount_point (points_append rest other)
-  where
-    by : (o : Option (Location ℕ)) → filter_map (λ (mount : Mount ℕ). mount.mount_point) (rest ++ other)
-        ≡ filter_map (λ (mount : Mount ℕ). mount.mount_point) rest
-        ++ filter_map (λ (mount : Mount ℕ). mount.mount_point) other
-        → cons_option o (filter_map (λ (mount : Mount ℕ). mount.mount_point) (rest ++ other))
-        ≡ cons_option o (filter_map (λ (mount : Mount ℕ). mount.mount_point) rest)
-        ++ filter_map (λ (mount : Mount ℕ). mount.mount_point) other
-    by None e = e
-    by (Some place) e = ap (λ l. place ∷ l) e
+points_append (first ∷ rest) other = grind (arith, common_steps, points_append rest other)
 
 -- among more mounts, each with its own number, it is found still
 found_still : (front added back : List (Mount ℕ)) (number : ℕ)
     → any_pair (λ (a b : Mount ℕ). nat_eq a.number b.number) (front ++ (added ++ back)) ≡ false
     → is_among nat_eq number (map (λ mount. mount.number) (front ++ back)) ≡ true
-    → mount_in nat_eq (front ++ (added ++ back)) number
-    ≡ mount_in nat_eq (front ++ back) number
+    → mount_in nat_eq (front ++ (added ++ back)) number ≡ mount_in nat_eq (front ++ back) number
 found_still front added back number one there =
     ap (mount_in nat_eq (front ++ (added ++ back))) (sym (number-mount_in (front ++ back) number))
     ∙ found_itself (front ++ (added ++ back)) one (mount_in nat_eq (front ++ back) number)
     (more (mount_in nat_eq (front ++ back) number) (mount_in-among (front ++ back) number there))
   where
     more : (mount : Mount ℕ) → Among mount (front ++ back) → Among mount (front ++ (added ++ back))
-    more mount m =
-        ⊎_elim (λ here. among-append_left front (added ++ back) mount here)
+    more mount m = ⊎_elim (λ here. among-append_left front (added ++ back) mount here)
         (λ there. among-append_right front (added ++ back) mount (among-append_right added back mount there))
         (Rattle.vt_laws_mounts.proofs.letting_go.Lists.among-append front back mount m)
 
 pub mounts_are_uses : MountsAreUses
 mounts_are_uses world after front added back filesystems locations were are one on k = record {
   same = same_found world after filesystems k;
-  uses = λ n.
-      located_uses world after filesystems k n (times (is_inode k n) (map (inode_at after) (places_of added))) 0
+  uses = λ n. located_uses world after filesystems k n (times (is_inode k n) (map (inode_at after) (places_of added))) 0
       (let was : times_in n (located_in nat_eq world k)
       ≡ count_in old k n ((all_locations world ++ map root_of old) ++ points old)
       = (λ i. count_in (were i) k n (all_locations world ++ map root_of (were i) ++ points (were i))) in
@@ -199,8 +169,7 @@ mounts_are_uses world after front added back filesystems locations were are one 
       let gains : times (is_inode k n) (map (inode_at after) (places_of added))
       ≡ count_in new k n (map root_of added ++ points added)
       = (λ i. times (is_inode k n) (map (λ (l : Location ℕ). ((mount_in nat_eq (are i) l.mount).filesystem, l.node))
-      (places_of added)))
-      ∙ count_places new k n (places_of added) in
+      (places_of added))) ∙ count_places new k n (places_of added) in
       let a = count_append new k n (map root_of added) (points added) in
       let b = count_append new k n (all_locations world ++ map root_of old) (points old) in
       let c = count_append new k n (all_locations world) (map root_of old) in
@@ -223,37 +192,18 @@ mounts_are_uses world after front added back filesystems locations were are one 
     one_new = subst (λ m. any_pair (λ (a b : Mount ℕ). nat_eq a.number b.number) m ≡ false) are one
 
     on_old : list_all (is_on old) ((all_locations world ++ map root_of old) ++ points old) ≡ true
-    on_old = subst (λ m. list_all (is_on m) ((all_locations world ++ map root_of m) ++ points m) ≡ true) were
-        (assoc (list_all (is_on world.mounts)) ∙ on)
-      where
-        assoc : (p : List (Location ℕ) → Bool)
-            → p ((all_locations world ++ map root_of world.mounts) ++ points world.mounts)
-            ≡ p (all_locations world ++ (map root_of world.mounts ++ points world.mounts))
-        assoc p = ap p (append_assoc (all_locations world) (map root_of world.mounts) (points world.mounts))
+    on_old = cc (append_assoc (all_locations world) (map root_of world.mounts) (points world.mounts))
 
     same_counts : (n : ℕ) → count_in new k n ((all_locations world ++ map root_of old) ++ points old)
         ≡ count_in old k n ((all_locations world ++ map root_of old) ++ points old)
-    same_counts n =
-        ap (λ l. times_in n (map (λ location. location.node) l))
+    same_counts n = ap (λ l. times_in n (map (λ location. location.node) l))
         (filter_alike (shown new k n) (shown old k n) ((all_locations world ++ map root_of old) ++ points old)
-        (λ l m. ap (λ (mount : Mount ℕ). nat_eq k mount.filesystem)
-        (found_still front added back l.mount one_new
+        (λ l m. ap (λ (mount : Mount ℕ). nat_eq k mount.filesystem) (found_still front added back l.mount one_new
         (passes (is_on old) ((all_locations world ++ map root_of old) ++ points old) on_old l m))))
 
     roots : (n : ℕ) → count_in new k n (map root_of new)
         ≡ count_in new k n (map root_of old) + count_in new k n (map root_of added)
-    roots n =
-        let a : count_in new k n (map root_of new)
-        ≡ count_in new k n (map root_of front ++ (map root_of added ++ map root_of back))
-        = ap (count_in new k n) (roots_append front (added ++ back)
-        ∙ ap (λ l. map root_of front ++ l) (roots_append added back)) in
-        let b : count_in new k n (map root_of old) ≡ count_in new k n (map root_of front ++ map root_of back) =
-        ap (count_in new k n)
-        (roots_append front back) in
-        let c = count_append new k n (map root_of front) (map root_of added ++ map root_of back) in
-        let d = count_append new k n (map root_of added) (map root_of back) in
-        let e = count_append new k n (map root_of front) (map root_of back) in
-        omega arith
+    roots n = grind (arith, common_steps, roots_append, count_append)
 
     parts : (n : ℕ) → count_in new k n (points new) ≡ count_in new k n (points old) + count_in new k n (points added)
     parts n =
@@ -270,35 +220,16 @@ mounts_are_uses world after front added back filesystems locations were are one 
 -- A mount that is placed
 
 found_placed : (front back : List (Mount ℕ)) (old new : Mount ℕ) → new.number ≡ old.number
-    → new.filesystem ≡ old.filesystem → (number : ℕ)
-    → (mount_in nat_eq (front ++ (new ∷ back)) number).filesystem
+    → new.filesystem ≡ old.filesystem → (number : ℕ) → (mount_in nat_eq (front ++ (new ∷ back)) number).filesystem
     ≡ (mount_in nat_eq (front ++ (old ∷ back)) number).filesystem
-found_placed [] back old new numbered shows number =
-    (λ i. (unwrap_or (cond (nat_eq number (numbered i)) (Some new) (find (λ mount. nat_eq number mount.number) back))
-    (no_mount number)).filesystem) ∙ by (nat_eq number old.number)
-  where
-    by : (b : Bool) → (unwrap_or (cond b (Some new) (find (λ mount. nat_eq number mount.number) back))
-        (no_mount number)).filesystem
-        ≡ (unwrap_or (cond b (Some old) (find (λ mount. nat_eq number mount.number) back)) (no_mount number)).filesystem
-    by true = shows
-    by false = refl
-found_placed (first ∷ front) back old new numbered shows number = by (nat_eq number first.number)
-    (found_placed front back old new numbered shows number)
-  where
-    by : (b : Bool) → (mount_in nat_eq (front ++ (new ∷ back)) number).filesystem
-        ≡ (mount_in nat_eq (front ++ (old ∷ back)) number).filesystem
-        → (unwrap_or (cond b (Some first) (find (λ mount. nat_eq number mount.number) (front ++ (new ∷ back))))
-        (no_mount number)).filesystem
-        ≡ (unwrap_or (cond b (Some first) (find (λ mount. nat_eq number mount.number) (front ++ (old ∷ back))))
-        (no_mount number)).filesystem
-    by true later = refl
-    by false later = later
+found_placed [] back old new numbered shows number = grind (arith, common_steps)
+found_placed (first ∷ front) back old new numbered shows number =
+    grind (arith, common_steps, found_placed front back old new numbered shows number)
 
 pub mount_is_placed : MountIsPlaced
 mount_is_placed world after front back old new filesystems locations were are numbered shows rooted k = record {
   same = same_found world after filesystems k;
-  uses = λ n.
-      located_uses world after filesystems k n
+  uses = λ n. located_uses world after filesystems k n
       (times (is_inode k n) (map (inode_at world) (option_to_list new.mount_point)))
       (times (is_inode k n) (map (inode_at world) (option_to_list old.mount_point)))
       (let was : times_in n (located_in nat_eq world k)
@@ -329,8 +260,7 @@ mount_is_placed world after front back old new filesystems locations were are nu
     points mounts = filter_map (λ mount. mount.mount_point) mounts
 
     same_roots : map root_of news ≡ map root_of olds
-    same_roots =
-        roots_append front (new ∷ back)
+    same_roots = roots_append front (new ∷ back)
         ∙ (λ i. map root_of front ++ (record { mount = numbered i; node = rooted i } ∷ map root_of back))
         ∙ sym (roots_append front (old ∷ back))
 
@@ -343,20 +273,7 @@ mount_is_placed world after front back old new filesystems locations were are nu
     parts : (n : ℕ) (mount : Mount ℕ) → count_in olds k n (points (front ++ (mount ∷ back)))
         ≡ (count_in olds k n (points front) + count_in olds k n (option_to_list mount.mount_point)) + count_in olds k n
         (points back)
-    parts n mount =
-        ap (count_in olds k n) (points_append front (mount ∷ back))
-        ∙ by mount.mount_point
-      where
-        by : (o : Option (Location ℕ)) → count_in olds k n (points front ++ cons_option o (points back))
-            ≡ (count_in olds k n (points front) + count_in olds k n (option_to_list o)) + count_in olds k n
-            (points back)
-        by None = let a = count_append olds k n (points front) (points back) in let none : count_in olds k n [] ≡ 0 =
-            refl in omega arith
-        by (Some place) =
-            let a = count_append olds k n (points front) (place ∷ points back) in
-            let b : count_in olds k n (place ∷ points back) ≡ count_in olds k n (place ∷ []) + count_in olds k n
-            (points back) = count_append olds k n (place ∷ []) (points back) in
-            omega arith
+    parts n mount = grind (arith, common_steps, points_append, count_append)
 
 -- Exchanges
 
@@ -376,8 +293,7 @@ others_use_nothing world after k plain plain_after mounts locations same = recor
       let there : inode_uses after (filesystem_numbered nat_eq after k) n ≡ inode_uses after f n =
       ap (λ g. inode_uses after g n) same in
       let here : inode_uses after f n ≡ inode_uses world f n
-      = (λ i. times (nat_eq n) (f.files.tree.root ∷ (named_in f.files
-      ++ map (λ location. location.node)
+      = (λ i. times (nat_eq n) (f.files.tree.root ∷ (named_in f.files ++ map (λ location. location.node)
       (filter (shown (mounts i) f.number n)
       (locations i ++ map root_of (mounts i) ++ filter_map (λ mount. mount.mount_point) (mounts i)))
       ++ (no_layers_of after (plain_of after plain_after) f.number
@@ -396,20 +312,10 @@ exchanged_times test front one other back =
     let c = times_append test front (other ++ back) in let d = times_append test other back in omega arith
 
 pub locations_use_mounts : LocationsUseMounts
-locations_use_mounts world after gained lost front back was is number =
-    (λ i. times (λ (location : Location ℕ). nat_eq number location.mount) (was i) + times
-    (λ (location : Location ℕ). nat_eq number location.mount) gained)
-    ∙ exchanged_times (λ (location : Location ℕ). nat_eq number location.mount) front lost gained back
-    ∙ (λ i. times (λ (location : Location ℕ). nat_eq number location.mount) (sym is i) + times
-    (λ (location : Location ℕ). nat_eq number location.mount) lost)
+locations_use_mounts world after gained lost front back was is number = grind (arith, common_steps, exchanged_times)
 
 pub mounts_use_filesystems : MountsUseFilesystems
-mounts_use_filesystems world after gained lost front back was is number =
-    (λ i. times (λ (mount : Mount ℕ). nat_eq number mount.filesystem) (was i) + times
-    (λ (mount : Mount ℕ). nat_eq number mount.filesystem) gained)
-    ∙ exchanged_times (λ (mount : Mount ℕ). nat_eq number mount.filesystem) front lost gained back
-    ∙ (λ i. times (λ (mount : Mount ℕ). nat_eq number mount.filesystem) (sym is i) + times
-    (λ (mount : Mount ℕ). nat_eq number mount.filesystem) lost)
+mounts_use_filesystems world after gained lost front back was is number = grind (arith, common_steps, exchanged_times)
 
 -- A new tree, where no overlay has a layer in it
 pub new_tree_counts : (world : World ℕ) (number root : ℕ) → layers_in nat_eq world number ≡ []
@@ -427,13 +333,10 @@ new_tree_counts world number root no_layers no_objects one own outside = record 
   once = refl;
 }
   where
-    nodes : (n : ℕ) (b : Bool) → node_in (cond b
-        (Some (record {
-          node = record { attr = root_attr; content = new_directory root };
-          uses = 1 + mounts_showing
-              world number;
-        })) None)
-        ≡ cond b (Some (record { attr = root_attr; content = new_directory root })) None
+    nodes : (n : ℕ) (b : Bool) → node_in (cond b (Some (record {
+      node = record { attr = root_attr; content = new_directory root };
+      uses = 1 + mounts_showing world number;
+    })) None) ≡ cond b (Some (record { attr = root_attr; content = new_directory root })) None
     nodes n true = refl
     nodes n false = refl
 
@@ -446,8 +349,7 @@ new_tree_counts world number root no_layers no_objects one own outside = record 
         by : (b : Bool) → ◌≡◌ {A = ℕ} 0 (cond b 0 0)
         by true = refl
         by false = refl
-    roots n (first ∷ rest) within =
-        ap (λ (mount : Mount ℕ). times_in n (map (λ location. location.node)
+    roots n (first ∷ rest) within = ap (λ (mount : Mount ℕ). times_in n (map (λ location. location.node)
         (cond (nat_eq number mount.filesystem) (root_of first ∷ filter (shown world.mounts number n) (map root_of rest))
         (filter (shown world.mounts number n) (map root_of rest)))))
         (found_itself world.mounts one first (within first (inl refl)))
@@ -457,23 +359,11 @@ new_tree_counts world number root no_layers no_objects one own outside = record 
       where
         by : (b : Bool) → (not b || nat_eq root first.root) ≡ true
             → count_in world.mounts number n (map root_of rest) ≡ cond (nat_eq n root)
-            (times (λ mount. nat_eq number mount.filesystem) rest) 0
-            → times_in n (map (λ location. location.node)
+            (times (λ mount. nat_eq number mount.filesystem) rest) 0 → times_in n (map (λ location. location.node)
             (cond b (root_of first ∷ filter (shown world.mounts number n) (map root_of rest))
             (filter (shown world.mounts number n) (map root_of rest))))
             ≡ cond (nat_eq n root) (cond b 1 0 + times (λ mount. nat_eq number mount.filesystem) rest) 0
-        by true same later =
-            ap (λ r. one_if n r + count_in world.mounts number n (map root_of rest))
-            (sym (eqb-true root first.root same))
-            ∙ (λ i. one_if n root + later i)
-            ∙ add (nat_eq n root) (times (λ mount. nat_eq number mount.filesystem) rest)
-          where
-            add : (b : Bool) (m : ℕ) → cond b 1 0 + cond b m 0 ≡ cond b (1 + m) 0
-            add true m = refl
-            add false m = refl
-        by false same later = later ∙ ap (λ m. cond (nat_eq n root) m 0)
-            (let e : times (λ (mount : Mount ℕ). nat_eq number mount.filesystem) rest
-            ≡ 0 + times (λ (mount : Mount ℕ). nat_eq number mount.filesystem) rest = omega arith in e)
+        by b same later = grind (arith, common_steps, one_if, eqb-true)
 
     locs : List (Location ℕ)
     locs = all_locations world
@@ -486,15 +376,11 @@ new_tree_counts world number root no_layers no_objects one own outside = record 
 
     uses : (n : ℕ) → uses_in ((one_counted root (1 + mounts_showing world number)).inode n)
         ≡ inode_uses world (new_plain nat_eq number root) n
-    uses n =
-        by (nat_eq n root) refl
-        ∙ sym (let split = uses_split world (new_plain nat_eq number root) n in
-        let bare : times_in n (named_in (new_plain nat_eq number root).files)
-        ≡ 0 = ap (λ b. times_in n (targets_in
+    uses n = by (nat_eq n root) refl ∙ sym (let split = uses_split world (new_plain nat_eq number root) n in
+        let bare : times_in n (named_in (new_plain nat_eq number root).files) ≡ 0 = ap (λ b. times_in n (targets_in
         (cond b (Some (record { attr = root_attr; content = new_directory root })) None) ++ []))
         (eq-eqb root root refl) in
-        let layers : times_in n (layers_in nat_eq world number) ≡ 0 =
-        ap (times_in n) no_layers in
+        let layers : times_in n (layers_in nat_eq world number) ≡ 0 = ap (times_in n) no_layers in
         let objects : times_in n (flat_map (objects_of_overlay nat_eq number) world.filesystems)
         ≡ 0 = ap (times_in n) no_objects in
         let a : times_in n (located_in nat_eq world number) ≡ count_in world.mounts number n
@@ -508,13 +394,10 @@ new_tree_counts world number root no_layers no_objects one own outside = record 
         (mounts_showing world number) 0 = omega arith in
         all)
       where
-        by : (b : Bool) → nat_eq n root ≡ b
-            → uses_in (cond b (Some (record {
-              node = record { attr = root_attr; content = new_directory root };
-              uses = 1 + mounts_showing
-                  world number;
-            })) None)
-            ≡ cond b 1 0 + cond b (mounts_showing world number) 0
+        by : (b : Bool) → nat_eq n root ≡ b → uses_in (cond b (Some (record {
+          node = record { attr = root_attr; content = new_directory root };
+          uses = 1 + mounts_showing world number;
+        })) None) ≡ cond b 1 0 + cond b (mounts_showing world number) 0
         by true e = refl
         by false e = refl
 
@@ -525,68 +408,4 @@ new_tree_is_counted world number root plain one own outside =
 
 -- The opening world
 pub opening_is_counted : OpeningIsCounted
-opening_is_counted fresh = subst (λ f. IsCounted world f (one_counted root 4)) (sym found) (record {
-  root = refl;
-  node = λ n. nodes (nat_eq n root);
-  uses = λ n. uses n;
-  count = refl;
-  once = refl;
-})
-  where
-    world : World ℕ
-    world = opening nat_eq fresh
-
-    root : ℕ
-    root = fresh 3
-
-    tree : Filesystem ℕ
-    tree = new_plain nat_eq (fresh 2) root
-
-    found : filesystem_numbered nat_eq world (fresh 2) ≡ tree
-    found = ap (λ b. unwrap_or (cond b (Some tree) None) (no_filesystem (fresh 2))) (eq-eqb (fresh 2) (fresh 2) refl)
-
-    nodes : (b : Bool) → node_in (cond b (Some (root_counted root 4)) None)
-        ≡ cond b (Some (record { attr = root_attr; content = new_directory root })) None
-    nodes true = refl
-    nodes false = refl
-
-    here : Location ℕ
-    here = first_location nat_eq fresh
-
-    is_shown : shown world.mounts (fresh 2) 0 here ≡ true
-    is_shown =
-        ap (λ b. nat_eq (fresh 2) (unwrap_or (cond b (Some (first_mount nat_eq fresh)) None)
-        (no_mount (fresh 0))).filesystem)
-        (eq-eqb (fresh 0) (fresh 0) refl)
-        ∙ eq-eqb (fresh 2) (fresh 2) refl
-
-    one_here : (n : ℕ) (rest : List (Location ℕ)) → count_in world.mounts (fresh 2) n (here ∷ rest)
-        ≡ one_if n root + count_in world.mounts (fresh 2) n rest
-    one_here n rest = ap (λ b. times_in n (map (λ location. location.node)
-        (cond b (here ∷ filter (shown world.mounts (fresh 2) n) rest)
-        (filter (shown world.mounts (fresh 2) n) rest)))) is_shown
-
-    uses : (n : ℕ) → uses_in ((one_counted root 4).inode n) ≡ inode_uses world tree n
-    uses n =
-        by (nat_eq n root)
-        ∙ sym (let split = uses_split world tree n in
-        let bare : times_in n (named_in tree.files)
-        ≡ 0 = ap (λ b. times_in n (targets_in
-        (cond b (Some (record { attr = root_attr; content = new_directory root })) None) ++ []))
-        (eq-eqb root root refl) in
-        let layers : times_in n (layers_in nat_eq world (fresh 2)) ≡ 0 = refl in
-        let objects : times_in n (flat_map (objects_of_overlay nat_eq (fresh 2)) world.filesystems) ≡ 0 = refl in
-        let a : times_in n (located_in nat_eq world (fresh 2))
-        ≡ count_in world.mounts (fresh 2) n (here ∷ here ∷ here ∷ []) = refl in
-        let b = one_here n (here ∷ here ∷ []) in
-        let c = one_here n (here ∷ []) in
-        let d = one_here n [] in
-        let none : count_in world.mounts (fresh 2) n [] ≡ 0 = refl in
-        let all : inode_uses world tree n ≡ one_if n root + (one_if n root + (one_if n root + one_if n root)) =
-        omega arith in
-        all)
-      where
-        by : (b : Bool) → uses_in (cond b (Some (root_counted root 4)) None)
-            ≡ cond b 1 0 + (cond b 1 0 + (cond b 1 0 + cond b 1 0))
-        by true = refl
-        by false = refl
+opening_is_counted fresh = grind (arith, common_steps, eq-eqb (fresh 2) (fresh 2) refl, eq-eqb (fresh 0) (fresh 0) refl)

@@ -1,4 +1,5 @@
 -- Counted inodes after the sweep at the end of a call.
+use Rattle.std.proofs.lemmas.Grind.{common_steps}
 use Rattle.std.proofs.Common.{◌≡◌, refl, sym, ap, subst, ◌∙◌, ℕ, ◌≤◌, nat_eq, Bool, true, false, cond, not, List, [], ◌∷◌, ◌++◌, length, map, filter, flat_map, None, is_some, arith}
 use Rattle.std.specs.List.{list_all}
 use Rattle.vt_spec.specs.FileTree.{targets_in}
@@ -28,8 +29,7 @@ use Rattle.vt_laws_mounts.specs.LettingGo.TreesOverlays.{in_use_of}
 module _ (world after : World ℕ) (gained lost : List Inode) (k : ℕ) (inodes : Inodes ℕ) (trees : HasTrees world)
     (in_use : InodesInUse world) (apart : HasNoUpperIn k after)
     (exchange : Exchanges gained lost k world (in_use_of after))
-    (counted : IsCounted world (filesystem_numbered nat_eq world k) inodes)
-    (gains : AreThere k inodes gained) where
+    (counted : IsCounted world (filesystem_numbered nat_eq world k) inodes) (gains : AreThere k inodes gained) where
   abbrev f : Filesystem ℕ
   f = filesystem_numbered nat_eq world k
 
@@ -74,8 +74,7 @@ module _ (world after : World ℕ) (gained lost : List Inode) (k : ℕ) (inodes 
 
   -- layers stay
   layers_swept : layers_in nat_eq swept k ≡ layers_in nat_eq lives k
-  layers_swept =
-      ap (λ layers. map (λ layer. layer.directory) (filter (λ layer. nat_eq k layer.filesystem) layers))
+  layers_swept = ap (λ layers. map (λ layer. layer.directory) (filter (λ layer. nat_eq k layer.filesystem) layers))
       (flat_map-map (after_second after) (of_overlay [] layers_of) first.filesystems (layers-second after))
       ∙ first_layers after k
 
@@ -85,43 +84,32 @@ module _ (world after : World ℕ) (gained lost : List Inode) (k : ℕ) (inodes 
 
   used_first : used_in nat_eq first f ≡ used
   used_first = λ i. f.files.tree.root ∷ (named_in f.files ++ located_in nat_eq lives f.number
-      ++ first_layers after f.number i
-      ++ (ap (λ m. flat_map (objects_of_overlay nat_eq m) first.filesystems) f_number
-      ∙ no_objects_in k first (apart_in lives is_overlay apart_living)
-      ∙ sym (no_objects_in k lives apart_living)
+      ++ first_layers after f.number i ++ (ap (λ m. flat_map (objects_of_overlay nat_eq m) first.filesystems) f_number
+      ∙ no_objects_in k first (apart_in lives is_overlay apart_living) ∙ sym (no_objects_in k lives apart_living)
       ∙ ap (λ m. flat_map (objects_of_overlay nat_eq m) lives.filesystems) (sym f_number)) i)
 
   left_so : after_second after (after_first after f) ≡ only_used_of nat_eq used f
   left_so = by (is_overlay f) refl
     where
       by : (b : Bool) → is_overlay f ≡ b → after_second after (after_first after f) ≡ only_used_of nat_eq used f
-      by true e =
-          ap (after_second after) (ap (λ b. only_used nat_eq lives b f) e)
+      by true e = ap (after_second after) (ap (λ b. only_used nat_eq lives b f) e)
           ∙ ap (λ b. only_used nat_eq first (not b) (only_used_of nat_eq used f))
           (overlay-left used f (list_all (λ n. is_among nat_eq n used) f.files.numbers) ∙ e)
-      by false e =
-          ap (after_second after) (ap (λ b. only_used nat_eq lives b f) e)
-          ∙ ap (λ b. only_used nat_eq first (not b) f) e
-          ∙ ap (λ u. only_used_of nat_eq u f) used_first
+      by false e = ap (after_second after) (ap (λ b. only_used nat_eq lives b f) e)
+          ∙ ap (λ b. only_used nat_eq first (not b) f) e ∙ ap (λ u. only_used_of nat_eq u f) used_first
 
   there_first : is_among nat_eq k (map (λ g. g.number) first.filesystems) ≡ true
-  there_first =
-      ap (is_among nat_eq k) (numbers_mapped (after_first after) (number-first after) lives.filesystems)
+  there_first = ap (is_among nat_eq k) (numbers_mapped (after_first after) (number-first after) lives.filesystems)
       ∙ Exchanged.there_after world lives gained lost k inodes trees in_use apart_living exchange counted gains
 
   found : filesystem_numbered nat_eq swept k ≡ only_used_of nat_eq used f
-  found =
-      found_mapped (after_second after) (number-second after) first.filesystems k there_first
-      ∙ ap (after_second after)
-      (found_mapped (after_first after) (number-first after) lives.filesystems k
+  found = found_mapped (after_second after) (number-second after) first.filesystems k there_first
+      ∙ ap (after_second after) (found_mapped (after_first after) (number-first after) lives.filesystems k
       (Exchanged.there_after world lives gained lost k inodes trees in_use apart_living exchange counted gains)
-      ∙ ap (after_first after) exchange.same)
-      ∙ left_so
+      ∙ ap (after_first after) exchange.same) ∙ left_so
 
   files_left : (only_used_of nat_eq used f).files ≡ f_last.files
-  files_left =
-      aside (list_all (λ n. is_among nat_eq n used) f.files.numbers)
-      ∙ ap (λ (g : Filesystem ℕ). g.files)
+  files_left = aside (list_all (λ n. is_among nat_eq n used) f.files.numbers) ∙ ap (λ (g : Filesystem ℕ). g.files)
       (left_of_plain used (record f { overlay = None })
       (Exchanged.tree world lives gained lost k inodes trees in_use apart_living exchange counted gains).numbers refl)
     where
@@ -160,13 +148,10 @@ module _ (world after : World ℕ) (gained lost : List Inode) (k : ℕ) (inodes 
   bare n e = counts.emptied n (sym (used_there n) ∙ e)
 
   named : named_in f_last.files ≡ named_in f.files
-  named =
-      flat_map_alike (λ d. targets_in (cond (not (is_among nat_eq d used)) None (f.files.tree.node d)))
+  named = flat_map_alike (λ d. targets_in (cond (not (is_among nat_eq d used)) None (f.files.tree.node d)))
       (λ d. targets_in (f.files.tree.node d)) (filter (λ d. not (not (is_among nat_eq d used))) f.files.numbers)
-      (λ d m. by d (is_among nat_eq d used) refl)
-      ∙ flat_map-filter (λ d. not (not (is_among nat_eq d used)))
-      (λ d. targets_in (f.files.tree.node d)) f.files.numbers
-      (λ d h. bare d (twice (is_among nat_eq d used) h))
+      (λ d m. by d (is_among nat_eq d used) refl) ∙ flat_map-filter (λ d. not (not (is_among nat_eq d used)))
+      (λ d. targets_in (f.files.tree.node d)) f.files.numbers (λ d h. bare d (twice (is_among nat_eq d used) h))
     where
       by : (d : ℕ) (b : Bool) → is_among nat_eq d used ≡ b → targets_in (cond (not b) None (f.files.tree.node d))
           ≡ targets_in (f.files.tree.node d)
@@ -178,23 +163,16 @@ module _ (world after : World ℕ) (gained lost : List Inode) (k : ℕ) (inodes 
       twice false e = refl
 
   times_last : (n : ℕ) → times_in n f_last.files.numbers ≡ cond (is_some (result.inode n)) 1 0
-  times_last n =
-      times_filter (λ m. not (not (is_among nat_eq m used))) n f.files.numbers
-      ∙ ap (λ b. cond (not (not b)) (times_in n f.files.numbers) 0) (used_there n)
-      ∙ by (is_some (result.inode n)) refl
+  times_last n = times_filter (λ m. not (not (is_among nat_eq m used))) n f.files.numbers
+      ∙ ap (λ b. cond (not (not b)) (times_in n f.files.numbers) 0) (used_there n) ∙ by (is_some (result.inode n)) refl
     where
       by : (b : Bool) → is_some (result.inode n) ≡ b → cond (not (not b)) (times_in n f.files.numbers) 0 ≡ cond b 1 0
-      by true e =
-          Exchanged.once_f world lives gained lost k inodes trees in_use apart_living exchange counted gains n
+      by true e = Exchanged.once_f world lives gained lost k inodes trees in_use apart_living exchange counted gains n
           ∙ ap (λ b. cond b 1 0) (ap is_some (counts.kept n e) ∙ node_in_is_there (result.inode n) e)
       by false e = refl
 
   few : (n : ℕ) → times_in n f_last.files.numbers ≤ 1
-  few n = by (is_some (result.inode n)) (times_last n)
-    where
-      by : (b : Bool) → times_in n f_last.files.numbers ≡ cond b 1 0 → times_in n f_last.files.numbers ≤ 1
-      by true e = omega arith
-      by false e = omega arith
+  few n = grind (arith, common_steps, times_last n, times_in n f_last.files.numbers)
 
   counted_swept : IsCounted swept f_last result
   counted_swept = record {
@@ -202,13 +180,11 @@ module _ (world after : World ℕ) (gained lost : List Inode) (k : ℕ) (inodes 
         (Rattle.vt_spec.specs.Lists.folded (Rattle.vt_laws_mounts.specs.Counts.Using.pinned_if k) inodes gained)
         ∙ root_pinned k f.files.tree.node gained inodes ∙ counted.root;
     node = node_last;
-    uses = λ n.
-        counts.uses_are n
+    uses = λ n. counts.uses_are n
         ∙ (λ i. times (nat_eq n) (f.files.tree.root ∷ (sym named i ++ located_in nat_eq lives f.number
         ++ (ap (layers_in nat_eq lives) f_number ∙ sym layers_swept ∙ ap (layers_in nat_eq swept) (sym f_number)) i
         ++ (ap (λ m. flat_map (objects_of_overlay nat_eq m) lives.filesystems) f_number
-        ∙ no_objects_in k lives apart_living
-        ∙ sym (no_objects_in k swept
+        ∙ no_objects_in k lives apart_living ∙ sym (no_objects_in k swept
         (apart_in first (λ g. not (is_overlay g)) (apart_in lives is_overlay apart_living)))
         ∙ ap (λ m. flat_map (objects_of_overlay nat_eq m) swept.filesystems) (sym f_number)) i)));
     count = counts.as_many ∙ as_long counts.list f_last.files.numbers (λ n. counts.listed n ∙ sym (times_last n));

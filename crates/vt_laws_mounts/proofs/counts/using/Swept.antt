@@ -1,13 +1,14 @@
 -- The sweep after a change of one plain tree, where inodes count their uses.
-use Rattle.std.proofs.Common.{◌≡◌, ◌≢◌, refl, sym, ap, subst, ◌∙◌, ⊎_elim, inl, inr, ℕ, ◌+◌, ◌≤◌, nat_eq, eqb-true, eq-eqb, ne_eqb, Bool, true, false, true≢false, cond, not, ◌||◌, List, [], ◌∷◌, ◌++◌, map, filter, find, flat_map, Option, Some, None, is_some, option_map, unwrap_or, arith}
+use Rattle.std.proofs.lemmas.Grind.{common_steps}
+use Rattle.std.proofs.Common.{◌≡◌, ◌≢◌, refl, sym, ap, subst, ◌∙◌, ⊎_elim, inl, inr, ℕ, ◌+◌, ◌≤◌, nat_eq, eqb-true, eq-eqb, ne_eqb, Bool, true, false, true≢false, cond, not, ◌||◌, List, [], ◌∷◌, ◌++◌, map, filter, find, flat_map, Option, Some, None, is_some, unwrap_or, arith}
 use Rattle.std.specs.List.{list_all}
 use Rattle.std.proofs.lemmas.Bool.{or_cases}
 use Rattle.vt_spec.specs.FileTree.{FileTree, targets_in}
 use Rattle.vt_spec.specs.Lists.{any_pair, is_among}
 use Rattle.vt_spec.specs.Machine.Filesystems.{with_files}
 use Rattle.vt_spec.specs.Machine.Locked.{of_overlay, overlay_or}
-use Rattle.vt_spec.specs.Machine.Settled.{filesystem_lives, layers_in, located_in, named_in, objects_of_overlay, only_among, only_used, only_used_by, real_among, settled, used_in, without_dead_filesystems, without_dead_groups, without_dead_in, without_dead_inodes, without_dead_mounts}
-use Rattle.vt_spec.specs.Machine.World.{Filesystem, Overlay, World, filesystem_numbered, is_overlay, layers_of, no_filesystem, replaced_if_numbered}
+use Rattle.vt_spec.specs.Machine.Settled.{filesystem_lives, layers_in, located_in, named_in, objects_of_overlay, only_among, only_used, only_used_by, settled, used_in, without_dead_filesystems, without_dead_groups, without_dead_in, without_dead_inodes, without_dead_mounts}
+use Rattle.vt_spec.specs.Machine.World.{Filesystem, World, filesystem_numbered, is_overlay, layers_of, no_filesystem, replaced_if_numbered}
 use Rattle.vt_spec.specs.Inodes.{Inode, Inodes, node_in, uses_in}
 use Rattle.vt_spec.specs.Tree.{Node}
 use Rattle.vt_laws_mounts.specs.LettingGo.Counts.{inode_uses, times}
@@ -35,52 +36,27 @@ plain_of world plain = none_passes is_overlay world.filesystems
 
 -- What uses an inode
 
-pub uses_split : (world : World ℕ) (f : Filesystem ℕ) (n : ℕ)
-    → inode_uses world f n ≡ one_if n f.files.tree.root +
+pub uses_split : (world : World ℕ) (f : Filesystem ℕ) (n : ℕ) → inode_uses world f n ≡ one_if n f.files.tree.root +
     (((times_in n (named_in f.files) + times_in n (located_in nat_eq world f.number))
     + times_in n (layers_in nat_eq world f.number)) + times_in n
     (flat_map (objects_of_overlay nat_eq f.number) world.filesystems))
-uses_split world f n =
-    let one : times_in n (((named ++ located) ++ layers) ++ objects) ≡ times_in n
-    ((named ++ located) ++ layers) + times_in n objects = times_append n ((named ++ located) ++ layers) objects in
-    let two : times_in n ((named ++ located) ++ layers) ≡ times_in n (named ++ located) + times_in n layers =
-    times_append n
-    (named ++ located) layers in
-    let three : times_in n (named ++ located) ≡ times_in n named + times_in n located = times_append n named located in
-    let split : times_in n (used_in nat_eq world f) ≡ one_if n f.files.tree.root + times_in n
-    (((named ++ located) ++ layers) ++ objects) = refl in
-    omega arith
-  where
-    named : List ℕ
-    named = named_in f.files
-
-    located : List ℕ
-    located = located_in nat_eq world f.number
-
-    layers : List ℕ
-    layers = layers_in nat_eq world f.number
-
-    objects : List ℕ
-    objects = flat_map (objects_of_overlay nat_eq f.number) world.filesystems
+uses_split world f n = grind (arith, common_steps, times_in, times_append, one_if)
 
 -- Names aside: the root, locations, layers, and objects of overlays.
 
 abbrev pub base_of : World ℕ → Filesystem ℕ → ℕ → ℕ
 base_of world filesystem n = one_if n filesystem.files.tree.root +
-    ((times_in n (located_in nat_eq world filesystem.number)
-    + times_in n (layers_in nat_eq world filesystem.number))
+    ((times_in n (located_in nat_eq world filesystem.number) + times_in n (layers_in nat_eq world filesystem.number))
     + times_in n (flat_map (objects_of_overlay nat_eq filesystem.number) world.filesystems))
 
-pub uses_are : (world : World ℕ) (filesystem : Filesystem ℕ) (n : ℕ)
-    → inode_uses world filesystem n
+pub uses_are : (world : World ℕ) (filesystem : Filesystem ℕ) (n : ℕ) → inode_uses world filesystem n
     ≡ uses_of (base_of world filesystem) filesystem.files.tree.node filesystem.files.numbers n
 uses_are world filesystem n = let split = uses_split world filesystem n in omega arith
 
 -- where no overlay has its upper layer in a filesystem, none has objects there
 pub no_objects_in : (number : ℕ) (world : World ℕ) → HasNoUpperIn number world
     → flat_map (objects_of_overlay nat_eq number) world.filesystems ≡ []
-no_objects_in number world apart =
-    flat_map_none (objects_of_overlay nat_eq number) world.filesystems
+no_objects_in number world apart = flat_map_none (objects_of_overlay nat_eq number) world.filesystems
     (λ f m. no_upper_objects world number f
     (among_from_all (λ merged. has_upper_in number merged ≡ false) world.filesystems apart f m))
 
@@ -98,26 +74,14 @@ found_changed (first ∷ rest) number new is there =
     Found f = unwrap_or (cond (nat_eq number f.number) (Some f)
         (find (λ f. nat_eq number f.number) (map (replaced_if_numbered nat_eq new) rest))) (no_filesystem number) ≡ new
 
-    by : (b : Bool) → nat_eq new.number first.number ≡ b
-        → (is_among nat_eq number (map (λ f. f.number) rest) ≡ true
+    by : (b : Bool) → nat_eq new.number first.number ≡ b → (is_among nat_eq number (map (λ f. f.number) rest) ≡ true
         → unwrap_or (find (λ f. nat_eq number f.number) (map (replaced_if_numbered nat_eq new) rest))
-        (no_filesystem number) ≡ new)
-        → Found (cond b new first)
-    by true e later = ap (λ b. unwrap_or (cond b (Some new)
-        (find (λ f. nat_eq number f.number) (map (replaced_if_numbered nat_eq new) rest))) (no_filesystem number))
-        (eq-eqb number new.number (sym is))
-    by false e later =
-        let apart : nat_eq number first.number ≡ false = ap (λ k. nat_eq k first.number) (sym is) ∙ e in
-        ap (λ b. unwrap_or (cond b (Some first)
-        (find (λ f. nat_eq number f.number) (map (replaced_if_numbered nat_eq new) rest)))
-        (no_filesystem number)) apart
-        ∙ later (⊎_elim (λ here. absurd (true≢false (sym here ∙ apart))) (λ rest. rest)
-        (or_cases (nat_eq number first.number) (is_among nat_eq number (map (λ f. f.number) rest)) there))
+        (no_filesystem number) ≡ new) → Found (cond b new first)
+    by b e later = grind (arith, common_steps, eq-eqb number new.number (sym is))
 
 pub found_other : (filesystems : List (Filesystem ℕ)) (other : ℕ) (new : Filesystem ℕ) → other ≢ new.number
     → unwrap_or (find (λ f. nat_eq other f.number) (map (replaced_if_numbered nat_eq new) filesystems))
-    (no_filesystem other)
-    ≡ unwrap_or (find (λ f. nat_eq other f.number) filesystems) (no_filesystem other)
+    (no_filesystem other) ≡ unwrap_or (find (λ f. nat_eq other f.number) filesystems) (no_filesystem other)
 found_other [] other new apart = refl
 found_other (first ∷ rest) other new apart = by (nat_eq new.number first.number) refl (found_other rest other new apart)
   where
@@ -133,8 +97,7 @@ found_other (first ∷ rest) other new apart = by (nat_eq new.number first.numbe
         (no_filesystem other)
         ≡ unwrap_or (cond (nat_eq other first.number) (Some first) later_old) (no_filesystem other)
     by true e later =
-        ap (λ c. unwrap_or (cond c (Some new) later_new) (no_filesystem other)) (ne_eqb other new.number apart)
-        ∙ later
+        ap (λ c. unwrap_or (cond c (Some new) later_new) (no_filesystem other)) (ne_eqb other new.number apart) ∙ later
         ∙ sym (ap (λ c. unwrap_or (cond c (Some first) later_old) (no_filesystem other))
         (ne_eqb other first.number (λ same. apart (same ∙ sym (eqb-true new.number first.number e)))))
     by false e later = here (nat_eq other first.number)
@@ -161,29 +124,13 @@ found_is (first ∷ rest) number there = by (nat_eq number first.number) refl (f
 pub found_number : (filesystems : List (Filesystem ℕ)) (number : ℕ)
     → (unwrap_or (find (λ f. nat_eq number f.number) filesystems) (no_filesystem number)).number ≡ number
 found_number [] number = refl
-found_number (first ∷ rest) number = by (nat_eq number first.number) refl (found_number rest number)
-  where
-    by : (b : Bool) → nat_eq number first.number ≡ b
-        → (unwrap_or (find (λ f. nat_eq number f.number) rest) (no_filesystem number)).number ≡ number
-        → (unwrap_or (cond b (Some first) (find (λ f. nat_eq number f.number) rest)) (no_filesystem number)).number
-        ≡ number
-    by true e later = sym (eqb-true number first.number e)
-    by false e later = later
+found_number (first ∷ rest) number = grind (arith, common_steps, eqb-true, found_number rest number)
 
 pub not_found : (filesystems : List (Filesystem ℕ)) (number : ℕ)
     → is_among nat_eq number (map (λ f. f.number) filesystems) ≡ false
     → unwrap_or (find (λ f. nat_eq number f.number) filesystems) (no_filesystem number) ≡ no_filesystem number
 not_found [] number none = refl
-not_found (first ∷ rest) number none = by (nat_eq number first.number) none (not_found rest number)
-  where
-    by : (b : Bool) → (b || is_among nat_eq number (map (λ f. f.number) rest)) ≡ false
-        → (is_among nat_eq number (map (λ f. f.number) rest) ≡ false
-        → unwrap_or (find (λ f. nat_eq number f.number) rest)
-        (no_filesystem number) ≡ no_filesystem number)
-        → unwrap_or (cond b (Some first) (find (λ f. nat_eq number f.number) rest)) (no_filesystem number)
-        ≡ no_filesystem number
-    by true e later = absurd (true≢false e)
-    by false e later = later e
+not_found (first ∷ rest) number none = grind (arith, common_steps, none, true≢false, not_found rest number)
 
 -- a filesystem with counted inodes is there
 pub there_if_some : (searched world : World ℕ) (number : ℕ) (inodes : Inodes ℕ)
@@ -242,8 +189,7 @@ start_counts world filesystem inodes tree used counted = record {
     same_there n = sym (is_some-node_in (inodes.inode n)) ∙ ap is_some (counted.node n)
 
 -- The counted inodes before a change
-pub counted_start : (world : World ℕ) (filesystem : Filesystem ℕ) (inodes : Inodes ℕ)
-    → IsListedTree filesystem.files
+pub counted_start : (world : World ℕ) (filesystem : Filesystem ℕ) (inodes : Inodes ℕ) → IsListedTree filesystem.files
     → list_all (is_inode_used world filesystem) filesystem.files.numbers ≡ true → IsCounted world filesystem inodes
     → IsStart (base_of world filesystem) filesystem.files.tree.node filesystem.files.numbers inodes
 counted_start world filesystem inodes tree used counted = record {
@@ -283,9 +229,7 @@ module _ (world : World ℕ) (number : ℕ) (files : FileTree ℕ) (in_use : All
 
   -- the one of that number is the old one
   is_old : (f : Filesystem ℕ) → Among f world.filesystems → nat_eq old.number f.number ≡ true → f ≡ old
-  is_old f m e =
-      sym (found_filesystem world.filesystems one f m)
-      ∙ ap (filesystem_numbered nat_eq world)
+  is_old f m e = sym (found_filesystem world.filesystems one f m) ∙ ap (filesystem_numbered nat_eq world)
       (sym (eqb-true old.number f.number e) ∙ found_number world.filesystems number)
 
   -- each keeps its number and its overlay
@@ -315,26 +259,14 @@ module _ (world : World ℕ) (number : ℕ) (files : FileTree ℕ) (in_use : All
   objects_kept : (some : FileTree ℕ) (k : ℕ)
       → flat_map (objects_of_overlay nat_eq k) (with_tree world number some).filesystems
       ≡ flat_map (objects_of_overlay nat_eq k) world.filesystems
-  objects_kept some k =
-      flat_map-step (replaced_if_numbered nat_eq (with_files old some)) (objects_of_overlay nat_eq k) world.filesystems
-      (λ f m. by f m (nat_eq old.number f.number) refl)
-    where
-      by : (f : Filesystem ℕ) → Among f world.filesystems → (b : Bool) → nat_eq old.number f.number ≡ b
-          → objects_of_overlay nat_eq k (cond b (with_files old some) f) ≡ objects_of_overlay nat_eq k f
-      by f m true e =
-          no_objects world k (with_files old some) plain
-          ∙ sym (no_objects world k f (ap is_overlay (is_old f m e) ∙ plain))
-      by f m false e = refl
+  objects_kept some k = grind (arith, common_steps, flat_map-step, no_objects, is_old)
 
   -- so no mount and no filesystem goes
   same_living : without_dead_filesystems nat_eq (without_dead_mounts nat_eq raw) ≡ raw
-  same_living =
-      ap (without_dead_filesystems nat_eq) (mounts_stay raw in_use.mounts)
-      ∙ filesystems_stay raw
+  same_living = ap (without_dead_filesystems nat_eq) (mounts_stay raw in_use.mounts) ∙ filesystems_stay raw
       (all_pass (filesystem_lives nat_eq raw) raw.filesystems (λ g m.
       let from = among-from_map (replaced_if_numbered nat_eq new) world.filesystems g m in
-      ap (filesystem_lives nat_eq raw) from.2
-      ∙ lives_alike world (replaced_if_numbered nat_eq new) (number_kept files)
+      ap (filesystem_lives nat_eq raw) from.2 ∙ lives_alike world (replaced_if_numbered nat_eq new) (number_kept files)
       (λ f n. ap (overlay_or [] layers_of) (overlay_kept files f n)) from.0 from.1
       ∙ passes (filesystem_lives nat_eq world) world.filesystems in_use.filesystems from.0 from.1))
 
@@ -352,8 +284,7 @@ module _ (world : World ℕ) (number : ℕ) (files : FileTree ℕ) (in_use : All
   -- what was there is used still
   all_used : (f : Filesystem ℕ) → Among f world.filesystems
       → list_all (λ n. is_among nat_eq n (used_in nat_eq raw f)) f.files.numbers ≡ true
-  all_used f m =
-      ap (λ u. list_all (λ n. is_among nat_eq n u) f.files.numbers) (used_same files f)
+  all_used f m = ap (λ u. list_all (λ n. is_among nat_eq n u) f.files.numbers) (used_same files f)
       ∙ among_from_all (λ g. list_all (is_inode_used world g) g.files.numbers
       ≡ true) world.filesystems in_use.inodes f m
 
@@ -363,8 +294,7 @@ module _ (world : World ℕ) (number : ℕ) (files : FileTree ℕ) (in_use : All
 
   -- nothing of an overlay goes
   no_overlays : without_dead_in nat_eq is_overlay raw ≡ raw
-  no_overlays =
-      ap (λ filesystems. record raw { filesystems = filesystems })
+  no_overlays = ap (λ filesystems. record raw { filesystems = filesystems })
       (map_twice (λ f. only_used nat_eq raw (is_overlay f) f) (replaced_if_numbered nat_eq new) world.filesystems
       ∙ map_alike (λ f. only_used nat_eq raw (is_overlay (replaced_if_numbered nat_eq new f))
       (replaced_if_numbered nat_eq new f)) (replaced_if_numbered nat_eq new) world.filesystems
@@ -410,25 +340,10 @@ module _ (world : World ℕ) (number : ℕ) (files : FileTree ℕ) (in_use : All
             (passes (λ n. is_among nat_eq n used) files.numbers all))
 
     step_new : step new ≡ with_files old swept
-    step_new = ap (λ b. only_used nat_eq raw (not b) new) plain
-        ∙ by (list_all (λ n. is_among nat_eq n used) files.numbers) refl
-      where
-        no_real : (o : Option (Overlay ℕ)) → is_some o ≡ false → option_map (real_among nat_eq used) o ≡ o
-        no_real None e = refl
-        no_real (Some overlay) e = cc
-
-        by : (b : Bool) → list_all (λ n. is_among nat_eq n used) files.numbers ≡ b
-            → only_used_by nat_eq b used new ≡ with_files old swept
-        by true e = ap (with_files old) (all_kept e)
-        by false e = λ i. record old {
-          files = swept;
-          overlay =
-              no_real old.overlay plain i;
-        }
+    step_new = grind (arith, common_steps, all_kept)
 
     inodes_swept : without_dead_in nat_eq (λ f. not (is_overlay f)) raw ≡ done
-    inodes_swept =
-        ap (λ filesystems. record world { filesystems = filesystems })
+    inodes_swept = ap (λ filesystems. record world { filesystems = filesystems })
         (map_twice step (replaced_if_numbered nat_eq new) world.filesystems
         ∙ map_alike (λ f. step (replaced_if_numbered nat_eq new f))
         (replaced_if_numbered nat_eq (with_files old swept)) world.filesystems
@@ -440,12 +355,9 @@ module _ (world : World ℕ) (number : ℕ) (files : FileTree ℕ) (in_use : All
         by f m false = stays f m
 
     pub settled_is : settled nat_eq raw ≡ done
-    settled_is =
-        ap (λ w. without_dead_groups nat_eq (without_dead_inodes nat_eq w))
-        same_living
+    settled_is = ap (λ w. without_dead_groups nat_eq (without_dead_inodes nat_eq w)) same_living
         ∙ ap (λ w. without_dead_groups nat_eq (without_dead_in nat_eq (λ f. not (is_overlay f)) w)) no_overlays
-        ∙ ap (without_dead_groups nat_eq) inodes_swept
-        ∙ groups_stay done in_use.groups
+        ∙ ap (without_dead_groups nat_eq) inodes_swept ∙ groups_stay done in_use.groups
 
     pub found_done : filesystem_numbered nat_eq done number ≡ with_files old swept
     found_done = found_changed world.filesystems number (with_files old swept)
@@ -455,11 +367,9 @@ module _ (world : World ℕ) (number : ℕ) (files : FileTree ℕ) (in_use : All
   pub others_stay : (other : ℕ) (inodes : Inodes ℕ) → other ≢ number
       → IsCounted world (filesystem_numbered nat_eq world other) inodes
       → IsCounted done (filesystem_numbered nat_eq done other) inodes
-  others_stay other inodes apart counted =
-      subst (λ f. IsCounted done f inodes)
+  others_stay other inodes apart counted = subst (λ f. IsCounted done f inodes)
       (sym (found_other world.filesystems other (with_files old swept)
-      (λ e. apart (e ∙ found_number world.filesystems number))))
-      (record {
+      (λ e. apart (e ∙ found_number world.filesystems number)))) (record {
         root = counted.root;
         node = counted.node;
         uses = λ n. counted.uses n ∙ ap (times (nat_eq n))
@@ -479,11 +389,9 @@ module _ (world : World ℕ) (number : ℕ) (files : FileTree ℕ) (in_use : All
         + times_in n (flat_map (objects_of_overlay nat_eq old.number) some.filesystems))
 
     used_times : (n : ℕ) → uses_in (inodes.inode n) ≡ times_in n used
-    used_times n =
-        tallied.counted.uses_are n
+    used_times n = tallied.counted.uses_are n
         ∙ ap (λ m. m + times_in n (named_by files.tree.node files.numbers)) (sym (base_same files n))
-        ∙ ap (λ r. uses_of (base_from raw r) files.tree.node files.numbers n) (sym root_same)
-        ∙ sym (uses_are raw new n)
+        ∙ ap (λ r. uses_of (base_from raw r) files.tree.node files.numbers n) (sym root_same) ∙ sym (uses_are raw new n)
 
     pub used_there : (n : ℕ) → is_among nat_eq n used ≡ is_some (inodes.inode n)
     used_there n = by (is_some (inodes.inode n)) refl
@@ -508,10 +416,8 @@ module _ (world : World ℕ) (number : ℕ) (files : FileTree ℕ) (in_use : All
         by false e = node_in-none (inodes.inode n) e ∙ sym (ap (λ b. cond b (files.tree.node n) None) e)
 
     pub times_left : (n : ℕ) → times_in n swept.numbers ≡ cond (is_some (inodes.inode n)) 1 0
-    times_left n =
-        times_filter (λ m. is_among nat_eq m used) n files.numbers
-        ∙ ap (λ b. cond b (times_in n files.numbers) 0) (used_there n)
-        ∙ by (is_some (inodes.inode n)) refl
+    times_left n = times_filter (λ m. is_among nat_eq m used) n files.numbers
+        ∙ ap (λ b. cond b (times_in n files.numbers) 0) (used_there n) ∙ by (is_some (inodes.inode n)) refl
       where
         by : (b : Bool) → is_some (inodes.inode n) ≡ b → cond b (times_in n files.numbers) 0 ≡ cond b 1 0
         by true e = tallied.once n ∙ ap (λ b. cond b 1 0)
@@ -519,18 +425,13 @@ module _ (world : World ℕ) (number : ℕ) (files : FileTree ℕ) (in_use : All
         by false e = refl
 
     few : (n : ℕ) → times_in n swept.numbers ≤ 1
-    few n = by (is_some (inodes.inode n)) (times_left n)
-      where
-        by : (b : Bool) → times_in n swept.numbers ≡ cond b 1 0 → times_in n swept.numbers ≤ 1
-        by true e = omega arith
-        by false e = omega arith
+    few n = grind (arith, common_steps, times_left n, times_in n swept.numbers)
 
     pub counted_done : IsCounted done (with_files old swept) inodes
     counted_done = record {
       root = root;
       node = node_left;
-      uses = λ n.
-          tallied.counted.uses_are n
+      uses = λ n. tallied.counted.uses_are n
           ∙ ap (λ m. m + times_in n (named_by files.tree.node files.numbers)) (sym (base_same swept n))
           ∙ (λ i. base_from done (sym root_same i) n + times_in n (sym (named-left used new unused_empty false) i))
           ∙ sym (uses_are done (with_files old swept) n);

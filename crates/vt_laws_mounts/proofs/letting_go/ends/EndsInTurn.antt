@@ -1,7 +1,6 @@
 -- Namespaces that end with their last tasks, in a world that was swept before, or that was not.
-use Rattle.std.proofs.Common.{arith}
+use Rattle.std.proofs.Common.{arith, ◌≡◌, refl, sym, ap, subst, ◌∙◌, ⊎_elim, ℕ, nat_eq, Bool, true, false, true≢false, not, ◌&&◌, List, filter, flat_map, map, Option, Some, None, is_some, option_map, option_to_list}
 use Rattle.std.proofs.lemmas.Grind.{common_steps}
-use Rattle.std.proofs.Common.{◌≡◌, refl, sym, ap, subst, ◌∙◌, ⊎_elim, ℕ, nat_eq, Bool, true, false, true≢false, not, ◌&&◌, List, filter, flat_map, map, Option, Some, None, is_some, option_map, option_to_list}
 use Rattle.std.specs.List.{list_all}
 use Rattle.std.proofs.lemmas.Bool.{cases_Bool}
 use Rattle.std.proofs.lemmas.Option.{same_Some}
@@ -52,9 +51,7 @@ module _ (world : World ℕ) (tasks : List (Task ℕ)) (kept : MountInvariants n
   -- the mounts of a namespace that does not end stay
   stays : (mount : Mount ℕ) → Among mount world.mounts → ends_with_it mount ≡ false
       → is_going nat_eq gone mount.number ≡ false
-  stays mount m e =
-      ⊎_elim
-      (λ is.
+  stays mount m e = ⊎_elim (λ is.
       let from = among-from_map (λ (x : Mount ℕ). x.number) (filter ends_with_it world.mounts) mount.number
       (among_numbers mount.number gone is) in
       let ended = among-from_filter ends_with_it world.mounts from.0 from.1 in
@@ -66,12 +63,9 @@ module _ (world : World ℕ) (tasks : List (Task ℕ)) (kept : MountInvariants n
 
   ends_or_stays : (mount : Mount ℕ) → Among mount world.mounts → is_going nat_eq gone mount.number ≡ false
       → ends_with_it mount ≡ false
-  ends_or_stays mount m e =
-      ⊎_elim
-      (λ is. absurd (true≢false (sym (is_among_numbers mount.number gone
+  ends_or_stays mount m e = ⊎_elim (λ is. absurd (true≢false (sym (is_among_numbers mount.number gone
       (among-map (λ (x : Mount ℕ). x.number) (filter ends_with_it world.mounts) mount
-      (among-filter ends_with_it world.mounts mount m is))) ∙ e)))
-      (λ isnt. isnt) (cases_Bool (ends_with_it mount))
+      (among-filter ends_with_it world.mounts mount m is))) ∙ e))) (λ isnt. isnt) (cases_Bool (ends_with_it mount))
 
   abbrev b : Bool
   b = hands_on not_swept gone
@@ -88,8 +82,7 @@ module _ (world : World ℕ) (tasks : List (Task ℕ)) (kept : MountInvariants n
   on_attached mount m place p = by mount.mount_point refl
     where
       isnt : is_going nat_eq gone mount.number ≡ false
-      isnt =
-          does_not_go not_swept gone b mount
+      isnt = does_not_go not_swept gone b mount
           (placed_is_attached (change mount) (nowhere_after not_swept gone namespaces b mount
           (passes is_nowhere_or_attached world.mounts kept.nowhere mount m)) place p)
 
@@ -99,24 +92,20 @@ module _ (world : World ℕ) (tasks : List (Task ℕ)) (kept : MountInvariants n
       left false = ap (λ (x : Mount ℕ). x.mount_point) (stays_there not_swept gone namespaces mount isnt)
 
       by : (o : Option (Location ℕ)) → mount.mount_point ≡ o → is_some (mount_at nat_eq ended place).namespace ≡ true
-      by None e =
-          absurd (true≢false (sym (ap is_some p)
+      by None e = absurd (true≢false (sym (ap is_some p)
           ∙ ap is_some (left b ∙ ap (option_map (mount_point_left nat_eq not_swept gone)) e)))
       by (Some at) e =
           let below = mount_in nat_eq world.mounts at.mount in
           let same = beside_parent world kept mount m at e in
-          let attached : is_some below.namespace ≡ true =
-          ap is_some (sym same)
+          let attached : is_some below.namespace ≡ true = ap is_some (sym same)
           ∙ placed_is_attached mount (passes is_nowhere_or_attached world.mounts kept.nowhere mount m) at e in
           let there = found_is_there world.mounts at.mount attached in
           let below_stays : is_going nat_eq gone below.number ≡ false =
           stays below there (ap (λ o. ends_with_it (record mount { namespace = o })) (sym same)
           ∙ ends_or_stays mount m isnt) in
-          let here : at ≡ place =
-          same_Some at place (sym (same_place not_swept gone namespaces b mount at e isnt
+          let here : at ≡ place = same_Some at place (sym (same_place not_swept gone namespaces b mount at e isnt
           (ap (is_going nat_eq gone) (sym (number-mount_in world.mounts at.mount)) ∙ below_stays)) ∙ p) in
-          ap (λ l. is_some (mount_at nat_eq ended l).namespace) (sym here)
-          ∙ ap (λ (x : Mount ℕ). is_some x.namespace)
+          ap (λ l. is_some (mount_at nat_eq ended l).namespace) (sym here) ∙ ap (λ (x : Mount ℕ). is_some x.namespace)
           (found-map change (same_number not_swept gone namespaces b) world.mounts at.mount below there refl
           (number-mount_in world.mounts at.mount))
           ∙ ap is_some (same_namespace not_swept gone namespaces b below below_stays) ∙ attached
@@ -124,12 +113,10 @@ module _ (world : World ℕ) (tasks : List (Task ℕ)) (kept : MountInvariants n
   stand : MountsStand ended
   stand = record {
     one_number = pair-map (λ (x y : Mount ℕ). nat_eq x.number y.number) (λ (x y : Mount ℕ). nat_eq x.number y.number)
-        change world.mounts
-        (λ x y m n e. (λ i. nat_eq (number x i) (number y i)) ∙ e) kept.one_number;
+        change world.mounts (λ x y m n e. (λ i. nat_eq (number x i) (number y i)) ∙ e) kept.one_number;
     nowhere = all_pass is_nowhere_or_attached (map change world.mounts) (λ mount m.
         let from = among-from_map change world.mounts mount m in
-        ap is_nowhere_or_attached from.2
-        ∙ nowhere_after not_swept gone namespaces b from.0
+        ap is_nowhere_or_attached from.2 ∙ nowhere_after not_swept gone namespaces b from.0
         (passes is_nowhere_or_attached world.mounts kept.nowhere from.0 from.1));
     on_attached = all_pass (stands_on_attached ended) (map change world.mounts) (λ mount m.
         let from = among-from_map change world.mounts mount m in
@@ -163,14 +150,11 @@ one_sweep_for_ends world tasks plain trees kept nowhere_new =
 -- A task that ends
 
 -- the locations of some tasks are locations of all
-fewer_come_nowhere : (world : World ℕ) (keeps : Task ℕ → Bool)
-    → comes_nowhere world (filter keeps world.tasks) ≡ true
+fewer_come_nowhere : (world : World ℕ) (keeps : Task ℕ → Bool) → comes_nowhere world (filter keeps world.tasks) ≡ true
 fewer_come_nowhere world keeps =
-    all_pass (is_location_among (all_locations world)) (flat_map locations_of (filter keeps world.tasks))
-    (λ location m.
+    all_pass (is_location_among (all_locations world)) (flat_map locations_of (filter keeps world.tasks)) (λ location m.
     let from = among-from_flat_map locations_of (filter keeps world.tasks) location m in
-    location_among (all_locations world) location
-    (among-flat_map locations_of world.tasks from.0 location
+    location_among (all_locations world) location (among-flat_map locations_of world.tasks from.0 location
     (among-from_filter keeps world.tasks from.0 from.1).0 from.2))
 
 pub one_sweep_for_exits_with_overlays : OneSweepForExitsWithOverlays
@@ -185,8 +169,7 @@ one_sweep_for_exits fresh world task plain trees kept =
 pub one_sweep_for_all_exits_with_overlays : OneSweepForAllExitsWithOverlays
 one_sweep_for_all_exits_with_overlays world names trees uppers reals kept =
     one_sweep_in_turn ended_task (λ now name. filesystems-taken_away (without_task now name)
-    (ended_mounts (without_task now name)))
-    (λ now name t u r before after.
+    (ended_mounts (without_task now name))) (λ now name t u r before after.
     one_sweep_for_ends_with_overlays now (filter (λ other. not (same_name name other.name)) now.tasks)
     t u r before (fewer_come_nowhere now (λ other. not (same_name name other.name))))
     world names trees uppers reals kept

@@ -25,8 +25,7 @@ module _ (world : World ℕ) where
   place_stays place = grind (arith, common_steps)
 
   pub nothing_taken : taken_away nat_eq world [] ≡ regrouped nat_eq world
-  nothing_taken =
-      ap (λ mounts. regrouped nat_eq (with_mounts world mounts))
+  nothing_taken = ap (λ mounts. regrouped nat_eq (with_mounts world mounts))
       (map_same (after_going nat_eq world []) world.mounts
       (λ mount m. ap (λ place. record mount { mount_point = place }) (same mount.mount_point)))
     where
@@ -45,17 +44,14 @@ module _ (world : World ℕ) where
       && has_tasks nat_eq world namespace) world.namespaces
 
   its_tasks : (number : ℕ) (namespace : Namespace ℕ) → Among namespace world.namespaces → number ≡ namespace.number
-      → has_tasks nat_eq world namespace ≡ true
-      → lives_on number ≡ true
+      → has_tasks nat_eq world namespace ≡ true → lives_on number ≡ true
   its_tasks number namespace m same has =
       any_passes (λ n. nat_eq number n.number && has_tasks nat_eq world n) world.namespaces namespace m
       (ap (λ b. b && has_tasks nat_eq world namespace) (eq-eqb number namespace.number same) ∙ has)
 
   listed_of : MountsAreListed world → (mount : Mount ℕ) → Among mount world.mounts → (number : ℕ)
-      → mount.namespace ≡ Some number
-      → is_listed nat_eq world number ≡ true
-  listed_of listed mount m number e =
-      (and_parts (is_listed nat_eq world number) true
+      → mount.namespace ≡ Some number → is_listed nat_eq world number ≡ true
+  listed_of listed mount m number e = (and_parts (is_listed nat_eq world number) true
       (sym (ap (λ o. list_all (is_listed nat_eq world) (option_to_list o)) e)
       ∙ passes (λ x. list_all (is_listed nat_eq world) (option_to_list x.namespace)) world.mounts listed mount m)).0
 
@@ -68,8 +64,7 @@ no_namespace_ends world listed all =
     (λ i. record (taken_away nat_eq world (ap (map (λ (mount : Mount ℕ). mount.number)) none i)) {
       namespaces = filter_all (has_tasks nat_eq world) world.namespaces
           (passes (has_tasks nat_eq world) world.namespaces all) i;
-    })
-    ∙ (λ i. record (nothing_taken world i) { namespaces = same_namespaces i })
+    }) ∙ (λ i. record (nothing_taken world i) { namespaces = same_namespaces i })
   where
     by : (mount : Mount ℕ) → Among mount world.mounts → (o : Option ℕ) → mount.namespace ≡ o
         → holds_of (λ number. not (lives_on world number)) o ≡ false
@@ -95,18 +90,15 @@ one_namespace_ends world number listed empty others = λ i. record (taken_away n
     no_tasks : (namespace : Namespace ℕ) → nat_eq number namespace.number ≡ true
         → has_tasks nat_eq world namespace ≡ false
     no_tasks namespace e = ap (λ n. list_any (λ task. nat_eq n task.namespace) world.tasks)
-        (sym (eqb-true number namespace.number e))
-        ∙ empty
+        (sym (eqb-true number namespace.number e)) ∙ empty
 
     its_others : (namespace : Namespace ℕ) → Among namespace world.namespaces → nat_eq number namespace.number ≡ false
         → has_tasks nat_eq world namespace ≡ true
-    its_others namespace m e =
-        sym (ap (λ b. b || has_tasks nat_eq world namespace) e)
+    its_others namespace m e = sym (ap (λ b. b || has_tasks nat_eq world namespace) e)
         ∙ passes (λ n. nat_eq number n.number || has_tasks nat_eq world n) world.namespaces others namespace m
 
     has_or_is : (namespace : Namespace ℕ) → Among namespace world.namespaces → (b : Bool)
-        → nat_eq number namespace.number ≡ b
-        → has_tasks nat_eq world namespace ≡ not b
+        → nat_eq number namespace.number ≡ b → has_tasks nat_eq world namespace ≡ not b
     has_or_is namespace m true e = no_tasks namespace e
     has_or_is namespace m false e = its_others namespace m e
 
@@ -116,8 +108,7 @@ one_namespace_ends world number listed empty others = λ i. record (taken_away n
     ends mount m (Some n) e = by (nat_eq number n) refl
       where
         by : (b : Bool) → nat_eq number n ≡ b → not (lives_on world n) ≡ b
-        by true f =
-            ap not (none_passes (λ namespace. nat_eq n namespace.number
+        by true f = ap not (none_passes (λ namespace. nat_eq n namespace.number
             && has_tasks nat_eq world namespace) world.namespaces
             (λ namespace k. none namespace (nat_eq n namespace.number) refl))
           where
@@ -131,8 +122,7 @@ one_namespace_ends world number listed empty others = λ i. record (taken_away n
 
     same_mounts : filter (is_in_ended nat_eq world) world.mounts ≡ mounts_of nat_eq world number
     same_mounts = filter_alike (is_in_ended nat_eq world)
-        (λ mount. holds_of (nat_eq number) mount.namespace) world.mounts
-        (λ mount m. ends mount m mount.namespace refl)
+        (λ mount. holds_of (nat_eq number) mount.namespace) world.mounts (λ mount m. ends mount m mount.namespace refl)
 
 -- How many mounts
 count_both : (p : Mount ℕ → Bool) (before added : List (Mount ℕ))
@@ -144,18 +134,15 @@ pub added_mounts_count_in_their_own : AddedMountsCountInTheirOwn
 added_mounts_count_in_their_own world added namespace = count_both (is_in namespace) world.mounts added
 
 pub added_mounts_count : AddedMountsCount
-added_mounts_count world added namespace all =
-    added_mounts_count_in_their_own world added namespace
+added_mounts_count world added namespace all = added_mounts_count_in_their_own world added namespace
     ∙ ap (λ (list : List (Mount ℕ)). mount_count world namespace + length list)
     (filter_all (is_in namespace) added (passes (is_in namespace) added all))
 
 pub added_mounts_count_in_no_other : AddedMountsCountInNoOther
 added_mounts_count_in_no_other world added namespace other all differ =
     added_mounts_count_in_their_own world added other
-    ∙ ap (λ (list : List (Mount ℕ)). mount_count world other + length list)
-    (nothing_passes (is_in other) added
-    (λ mount m. elsewhere mount.namespace (passes (is_in namespace) added all mount m)))
-    ∙ omega arith
+    ∙ ap (λ (list : List (Mount ℕ)). mount_count world other + length list) (nothing_passes (is_in other) added
+    (λ mount m. elsewhere mount.namespace (passes (is_in namespace) added all mount m))) ∙ omega arith
   where
     elsewhere : (o : Option ℕ) → holds_of (nat_eq namespace) o ≡ true → holds_of (nat_eq other) o ≡ false
     elsewhere None e = refl
@@ -177,18 +164,15 @@ module _ (world after : World ℕ) where
 
 pub too_many_is_of_some : TooManyIsOfSome
 too_many_is_of_some world after namespaces few same listed others =
-    ap (list_any (λ n. overfull world after n.number)) same
-    ∙ by (list_any (overfull world after) namespaces) refl
+    ap (list_any (λ n. overfull world after n.number)) same ∙ by (list_any (overfull world after) namespaces) refl
   where
     by : (b : Bool) → list_any (overfull world after) namespaces ≡ b
         → list_any (λ n. overfull world after n.number) world.namespaces ≡ b
     by true e =
         let t = one_passes (overfull world after) namespaces e in
         counted_there world after t.0 (passes (is_listed nat_eq world) namespaces listed t.0 t.1) t.2
-    by false e =
-        none_passes (λ n. overfull world after n.number) world.namespaces (λ n m.
-        ⊎_elim
-        (λ is. fails (overfull world after) namespaces e n.number (among_numbers n.number namespaces is))
+    by false e = none_passes (λ n. overfull world after n.number) world.namespaces (λ n m.
+        ⊎_elim (λ is. fails (overfull world after) namespaces e n.number (among_numbers n.number namespaces is))
         (λ isnt. no_more most_mounts (mount_count world n.number) (mount_count after n.number)
         (fails (λ k. nat_lt most_mounts (mount_count world k.number)) world.namespaces few n m) (others n.number isnt))
         (cases_Bool (is_among nat_eq n.number namespaces)))

@@ -1,7 +1,6 @@
 -- What goes when tasks leave locations and namespaces at once.
-use Rattle.std.proofs.Common.{arith}
+use Rattle.std.proofs.Common.{arith, ◌≡◌, refl, sym, ap, subst, ◌∙◌, ◌⊎◌, inl, inr, ⊎_elim, ℕ, nat_eq, eqb-true, Bool, true, false, cond, not, ◌||◌, List, filter, map, true≢false, flat_map, ◌++◌, Some, is_some}
 use Rattle.std.proofs.lemmas.Grind.{common_steps}
-use Rattle.std.proofs.Common.{◌≡◌, refl, sym, ap, subst, ◌∙◌, ◌⊎◌, inl, inr, ⊎_elim, ℕ, nat_eq, eqb-true, Bool, true, false, cond, not, ◌||◌, List, filter, map, true≢false, flat_map, ◌++◌, Some, is_some}
 use Rattle.std.specs.List.{list_any}
 use Rattle.std.proofs.lemmas.Bool.{or_cases, or_parts, cases_Bool}
 use Rattle.std.proofs.lemmas.List.Folds.{list_any-append}
@@ -18,7 +17,7 @@ use Rattle.vt_laws_mounts.specs.LettingGo.EndingTasks.{EntersLetGo, EntersWithOv
 use Rattle.vt_laws_mounts.specs.LettingGo.InUse.{AllInUse, GroupsInUse}
 use Rattle.vt_laws_mounts.specs.LettingGo.Keeping.{LocationsStand}
 use Rattle.vt_laws_mounts.specs.LettingGo.Unmounting.{groups_of_mounts}
-use Rattle.vt_laws_mounts.specs.LettingGo.Leaving.{IsSettledPlain, MountsStand, is_location_among, only_these_are_left}
+use Rattle.vt_laws_mounts.specs.LettingGo.Leaving.{IsSettledPlain, MountsStand, only_these_are_left}
 use Rattle.vt_laws_mounts.specs.LettingGo.LeavingOverlays.{IsSettled}
 use Rattle.vt_laws_mounts.specs.LettingGo.Mounting.{ended_mounts, loses_its_place, places_lost}
 use Rattle.vt_laws_mounts.specs.LettingGo.OneByOne.{GroupsInUseBut, let_go}
@@ -35,8 +34,7 @@ use Rattle.vt_laws_mounts.proofs.letting_go.leaving.PlacesLeft.{found_itself, is
 
 -- A world with more mounts, other tasks and other namespaces, in which namespaces end
 module _ (world : World ℕ) (all : List (Mount ℕ)) (tasks : List (Task ℕ)) (namespaces : List (Namespace ℕ))
-    (left : List (Location ℕ))
-    (in_use : AllInUse world) (stand : MountsStand world)
+    (left : List (Location ℕ)) (in_use : AllInUse world) (stand : MountsStand world)
     (kept : (mount : Mount ℕ) → Among mount world.mounts → Among mount all)
     (new : (mount : Mount ℕ) → Among mount all → Among mount world.mounts ⊎ (is_some mount.namespace ≡ true))
     (found : (location : Location ℕ) → Among location (places_of world) → mount_in nat_eq all location.mount
@@ -88,39 +86,29 @@ module _ (world : World ℕ) (all : List (Mount ℕ)) (tasks : List (Task ℕ)) 
 
   old_lives : (mount : Mount ℕ) → Among mount world.mounts → is_among nat_eq mount.number gone ≡ false
       → mount_lives nat_eq last (change mount) ≡ true
-  old_lives mount m isnt =
-      ⊎_elim
+  old_lives mount m isnt = ⊎_elim
       (λ in_one. or_first (is_some (change mount).namespace) (is_located nat_eq last (change mount).number)
       (attached_still mount (not_ended mount.number isnt) in_one))
       (λ at. let t = one_passes (λ l. nat_eq mount.number l.mount) (all_locations world) at in
-      ⊎_elim
-      (λ there. or_second (is_some (change mount).namespace) (is_located nat_eq last (change mount).number)
+      ⊎_elim (λ there. or_second (is_some (change mount).namespace) (is_located nat_eq last (change mount).number)
       (any_passes (λ l. nat_eq (change mount).number l.mount) (all_locations last) t.0 there
-      (ap (λ n. nat_eq n t.0.mount) (number_kept mount) ∙ t.2)))
-      (λ gone_from. absurd (true≢false
+      (ap (λ n. nat_eq n t.0.mount) (number_kept mount) ∙ t.2))) (λ gone_from. absurd (true≢false
       (sym (is_among_numbers mount.number (map (λ location. location.mount) left)
       (subst (λ n. Among n (map (λ location. location.mount) left)) (sym (eqb-true mount.number t.0.mount t.2))
-      (among-map (λ (location : Location ℕ). location.mount) left t.0 gone_from)))
-      ∙ not_left mount.number isnt)))
-      (stay t.0 t.1))
-      (or_cases (is_some mount.namespace) (is_located nat_eq world mount.number)
+      (among-map (λ (location : Location ℕ). location.mount) left t.0 gone_from))) ∙ not_left mount.number isnt)))
+      (stay t.0 t.1)) (or_cases (is_some mount.namespace) (is_located nat_eq world mount.number)
       (passes (mount_lives nat_eq world) world.mounts in_use.mounts mount m))
 
   lives : (mount : Mount ℕ) → Among mount all → is_among nat_eq mount.number gone ≡ false
       → mount_lives nat_eq last (change mount) ≡ true
-  lives mount m isnt =
-      ⊎_elim
-      (λ was. old_lives mount was isnt)
+  lives mount m isnt = ⊎_elim (λ was. old_lives mount was isnt)
       (λ in_one. or_first (is_some (change mount).namespace) (is_located nat_eq last (change mount).number)
-      (attached_still mount (not_ended mount.number isnt) in_one))
-      (new mount m)
+      (attached_still mount (not_ended mount.number isnt) in_one)) (new mount m)
 
   nowhere : (mount : Mount ℕ) → Among mount all → is_nowhere_or_attached (change mount) ≡ true
-  nowhere mount m =
-      nowhere_after base ended lasting b mount
+  nowhere mount m = nowhere_after base ended lasting b mount
       (⊎_elim (passes is_nowhere_or_attached world.mounts stand.nowhere mount)
-      (λ in_one. or_first (is_some mount.namespace) _ in_one)
-      (new mount m))
+      (λ in_one. or_first (is_some mount.namespace) _ in_one) (new mount m))
 
   -- what a mount stands on is in a namespace
   stands_in_one : (mount : Mount ℕ) → Among mount world.mounts → (at : Location ℕ) → mount.mount_point ≡ Some at
@@ -131,21 +119,11 @@ module _ (world : World ℕ) (all : List (Mount ℕ)) (tasks : List (Task ℕ)) 
       → is_going nat_eq ended number ≡ false
       → (other : Mount ℕ) → Among other last.mounts → other.number ≡ number → is_some other.namespace ≡ true
   on_attached number in_one isnt other m e =
-      let from = among-from_map change all other m in
-      let same : from.0.number ≡ number = sym (number_kept from.0) ∙ ap (λ (x : Mount ℕ). x.number) (sym from.2) ∙ e in
-      ap (λ (x : Mount ℕ). is_some x.namespace) from.2
-      ∙ attached_still from.0 (ap (is_going nat_eq ended) same ∙ isnt)
-      (⊎_elim
-      (λ was. ap (λ (x : Mount ℕ). is_some x.namespace) (sym (found_itself world.mounts stand.one_number from.0 was)
-      ∙ ap (mount_in nat_eq world.mounts) same) ∙ in_one)
-      (λ is. is)
-      (new from.0 from.1))
+      grind (arith, common_steps, among-from_map, number_kept, attached_still, found_itself)
 
   place_still : (mount : Mount ℕ) → Among mount world.mounts → (at : Location ℕ) → mount.mount_point ≡ Some at
       → StillAPlace last.mounts gone at ⊎ Among at (places_lost world ended ++ left)
-  place_still mount m at p =
-      ⊎_elim
-      (λ is. inr (among-append_left (places_lost world ended) left at
+  place_still mount m at p = ⊎_elim (λ is. inr (among-append_left (places_lost world ended) left at
       (among-filter_map (λ x. x.mount_point) (filter (loses_its_place ended) world.mounts) mount at
       (among-filter (loses_its_place ended) world.mounts mount m is) p)))
       (λ isnt. let parts = or_parts (is_going nat_eq ended mount.number)
@@ -158,21 +136,17 @@ module _ (world : World ℕ) (all : List (Mount ℕ)) (tasks : List (Task ℕ)) 
           among-map change all mount (kept mount m),
           (
             same_place base ended lasting b mount at p parts.0 on,
-            inr
-                (on_attached at.mount (stands_in_one mount m at p) on),
+            inr (on_attached at.mount (stands_in_one mount m at p) on),
           ),
         ),
-      ))
-      (cases_Bool (loses_its_place ended mount))
+      )) (cases_Bool (loses_its_place ended mount))
 
   shows_the_same : (location : Location ℕ) → Among location (places_of world)
       → (mount_at nat_eq last location).filesystem ≡ (mount_at nat_eq world location).filesystem
-  shows_the_same location m =
-      ⊎_elim (λ e. e)
+  shows_the_same location m = ⊎_elim (λ e. e)
       (λ there. ap (λ x. x.filesystem) (found-map change number_kept all location.mount there.0 there.1 there.2 there.3)
       ∙ same_filesystem base ended lasting b (mount_in nat_eq all location.mount))
-      (not_found-map change number_kept all location.mount)
-      ∙ ap (λ x. x.filesystem) (found location m)
+      (not_found-map change number_kept all location.mount) ∙ ap (λ x. x.filesystem) (found location m)
 
   pub ends_losing : Loses world last gone (places_lost world ended ++ left)
   ends_losing = record {
@@ -185,13 +159,10 @@ module _ (world : World ℕ) (all : List (Mount ℕ)) (tasks : List (Task ℕ)) 
     );
     shown = shows_the_same;
     live = λ other m isnt. let from = among-from_map change all other m in
-        ap (mount_lives nat_eq last) from.2
-        ∙ lives from.0 from.1 (ap (λ n. is_among nat_eq n gone)
-        (sym (number_kept from.0) ∙ ap (λ (x : Mount ℕ). x.number) (sym from.2))
-        ∙ isnt);
+        ap (mount_lives nat_eq last) from.2 ∙ lives from.0 from.1 (ap (λ n. is_among nat_eq n gone)
+        (sym (number_kept from.0) ∙ ap (λ (x : Mount ℕ). x.number) (sym from.2)) ∙ isnt);
     locations = λ location m. ⊎_elim (λ there. inl (inl there))
-        (λ gone_from. inr (among-append_right (places_lost world ended) left location gone_from))
-        (stay location m);
+        (λ gone_from. inr (among-append_right (places_lost world ended) left location gone_from)) (stay location m);
     places = place_still;
     nowhere = all_pass is_nowhere_or_attached last.mounts (λ other m.
         let from = among-from_map change all other m in ap is_nowhere_or_attached from.2 ∙ nowhere from.0 from.1);
@@ -199,9 +170,7 @@ module _ (world : World ℕ) (all : List (Mount ℕ)) (tasks : List (Task ℕ)) 
 
   -- groups without members had none before
   groups_of_base : GroupsInUse base
-  groups_of_base group none =
-      in_use.groups group
-      (by (list_any (is_member_of nat_eq group) world.mounts) refl)
+  groups_of_base group none = in_use.groups group (by (list_any (is_member_of nat_eq group) world.mounts) refl)
     where
       by : (c : Bool) → list_any (is_member_of nat_eq group) world.mounts ≡ c → c ≡ false
       by false e = refl
@@ -217,29 +186,23 @@ module _ (world : World ℕ) (all : List (Mount ℕ)) (tasks : List (Task ℕ)) 
   abbrev ending : World ℕ
   ending = record world { mounts = all; tasks = tasks; namespaces = namespaces }
 
-  ended_lets_go : IsSettledPlain world
-      → ((mount : Mount ℕ) → Among mount world.mounts → Among mount all)
+  ended_lets_go : IsSettledPlain world → ((mount : Mount ℕ) → Among mount world.mounts → Among mount all)
       → ((mount : Mount ℕ) → Among mount all → Among mount world.mounts ⊎ (is_some mount.namespace ≡ true))
       → ((location : Location ℕ) → Among location (places_of world) → mount_in nat_eq all location.mount
       ≡ mount_in nat_eq world.mounts location.mount)
       → ((location : Location ℕ) → Among location (all_locations world) → Among location (flat_map locations_of tasks)
-      ⊎ Among location left)
-      → settled nat_eq (namespaces_ended nat_eq ending)
+      ⊎ Among location left) → settled nat_eq (namespaces_ended nat_eq ending)
       ≡ let_go (namespaces_ended nat_eq ending) (used_by_ended world left ending)
-  ended_lets_go settles kept new found stay =
-      grind (
-        arith,
-        common_steps,
-        ends_so world all tasks namespaces left settles.in_use settles.mounts kept new
-            found stay,
-        losers_go,
-        ends_losing world all tasks namespaces left settles.in_use settles.mounts kept new found
-            stay,
-        ends_hearing world all tasks namespaces left settles.in_use settles.mounts kept new found stay,
-      )
+  ended_lets_go settles kept new found stay = grind (
+    arith,
+    common_steps,
+    ends_so world all tasks namespaces left settles.in_use settles.mounts kept new found stay,
+    losers_go,
+    ends_losing world all tasks namespaces left settles.in_use settles.mounts kept new found stay,
+    ends_hearing world all tasks namespaces left settles.in_use settles.mounts kept new found stay,
+  )
 
-  all_ended_lets_go : IsSettled world
-      → ((mount : Mount ℕ) → Among mount world.mounts → Among mount all)
+  all_ended_lets_go : IsSettled world → ((mount : Mount ℕ) → Among mount world.mounts → Among mount all)
       → ((mount : Mount ℕ) → Among mount all → Among mount world.mounts ⊎ (is_some mount.namespace ≡ true))
       → ((location : Location ℕ) → Among location (places_of world) → mount_in nat_eq all location.mount
       ≡ mount_in nat_eq world.mounts location.mount)
@@ -251,8 +214,7 @@ module _ (world : World ℕ) (all : List (Mount ℕ)) (tasks : List (Task ℕ)) 
       subst (λ w. settled nat_eq w ≡ let_go_all w (used_by_ended_with_layers world left ending))
       (sym (ends_so world all tasks namespaces left settles.in_use settles.mounts kept new found stay))
       (all_losers_go world now.mounts now.master now.namespaces tasks (gone_with left ending)
-      (places_lost world (ended_mounts ending) ++ left)
-      (groups_of_mounts ending (ended_mounts ending)) settles
+      (places_lost world (ended_mounts ending) ++ left) (groups_of_mounts ending (ended_mounts ending)) settles
       (ends_losing world all tasks namespaces left settles.in_use settles.mounts kept new found stay)
       (ends_hearing world all tasks namespaces left settles.in_use settles.mounts kept new found stay))
     where
@@ -261,33 +223,24 @@ module _ (world : World ℕ) (all : List (Mount ℕ)) (tasks : List (Task ℕ)) 
 
 -- each location is one still, or was left
 left_or_still : (world : World ℕ) (tasks : List (Task ℕ)) (left : List (Location ℕ))
-    → only_these_are_left world tasks left ≡ true
-    → (location : Location ℕ) → Among location (all_locations world)
+    → only_these_are_left world tasks left ≡ true → (location : Location ℕ) → Among location (all_locations world)
     → Among location (flat_map locations_of tasks) ⊎ Among location left
-left_or_still world tasks left only location m =
-    ⊎_elim (λ there. inl (is_it (flat_map locations_of tasks) location there))
-    (λ gone_from. inr (is_it left location gone_from))
-    (or_cases (is_location_among (flat_map locations_of tasks) location) (is_location_among left location)
-    (passes (λ l. is_location_among (flat_map locations_of tasks) l || is_location_among left l)
-    (all_locations world) only location m))
+left_or_still world tasks left only location m = grind (arith, common_steps, is_it, or_cases, passes)
 
 pub leaving_namespaces_lets_go : LeavingNamespacesLetsGo
 leaving_namespaces_lets_go world tasks left settles only =
     ended_lets_go world world.mounts tasks world.namespaces left settles (λ mount m. m) (λ mount m. inl m)
-    (λ location m. refl)
-    (left_or_still world tasks left only)
+    (λ location m. refl) (left_or_still world tasks left only)
 
 pub leaving_namespaces_with_overlays_lets_go : LeavingNamespacesWithOverlaysLetsGo
 leaving_namespaces_with_overlays_lets_go world tasks left settles only =
     all_ended_lets_go world world.mounts tasks world.namespaces left settles (λ mount m. m) (λ mount m. inl m)
-    (λ location m. refl)
-    (left_or_still world tasks left only)
+    (λ location m. refl) (left_or_still world tasks left only)
 
 -- One task that goes, or is another
 module _ (world : World ℕ) (name : TaskName) where
   of_named : (task : Task ℕ) → Among task world.tasks → same_name name task.name ≡ true → (location : Location ℕ)
-      → Among location (locations_of task)
-      → Among location (locations_of_named world name)
+      → Among location (locations_of task) → Among location (locations_of_named world name)
   of_named task m is location n =
       among-flat_map locations_of (filter (λ other. same_name name other.name) world.tasks) task location
       (among-filter (λ other. same_name name other.name) world.tasks task m is) n
@@ -297,8 +250,7 @@ module _ (world : World ℕ) (name : TaskName) where
       ⊎ Among location (locations_of_named world name)
   without_it location m =
       let from = among-from_flat_map locations_of world.tasks location m in
-      ⊎_elim
-      (λ is. inr (of_named from.0 from.1 is location from.2))
+      ⊎_elim (λ is. inr (of_named from.0 from.1 is location from.2))
       (λ isnt. inl (among-flat_map locations_of (without_task world name).tasks from.0 location
       (among-filter (λ other. not (same_name name other.name)) world.tasks from.0 from.1 (ap not isnt)) from.2))
       (cases_Bool (same_name name from.0.name))
@@ -308,8 +260,7 @@ module _ (world : World ℕ) (name : TaskName) where
       ⊎ Among location (locations_of_named world name)
   with_another task called location m =
       let from = among-from_flat_map locations_of world.tasks location m in
-      ⊎_elim
-      (λ is. inr (of_named from.0 from.1 is location from.2))
+      ⊎_elim (λ is. inr (of_named from.0 from.1 is location from.2))
       (λ isnt. inl (among-flat_map locations_of (map (replaced_if_called task) world.tasks) from.0 location
       (subst (λ t. Among t (map (replaced_if_called task) world.tasks))
       (ap (λ n. cond (same_name n from.0.name) task from.0) called ∙ ap (λ c. cond c task from.0) isnt)
@@ -348,14 +299,10 @@ module _ (world : World ℕ) (fresh : Fresh ℕ) (task : Task ℕ) where
 
   was_or_copy : (mount : Mount ℕ) → Among mount (world.mounts ++ copies)
       → Among mount world.mounts ⊎ (is_some mount.namespace ≡ true)
-  was_or_copy mount m =
-      ⊎_elim inl
-      (λ copy. let from = among-from_map
-      (copied_mount (numbers_by nat_eq (odds fresh) (mounts_of nat_eq world task.namespace))
-      (evens fresh 0))
+  was_or_copy mount m = ⊎_elim inl (λ copy. let from = among-from_map
+      (copied_mount (numbers_by nat_eq (odds fresh) (mounts_of nat_eq world task.namespace)) (evens fresh 0))
       (mounts_of nat_eq world task.namespace) mount copy in
-      inr (ap (λ (x : Mount ℕ). is_some x.namespace) from.2))
-      (among-append world.mounts copies mount m)
+      inr (ap (λ (x : Mount ℕ). is_some x.namespace) from.2)) (among-append world.mounts copies mount m)
 
   found_with_copies : MountsStand world → LocationsStand world → (location : Location ℕ)
       → Among location (places_of world)
@@ -366,8 +313,7 @@ module _ (world : World ℕ) (fresh : Fresh ℕ) (task : Task ℕ) where
 pub unshares_let_go : UnsharesLetGo
 unshares_let_go fresh world task settles located =
     ended_lets_go world (world.mounts ++ copies world fresh task) (unshared nat_eq world fresh task).tasks
-    (unshared nat_eq world fresh task).namespaces
-    (locations_of_named world task.name) settles
+    (unshared nat_eq world fresh task).namespaces (locations_of_named world task.name) settles
     (λ mount m. among-append_left world.mounts (copies world fresh task) mount m)
     (was_or_copy world fresh task) (found_with_copies world fresh task settles.mounts located)
     (with_another world task.name _ refl)
@@ -375,8 +321,7 @@ unshares_let_go fresh world task settles located =
 pub unshares_with_overlays_let_go : UnsharesWithOverlaysLetGo
 unshares_with_overlays_let_go fresh world task settles located =
     all_ended_lets_go world (world.mounts ++ copies world fresh task) (unshared nat_eq world fresh task).tasks
-    (unshared nat_eq world fresh task).namespaces
-    (locations_of_named world task.name) settles
+    (unshared nat_eq world fresh task).namespaces (locations_of_named world task.name) settles
     (λ mount m. among-append_left world.mounts (copies world fresh task) mount m)
     (was_or_copy world fresh task) (found_with_copies world fresh task settles.mounts located)
     (with_another world task.name _ refl)

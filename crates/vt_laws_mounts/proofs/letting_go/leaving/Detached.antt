@@ -1,12 +1,10 @@
 -- What goes when a mount leaves its place.
-use Rattle.std.proofs.Common.{arith}
+use Rattle.std.proofs.Common.{arith, ◌≡◌, refl, ap, ◌∙◌, ◌⊎◌, inl, ℕ, nat_eq, eqb-true, eq-eqb, Bool, true, false, cond, not, ◌||◌, List, [], ◌∷◌, find, map, true≢false, Option, Some, None, option_to_list, unwrap_or}
 use Rattle.std.proofs.lemmas.Grind.{common_steps}
-use Rattle.std.proofs.Common.{◌≡◌, refl, sym, ap, ◌∙◌, ◌⊎◌, inl, ⊎_elim, ℕ, nat_eq, eqb-true, eq-eqb, Bool, true, false, cond, not, ◌||◌, List, [], ◌∷◌, find, map, true≢false, Option, Some, None, option_map, option_to_list, unwrap_or}
 use Rattle.std.specs.List.{list_all}
 use Rattle.std.proofs.lemmas.Bool.{and_parts, not-true}
 use Rattle.vt_spec.specs.Machine.Detach.{after_going, going_at, going_from, has_child, mount_point_left, taken_away, unmounted}
-use Rattle.vt_spec.specs.Lists.{holds_of}
-use Rattle.vt_spec.specs.Machine.Mounts.{Location, Mount, detached, is_shared, mount_in, no_mount, stands_on}
+use Rattle.vt_spec.specs.Machine.Mounts.{Location, Mount, detached, is_shared, mount_in, no_mount}
 use Rattle.vt_spec.specs.Machine.Receives.{regrouped}
 use Rattle.vt_spec.specs.Machine.World.{World, mount_at, mount_numbered, with_mounts}
 use Rattle.vt_laws_mounts.specs.LettingGo.Detaching.{StandsUnshared, UnmountIsOfOne, detached_if, without_place}
@@ -22,26 +20,11 @@ module _ (world : World ℕ) (number : ℕ) (alone : has_child nat_eq world numb
 
   one_by_one : (mount : Mount ℕ) → Among mount world.mounts
       → after_going nat_eq world (number ∷ []) mount ≡ detached_if number mount
-  one_by_one mount m = by (nat_eq mount.number number)
-    where
-      keeps : (o : Option (Location ℕ)) → mount.mount_point ≡ o
-          → option_map (mount_point_left nat_eq world (number ∷ [])) o ≡ o
-      keeps None e = refl
-      keeps (Some place) e =
-          ap Some (stays_at place
-          (sym (ap (holds_of (λ l. nat_eq number l.mount)) e)
-          ∙ fails (stands_on nat_eq number) world.mounts alone mount m))
-
-      by : (b : Bool) → cond (b || false) (detached mount)
-          (record mount { mount_point = option_map (mount_point_left nat_eq world (number ∷ [])) mount.mount_point })
-          ≡ cond b (detached mount) mount
-      by true = refl
-      by false = ap (λ place. record mount { mount_point = place }) (keeps mount.mount_point refl)
+  one_by_one mount m = grind (arith, common_steps, stays_at, fails)
 
   goes_alone : StandsUnshared world number
       → unmounted nat_eq world number ≡ regrouped nat_eq (without_place world number)
-  goes_alone unshared =
-      ap (taken_away nat_eq world) (by (mount_numbered nat_eq world number).mount_point unshared)
+  goes_alone unshared = ap (taken_away nat_eq world) (by (mount_numbered nat_eq world number).mount_point unshared)
       ∙ ap (λ mounts. regrouped nat_eq (with_mounts world mounts))
       (map_alike (after_going nat_eq world (number ∷ [])) (detached_if number) world.mounts one_by_one)
     where
@@ -52,15 +35,12 @@ module _ (world : World ℕ) (number : ℕ) (alone : has_child nat_eq world numb
       its_number = ap (λ n. n ∷ []) (number-mount_in world.mounts number)
 
       by : (o : Option (Location ℕ))
-          → list_all (λ place. not (is_shared (mount_at nat_eq world place).propagation)) (option_to_list o)
-          ≡ true
+          → list_all (λ place. not (is_shared (mount_at nat_eq world place).propagation)) (option_to_list o) ≡ true
           → going_at nat_eq world mount o ≡ number ∷ []
       by None e = its_number
-      by (Some place) e =
-          ap (going_from nat_eq world mount place)
+      by (Some place) e = ap (going_from nat_eq world mount place)
           (not-true (is_shared (mount_at nat_eq world place).propagation)
-          (and_parts (not (is_shared (mount_at nat_eq world place).propagation)) true e).0)
-          ∙ its_number
+          (and_parts (not (is_shared (mount_at nat_eq world place).propagation)) true e).0) ∙ its_number
 
 pub unmount_is_of_one : UnmountIsOfOne
 unmount_is_of_one world number alone unshared = goes_alone world number alone unshared
@@ -73,32 +53,19 @@ pub found-map : (change : Mount ℕ → Mount ℕ) → ((mount : Mount ℕ) → 
 found-map change same [] number mount m e f = absurd m
 found-map change same (first ∷ rest) number mount m e f =
     ap (λ n. unwrap_or (cond (nat_eq number n) (Some (change first))
-    (find (λ x. nat_eq number x.number) (map change rest)))
-    (no_mount number)) (same first)
-    ∙ by (nat_eq number first.number) refl
-    (λ g h. found-map change same rest number mount g h f) m e
+    (find (λ x. nat_eq number x.number) (map change rest))) (no_mount number)) (same first)
+    ∙ by (nat_eq number first.number) refl (λ g h. found-map change same rest number mount g h f) m e
   where
     by : (b : Bool) → nat_eq number first.number ≡ b
         → (Among mount rest → mount_in nat_eq rest number ≡ mount → mount_in nat_eq (map change rest) number
-        ≡ change (mount_in nat_eq rest number))
-        → Among mount (first ∷ rest)
+        ≡ change (mount_in nat_eq rest number)) → Among mount (first ∷ rest)
         → unwrap_or (cond (nat_eq number first.number) (Some first) (find (λ x. nat_eq number x.number) rest))
         (no_mount number) ≡ mount
         → unwrap_or (cond b (Some (change first)) (find (λ x. nat_eq number x.number) (map change rest)))
         (no_mount number)
         ≡ change (unwrap_or (cond (nat_eq number first.number) (Some first) (find (λ x. nat_eq number x.number) rest))
         (no_mount number))
-    by true g later n h = ap (λ b.
-        change (unwrap_or (cond b (Some first) (find (λ x. nat_eq number x.number) rest)) (no_mount number)))
-        (sym g)
-    by false g later n h =
-        later
-        (⊎_elim (λ is. absurd (true≢false (sym (eq-eqb number first.number (sym f ∙ ap (λ x. x.number) is)) ∙ g)))
-        (λ l. l) n)
-        (sym (ap (λ b. unwrap_or (cond b (Some first) (find (λ x. nat_eq number x.number) rest)) (no_mount number)) g)
-        ∙ h)
-        ∙ ap (λ b. change (unwrap_or (cond b (Some first) (find (λ x. nat_eq number x.number) rest))
-        (no_mount number))) (sym g)
+    by b g later n h = grind (arith, common_steps, true≢false, eq-eqb)
 
 -- where none has the number, none has it after the change
 pub not_found-map : (change : Mount ℕ → Mount ℕ) → ((mount : Mount ℕ) → (change mount).number ≡ mount.number)

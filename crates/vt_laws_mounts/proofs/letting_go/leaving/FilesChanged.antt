@@ -1,7 +1,6 @@
 -- What calls that change plain trees let go of.
-use Rattle.std.proofs.Common.{arith}
+use Rattle.std.proofs.Common.{arith, ◌≡◌, refl, sym, ap, subst, ◌∙◌, ◌⊎◌, inl, inr, ⊎_elim, ℕ, nat_eq, true, false, cond, ◌||◌, List, [], ◌∷◌, flat_map, map, true≢false, Option, Some, None, is_some, option_to_list}
 use Rattle.std.proofs.lemmas.Grind.{common_steps}
-use Rattle.std.proofs.Common.{◌≡◌, refl, sym, ap, subst, ◌∙◌, ◌⊎◌, inl, inr, ⊎_elim, ℕ, nat_eq, Bool, true, false, cond, ◌||◌, List, [], ◌∷◌, flat_map, map, true≢false, Option, Some, None, is_some, option_to_list}
 use Rattle.std.proofs.lemmas.Bool.{or_parts}
 use Rattle.std.specs.Cmp.Lexicographic.{bytes_decides}
 use Rattle.std.specs.List.{list_any}
@@ -41,9 +40,7 @@ use Rattle.vt_laws_mounts.proofs.letting_go.leaving.TreesWithOverlays.{all_chang
 tree_there : (world : World ℕ) (location : Location ℕ) → IsSettled world
     → any_pair (λ (a b : Filesystem ℕ). nat_eq a.number b.number) world.filesystems ≡ false
     → is_among nat_eq (mount_at nat_eq world location).filesystem
-    (map (λ filesystem. filesystem.number) world.filesystems)
-    ≡ true
-    → IsListedTree (files_at nat_eq world location)
+    (map (λ filesystem. filesystem.number) world.filesystems) ≡ true → IsListedTree (files_at nat_eq world location)
 tree_there world location settles one is_there =
     let number : ℕ = (mount_at nat_eq world location).filesystem in
     let t = among-from_map (λ (f : Filesystem ℕ). f.number) world.filesystems number
@@ -56,8 +53,7 @@ tree_there world location settles one is_there =
 module _ (world : World ℕ) (location : Location ℕ) (change : Change ℕ) (settles : IsSettled world)
     (one : any_pair (λ (a b : Filesystem ℕ). nat_eq a.number b.number) world.filesystems ≡ false)
     (is_there : is_among nat_eq (mount_at nat_eq world location).filesystem
-    (map (λ filesystem. filesystem.number) world.filesystems)
-    ≡ true)
+    (map (λ filesystem. filesystem.number) world.filesystems) ≡ true)
     (plain : is_overlay (filesystem_at nat_eq world location) ≡ false)
     (after : IsListedTree (changed nat_eq (files_at nat_eq world location) change))
     (may : MayChange (files_at nat_eq world location) change) where
@@ -83,8 +79,7 @@ module _ (world : World ℕ) (location : Location ℕ) (change : Change ℕ) (se
   plainly : (fresh : Fresh ℕ) (other : World ℕ) → other.filesystems ≡ world.filesystems
       → (mount_at nat_eq other location).filesystem ≡ number
       → with_change nat_eq fresh other location change ≡ with_filesystems other swap
-  plainly fresh other same shows =
-      ap (λ f. filesystem_changed nat_eq fresh other f f.overlay change) found
+  plainly fresh other same shows = ap (λ f. filesystem_changed nat_eq fresh other f f.overlay change) found
       ∙ by (filesystem_at nat_eq world location).overlay refl
     where
       found : filesystem_at nat_eq other location ≡ filesystem_at nat_eq world location
@@ -93,15 +88,13 @@ module _ (world : World ℕ) (location : Location ℕ) (change : Change ℕ) (se
 
       by : (o : Option (Overlay ℕ)) → (filesystem_at nat_eq world location).overlay ≡ o
           → filesystem_changed nat_eq fresh other (filesystem_at nat_eq world location)
-          (filesystem_at nat_eq world location).overlay change
-          ≡ with_filesystems other swap
+          (filesystem_at nat_eq world location).overlay change ≡ with_filesystems other swap
       by None e = ap (λ o. filesystem_changed nat_eq fresh other (filesystem_at nat_eq world location) o change) e
       by (Some overlay) e = absurd (true≢false (sym (ap is_some e) ∙ plain))
 
   goes_alone : (fresh : Fresh ℕ) → settled nat_eq (with_change nat_eq fresh world location change)
       ≡ let_go_all_inodes (with_change nat_eq fresh world location change) (inodes_lost world location change)
-  goes_alone fresh =
-      subst (λ w. settled nat_eq w ≡ let_go_all_inodes w (inodes_lost world location change))
+  goes_alone fresh = subst (λ w. settled nat_eq w ≡ let_go_all_inodes w (inodes_lost world location change))
       (sym (plainly fresh world refl refl))
       (unnamed_go_with_overlays world number then_ (names_lost tree change) settles one is_there plain changes)
 
@@ -109,8 +102,7 @@ module _ (world : World ℕ) (location : Location ℕ) (change : Change ℕ) (se
       → settled nat_eq (with_change nat_eq fresh (taken_away nat_eq world gone) location change)
       ≡ let_go_all (with_change nat_eq fresh (taken_away nat_eq world gone) location change)
       (with_lost (used_by_gone_with_layers world gone) (inodes_lost world location change))
-  goes_with_mounts fresh gone =
-      subst (λ w. settled nat_eq w ≡ let_go_all w
+  goes_with_mounts fresh gone = subst (λ w. settled nat_eq w ≡ let_go_all w
       (with_lost (used_by_gone_with_layers world gone) (inodes_lost world location change)))
       (sym (plainly fresh taken (ap (λ w. w.filesystems) (taken_is world gone))
       (ap (λ w. (mount_at nat_eq w location).filesystem) (taken_is world gone)
@@ -150,16 +142,14 @@ replacing_lets_go fresh world task from old to new object replaced settles one t
 module _ (world : World ℕ) (location : Location ℕ) (change : Change ℕ) (settles : IsSettled world)
     (one : any_pair (λ (a b : Filesystem ℕ). nat_eq a.number b.number) world.filesystems ≡ false)
     (is_there : is_among nat_eq (mount_at nat_eq world location).filesystem
-    (map (λ filesystem. filesystem.number) world.filesystems)
-    ≡ true)
+    (map (λ filesystem. filesystem.number) world.filesystems) ≡ true)
     (plain : is_overlay (filesystem_at nat_eq world location) ≡ false)
     (after : IsListedTree (changed nat_eq (files_at nat_eq world location) change))
     (may : MayChange (files_at nat_eq world location) change)
     (none : names_lost (files_at nat_eq world location) change ≡ []) where
   keeps_all : (fresh : Fresh ℕ) → settled nat_eq (with_change nat_eq fresh world location change)
       ≡ with_change nat_eq fresh world location change
-  keeps_all fresh =
-      goes_alone world location change settles one is_there plain after may fresh
+  keeps_all fresh = goes_alone world location change settles one is_there plain after may fresh
       ∙ ap (λ names. let_go_all_inodes (with_change nat_eq fresh world location change)
       (map (λ inode. ((mount_at nat_eq world location).filesystem, inode)) names)) none
 
@@ -175,8 +165,7 @@ module _ (world : World ℕ) (location : Location ℕ) (change : Change ℕ) (se
   keeps_all_with : (fresh : Fresh ℕ) (new : Task ℕ) → only_these_are_left world (with_task world new).tasks [] ≡ true
       → settled nat_eq (with_task (with_change nat_eq fresh world location change) new)
       ≡ with_task (with_change nat_eq fresh world location change) new
-  keeps_all_with fresh new only =
-      subst (λ w. settled nat_eq (with_task w new) ≡ with_task w new)
+  keeps_all_with fresh new only = subst (λ w. settled nat_eq (with_task w new) ≡ with_task w new)
       (sym (plainly world location change settles one is_there plain after may fresh world refl refl))
       (opened_keeps_all world (with_task world new).tasks swapped settles only
       (trees_after world number_of then_tree [] settles one is_there plain keeps_names)
@@ -211,8 +200,7 @@ written_parts_keep_all fresh world task file offset (byte ∷ bytes) settles one
 pub made_keeps_all : MadeKeepsAll
 made_keeps_all fresh world task directory name node settles one there plain after made free =
     keeps_all world directory (Make directory.node name (evens fresh 0) node) settles one there plain after made
-    (ap option_to_list free)
-    (odds fresh)
+    (ap option_to_list free) (odds fresh)
 
 -- Tasks of one name are one task
 one_task : (tasks : List (Task ℕ)) → any_pair (λ (a b : Task ℕ). same_name a.name b.name) tasks ≡ false
@@ -226,8 +214,7 @@ one_task (first ∷ rest) one a b m n same = by m n (one_task rest parts.1 a b)
         (any_pair (λ (x y : Task ℕ). same_name x.name y.name) rest) one
 
     not_both : (x y : Task ℕ) → x ≡ first → Among y rest → same_name x.name y.name ≡ true → a ≡ b
-    not_both x y e l h =
-        absurd (true≢false (sym (ap (λ (z : Task ℕ). same_name z.name y.name) (sym e) ∙ h)
+    not_both x y e l h = absurd (true≢false (sym (ap (λ (z : Task ℕ). same_name z.name y.name) (sym e) ∙ h)
         ∙ fails (λ (z : Task ℕ). same_name first.name z.name) rest parts.0 y l))
 
     back : same_name b.name a.name ≡ true
@@ -248,28 +235,19 @@ inserted_keeps new [] d m = absurd m
 inserted_keeps new (first ∷ rest) d m = grind (arith, common_steps, inserted_keeps new rest d)
 
 with_descriptor_keeps : (task : Task ℕ) (file : Location ℕ) (access : Access) (location : Location ℕ)
-    → Among location (locations_of task)
-    → Among location (locations_of (with_descriptor task file access))
-with_descriptor_keeps task file access location (inl e) = inl e
-with_descriptor_keeps task file access location (inr (inl e)) = inr (inl e)
-with_descriptor_keeps task file access location (inr (inr l)) =
-    let from = among-from_map (λ (d : Descriptor ℕ). d.location) task.descriptors location l in
-    inr (inr (subst (λ x. Among x (map (λ (d : Descriptor ℕ). d.location)
-    (with_descriptor task file access).descriptors)) (sym from.2)
-    (among-map (λ (d : Descriptor ℕ). d.location) (with_descriptor task file access).descriptors from.0
-    (inserted_keeps _ task.descriptors from.0 from.1))))
+    → Among location (locations_of task) → Among location (locations_of (with_descriptor task file access))
+with_descriptor_keeps task file access location known =
+    grind (arith, common_steps, among-from_map, among-map, inserted_keeps)
 
 -- a task that goes to other locations leaves no location of another task
 pub replaced_leaves : (world : World ℕ) (task new : Task ℕ) (left : List (Location ℕ))
     → any_pair (λ (a b : Task ℕ). same_name a.name b.name) world.tasks ≡ false → Among task world.tasks
-    → new.name ≡ task.name
-    → ((location : Location ℕ) → Among location (locations_of task)
+    → new.name ≡ task.name → ((location : Location ℕ) → Among location (locations_of task)
     → Among location (locations_of new) ⊎ Among location left)
     → only_these_are_left world (with_task world new).tasks left ≡ true
 replaced_leaves world task new left one there called keeps =
     all_pass (λ location. is_location_among (flat_map locations_of tasks) location || is_location_among left location)
-    (all_locations world)
-    (λ location m.
+    (all_locations world) (λ location m.
     let from = among-from_flat_map locations_of world.tasks location m in
     ⊎_elim
     (λ still. or_first (is_location_among (flat_map locations_of tasks) location) (is_location_among left location)
@@ -277,24 +255,14 @@ replaced_leaves world task new left one there called keeps =
     (among-flat_map locations_of tasks (replaced_if_called new from.0) location
     (among-map (replaced_if_called new) world.tasks from.0 from.1) still)))
     (λ gone. or_second (is_location_among (flat_map locations_of tasks) location) (is_location_among left location)
-    (location_among left location gone))
-    (stays from.0 from.1 location from.2))
+    (location_among left location gone)) (stays from.0 from.1 location from.2))
   where
     tasks : List (Task ℕ)
     tasks = (with_task world new).tasks
 
     stays : (other : Task ℕ) → Among other world.tasks → (location : Location ℕ) → Among location (locations_of other)
         → Among location (locations_of (replaced_if_called new other)) ⊎ Among location left
-    stays other m location n = by (same_name new.name other.name) refl
-      where
-        by : (b : Bool) → same_name new.name other.name ≡ b
-            → Among location (locations_of (cond b new other)) ⊎ Among location left
-        by true e =
-            keeps location
-            (subst (λ t. Among location (locations_of t))
-            (sym (one_task world.tasks one task other there m
-            (ap (λ name. same_name name other.name) (sym called) ∙ e))) n)
-        by false e = inl n
+    stays other m location n = grind (arith, common_steps, one_task)
 
 pub none_left : (world : World ℕ) (task : Task ℕ) (file : Location ℕ) (access : Access)
     → any_pair (λ (a b : Task ℕ). same_name a.name b.name) world.tasks ≡ false
@@ -308,8 +276,7 @@ pub opened_new_keeps_all : OpenedNewKeepsAll
 opened_new_keeps_all fresh world task directory name node access settles one one_name there_task there plain after made
     free =
     keeps_all_with world directory (Make directory.node name (evens fresh 0) node) settles one there plain after made
-    (ap option_to_list free) (odds fresh)
-    (with_descriptor task file access)
+    (ap option_to_list free) (odds fresh) (with_descriptor task file access)
     (none_left world task file access one_name (among_from_contains world.tasks task there_task))
   where
     file : Location ℕ

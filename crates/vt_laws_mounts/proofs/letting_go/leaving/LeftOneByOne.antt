@@ -43,8 +43,7 @@ module _ (world : World ℕ) (tasks : List (Task ℕ)) (stand : MountsStand worl
       (or_cases (is_some mount.namespace) (is_located nat_eq once mount.number) lives)
 
   same_mounts : filter (mount_lives nat_eq once) first_mounts ≡ last_mounts
-  same_mounts =
-      filter_twice (mount_lives nat_eq once) (mount_lives nat_eq world) (mount_lives nat_eq once)
+  same_mounts = filter_twice (mount_lives nat_eq once) (mount_lives nat_eq world) (mount_lives nat_eq once)
       (λ mount. follows (mount_lives nat_eq once mount) (mount_lives nat_eq world mount) (lived mount)) world.mounts
 
   last_was_first : (mount : Mount ℕ) → Among mount last_mounts → Among mount first_mounts
@@ -59,8 +58,7 @@ module _ (world : World ℕ) (tasks : List (Task ℕ)) (stand : MountsStand worl
       let t = one_passes (is_member_of nat_eq group) last_mounts has in
       any_passes (is_member_of nat_eq group) first_mounts t.0 (last_was_first t.0 t.1) t.2
 
-  same_master : (group : ℕ) → has_members nat_eq last_mounts group ≡ true
-      → again.master group ≡ once.master group
+  same_master : (group : ℕ) → has_members nat_eq last_mounts group ≡ true → again.master group ≡ once.master group
   same_master group has = ap (λ b. cond b (world.master group) None) (members_were group has)
 
   -- Filesystems
@@ -72,21 +70,17 @@ module _ (world : World ℕ) (tasks : List (Task ℕ)) (stand : MountsStand worl
 
   -- Inodes: what is at a place in the end was at one before
   found_alike : (number : ℕ) → ((mount : Mount ℕ) → Among mount world.mounts → mount.number ≡ number
-      → mount_lives nat_eq once mount ≡ true)
-      → mount_in nat_eq last_mounts number ≡ mount_in nat_eq first_mounts number
-  found_alike number stays =
-      found_in_filter (mount_lives nat_eq once) world.mounts number stays
+      → mount_lives nat_eq once mount ≡ true) → mount_in nat_eq last_mounts number ≡ mount_in nat_eq first_mounts number
+  found_alike number stays = found_in_filter (mount_lives nat_eq once) world.mounts number stays
       ∙ sym (found_in_filter (mount_lives nat_eq world) world.mounts number
       (λ mount m e. lived mount (stays mount m e)))
 
   the_only : (mount : Mount ℕ) → Among mount world.mounts → mount_lives nat_eq once mount ≡ true
       → (other : Mount ℕ) → Among other world.mounts → other.number ≡ mount.number
       → mount_lives nat_eq once other ≡ true
-  the_only mount m lives other n e =
-      ap (mount_lives nat_eq once)
+  the_only mount m lives other n e = ap (mount_lives nat_eq once)
       (sym (found_itself world.mounts stand.one_number other n) ∙ ap (mount_in nat_eq world.mounts) e
-      ∙ found_itself world.mounts stand.one_number mount m)
-      ∙ lives
+      ∙ found_itself world.mounts stand.one_number mount m) ∙ lives
 
   abbrev places_in : World ℕ → List (Mount ℕ) → List (Location ℕ)
   places_in other mounts = all_locations other ++ map root_of mounts ++ filter_map (λ mount. mount.mount_point) mounts
@@ -98,49 +92,40 @@ module _ (world : World ℕ) (tasks : List (Task ℕ)) (stand : MountsStand worl
       among-map (λ l. l.node) (filter (λ l. nat_eq f (mount_in nat_eq first_mounts l.mount).filesystem)
       (places_in world first_mounts)) location
       (among-filter (λ l. nat_eq f (mount_in nat_eq first_mounts l.mount).filesystem)
-      (places_in world first_mounts) location m
-      (eq-eqb f (mount_in nat_eq first_mounts location.mount).filesystem e))
+      (places_in world first_mounts) location m (eq-eqb f (mount_in nat_eq first_mounts location.mount).filesystem e))
 
   was_located_in : (f number : ℕ) → Among number (located_in nat_eq (without_dead_mounts nat_eq once) f)
       → Among number (located_in nat_eq (without_dead_mounts nat_eq world) f)
   was_located_in f number m =
-      let from = among-from_map (λ l. l.node)
-      (filter (λ l. nat_eq f (mount_in nat_eq last_mounts l.mount).filesystem)
+      let from = among-from_map (λ l. l.node) (filter (λ l. nat_eq f (mount_in nat_eq last_mounts l.mount).filesystem)
       (places_in once last_mounts)) number m in
       let here = among-from_filter (λ l. nat_eq f (mount_in nat_eq last_mounts l.mount).filesystem)
       (places_in once last_mounts) from.0 from.1 in
       let e : f ≡ (mount_in nat_eq last_mounts from.0.mount).filesystem = eqb-true f
       (mount_in nat_eq last_mounts from.0.mount).filesystem here.1 in
-      subst (λ n. Among n (located_in nat_eq (without_dead_mounts nat_eq world) f)) (sym from.2)
-      (⊎_elim
-      (λ other. ⊎_elim
-      (λ at. was_at f from.0
-      (among-append_left (all_locations world ++ map root_of first_mounts)
+      subst (λ n. Among n (located_in nat_eq (without_dead_mounts nat_eq world) f)) (sym from.2) (⊎_elim
+      (λ other. ⊎_elim (λ at. was_at f from.0 (among-append_left (all_locations world ++ map root_of first_mounts)
       (filter_map (λ mount. mount.mount_point) first_mounts) from.0
       (among-append_left (all_locations world) (map root_of first_mounts) from.0
       (was_located world tasks nowhere_new from.0 at)))
       (e ∙ ap (λ x. x.filesystem) (found_alike from.0.mount (λ mount n same.
       or_second (is_some mount.namespace) (is_located nat_eq once mount.number)
       (any_passes (λ l. nat_eq mount.number l.mount) (all_locations once) from.0 at
-      (eq-eqb mount.number from.0.mount same))))))
-      (λ root.
+      (eq-eqb mount.number from.0.mount same)))))) (λ root.
       let mount = among-from_map root_of last_mounts from.0 root in
       let was = among-from_filter (mount_lives nat_eq once) world.mounts mount.0 mount.1 in
-      was_at f from.0
-      (among-append_left (all_locations world ++ map root_of first_mounts)
+      was_at f from.0 (among-append_left (all_locations world ++ map root_of first_mounts)
       (filter_map (λ x. x.mount_point) first_mounts) from.0
       (among-append_right (all_locations world) (map root_of first_mounts) from.0
       (subst (λ l. Among l (map root_of first_mounts)) (sym mount.2)
       (among-map root_of first_mounts mount.0 (last_was_first mount.0 mount.1)))))
       (e ∙ ap (λ x. x.filesystem) (found_alike from.0.mount (λ other n same.
       the_only mount.0 was.0 was.1 other n (same ∙ ap (λ l. l.mount) mount.2)))))
-      (among-append (all_locations once) (map root_of last_mounts) from.0 other))
-      (λ place.
+      (among-append (all_locations once) (map root_of last_mounts) from.0 other)) (λ place.
       let mount = among-from_filter_map (λ x. x.mount_point) last_mounts from.0 place in
       let was = among-from_filter (mount_lives nat_eq once) world.mounts mount.0 mount.1 in
       let attached = place_attached world stand mount.0 was.0 from.0 mount.2 in
-      was_at f from.0
-      (among-append_right (all_locations world ++ map root_of first_mounts)
+      was_at f from.0 (among-append_right (all_locations world ++ map root_of first_mounts)
       (filter_map (λ x. x.mount_point) first_mounts) from.0
       (among-filter_map (λ x. x.mount_point) first_mounts mount.0 from.0 (last_was_first mount.0 mount.1) mount.2))
       (e ∙ ap (λ x. x.filesystem) (found_alike from.0.mount (λ other n same.
@@ -166,14 +151,12 @@ one_sweep_with_overlays world tasks trees uppers reals stand nowhere_new =
 
 -- in a world of plain filesystems no layer is in an overlay, and nothing has a real object
 pub plain_uppers : (world : World ℕ) → IsPlain world → UppersArePlain world
-plain_uppers world plain =
-    all_from_among (λ f. is_overlay f ≡ true
+plain_uppers world plain = all_from_among (λ f. is_overlay f ≡ true
     → All (λ g. has_upper_in f.number g ≡ false) world.filesystems) world.filesystems
     (λ f m is. absurd (true≢false (sym is ∙ fails is_overlay world.filesystems plain f m)))
 
 pub plain_reals : (world : World ℕ) → IsPlain world → RealsAreThere world
-plain_reals world plain =
-    all_from_among HasReals world.filesystems
+plain_reals world plain = all_from_among HasReals world.filesystems
     (λ f m number none. no_real f (fails is_overlay world.filesystems plain f m) number)
 
 -- so it is in a world of plain filesystems

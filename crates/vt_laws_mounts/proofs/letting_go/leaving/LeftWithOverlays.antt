@@ -21,26 +21,21 @@ use Rattle.vt_spec.proofs.Found.{is_among_left, is_among_right}
 
 -- the filesystem of a layer is among those of its overlay
 pub in_layers : (world : World ℕ) (number : ℕ) (merged : Filesystem ℕ) → Among merged world.filesystems
-    → (filesystem : ℕ)
-    → merged.number ≡ filesystem
+    → (filesystem : ℕ) → merged.number ≡ filesystem
     → has_layer_on nat_eq number merged ≡ true → Among number (filesystems_of_layers world filesystem)
 in_layers world number merged m filesystem e has =
     let t = one_passes (λ layer. nat_eq number layer.filesystem) layers (sym (layers_on world number merged) ∙ has) in
     among-flat_map (λ f. cond (nat_eq f.number filesystem)
-    (map (λ (layer : Layer ℕ). layer.filesystem) (of_overlay [] layers_of f)) [])
-    world.filesystems merged number m
+    (map (λ (layer : Layer ℕ). layer.filesystem) (of_overlay [] layers_of f)) []) world.filesystems merged number m
     (subst (λ b. Among number (cond b (map (λ (layer : Layer ℕ). layer.filesystem) layers) []))
-    (sym (eq-eqb merged.number filesystem e))
-    (subst (λ n. Among n (map (λ (layer : Layer ℕ). layer.filesystem) layers))
-    (sym (eqb-true number t.0.filesystem t.2))
-    (among-map (λ (layer : Layer ℕ). layer.filesystem) layers t.0 t.1)))
+    (sym (eq-eqb merged.number filesystem e)) (subst (λ n. Among n (map (λ (layer : Layer ℕ). layer.filesystem) layers))
+    (sym (eqb-true number t.0.filesystem t.2)) (among-map (λ (layer : Layer ℕ). layer.filesystem) layers t.0 t.1)))
   where
     layers : List (Layer ℕ)
     layers = of_overlay [] layers_of merged
 
 module _ (world : World ℕ) (tasks : List (Task ℕ)) (left : List (Location ℕ)) (in_use : AllInUse world)
-    (stand : MountsStand world)
-    (only : only_these_are_left world tasks left ≡ true) where
+    (stand : MountsStand world) (only : only_these_are_left world tasks left ≡ true) where
   abbrev now : World ℕ
   now = after world tasks left in_use stand only
 
@@ -59,53 +54,42 @@ module _ (world : World ℕ) (tasks : List (Task ℕ)) (left : List (Location �
       × (number ≡ (mount_at nat_eq world location).filesystem))
   still_mounted number is =
       let t = one_passes (λ mount. nat_eq number mount.filesystem) world.mounts is in
-      ⊎_elim
-      (λ lives. inl (any_passes (λ mount. nat_eq number mount.filesystem) swept.mounts t.0
+      ⊎_elim (λ lives. inl (any_passes (λ mount. nat_eq number mount.filesystem) swept.mounts t.0
       (among-filter (mount_lives nat_eq now) world.mounts t.0 t.1 lives) t.2))
       (λ dead. let gone = dead_was_left world tasks left in_use stand only t.0 t.1 dead in
       inr (
         gone.0,
         gone.1,
-        eqb-true number t.0.filesystem t.2
-            ∙ ap (λ x. x.filesystem)
+        eqb-true number t.0.filesystem t.2 ∙ ap (λ x. x.filesystem)
             (sym (filesystem_left world tasks left in_use stand only t.0 t.1 gone.0 gone.1 gone.2)),
-      ))
-      (cases_Bool (mount_lives nat_eq now t.0))
+      )) (cases_Bool (mount_lives nat_eq now t.0))
 
   all_filesystems_but : FilesystemsInUseBut losing swept
   all_filesystems_but =
       all_pass (λ f. is_among nat_eq f.number losing || filesystem_lives nat_eq swept f) world.filesystems
-      (λ f m. ⊎_elim
-      (λ here. ⊎_elim
+      (λ f m. ⊎_elim (λ here. ⊎_elim
       (λ lives. or_second (is_among nat_eq f.number losing) (filesystem_lives nat_eq swept f)
       (or_first (is_mounted nat_eq swept f.number) _ lives))
       (λ gone. or_first (is_among nat_eq f.number losing) (filesystem_lives nat_eq swept f)
       (is_among_numbers f.number losing
       (among-flat_map (filesystems_of_location world) left gone.0 f.number gone.1 (inl gone.2))))
-      (still_mounted f.number here))
-      (λ layered. let t = one_passes (λ merged. has_layer_on nat_eq f.number merged
+      (still_mounted f.number here)) (λ layered. let t = one_passes (λ merged. has_layer_on nat_eq f.number merged
       && is_mounted nat_eq world merged.number) world.filesystems layered in
       let parts = and_parts (has_layer_on nat_eq f.number t.0) (is_mounted nat_eq world t.0.number) t.2 in
-      ⊎_elim
-      (λ lives. or_second (is_among nat_eq f.number losing) (filesystem_lives nat_eq swept f)
-      (or_second (is_mounted nat_eq swept f.number) _
-      (any_passes (λ merged. has_layer_on nat_eq f.number merged
+      ⊎_elim (λ lives. or_second (is_among nat_eq f.number losing) (filesystem_lives nat_eq swept f)
+      (or_second (is_mounted nat_eq swept f.number) _ (any_passes (λ merged. has_layer_on nat_eq f.number merged
       && is_mounted nat_eq swept merged.number) world.filesystems t.0 t.1
       (ap (λ b. b && is_mounted nat_eq swept t.0.number) parts.0 ∙ lives))))
       (λ gone. or_first (is_among nat_eq f.number losing) (filesystem_lives nat_eq swept f)
       (is_among_numbers f.number losing (among-flat_map (filesystems_of_location world) left gone.0 f.number gone.1
       (inr (in_layers world f.number t.0 t.1 (mount_at nat_eq world gone.0).filesystem gone.2 parts.0)))))
-      (still_mounted t.0.number parts.1))
-      (or_cases (is_mounted nat_eq world f.number) _
+      (still_mounted t.0.number parts.1)) (or_cases (is_mounted nat_eq world f.number) _
       (passes (filesystem_lives nat_eq world) world.filesystems in_use.filesystems f m)))
 
   -- what the world used is used where mounts have gone, or may go
   use_left : (f : Filesystem ℕ) (number : ℕ) → is_inode_used world f number ≡ true
       → is_used_or_among inodes swept f number ≡ true
-  use_left f number is =
-      ⊎_elim
-      (λ front. ⊎_elim
-      (λ first. ⊎_elim
+  use_left f number is = ⊎_elim (λ front. ⊎_elim (λ first. ⊎_elim
       (λ named. used (is_among_left number (names ++ located_in nat_eq swept f.number ++ layers) objects
       (is_among_left number (names ++ located_in nat_eq swept f.number) layers
       (is_among_left number names (located_in nat_eq swept f.number) named))))
@@ -137,8 +121,7 @@ module _ (world : World ℕ) (tasks : List (Task ℕ)) (left : List (Location �
   all_inodes_but : InodesInUseBut inodes swept
   all_inodes_but =
       all_from_among (λ f. list_all (is_used_or_among inodes swept f) f.files.numbers ≡ true) world.filesystems
-      (λ f m. all_pass (is_used_or_among inodes swept f) f.files.numbers
-      (λ number n. use_left f number
+      (λ f m. all_pass (is_used_or_among inodes swept f) f.files.numbers (λ number n. use_left f number
       (passes (is_inode_used world f) f.files.numbers
       (among_from_all (λ x. list_all (is_inode_used world x) x.files.numbers
       ≡ true) world.filesystems in_use.inodes f m) number n)))

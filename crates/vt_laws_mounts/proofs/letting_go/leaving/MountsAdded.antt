@@ -1,7 +1,6 @@
 -- Mounts and filesystems that are added.
-use Rattle.std.proofs.Common.{arith}
+use Rattle.std.proofs.Common.{arith, ◌≡◌, refl, sym, ap, inl, inr, ⊎_elim, ℕ, nat_eq, true, List, [], ◌∷◌, map, true≢false, ◌++◌, Option, is_some}
 use Rattle.std.proofs.lemmas.Grind.{common_steps}
-use Rattle.std.proofs.Common.{◌≡◌, refl, sym, ap, inl, inr, ⊎_elim, ℕ, nat_eq, true, List, [], ◌∷◌, map, true≢false, ◌++◌, Option, is_some}
 use Rattle.std.specs.List.{list_all}
 use Rattle.vt_spec.specs.Lists.{is_among}
 use Rattle.vt_spec.specs.Machine.Mounts.{Mount, mount_in}
@@ -35,9 +34,7 @@ module _ (world : World ℕ) (mounts : List (Mount ℕ)) (filesystems : List (Fi
   still_there mount m = among-append_left world.mounts mounts mount m
 
   lives : (mount : Mount ℕ) → Among mount after.mounts → mount_lives nat_eq after mount ≡ true
-  lives mount m =
-      ⊎_elim
-      (passes (mount_lives nat_eq world) world.mounts in_use.mounts mount)
+  lives mount m = ⊎_elim (passes (mount_lives nat_eq world) world.mounts in_use.mounts mount)
       (λ new. or_first (is_some mount.namespace) (is_located nat_eq after mount.number) (in_one mount new))
       (among-append world.mounts mounts mount m)
 
@@ -51,16 +48,14 @@ module _ (world : World ℕ) (mounts : List (Mount ℕ)) (filesystems : List (Fi
     places = λ mount m place p. inl (mount, (still_there mount m, (p, inl refl)));
     nowhere = all_pass is_nowhere_or_attached after.mounts (λ mount m.
         ⊎_elim (passes is_nowhere_or_attached world.mounts stand.nowhere mount)
-        (λ new. or_first (is_some mount.namespace) _ (in_one mount new))
-        (among-append world.mounts mounts mount m));
+        (λ new. or_first (is_some mount.namespace) _ (in_one mount new)) (among-append world.mounts mounts mount m));
   }
 
   come : list_all (λ filesystem. is_mounted nat_eq after filesystem.number) filesystems ≡ true
       → list_all has_only_named filesystems ≡ true → Comes world after
   come shown named = record {
     kept = λ f m. among-append_left world.filesystems filesystems f m;
-    new = λ f m. ⊎_elim inl
-        (λ new. let t = one_passes (λ mount. nat_eq f.number mount.filesystem) after.mounts
+    new = λ f m. ⊎_elim inl (λ new. let t = one_passes (λ mount. nat_eq f.number mount.filesystem) after.mounts
         (passes (λ x. is_mounted nat_eq after x.number) filesystems shown f new) in
         inr (t.0, (t.1, (lives t.0 t.1, (t.2, passes has_only_named filesystems named f new)))))
         (among-append world.filesystems filesystems f m);

@@ -1,7 +1,6 @@
 -- What changes of a tree do to names.
-use Rattle.std.proofs.Common.{arith}
+use Rattle.std.proofs.Common.{arith, ◌≡◌, refl, sym, ap, subst, ◌∙◌, ◌⊎◌, inl, inr, ⊎_elim, ℕ, nat_eq, true, false, cond, not, ◌||◌, List, [], ◌∷◌, true≢false, Option, Some, None, is_some, option_to_list}
 use Rattle.std.proofs.lemmas.Grind.{common_steps}
-use Rattle.std.proofs.Common.{◌≡◌, refl, sym, ap, subst, ◌∙◌, ◌⊎◌, inl, inr, ⊎_elim, ℕ, nat_eq, true, false, cond, not, ◌||◌, List, [], ◌∷◌, true≢false, Option, Some, None, is_some, option_to_list}
 use Rattle.std.specs.List.{list_all}
 use Rattle.std.proofs.lemmas.Bool.{and_parts, false_from_ne_true, cases_Bool}
 use Rattle.std.proofs.lemmas.Bool.Decides.{eqb_tells}
@@ -36,8 +35,7 @@ Entry = List ℕ × ℕ
 -- Entries in the order of their names
 
 below_each : (name : List ℕ) (entries : Entries ℕ) → below_all name_cmp name entries ≡ true → (e : Entry)
-    → Among e entries
-    → is_lt (name_cmp name e.0) ≡ true
+    → Among e entries → is_lt (name_cmp name e.0) ≡ true
 below_each name [] h e m = absurd m
 below_each name (x ∷ xs) h e m =
     let parts = and_parts (is_lt (name_cmp name x.0)) (below_all name_cmp name xs) h in
@@ -49,17 +47,14 @@ pub found_entry : (entries : Entries ℕ) → is_sorted name_cmp entries ≡ tru
 found_entry [] sorted e m = absurd m
 found_entry (x ∷ xs) sorted e m =
     let parts = and_parts (below_all name_cmp x.0 xs) (is_sorted name_cmp xs) sorted in
-    ⊎_elim
-    (λ same. ap (λ (y : Entry). entry_named y.0 (x ∷ xs)) same
+    ⊎_elim (λ same. ap (λ (y : Entry). entry_named y.0 (x ∷ xs)) same
     ∙ ap (λ o. cond (is_eq o) (Some x.1) (entry_named x.0 xs)) (tied_itself nat_list_cmp_total x.0)
     ∙ ap (λ (y : Entry). Some y.1) (sym same))
     (λ later. ap (λ b. cond b (Some x.1) (entry_named e.0 xs)) (apart (below_each x.0 xs parts.0 e later))
-    ∙ found_entry xs parts.1 e later)
-    m
+    ∙ found_entry xs parts.1 e later) m
   where
     apart : is_lt (name_cmp x.0 e.0) ≡ true → eq_by_cmp name_cmp e.0 x.0 ≡ false
-    apart below =
-        false_from_ne_true (eq_by_cmp name_cmp e.0 x.0) (λ tie.
+    apart below = false_from_ne_true (eq_by_cmp name_cmp e.0 x.0) (λ tie.
         true≢false (sym below ∙ ap (λ n. is_lt (name_cmp x.0 n)) (same_name e.0 x.0 tie)
         ∙ ap is_lt (tied_itself nat_list_cmp_total x.0)))
 
@@ -93,9 +88,7 @@ put_has name number (x ∷ xs) = by (name_cmp name x.0) (put_has name number xs)
 
 filter_keeps : (name : List ℕ) (entries : Entries ℕ) (e : Entry) → Among e entries
     → Among e (without_entry name entries) ⊎ (e.0 ≡ name)
-filter_keeps name entries e m =
-    ⊎_elim
-    (λ same. inr ((bytes_decides e.0 name).0 same))
+filter_keeps name entries e m = ⊎_elim (λ same. inr ((bytes_decides e.0 name).0 same))
     (λ differ. inl (among-filter (λ (y : Entry). not (bytes_eq y.0 name)) entries e m (ap not differ)))
     (cases_Bool (bytes_eq e.0 name))
 
@@ -118,8 +111,7 @@ node_has name number (Some node) is = by node.content is
   where
     by : (content : Content ℕ) → is_directory_node (Some (record { attr = node.attr; content = content })) ≡ true
         → (e : Entry) × Among e (entries_in
-        (node_with_entry name number (Some (record { attr = node.attr; content = content }))))
-        × (e.1 ≡ number)
+        (node_with_entry name number (Some (record { attr = node.attr; content = content })))) × (e.1 ≡ number)
     by (Directory parent entries opaque) n = put_has name number entries
     by (Regular bytes) n = absurd (true≢false (sym n))
     by (Symlink text) n = absurd (true≢false (sym n))
@@ -131,8 +123,7 @@ sorted_without name None e = e
 sorted_without name (Some node) e = by node.content e
   where
     by : (content : Content ℕ) → is_sorted name_cmp
-        (entries_in (Some (record { attr = node.attr; content = content }))) ≡ true
-        → is_sorted name_cmp (entries_in
+        (entries_in (Some (record { attr = node.attr; content = content }))) ≡ true → is_sorted name_cmp (entries_in
         (node_without_entry name (Some (record { attr = node.attr; content = content })))) ≡ true
     by (Directory old entries opaque) h =
         passes _ (is_sorted-where_key name_cmp (λ x. not (bytes_eq x name)) entries (T_from_true _ h))
@@ -168,26 +159,19 @@ same_entries_unparented files (Some object) directory = same_entries files objec
 one_changed : (files : FileTree ℕ) (directory : ℕ) (name : List ℕ) (change : Option (Node ℕ) → Option (Node ℕ))
     → ((e : Entry) → Among e (entries_at files directory)
     → Among e (entries_in (change (files.tree.node directory))) ⊎ (e.0 ≡ name))
-    → is_sorted name_cmp (entries_at files directory) ≡ true
-    → (d : ℕ) (e : Entry) → Among e (entries_at files d)
+    → is_sorted name_cmp (entries_at files directory) ≡ true → (d : ℕ) (e : Entry) → Among e (entries_at files d)
     → Among e (entries_at (changed_node nat_eq files directory change) d)
     ⊎ ((d ≡ directory) × (entry_at files.tree directory name ≡ Some e.1))
-one_changed files directory name change keeps sorted d e m =
-    ⊎_elim
+one_changed files directory name change keeps sorted d e m = ⊎_elim
     (λ at. let here : Among e (entries_at files directory) = subst (λ x. Among e (entries_at files x)) at.1 m in
-    ⊎_elim
-    (λ still. inl (subst (λ o. Among e (entries_in o))
+    ⊎_elim (λ still. inl (subst (λ o. Among e (entries_in o))
     (sym (ap (changed_node nat_eq files directory change).tree.node at.1
-    ∙ node_set files.tree directory (change (files.tree.node directory)))) still))
-    (λ named. inr (
+    ∙ node_set files.tree directory (change (files.tree.node directory)))) still)) (λ named. inr (
       at.1,
       ap (λ n. entry_named n (entries_at files directory)) (sym named)
           ∙ found_entry (entries_at files directory) sorted e here,
-    ))
-    (keeps e here))
-    (λ other. inl (subst (λ o. Among e (entries_in o))
-    (sym (node_other files.tree directory (change (files.tree.node directory)) d other.1)) m))
-    (eqb_tells d directory)
+    )) (keeps e here)) (λ other. inl (subst (λ o. Among e (entries_in o))
+    (sym (node_other files.tree directory (change (files.tree.node directory)) d other.1)) m)) (eqb_tells d directory)
 
 -- All names, by those of each directory
 
@@ -198,14 +182,12 @@ Left after lost e = ((d : ℕ) × (f : Entry) × Among d after.numbers × Among 
 
 named_by : (after : FileTree ℕ) (d : ℕ) (e : Entry) → Among d after.numbers → Among e (entries_at after d)
     → is_among nat_eq e.1 (named_in after) ≡ true
-named_by after d e m n =
-    is_among_numbers e.1 (named_in after)
+named_by after d e m n = is_among_numbers e.1 (named_in after)
     (among-flat_map (λ directory. targets_in (after.tree.node directory)) after.numbers d e.1 m
     (among-map (λ (x : Entry). x.1) (entries_at after d) e n))
 
 all_names : (files after : FileTree ℕ) (lost : List ℕ)
-    → ((d : ℕ) → Among d files.numbers → (e : Entry) → Among e (entries_at files d)
-    → Left after lost e)
+    → ((d : ℕ) → Among d files.numbers → (e : Entry) → Among e (entries_at files d) → Left after lost e)
     → list_all (λ number. is_among nat_eq number (named_in after) || is_among nat_eq number lost) (named_in files)
     ≡ true
 all_names files after lost left =
@@ -213,13 +195,11 @@ all_names files after lost left =
     (λ number m.
     let d = among-from_flat_map (λ directory. targets_in (files.tree.node directory)) files.numbers number m in
     let e = among-from_map (λ (x : Entry). x.1) (entries_at files d.0) number d.2 in
-    ap (λ n. is_among nat_eq n (named_in after) || is_among nat_eq n lost) e.2
-    ∙ ⊎_elim
+    ap (λ n. is_among nat_eq n (named_in after) || is_among nat_eq n lost) e.2 ∙ ⊎_elim
     (λ still. or_first (is_among nat_eq e.0.1 (named_in after)) (is_among nat_eq e.0.1 lost)
     (ap (λ n. is_among nat_eq n (named_in after)) (sym still.4) ∙ named_by after still.0 still.1 still.2 still.3))
     (λ gone. or_second (is_among nat_eq e.0.1 (named_in after)) (is_among nat_eq e.0.1 lost)
-    (is_among_numbers e.0.1 lost gone))
-    (left d.0 d.1 e.0 e.1))
+    (is_among_numbers e.0.1 lost gone)) (left d.0 d.1 e.0 e.1))
 
 -- inodes that were there
 same_numbers : (files after : FileTree ℕ) → after.numbers ≡ files.numbers
@@ -233,8 +213,7 @@ same_numbers files after same =
 
 -- a change by which all entries stay
 all_stay : (files after : FileTree ℕ) → IsListedTree after → after.tree.root ≡ files.tree.root
-    → after.numbers ≡ files.numbers
-    → ((d : ℕ) → entries_at after d ≡ entries_at files d) → ChangesTree files after []
+    → after.numbers ≡ files.numbers → ((d : ℕ) → entries_at after d ≡ entries_at files d) → ChangesTree files after []
 all_stay files after listed root numbers same = record {
   tree = listed;
   root = root;
@@ -266,8 +245,7 @@ module _ (files : FileTree ℕ) (listed : IsListedTree files) where
         ⊎_elim (λ still. inl (d, e, m, still, refl))
         (λ lost. inr (some_lost (entry_at files.tree directory name) e.1 lost.1))
         (one_changed files directory name (node_with_entry name object)
-        (node_keeps_given name object (files.tree.node directory))
-        (sorted directory) d e n));
+        (node_keeps_given name object (files.tree.node directory)) (sorted directory) d e n));
   }
 
   taken : (directory : ℕ) (name : List ℕ) (object : ℕ)
@@ -279,18 +257,15 @@ module _ (files : FileTree ℕ) (listed : IsListedTree files) where
     root = refl;
     inodes = same_numbers files (changed nat_eq files (Remove directory name object)) refl;
     names = all_names files (changed nat_eq files (Remove directory name object))
-        (option_to_list (entry_at files.tree directory name))
-        (λ d m e n.
-        ⊎_elim
-        (λ still. inl (
+        (option_to_list (entry_at files.tree directory name)) (λ d m e n.
+        ⊎_elim (λ still. inl (
           d,
           e,
           m,
           subst (Among e) (sym (same_entries_unparented (without_name nat_eq files directory name)
               (Some object) d)) still,
           refl,
-        ))
-        (λ lost. inr (some_lost (entry_at files.tree directory name) e.1 lost.1))
+        )) (λ lost. inr (some_lost (entry_at files.tree directory name) e.1 lost.1))
         (one_changed files directory name (node_without_entry name) (node_keeps_taken name (files.tree.node directory))
         (sorted directory) d e n));
   }
@@ -304,8 +279,7 @@ module _ (files : FileTree ℕ) (listed : IsListedTree files) where
     named = with_name nat_eq with_it directory name number
 
     others : (d : ℕ) → is_some (files.tree.node d) ≡ true → with_it.tree.node d ≡ files.tree.node d
-    others d is =
-        node_other files.tree number (Some node) d (λ same.
+    others d is = node_other files.tree number (Some node) d (λ same.
         true≢false (sym is ∙ ap (λ n. is_some (files.tree.node n)) same ∙ ap is_some made.is_new))
 
     has_some : (o : Option (Node ℕ)) (e : Entry) → Among e (entries_in o) → is_some o ≡ true
@@ -330,12 +304,10 @@ module _ (files : FileTree ℕ) (listed : IsListedTree files) where
       root = refl;
       inodes = all_pass (λ k. is_among nat_eq k files.numbers || is_among nat_eq k (named_in named)) named.numbers
           (λ k m.
-          ⊎_elim
-          (λ new. or_second (is_among nat_eq k files.numbers) (is_among nat_eq k (named_in named))
+          ⊎_elim (λ new. or_second (is_among nat_eq k files.numbers) (is_among nat_eq k (named_in named))
           (ap (λ n. is_among nat_eq n (named_in named)) new ∙ new_is_named))
           (λ old. or_first (is_among nat_eq k files.numbers) (is_among nat_eq k (named_in named))
-          (is_among_numbers k files.numbers old))
-          m);
+          (is_among_numbers k files.numbers old)) m);
       names = all_names files named (option_to_list (entry_at files.tree directory name)) (λ d m e n.
           ⊎_elim (λ still. inl (d, e, inr m, still, refl))
           (λ lost. inr (some_lost (entry_at files.tree directory name) e.1
@@ -375,38 +347,32 @@ module _ (files : FileTree ℕ) (listed : IsListedTree files) where
 
     -- what the new name leads to once the old one is taken, it led to before
     was_there : (number : ℕ) → entry_at left.tree to new ≡ Some number → replaced ≡ Some number
-    was_there number e =
-        ⊎_elim
+    was_there number e = ⊎_elim
         (λ here. ap (entry_named new) (sym (same_apart to)) ∙ ap (λ d. entry_named new (entries_at apart d)) here.1
         ∙ named_before old new (apart.tree.node from) number
         (sym (ap (λ o. entry_named new (entries_in o)) (ap left.tree.node here.1
         ∙ node_set apart.tree from (node_without_entry old (apart.tree.node from)))) ∙ e))
-        (λ other. ap (entry_named new) (sym (same_apart to))
-        ∙ ap (λ o. entry_named new (entries_in o))
+        (λ other. ap (entry_named new) (sym (same_apart to)) ∙ ap (λ o. entry_named new (entries_in o))
         (sym (node_other apart.tree from (node_without_entry old (apart.tree.node from)) to other.1)) ∙ e)
         (eqb_tells to from)
 
     sorted_left : is_sorted name_cmp (entries_at left to) ≡ true
-    sorted_left =
-        ⊎_elim
-        (λ here. ap (λ o. is_sorted name_cmp (entries_in o)) (ap left.tree.node here.1
+    sorted_left = ⊎_elim (λ here. ap (λ o. is_sorted name_cmp (entries_in o)) (ap left.tree.node here.1
         ∙ node_set apart.tree from (node_without_entry old (apart.tree.node from)))
         ∙ sorted_without old (apart.tree.node from) (ap (is_sorted name_cmp) (same_apart from) ∙ sorted from))
         (λ other. ap (λ o. is_sorted name_cmp (entries_in o))
         (node_other apart.tree from (node_without_entry old (apart.tree.node from)) to other.1)
-        ∙ ap (is_sorted name_cmp) (same_apart to) ∙ sorted to)
-        (eqb_tells to from)
+        ∙ ap (is_sorted name_cmp) (same_apart to) ∙ sorted to) (eqb_tells to from)
 
     directory_left : is_directory_node (left.tree.node to) ≡ true
-    directory_left =
-        grind (
-          arith,
-          common_steps,
-          part_kept is_directory_node apart.tree from (node_without_entry old
-              (apart.tree.node from)) (is_directory-node_without_entry old (apart.tree.node from)) to,
-          part_kept,
-          is_directory-node_with_parent,
-        )
+    directory_left = grind (
+      arith,
+      common_steps,
+      part_kept is_directory_node apart.tree from (node_without_entry old
+          (apart.tree.node from)) (is_directory-node_without_entry old (apart.tree.node from)) to,
+      part_kept,
+      is_directory-node_with_parent,
+    )
 
     to_last : (d : ℕ) (e : Entry) → Among e (entries_at placed d) → Among e (entries_at last d)
     to_last d e m = subst (Among e) (sym (same_last d)) m
@@ -425,9 +391,7 @@ module _ (files : FileTree ℕ) (listed : IsListedTree files) where
 
     left_so : (d : ℕ) → Among d files.numbers → (e : Entry) → Among e (entries_at files d)
         → Left last (option_to_list replaced) e
-    left_so d m e n =
-        ⊎_elim
-        (λ still. ⊎_elim
+    left_so d m e n = ⊎_elim (λ still. ⊎_elim
         (λ there_still. inl (d, e, subst (Among d) (sym numbers_last) m, to_last d e there_still, refl))
         (λ lost. inr (some_lost replaced e.1 (was_there e.1 lost.1)))
         (one_changed left to new (node_with_entry new object)

@@ -1,7 +1,6 @@
 -- What goes when tasks leave places.
-use Rattle.std.proofs.Common.{arith}
+use Rattle.std.proofs.Common.{arith, ◌≡◌, refl, sym, ap, subst, ◌∙◌, ◌⊎◌, inl, inr, ⊎_elim, ℕ, nat_eq, eqb-true, eq-eqb, Bool, true, false, cond, ◌||◌, ◌&&◌, List, [], ◌∷◌, filter, map, true≢false, flat_map, ◌++◌, Some, is_some, option_to_list}
 use Rattle.std.proofs.lemmas.Grind.{common_steps}
-use Rattle.std.proofs.Common.{◌≡◌, refl, sym, ap, subst, ◌∙◌, ◌⊎◌, inl, inr, ⊎_elim, ℕ, nat_eq, eqb-true, eq-eqb, Bool, true, false, cond, ◌||◌, ◌&&◌, List, [], ◌∷◌, filter, find, map, true≢false, flat_map, ◌++◌, Option, Some, None, is_some, unwrap_or, option_to_list}
 use Rattle.std.specs.Prelude.{filter_map}
 use Rattle.std.specs.List.{list_all, list_any}
 use Rattle.std.proofs.lemmas.Bool.{and_parts, or_cases, or_parts, cases_Bool}
@@ -9,18 +8,17 @@ use Rattle.vt_spec.specs.Lists.{any_pair, is_among}
 use Rattle.vt_spec.specs.Machine.Mounts.{Location, Mount, mount_in, no_mount, root_of, same_location}
 use Rattle.vt_spec.specs.Machine.Receives.{is_member_of}
 use Rattle.vt_spec.specs.Machine.Invariants.{is_nowhere_or_attached, is_private}
-use Rattle.vt_spec.specs.Machine.Locked.{of_overlay, overlay_or}
+use Rattle.vt_spec.specs.Machine.Locked.{of_overlay}
 use Rattle.vt_spec.specs.Machine.Settled.{filesystem_lives, has_layer_on, is_located, is_mounted, layers_in, located_in, mount_lives, named_in, objects_of_overlay, without_dead_filesystems, without_dead_mounts}
-use Rattle.vt_spec.specs.Machine.World.{Filesystem, Overlay, Task, World, all_locations, is_overlay, layers_of, mount_at}
+use Rattle.vt_spec.specs.Machine.World.{Filesystem, Task, World, all_locations, is_overlay, layers_of, mount_at}
 use Rattle.vt_laws_mounts.specs.LettingGo.InUse.{AllInUse, is_inode_used}
 use Rattle.vt_laws_mounts.specs.LettingGo.Leaving.{LeavingLetsGo, MountsStand, StayingKeepsAll, comes_nowhere, inodes_of_location, is_location_among, only_these_are_left, stands_on_attached, used_by_locations, with_tasks}
 use Rattle.vt_laws_mounts.specs.LettingGo.OneByOne.{FilesystemsInUseBut, GroupsInUseBut, InodesInUseBut, IsPlain, Losers, MountsInUseBut, is_inode_among, is_used_or_among}
 use Rattle.vt_laws_mounts.proofs.letting_go.sweeps.InUse.{used_at}
-use Rattle.vt_laws_mounts.proofs.letting_go.sweeps.Inodes.{all_goes_one_by_one}
+use Rattle.vt_laws_mounts.proofs.letting_go.sweeps.Inodes.{all_goes_one_by_one, no_objects_of}
 use Rattle.vt_laws_mounts.proofs.letting_go.Lists.{Among, all_from_among, all_pass, among-append, among-append_left, among-append_right, among-filter, among-filter_map, among-flat_map, among-from_filter, among-from_filter_map, among-from_map, among-map, among_from_all, among_numbers, any-filter, any_passes, fails, flat_map_none, found_by, is_among_numbers, none_passes, one_passes, or_first, or_second, passes}
 use Rattle.vt_spec.proofs.Found.{is_among_left}
 use Rattle.vt_spec.proofs.Worlds.{number-mount_in, same_location_is}
-use Rattle.vt_laws_mounts.proofs.letting_go.sweeps.Inodes.{no_objects_of}
 pub use Rattle.vt_spec.proofs.Worlds.{number-mount_in as number_found}
 
 -- Mounts by their numbers
@@ -30,10 +28,8 @@ found_itself mounts one mount m = found_by (λ (x : Mount ℕ). x.number) (no_mo
 
 -- a mount point is on a mount in a namespace
 pub place_attached : (world : World ℕ) → MountsStand world → (mount : Mount ℕ) → Among mount world.mounts
-    → (place : Location ℕ)
-    → mount.mount_point ≡ Some place → is_some (mount_at nat_eq world place).namespace ≡ true
-place_attached world stand mount m place p =
-    (and_parts (is_some (mount_at nat_eq world place).namespace) true
+    → (place : Location ℕ) → mount.mount_point ≡ Some place → is_some (mount_at nat_eq world place).namespace ≡ true
+place_attached world stand mount m place p = (and_parts (is_some (mount_at nat_eq world place).namespace) true
     (sym (ap (λ o. list_all (λ l. is_some (mount_at nat_eq world l).namespace) (option_to_list o)) p)
     ∙ passes (stands_on_attached world) world.mounts stand.on_attached mount m)).0
 
@@ -43,21 +39,7 @@ pub found_in_filter : (stays : Mount ℕ → Bool) (mounts : List (Mount ℕ)) (
     → mount_in nat_eq (filter stays mounts) number ≡ mount_in nat_eq mounts number
 found_in_filter stays [] number h = refl
 found_in_filter stays (first ∷ rest) number h =
-    by (nat_eq number first.number) refl (stays first) refl
-    (found_in_filter stays rest number (λ mount m e. h mount (inr m) e))
-  where
-    by : (b : Bool) → nat_eq number first.number ≡ b → (c : Bool) → stays first ≡ c
-        → mount_in nat_eq (filter stays rest) number ≡ mount_in nat_eq rest number
-        → mount_in nat_eq (cond c (first ∷ filter stays rest) (filter stays rest)) number
-        ≡ unwrap_or (cond b (Some first) (find (λ x. nat_eq number x.number) rest)) (no_mount number)
-    by true e true f later = ap (λ b.
-        unwrap_or (cond b (Some first) (find (λ x. nat_eq number x.number) (filter stays rest)))
-        (no_mount number)) e
-    by true e false f later = absurd (true≢false (sym (h first (inl refl) (sym (eqb-true number first.number e))) ∙ f))
-    by false e true f later = ap (λ b.
-        unwrap_or (cond b (Some first) (find (λ x. nat_eq number x.number) (filter stays rest)))
-        (no_mount number)) e ∙ later
-    by false e false f later = later
+    grind (arith, common_steps, true≢false, eqb-true, found_in_filter stays rest number)
 
 -- a mount in a namespace that is found is there
 pub found_is_there : (mounts : List (Mount ℕ)) (number : ℕ) → is_some (mount_in nat_eq mounts number).namespace ≡ true
@@ -88,8 +70,7 @@ is_it list location e =
 
 pub location_among : (list : List (Location ℕ)) (location : Location ℕ) → Among location list
     → is_location_among list location ≡ true
-location_among list location m =
-    any_passes (same_location nat_eq location) list location m
+location_among list location m = any_passes (same_location nat_eq location) list location m
     (λ i. eq-eqb location.mount location.mount refl i && eq-eqb location.node location.node refl i)
 
 pub comes_nowhere_itself : (world : World ℕ) → comes_nowhere world world.tasks ≡ true
@@ -100,8 +81,7 @@ comes_nowhere_itself world =
 pub was_located : (world : World ℕ) (tasks : List (Task ℕ)) → comes_nowhere world tasks ≡ true
     → (location : Location ℕ) → Among location (all_locations (with_tasks world tasks))
     → Among location (all_locations world)
-was_located world tasks nowhere_new location m =
-    is_it (all_locations world) location
+was_located world tasks nowhere_new location m = is_it (all_locations world) location
     (passes (is_location_among (all_locations world)) (all_locations (with_tasks world tasks)) nowhere_new location m)
 
 -- no plain filesystem keeps another
@@ -109,30 +89,11 @@ pub no_layers : (number : ℕ) (other : World ℕ) (filesystems : List (Filesyst
     → list_any is_overlay filesystems ≡ false
     → list_any (λ merged. has_layer_on nat_eq number merged && is_mounted nat_eq other merged.number) filesystems
     ≡ false
-no_layers number other filesystems plain =
-    none_passes (λ merged. has_layer_on nat_eq number merged && is_mounted nat_eq other merged.number) filesystems
-    (λ merged m. by merged (fails is_overlay filesystems plain merged m))
-  where
-    by : (merged : Filesystem ℕ) → is_overlay merged ≡ false
-        → (has_layer_on nat_eq number merged && is_mounted nat_eq other merged.number) ≡ false
-    by merged e = ap (λ b. b && is_mounted nat_eq other merged.number) (none merged.overlay e)
-      where
-        none : (o : Option (Overlay ℕ)) → is_some o ≡ false
-            → overlay_or false (λ overlay. list_any (λ layer. nat_eq number layer.filesystem) (layers_of overlay)) o
-            ≡ false
-        none None f = refl
-        none (Some overlay) f = absurd (true≢false f)
+no_layers number other filesystems plain = grind (arith, common_steps, none_passes, fails, true≢false)
 
 -- nor has it layers or objects
 pub no_layers_of : (world : World ℕ) → IsPlain world → (number : ℕ) → layers_in nat_eq world number ≡ []
-no_layers_of world plain number =
-    ap (λ layers. map (λ layer. layer.directory) (filter (λ layer. nat_eq number layer.filesystem) layers))
-    (flat_map_none (of_overlay [] layers_of) world.filesystems
-    (λ f m. none f.overlay (fails is_overlay world.filesystems plain f m)))
-  where
-    none : (o : Option (Overlay ℕ)) → is_some o ≡ false → overlay_or [] layers_of o ≡ []
-    none None e = refl
-    none (Some overlay) e = absurd (true≢false e)
+no_layers_of world plain number = grind (arith, common_steps, flat_map_none, fails, true≢false)
 
 -- In a world of plain filesystems an inode is used as the root, by a name, or at a place.
 pub plain_uses : (world : World ℕ) → IsPlain world → (filesystem : Filesystem ℕ) (number : ℕ)
@@ -140,9 +101,7 @@ pub plain_uses : (world : World ℕ) → IsPlain world → (filesystem : Filesys
     → (number ≡ filesystem.files.tree.root) ⊎ ((is_among nat_eq number (named_in filesystem.files) ≡ true)
     ⊎ Among number (located_in nat_eq world filesystem.number))
 plain_uses world plain filesystem number is_used =
-    ⊎_elim (λ root. inl (eqb-true number filesystem.files.tree.root root))
-    (λ rest. inr (⊎_elim
-    (λ front. ⊎_elim
+    ⊎_elim (λ root. inl (eqb-true number filesystem.files.tree.root root)) (λ rest. inr (⊎_elim (λ front. ⊎_elim
     (λ before. ⊎_elim (λ named. inl (is_among_numbers number (named_in filesystem.files) named)) inr
     (among-append (named_in filesystem.files) (located_in nat_eq world filesystem.number) number before))
     (λ layer. absurd (subst (Among number) (no_layers_of world plain filesystem.number) layer))
@@ -155,8 +114,7 @@ plain_uses world plain filesystem number is_used =
     (or_cases (nat_eq number filesystem.files.tree.root) _ is_used)
 
 module _ (world : World ℕ) (tasks : List (Task ℕ)) (left : List (Location ℕ)) (in_use : AllInUse world)
-    (stand : MountsStand world)
-    (only : only_these_are_left world tasks left ≡ true) where
+    (stand : MountsStand world) (only : only_these_are_left world tasks left ≡ true) where
   abbrev pub after : World ℕ
   after = with_tasks world tasks
 
@@ -179,10 +137,8 @@ module _ (world : World ℕ) (tasks : List (Task ℕ)) (left : List (Location �
       (all_locations world) only location m))
 
   located_lives : (mount : Mount ℕ) (location : Location ℕ) → Among location (all_locations after)
-      → mount.number ≡ location.mount
-      → mount_lives nat_eq after mount ≡ true
-  located_lives mount location m e =
-      or_second (is_some mount.namespace) (is_located nat_eq after mount.number)
+      → mount.number ≡ location.mount → mount_lives nat_eq after mount ≡ true
+  located_lives mount location m e = or_second (is_some mount.namespace) (is_located nat_eq after mount.number)
       (any_passes (λ l. nat_eq mount.number l.mount) (all_locations after) location m
       (eq-eqb mount.number location.mount e))
 
@@ -198,10 +154,8 @@ module _ (world : World ℕ) (tasks : List (Task ℕ)) (left : List (Location �
       let t = one_passes (λ l. nat_eq mount.number l.mount) (all_locations world)
       (sym (ap (λ b. b || is_located nat_eq world mount.number) parts.0) ∙ lived) in
       let same : mount.number ≡ t.0.mount = eqb-true mount.number t.0.mount t.2 in
-      ⊎_elim
-      (λ stays. absurd (true≢false (sym (located_lives mount t.0 stays same) ∙ dead)))
-      (λ gone. (t.0, gone, same))
-      (stays_or_left t.0 t.1)
+      ⊎_elim (λ stays. absurd (true≢false (sym (located_lives mount t.0 stays same) ∙ dead)))
+      (λ gone. (t.0, gone, same)) (stays_or_left t.0 t.1)
 
   found_mount : (mount : Mount ℕ) → Among mount world.mounts → mount_in nat_eq world.mounts mount.number ≡ mount
   found_mount mount m = found_itself world.mounts stand.one_number mount m
@@ -221,54 +175,39 @@ module _ (world : World ℕ) (tasks : List (Task ℕ)) (left : List (Location �
 
   -- the filesystem of a mount that went was left
   pub filesystem_left : (mount : Mount ℕ) → Among mount world.mounts → (location : Location ℕ) → Among location left
-      → mount.number ≡ location.mount
-      → (mount_at nat_eq world location) ≡ mount
+      → mount.number ≡ location.mount → (mount_at nat_eq world location) ≡ mount
   filesystem_left mount m location n e = ap (mount_in nat_eq world.mounts) (sym e) ∙ found_mount mount m
 
   pub mounts_but : MountsInUseBut losers.mounts after
   mounts_but =
-      all_pass (λ mount. is_among nat_eq mount.number losers.mounts || mount_lives nat_eq after mount) world.mounts
-      (λ mount m. ⊎_elim (λ lives. or_second (is_among nat_eq mount.number losers.mounts)
-      (mount_lives nat_eq after mount) lives)
-      (λ dead. let gone = dead_was_left mount m dead in
-      or_first (is_among nat_eq mount.number losers.mounts) (mount_lives nat_eq after mount)
-      (ap (λ n. is_among nat_eq n losers.mounts) gone.2
-      ∙ is_among_numbers gone.0.mount losers.mounts (among-map (λ l. l.mount) left gone.0 gone.1)))
-      (cases_Bool (mount_lives nat_eq after mount)))
+      grind (arith, common_steps, all_pass, or_second, dead_was_left, or_first, is_among_numbers, among-map, cases_Bool)
 
   filesystems_but : IsPlain world → FilesystemsInUseBut losers.filesystems mounted
-  filesystems_but plain =
-      all_pass (λ filesystem. is_among nat_eq filesystem.number losers.filesystems
-      || filesystem_lives nat_eq mounted filesystem) world.filesystems
-      (λ filesystem m.
+  filesystems_but plain = all_pass (λ filesystem. is_among nat_eq filesystem.number losers.filesystems
+      || filesystem_lives nat_eq mounted filesystem) world.filesystems (λ filesystem m.
       let lived = passes (filesystem_lives nat_eq world) world.filesystems in_use.filesystems filesystem m in
       let was = ⊎_elim (λ e. e) (λ layered.
       absurd (true≢false (sym layered ∙ no_layers filesystem.number world world.filesystems plain)))
       (or_cases (is_mounted nat_eq world filesystem.number) _ lived) in
       let t = one_passes (λ mount. nat_eq filesystem.number mount.filesystem) world.mounts was in
-      ⊎_elim
-      (λ lives. or_second (is_among nat_eq filesystem.number losers.filesystems)
-      (filesystem_lives nat_eq mounted filesystem)
-      (or_first (is_mounted nat_eq mounted filesystem.number) _
+      ⊎_elim (λ lives. or_second (is_among nat_eq filesystem.number losers.filesystems)
+      (filesystem_lives nat_eq mounted filesystem) (or_first (is_mounted nat_eq mounted filesystem.number) _
       (any_passes (λ mount. nat_eq filesystem.number mount.filesystem) mounted.mounts t.0
       (among-filter (mount_lives nat_eq after) world.mounts t.0 t.1 lives) t.2)))
       (λ dead. let gone = dead_was_left t.0 t.1 dead in
       or_first (is_among nat_eq filesystem.number losers.filesystems) (filesystem_lives nat_eq mounted filesystem)
-      (ap (λ n. is_among nat_eq n losers.filesystems)
-      (eqb-true filesystem.number t.0.filesystem t.2
+      (ap (λ n. is_among nat_eq n losers.filesystems) (eqb-true filesystem.number t.0.filesystem t.2
       ∙ ap (λ x. x.filesystem) (sym (filesystem_left t.0 t.1 gone.0 gone.1 gone.2)))
       ∙ is_among_numbers (mount_at nat_eq world gone.0).filesystem losers.filesystems
       (among-map (λ l. (mount_at nat_eq world l).filesystem) left gone.0 gone.1)))
       (cases_Bool (mount_lives nat_eq after t.0)))
 
   pub groups_but : GroupsInUseBut losers.groups mounted
-  groups_but group among none =
-      in_use.groups group
+  groups_but group among none = in_use.groups group
       (sym (any-filter (is_member_of nat_eq group) (mount_lives nat_eq after) world.mounts
       (λ mount m dead. private_is_no_member group mount
       (nowhere_parts mount (passes is_nowhere_or_attached world.mounts stand.nowhere mount m)
-      (or_parts (is_some mount.namespace) (is_located nat_eq after mount.number) dead).0).1))
-      ∙ none)
+      (or_parts (is_some mount.namespace) (is_located nat_eq after mount.number) dead).0).1)) ∙ none)
 
   -- Inodes, where some filesystems have gone
   module _ (rest : List (Filesystem ℕ)) (filesystem : Filesystem ℕ) where
@@ -276,8 +215,7 @@ module _ (world : World ℕ) (tasks : List (Task ℕ)) (left : List (Location �
     swept = record mounted { filesystems = rest }
 
     -- what is at a place that is used still
-    used_still : (location : Location ℕ)
-        → Among location
+    used_still : (location : Location ℕ) → Among location
         (all_locations after ++ map root_of mounted.mounts ++ filter_map (λ mount. mount.mount_point) mounted.mounts)
         → filesystem.number ≡ (mount_at nat_eq mounted location).filesystem
         → is_inode_used swept filesystem location.node ≡ true
@@ -289,19 +227,16 @@ module _ (world : World ℕ) (tasks : List (Task ℕ)) (left : List (Location �
         → (number : ℕ) → (number ≡ location.node) ⊎ (number ≡ (mount_at nat_eq world location).root)
         → is_used_or_among losers.inodes swept filesystem number ≡ true
     may_go location m e number at =
-        or_first (is_inode_among filesystem.number number losers.inodes) (is_inode_used swept filesystem number)
-        (⊎_elim
+        or_first (is_inode_among filesystem.number number losers.inodes) (is_inode_used swept filesystem number) (⊎_elim
         (λ node. any_passes (λ inode. nat_eq filesystem.number inode.0 && nat_eq number inode.1) losers.inodes
         ((mount_at nat_eq world location).filesystem, location.node)
         (among-flat_map (inodes_of_location world) left location
-        ((mount_at nat_eq world location).filesystem, location.node) m (inl refl))
-        (both number location.node node))
+        ((mount_at nat_eq world location).filesystem, location.node) m (inl refl)) (both number location.node node))
         (λ root. any_passes (λ inode. nat_eq filesystem.number inode.0 && nat_eq number inode.1) losers.inodes
         ((mount_at nat_eq world location).filesystem, (mount_at nat_eq world location).root)
         (among-flat_map (inodes_of_location world) left location
         ((mount_at nat_eq world location).filesystem, (mount_at nat_eq world location).root) m (inr (inl refl)))
-        (both number (mount_at nat_eq world location).root root))
-        at)
+        (both number (mount_at nat_eq world location).root root)) at)
       where
         both : (a b : ℕ) → a ≡ b → (nat_eq filesystem.number (mount_at nat_eq world location).filesystem && nat_eq a b)
             ≡ true
@@ -312,27 +247,21 @@ module _ (world : World ℕ) (tasks : List (Task ℕ)) (left : List (Location �
     by_location : (location : Location ℕ) → Among location (all_locations world)
         → filesystem.number ≡ (mount_at nat_eq world location).filesystem
         → is_used_or_among losers.inodes swept filesystem location.node ≡ true
-    by_location location m e =
-        ⊎_elim
+    by_location location m e = ⊎_elim
         (λ stays. or_second (is_inode_among filesystem.number location.node losers.inodes) _
         (used_still location (among-append_left (all_locations after ++ map root_of mounted.mounts)
         (filter_map (λ mount. mount.mount_point) mounted.mounts) location
         (among-append_left (all_locations after) (map root_of mounted.mounts) location stays))
         (e ∙ ap (λ x. x.filesystem) (sym
         (found_still location.mount (λ mount n same. located_lives mount location stays same))))))
-        (λ gone. may_go location gone e location.node (inl refl))
-        (stays_or_left location m)
+        (λ gone. may_go location gone e location.node (inl refl)) (stays_or_left location m)
 
     by_root : (mount : Mount ℕ) → Among mount world.mounts
         → filesystem.number ≡ (mount_at nat_eq world (root_of mount)).filesystem
         → is_used_or_among losers.inodes swept filesystem mount.root ≡ true
-    by_root mount m e =
-        ⊎_elim
-        (λ lives. or_second (is_inode_among filesystem.number mount.root losers.inodes) _
-        (used_still (root_of mount)
-        (among-append_left (all_locations after ++ map root_of mounted.mounts)
-        (filter_map (λ x. x.mount_point) mounted.mounts)
-        (root_of mount)
+    by_root mount m e = ⊎_elim (λ lives. or_second (is_inode_among filesystem.number mount.root losers.inodes) _
+        (used_still (root_of mount) (among-append_left (all_locations after ++ map root_of mounted.mounts)
+        (filter_map (λ x. x.mount_point) mounted.mounts) (root_of mount)
         (among-append_right (all_locations after) (map root_of mounted.mounts) (root_of mount)
         (among-map root_of mounted.mounts mount (among-filter (mount_lives nat_eq after) world.mounts mount m lives))))
         (e ∙ ap (λ x. x.filesystem) (sym (found_still mount.number (only_one mount m lives))))))
@@ -344,10 +273,8 @@ module _ (world : World ℕ) (tasks : List (Task ℕ)) (left : List (Location �
     by_place : (mount : Mount ℕ) → Among mount world.mounts → (place : Location ℕ) → mount.mount_point ≡ Some place
         → filesystem.number ≡ (mount_at nat_eq world place).filesystem
         → is_used_or_among losers.inodes swept filesystem place.node ≡ true
-    by_place mount m place p e =
-        or_second (is_inode_among filesystem.number place.node losers.inodes) _
-        (used_still place
-        (among-append_right (all_locations after ++ map root_of mounted.mounts)
+    by_place mount m place p e = or_second (is_inode_among filesystem.number place.node losers.inodes) _
+        (used_still place (among-append_right (all_locations after ++ map root_of mounted.mounts)
         (filter_map (λ x. x.mount_point) mounted.mounts) place
         (among-filter_map (λ x. x.mount_point) mounted.mounts mount place
         (among-filter (mount_lives nat_eq after) world.mounts mount m
@@ -361,8 +288,7 @@ module _ (world : World ℕ) (tasks : List (Task ℕ)) (left : List (Location �
 
         is_attached : (b : Bool) → is_some mount.namespace ≡ b → is_some mount.namespace ≡ true
         is_attached true f = f
-        is_attached false f =
-            absurd (true≢false (sym (ap is_some p)
+        is_attached false f = absurd (true≢false (sym (ap is_some p)
             ∙ (nowhere_parts mount (passes is_nowhere_or_attached world.mounts stand.nowhere mount m) f).0))
 
         on_attached : is_some (mount_at nat_eq world place).namespace ≡ true
@@ -384,37 +310,20 @@ module _ (world : World ℕ) (tasks : List (Task ℕ)) (left : List (Location �
         from.1 in
         let e : filesystem.number ≡ (mount_at nat_eq world from.0).filesystem = eqb-true filesystem.number
         (mount_at nat_eq world from.0).filesystem here.1 in
-        ap (is_used_or_among losers.inodes swept filesystem) from.2
-        ∙ ⊎_elim
-        (λ other. ⊎_elim
-        (λ at. by_location from.0 at e)
-        (λ root. let mount = among-from_map root_of world.mounts from.0 root in
+        ap (is_used_or_among losers.inodes swept filesystem) from.2 ∙ ⊎_elim (λ other. ⊎_elim
+        (λ at. by_location from.0 at e) (λ root. let mount = among-from_map root_of world.mounts from.0 root in
         ap (λ l. is_used_or_among losers.inodes swept filesystem l.node) mount.2
         ∙ by_root mount.0 mount.1 (e ∙ ap (λ l. (mount_at nat_eq world l).filesystem) mount.2))
         (among-append (all_locations world) (map root_of world.mounts) from.0 other))
         (λ place. let mount = among-from_filter_map (λ x. x.mount_point) world.mounts from.0 place in
-        by_place mount.0 mount.1 from.0 mount.2 e)
-        (among-append (all_locations world ++ map root_of world.mounts)
+        by_place mount.0 mount.1 from.0 mount.2 e) (among-append (all_locations world ++ map root_of world.mounts)
         (filter_map (λ mount. mount.mount_point) world.mounts) from.0 here.0)
 
     -- what the world used is used still, or may go
     by_use : IsPlain world → (number : ℕ) → is_inode_used world filesystem number ≡ true
         → is_used_or_among losers.inodes swept filesystem number ≡ true
     by_use plain number is_used =
-        ⊎_elim
-        (λ root. or_second (is_inode_among filesystem.number number losers.inodes) _
-        (or_first (nat_eq number filesystem.files.tree.root) _ (eq-eqb number filesystem.files.tree.root root)))
-        (λ rest. ⊎_elim
-        (λ named. or_second (is_inode_among filesystem.number number losers.inodes) _
-        (or_second (nat_eq number filesystem.files.tree.root) _
-        (is_among_left number (named_in filesystem.files ++ located_in nat_eq swept filesystem.number
-        ++ layers_in nat_eq swept filesystem.number)
-        (flat_map (objects_of_overlay nat_eq filesystem.number) swept.filesystems)
-        (is_among_left number (named_in filesystem.files ++ located_in nat_eq swept filesystem.number)
-        (layers_in nat_eq swept filesystem.number)
-        (is_among_left number (named_in filesystem.files) (located_in nat_eq swept filesystem.number) named)))))
-        (by_located number) rest)
-        (plain_uses world plain filesystem number is_used)
+        grind (arith, common_steps, or_second, or_first, eq-eqb, is_among_left, by_located, plain_uses)
 
   inodes_but : IsPlain world → InodesInUseBut losers.inodes living
   inodes_but plain =

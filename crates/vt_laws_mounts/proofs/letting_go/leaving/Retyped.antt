@@ -1,13 +1,12 @@
 -- What goes when types of mounts change.
-use Rattle.std.proofs.Common.{arith}
+use Rattle.std.proofs.Common.{arith, ◌≡◌, refl, sym, ap, subst, ◌∙◌, inl, inr, ⊎_elim, ℕ, zero, suc, nat_eq, eqb-true, Bool, true, false, cond, List, [], ◌∷◌, map, true≢false, Option, None, is_some}
 use Rattle.std.proofs.lemmas.Grind.{common_steps}
-use Rattle.std.proofs.Common.{◌≡◌, refl, sym, ap, subst, ◌∙◌, inl, inr, ⊎_elim, ℕ, zero, suc, nat_eq, eqb-true, Bool, true, false, cond, List, [], ◌∷◌, map, true≢false, Option, Some, None, is_some}
 use Rattle.std.specs.List.{list_any}
 use Rattle.std.proofs.lemmas.Bool.{false_from_ne_true, or_parts, cases_Bool}
 use Rattle.std.proofs.lemmas.List.Folds.{list_any-append}
 use Rattle.vt_spec.specs.Language.Calls.{TypeWord}
-use Rattle.vt_spec.specs.Lists.{Fresh, holds_of, is_among}
-use Rattle.vt_spec.specs.Machine.Mounts.{Location, Mount, Propagation, children, group_of, mount_in, numbers_by, root_of, stands_on, tree_from}
+use Rattle.vt_spec.specs.Lists.{Fresh, is_among}
+use Rattle.vt_spec.specs.Machine.Mounts.{Mount, Propagation, children, mount_in, numbers_by, root_of, stands_on, tree_from}
 use Rattle.vt_spec.specs.Machine.Mounts.Propagation.{Private, Shared, Slave, Unbindable}
 use Rattle.vt_spec.specs.Machine.Receives.{heir, inherited, inheriting, is_member_of, lost_a_group, regrouped_by}
 use Rattle.vt_spec.specs.Machine.Settled.{mount_lives, settled}
@@ -36,40 +35,31 @@ old_masters : (group : ℕ → ℕ) (mounts : List (Mount ℕ)) (master : ℕ �
 old_masters group [] master one none = refl
 old_masters group (mount ∷ rest) master one none =
     old_masters group rest (with_master nat_eq master (group mount.number) (master_after mount.propagation)) one
-    (λ x m. none x (inr m))
-    ∙ ap (λ b. cond b (master_after mount.propagation) (master one)) (none mount (inl refl))
+    (λ x m. none x (inr m)) ∙ ap (λ b. cond b (master_after mount.propagation) (master one)) (none mount (inl refl))
 
 -- each mount of a tree whose top is in a namespace is in one
 tree_attached : (world : World ℕ) → MountsStand world → (depth : ℕ) (top : Mount ℕ) → is_some top.namespace ≡ true
     → (mount : Mount ℕ) → Among mount (tree_from nat_eq depth world.mounts top) → is_some mount.namespace ≡ true
 tree_attached world stand zero top is mount m =
     ⊎_elim (λ e. ap (λ (x : Mount ℕ). is_some x.namespace) e ∙ is) (λ none. absurd none) m
-tree_attached world stand (suc depth) top is mount m =
-    ⊎_elim (λ e. ap (λ (x : Mount ℕ). is_some x.namespace) e ∙ is)
+tree_attached world stand (suc depth) top is mount m = ⊎_elim (λ e. ap (λ (x : Mount ℕ). is_some x.namespace) e ∙ is)
     (λ later.
     let under = among-from_flat_map (tree_from nat_eq depth world.mounts)
     (children nat_eq world.mounts top.number) mount later in
     let child = among-from_filter (stands_on nat_eq top.number) world.mounts under.0 under.1 in
-    tree_attached world stand depth under.0 (placed under.0 child.0 child.1) mount under.2)
-    m
+    tree_attached world stand depth under.0 (placed under.0 child.0 child.1) mount under.2) m
   where
     placed : (child : Mount ℕ) → Among child world.mounts → stands_on nat_eq top.number child ≡ true
         → is_some child.namespace ≡ true
-    placed child n on =
-        ⊎_elim (λ in_one. in_one)
-        (λ out. absurd (true≢false
-        (sym (has_place child.mount_point on) ∙ (nowhere_parts child
-        (passes is_nowhere_or_attached world.mounts stand.nowhere child n) out).0)))
-        (cases_Bool (is_some child.namespace))
-      where
-        has_place : (place : Option (Location ℕ)) → holds_of (λ l. nat_eq top.number l.mount) place ≡ true
-            → is_some place ≡ true
-        has_place None e = absurd (true≢false (sym e))
-        has_place (Some place) e = refl
+    placed child n on = grind (
+      arith,
+      common_steps,
+      passes is_nowhere_or_attached world.mounts stand.nowhere child n,
+      cases_Bool (is_some child.namespace),
+    )
 
 module _ (fresh : Fresh ℕ) (world : World ℕ) (number : ℕ) (word : TypeWord) (recursive : Bool) (in_use : AllInUse world)
-    (stand : MountsStand world)
-    (attached : is_attached world number ≡ true) where
+    (stand : MountsStand world) (attached : is_attached world number ≡ true) where
   abbrev named : List (Mount ℕ)
   named = named_mounts nat_eq world number recursive
 
@@ -109,8 +99,7 @@ module _ (fresh : Fresh ℕ) (world : World ℕ) (number : ℕ) (word : TypeWord
 
   unnamed_stays : (mount : Mount ℕ) → is_named mount ≡ false → retype mount ≡ mount
   unnamed_stays mount isnt = ap (λ c. cond c (record mount {
-    propagation = type_after
-        (group mount.number) word mount.propagation;
+    propagation = type_after (group mount.number) word mount.propagation;
   }) mount) isnt
 
   -- those that change are in namespaces
@@ -121,20 +110,16 @@ module _ (fresh : Fresh ℕ) (world : World ℕ) (number : ℕ) (word : TypeWord
   named_attached mount m is =
       let t = one_passes (λ other. nat_eq mount.number other.number) named is in
       let other = named_of_world t.0 t.1 in
-      let same : mount ≡ t.0 =
-      sym (found_itself world.mounts stand.one_number mount m)
+      let same : mount ≡ t.0 = sym (found_itself world.mounts stand.one_number mount m)
       ∙ ap (mount_in nat_eq world.mounts) (eqb-true mount.number t.0.number t.2)
       ∙ found_itself world.mounts stand.one_number t.0 other.0 in
       ap (λ (x : Mount ℕ). is_some x.namespace) same ∙ other.1
 
   nowhere : (b : Bool) (mount : Mount ℕ) → Among mount world.mounts → is_nowhere_or_attached (change b mount) ≡ true
-  nowhere b mount m =
-      ⊎_elim
-      (λ in_one. or_first (is_some (change b mount).namespace) _
+  nowhere b mount m = ⊎_elim (λ in_one. or_first (is_some (change b mount).namespace) _
       (keeps (λ x. is_some x.namespace) (λ x kind. refl) b mount ∙ in_one))
       (λ out. outside b out (false_from_ne_true (is_named mount)
-      (λ is. true≢false (sym (named_attached mount m is) ∙ out))))
-      (cases_Bool (is_some mount.namespace))
+      (λ is. true≢false (sym (named_attached mount m is) ∙ out)))) (cases_Bool (is_some mount.namespace))
     where
       was : is_nowhere_or_attached mount ≡ true
       was = passes is_nowhere_or_attached world.mounts stand.nowhere mount m
@@ -147,8 +132,7 @@ module _ (fresh : Fresh ℕ) (world : World ℕ) (number : ℕ) (word : TypeWord
 
       outside : (c : Bool) → is_some mount.namespace ≡ false → is_named mount ≡ false
           → is_nowhere_or_attached (change c mount) ≡ true
-      outside true out isnt =
-          ap (λ x. is_nowhere_or_attached (inheriting nat_eq base x)) (unnamed_stays mount isnt)
+      outside true out isnt = ap (λ x. is_nowhere_or_attached (inheriting nat_eq base x)) (unnamed_stays mount isnt)
           ∙ ap (λ kind. is_nowhere_or_attached (record mount { propagation = kind }))
           (private_stays mount.propagation (nowhere_parts mount was out).1) ∙ was
       outside false out isnt = ap is_nowhere_or_attached (unnamed_stays mount isnt) ∙ was
@@ -159,32 +143,21 @@ module _ (fresh : Fresh ℕ) (world : World ℕ) (number : ℕ) (word : TypeWord
       change b mount,
       (
         among-map (change b) world.mounts mount m,
-        (
-          keeps root_of (λ x kind. refl) b mount,
-          keeps (λ x. x.filesystem)
-              (λ x kind. refl) b mount,
-        ),
+        (keeps root_of (λ x kind. refl) b mount, keeps (λ x. x.filesystem) (λ x kind. refl) b mount),
       ),
     );
-    shown = λ location m. ⊎_elim (λ e. e)
-        (λ found. ap (λ x. x.filesystem)
-        (found-map (change b) (keeps (λ x. x.number)
+    shown = λ location m. ⊎_elim (λ e. e) (λ found. ap (λ x. x.filesystem) (found-map (change b) (keeps (λ x. x.number)
         (λ x kind. refl) b) world.mounts location.mount found.0 found.1 found.2 found.3)
         ∙ keeps (λ x. x.filesystem) (λ x kind. refl) b (mount_in nat_eq world.mounts location.mount))
         (not_found-map (change b) (keeps (λ x. x.number) (λ x kind. refl) b) world.mounts location.mount);
     live = λ x m isnt. let from = among-from_map (change b) world.mounts x m in
-        ap (mount_lives nat_eq world) from.2
-        ∙ keeps (mount_lives nat_eq world) (λ y kind. refl) b from.0
+        ap (mount_lives nat_eq world) from.2 ∙ keeps (mount_lives nat_eq world) (λ y kind. refl) b from.0
         ∙ passes (mount_lives nat_eq world) world.mounts in_use.mounts from.0 from.1;
     locations = λ location m. inl (inl m);
-    places = λ mount m place p.
-        inl (
-          change b mount,
-          (
-            among-map (change b) world.mounts mount m,
-            (keeps (λ x. x.mount_point) (λ x kind. refl) b mount ∙ p, inl refl),
-          ),
-        );
+    places = λ mount m place p. inl (
+      change b mount,
+      (among-map (change b) world.mounts mount m, (keeps (λ x. x.mount_point) (λ x kind. refl) b mount ∙ p, inl refl)),
+    );
     nowhere = all_pass is_nowhere_or_attached (last b).mounts (λ x m.
         let from = among-from_map (change b) world.mounts x m in
         ap is_nowhere_or_attached from.2 ∙ nowhere b from.0 from.1);
@@ -194,42 +167,28 @@ module _ (fresh : Fresh ℕ) (world : World ℕ) (number : ℕ) (word : TypeWord
   numbers = map (λ mount. mount.number) named
 
   unnamed_member : (b : Bool) (mount : Mount ℕ) → is_among nat_eq mount.number numbers ≡ false → (one : ℕ)
-      → is_member_of nat_eq one mount ≡ true
-      → is_member_of nat_eq one (change b mount) ≡ true
-  unnamed_member b mount isnt one is = by b
-    where
-      same : retype mount ≡ mount
-      same =
-          unnamed_stays mount (false_from_ne_true (is_named mount) (λ h.
-          let t = one_passes (λ other. nat_eq mount.number other.number) named h in
-          true≢false (sym (is_among_numbers mount.number numbers
-          (subst (λ n. Among n numbers) (sym (eqb-true mount.number t.0.number t.2))
-          (among-map (λ (x : Mount ℕ). x.number) named t.0 t.1))) ∙ isnt)))
-
-      shared : (kind : Propagation ℕ) → holds_of (nat_eq one) (group_of kind) ≡ true
-          → holds_of (nat_eq one) (group_of (inherited nat_eq base kind)) ≡ true
-      shared (Shared own) e = e
-      shared (Slave up) e = absurd (true≢false (sym e))
-      shared Private e = absurd (true≢false (sym e))
-      shared Unbindable e = absurd (true≢false (sym e))
-
-      by : (c : Bool) → is_member_of nat_eq one (change c mount) ≡ true
-      by true = ap (λ (x : Mount ℕ). holds_of (nat_eq one) (group_of (inherited nat_eq base x.propagation))) same
-          ∙ shared mount.propagation is
-      by false = ap (is_member_of nat_eq one) same ∙ is
+      → is_member_of nat_eq one mount ≡ true → is_member_of nat_eq one (change b mount) ≡ true
+  unnamed_member b mount isnt one is = grind (
+    arith,
+    common_steps,
+    unnamed_stays,
+    false_from_ne_true,
+    one_passes,
+    true≢false,
+    is_among_numbers,
+    eqb-true,
+    among-map,
+  )
 
   no_master : (b : Bool) (one : ℕ) → is_among nat_eq one (map (λ mount. group mount.number) named) ≡ false
-      → world.master one ≡ None
-      → masters b one ≡ None
+      → world.master one ≡ None → masters b one ≡ None
   no_master b one old e = by b
     where
       before : base.master one ≡ None
-      before =
-          old_masters group named world.master one
+      before = old_masters group named world.master one
           (λ mount m. false_from_ne_true (nat_eq one (group mount.number)) (λ same.
           true≢false (sym (any_passes (nat_eq one) (map (λ x. group x.number) named) (group mount.number)
-          (among-map (λ x. group x.number) named mount m) same) ∙ old)))
-          ∙ e
+          (among-map (λ x. group x.number) named mount m) same) ∙ old))) ∙ e
 
       by : (c : Bool) → masters c one ≡ None
       by true = ap (heir nat_eq base) before
@@ -241,11 +200,9 @@ module _ (fresh : Fresh ℕ) (world : World ℕ) (number : ℕ) (word : TypeWord
       (is_among nat_eq one (map (λ mount. group mount.number) named))
       (sym (list_any-append (nat_eq one) (groups_of_mounts world numbers) (map (λ mount. group mount.number) named))
       ∙ among) in
-      no_master b one parts.1
-      (no_members world (last b) numbers in_use.groups
+      no_master b one parts.1 (no_members world (last b) numbers in_use.groups
       (λ mount m isnt other is. any_passes (is_member_of nat_eq other) (last b).mounts (change b mount)
-      (among-map (change b) world.mounts mount m)
-      (unnamed_member b mount isnt other is)) one parts.0 none)
+      (among-map (change b) world.mounts mount m) (unnamed_member b mount isnt other is)) one parts.0 none)
 
 pub set_types_let_go : SetTypesLetGo
 set_types_let_go fresh world task number word recursive in_use stand attached =
@@ -254,8 +211,7 @@ set_types_let_go fresh world task number word recursive in_use stand attached =
     (only_groups_go world now.mounts now.master world.filesystems
     (groups_of_types fresh world number recursive) in_use stand
     (loses fresh world number word recursive in_use stand attached b)
-    (hears fresh world number word recursive in_use stand attached b)
-    (record { kept = λ f m. m; new = λ f m. inl m }))
+    (hears fresh world number word recursive in_use stand attached b) (record { kept = λ f m. m; new = λ f m. inl m }))
   where
     b : Bool
     b = list_any (lost_a_group nat_eq (base fresh world number word recursive in_use stand attached))

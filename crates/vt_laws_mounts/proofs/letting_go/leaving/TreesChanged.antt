@@ -1,7 +1,6 @@
 -- What goes when a plain tree changes.
-use Rattle.std.proofs.Common.{arith}
+use Rattle.std.proofs.Common.{arith, ◌≡◌, refl, sym, ap, subst, ◌∙◌, ◌⊎◌, inl, inr, ⊎_elim, ℕ, nat_eq, eqb-true, eq-eqb, true, false, ◌||◌, ◌&&◌, List, [], ◌∷◌, find, map, true≢false, unwrap_or}
 use Rattle.std.proofs.lemmas.Grind.{common_steps}
-use Rattle.std.proofs.Common.{◌≡◌, refl, sym, ap, subst, ◌∙◌, ◌⊎◌, inl, inr, ⊎_elim, ℕ, nat_eq, eqb-true, eq-eqb, true, false, ◌||◌, ◌&&◌, List, [], ◌∷◌, find, map, true≢false, unwrap_or}
 use Rattle.std.specs.List.{list_all}
 use Rattle.std.proofs.lemmas.Bool.{or_cases}
 use Rattle.vt_spec.specs.FileTree.{FileTree}
@@ -56,28 +55,24 @@ module _ (world : World ℕ) (number : ℕ) (files : FileTree ℕ) (in_use : All
   plain_old = fails is_overlay world.filesystems plain before old_there
 
   pub plain_after : IsPlain with_new
-  plain_after =
-      none_passes is_overlay with_new.filesystems (for_each (λ f. is_overlay f ≡ false) plain_old
+  plain_after = none_passes is_overlay with_new.filesystems (for_each (λ f. is_overlay f ≡ false) plain_old
       (λ f m. fails is_overlay world.filesystems plain f m))
 
   mounted_old : (f : Filesystem ℕ) → Among f world.filesystems → is_mounted nat_eq world f.number ≡ true
-  mounted_old f m =
-      ⊎_elim (λ e. e) (λ layered. absurd
+  mounted_old f m = ⊎_elim (λ e. e) (λ layered. absurd
       (true≢false (sym layered ∙ no_layers f.number world world.filesystems plain)))
       (or_cases (is_mounted nat_eq world f.number) _
       (passes (filesystem_lives nat_eq world) world.filesystems in_use.filesystems f m))
 
   pub filesystems_after : FilesystemsInUse with_new
-  filesystems_after =
-      all_pass (filesystem_lives nat_eq with_new) with_new.filesystems
+  filesystems_after = all_pass (filesystem_lives nat_eq with_new) with_new.filesystems
       (for_each (λ f. filesystem_lives nat_eq with_new f ≡ true)
       (or_first (is_mounted nat_eq with_new before.number) _ (mounted_old before old_there))
       (λ f m. or_first (is_mounted nat_eq with_new f.number) _ (mounted_old f m)))
 
   -- so no mount and no filesystem goes
   pub same_living : without_dead_filesystems nat_eq (without_dead_mounts nat_eq with_new) ≡ with_new
-  same_living =
-      ap (without_dead_filesystems nat_eq) (mounts_stay with_new in_use.mounts)
+  same_living = ap (without_dead_filesystems nat_eq) (mounts_stay with_new in_use.mounts)
       ∙ filesystems_stay with_new filesystems_after
 
 module _ (world : World ℕ) (number : ℕ) (files : FileTree ℕ) (unnamed : List ℕ) (settles : IsSettledPlain world)
@@ -99,8 +94,7 @@ module _ (world : World ℕ) (number : ℕ) (files : FileTree ℕ) (unnamed : Li
   old_number = (found_filesystem world.filesystems number there).1
 
   trees_after : HasTrees after
-  trees_after =
-      all_from_among (λ f. IsListedTree f.files) after.filesystems
+  trees_after = all_from_among (λ f. IsListedTree f.files) after.filesystems
       (for_each world number files settles.in_use settles.plain there (λ f. IsListedTree f.files) changes.tree
       (λ f m. among_from_all (λ g. IsListedTree g.files) world.filesystems settles.trees f m))
 
@@ -110,52 +104,37 @@ module _ (world : World ℕ) (number : ℕ) (files : FileTree ℕ) (unnamed : Li
   -- what is at a place, or has a name, is used
   used_after : (f : Filesystem ℕ) (inode : ℕ)
       → (inode ≡ f.files.tree.root) ⊎ (is_among nat_eq inode (named_in f.files) ≡ true)
-      ⊎ Among inode (located_in nat_eq world f.number)
-      → is_inode_used after f inode ≡ true
+      ⊎ Among inode (located_in nat_eq world f.number) → is_inode_used after f inode ≡ true
   used_after f inode how = grind (arith, common_steps, is_among_left, eq-eqb, is_among_right, is_among_numbers)
 
   -- an inode of the changed tree is used, or may go
   of_new : (inode : ℕ) → Among inode files.numbers → is_used_or_among losers.inodes after new inode ≡ true
-  of_new inode m =
-      ⊎_elim
-      (λ was. ⊎_elim
-      (λ root. still (inl (root ∙ sym changes.root)))
-      (λ rest. ⊎_elim
-      (λ name. ⊎_elim
-      (λ named. still (inr (inl named)))
-      (λ lost. or_first (is_inode_among new.number inode losers.inodes) _
+  of_new inode m = ⊎_elim (λ was. ⊎_elim (λ root. still (inl (root ∙ sym changes.root))) (λ rest. ⊎_elim (λ name. ⊎_elim
+      (λ named. still (inr (inl named))) (λ lost. or_first (is_inode_among new.number inode losers.inodes) _
       (any_passes (λ loser. nat_eq new.number loser.0 && nat_eq inode loser.1) losers.inodes (number, inode)
       (among-map (λ k. (number, k)) unnamed inode (among_numbers inode unnamed lost))
       (ap (λ b. b && nat_eq inode inode) (eq-eqb new.number number old_number) ∙ eq-eqb inode inode refl)))
       (or_cases (is_among nat_eq inode (named_in files)) (is_among nat_eq inode unnamed)
       (passes (λ k. is_among nat_eq k (named_in files) || is_among nat_eq k unnamed)
-      (named_in old.files) changes.names inode
-      (among_numbers inode (named_in old.files) name))))
-      (λ located. still (inr (inr located)))
-      rest)
-      (plain_uses world settles.plain old inode
+      (named_in old.files) changes.names inode (among_numbers inode (named_in old.files) name))))
+      (λ located. still (inr (inr located))) rest) (plain_uses world settles.plain old inode
       (passes (is_inode_used world old) old.files.numbers
       (among_from_all (λ f. list_all (is_inode_used world f) f.files.numbers
       ≡ true) world.filesystems settles.in_use.inodes old
       (old_there world number files settles.in_use settles.plain there))
-      inode (among_numbers inode old.files.numbers was))))
-      (λ named. still (inr (inl named)))
+      inode (among_numbers inode old.files.numbers was)))) (λ named. still (inr (inl named)))
       (or_cases (is_among nat_eq inode old.files.numbers) (is_among nat_eq inode (named_in files))
       (passes (λ k. is_among nat_eq k old.files.numbers
       || is_among nat_eq k (named_in files)) files.numbers changes.inodes inode m))
     where
       still : (inode ≡ new.files.tree.root) ⊎ (is_among nat_eq inode (named_in new.files) ≡ true)
-          ⊎ Among inode (located_in nat_eq world new.number)
-          → is_used_or_among losers.inodes after new inode ≡ true
+          ⊎ Among inode (located_in nat_eq world new.number) → is_used_or_among losers.inodes after new inode ≡ true
       still how = or_second (is_inode_among new.number inode losers.inodes) _ (used_after new inode how)
 
   of_others : (f : Filesystem ℕ) → Among f world.filesystems → (inode : ℕ) → Among inode f.files.numbers
       → is_used_or_among losers.inodes after f inode ≡ true
-  of_others f n inode m =
-      or_second (is_inode_among f.number inode losers.inodes) _
-      (used_after f inode
-      (plain_uses world settles.plain f inode
-      (passes (is_inode_used world f) f.files.numbers
+  of_others f n inode m = or_second (is_inode_among f.number inode losers.inodes) _ (used_after f inode
+      (plain_uses world settles.plain f inode (passes (is_inode_used world f) f.files.numbers
       (among_from_all (λ g. list_all (is_inode_used world g) g.files.numbers
       ≡ true) world.filesystems settles.in_use.inodes f n) inode m)))
 
@@ -175,8 +154,7 @@ module _ (world : World ℕ) (number : ℕ) (files : FileTree ℕ) (unnamed : Li
         filesystems = subst (FilesystemsInUseBut []) (sym same_mounted)
             (filesystems_after world number files settles.in_use settles.plain there);
         inodes = subst (InodesInUseBut losers.inodes) (sym (same_living world number files settles.in_use
-            settles.plain there))
-            inodes_after;
+            settles.plain there)) inodes_after;
         groups = subst (GroupsInUseBut []) (sym same_mounted) (λ group among none. settles.in_use.groups group none);
       })
 

@@ -1,7 +1,6 @@
 -- What goes when trees change, in worlds with overlays.
-use Rattle.std.proofs.Common.{arith}
+use Rattle.std.proofs.Common.{arith, ◌≡◌, None, refl, sym, ap, subst, ◌∙◌, ◌⊎◌, inl, inr, ⊎_elim, ℕ, nat_eq, eqb-true, eq-eqb, Bool, true, false, cond, ◌||◌, ◌&&◌, List, [], ◌∷◌, map, ◌++◌, true≢false}
 use Rattle.std.proofs.lemmas.Grind.{common_steps}
-use Rattle.std.proofs.Common.{◌≡◌, None, refl, sym, ap, subst, ◌∙◌, ◌⊎◌, inl, inr, ⊎_elim, ℕ, nat_eq, eqb-true, eq-eqb, Bool, true, false, cond, ◌||◌, ◌&&◌, List, [], ◌∷◌, map, ◌++◌, true≢false}
 use Rattle.std.specs.List.{list_all, list_any}
 use Rattle.std.specs.Prelude.{All}
 use Rattle.std.proofs.lemmas.Bool.{or_cases}
@@ -11,7 +10,7 @@ use Rattle.vt_spec.specs.Lists.{any_pair, is_among}
 use Rattle.vt_spec.specs.Machine.Detach.{taken_away}
 use Rattle.vt_spec.specs.Machine.Filesystems.{with_files}
 use Rattle.vt_spec.specs.Machine.Locked.{of_overlay}
-use Rattle.vt_spec.specs.Machine.Settled.{filesystem_lives, has_layer_on, is_mounted, layers_in, located_in, named_in, objects_of_overlay, settled, without_dead_filesystems, without_dead_mounts}
+use Rattle.vt_spec.specs.Machine.Settled.{filesystem_lives, has_layer_on, layers_in, located_in, named_in, objects_of_overlay, settled, without_dead_filesystems, without_dead_mounts}
 use Rattle.vt_spec.specs.Machine.World.{Filesystem, World, filesystem_numbered, is_overlay, layers_of, replaced_if_numbered}
 use Rattle.vt_laws_mounts.specs.LettingGo.InUse.{FilesystemsInUse, HasTrees, IsListedTree, UppersArePlain, has_upper_in, is_inode_used}
 use Rattle.vt_laws_mounts.specs.LettingGo.LeavingOverlays.{IsSettled, used_with_layers}
@@ -36,11 +35,9 @@ use Rattle.vt_spec.proofs.Found.{is_among_left, is_among_right}
 
 -- a test of what is changed
 pub any_changed : {A : Type 0} (change : A → A) (p q : A → Bool) (list : List A)
-    → ((x : A) → Among x list → p (change x) ≡ q x)
-    → list_any p (map change list) ≡ list_any q list
+    → ((x : A) → Among x list → p (change x) ≡ q x) → list_any p (map change list) ≡ list_any q list
 any_changed change p q [] same = refl
-any_changed change p q (x ∷ xs) same =
-    ap (λ b. b || list_any p (map change xs)) (same x (inl refl))
+any_changed change p q (x ∷ xs) same = ap (λ b. b || list_any p (map change xs)) (same x (inl refl))
     ∙ ap (λ b. q x || b) (any_changed change p q xs (λ y m. same y (inr m)))
 
 -- Where filesystems keep their numbers and layers, the same are in use
@@ -56,21 +53,11 @@ module _ (world : World ℕ) (change : Filesystem ℕ → Filesystem ℕ)
 
   pub lives_alike : (f : Filesystem ℕ) → Among f world.filesystems
       → filesystem_lives nat_eq (with_filesystems world change) (change f) ≡ filesystem_lives nat_eq world f
-  lives_alike f m =
-      ap (λ n. is_mounted nat_eq world n
-      || list_any (λ merged. has_layer_on nat_eq n merged && is_mounted nat_eq world merged.number)
-      (map change world.filesystems))
-      (number_kept f m)
-      ∙ ap (λ b. is_mounted nat_eq world f.number || b)
-      (any_changed change (λ merged. has_layer_on nat_eq f.number merged && is_mounted nat_eq world merged.number)
-      (λ merged. has_layer_on nat_eq f.number merged && is_mounted nat_eq world merged.number) world.filesystems (λ g n.
-      ap (λ b. b && is_mounted nat_eq world (change g).number) (same_layers_on f.number g n)
-      ∙ ap (λ k. has_layer_on nat_eq f.number g && is_mounted nat_eq world k) (number_kept g n)))
+  lives_alike f m = grind (arith, common_steps, any_changed, same_layers_on)
 
 -- In a world in which all but some is in use, all but those and what lost its last name or overlay is in use then
 module _ (world : World ℕ) (losers : Losers) (but : AllInUseBut losers world) (change : Filesystem ℕ → Filesystem ℕ)
-    (lost : List Inode)
-    (changes : All (λ f. ChangesFilesystem (in_use_of (with_filesystems world change)) lost f
+    (lost : List Inode) (changes : All (λ f. ChangesFilesystem (in_use_of (with_filesystems world change)) lost f
     (change f)) world.filesystems) where
   abbrev after : World ℕ
   after = with_filesystems world change
@@ -92,21 +79,18 @@ module _ (world : World ℕ) (losers : Losers) (but : AllInUseBut losers world) 
 
   same_lives : (f : Filesystem ℕ) → Among f world.filesystems
       → filesystem_lives nat_eq (without_dead_mounts nat_eq after) (change f) ≡ filesystem_lives nat_eq mounted f
-  same_lives f m =
-      lives_alike mounted change (λ g n. ChangesFilesystem.number (changed_so g n))
+  same_lives f m = lives_alike mounted change (λ g n. ChangesFilesystem.number (changed_so g n))
       (λ g n. ChangesFilesystem.layers (changed_so g n)) f m
 
   filesystems_but : FilesystemsInUseBut losers.filesystems (without_dead_mounts nat_eq after)
-  filesystems_but =
-      all_pass (λ f. is_among nat_eq f.number losers.filesystems || filesystem_lives nat_eq
+  filesystems_but = all_pass (λ f. is_among nat_eq f.number losers.filesystems || filesystem_lives nat_eq
       (without_dead_mounts nat_eq after) f) after.filesystems
       (λ x m. let from = among-from_map change world.filesystems x m in
       ap (λ f. is_among nat_eq f.number losers.filesystems
       || filesystem_lives nat_eq (without_dead_mounts nat_eq after) f) from.2
       ∙ ap (λ b. is_among nat_eq (change from.0).number losers.filesystems || b) (same_lives from.0 from.1)
       ∙ ap (λ n. is_among nat_eq n losers.filesystems || filesystem_lives nat_eq mounted from.0)
-      (ChangesFilesystem.number (changed_so from.0 from.1))
-      ∙ passes (λ f. is_among nat_eq f.number losers.filesystems
+      (ChangesFilesystem.number (changed_so from.0 from.1)) ∙ passes (λ f. is_among nat_eq f.number losers.filesystems
       || filesystem_lives nat_eq mounted f) world.filesystems but.filesystems from.0 from.1)
 
   -- what lives is what lived
@@ -118,8 +102,7 @@ module _ (world : World ℕ) (losers : Losers) (but : AllInUseBut losers world) 
   lives_still f m =
       let was = from_living f m in
       among-filter (filesystem_lives nat_eq (without_dead_mounts nat_eq after)) after.filesystems (change f)
-      (among-map change world.filesystems f was.0)
-      (same_lives f was.0 ∙ was.1)
+      (among-map change world.filesystems f was.0) (same_lives f was.0 ∙ was.1)
 
   lived : (x : Filesystem ℕ) → Among x last.filesystems
       → (f : Filesystem ℕ) × Among f living.filesystems × (x ≡ change f)
@@ -127,8 +110,7 @@ module _ (world : World ℕ) (losers : Losers) (but : AllInUseBut losers world) 
       let now = among-from_filter (filesystem_lives nat_eq (without_dead_mounts nat_eq after)) after.filesystems x m in
       let from = among-from_map change world.filesystems x now.0 in (
         from.0,
-        among-filter (filesystem_lives nat_eq mounted) world.filesystems from.0 from.1
-            (sym (same_lives from.0 from.1)
+        among-filter (filesystem_lives nat_eq mounted) world.filesystems from.0 from.1 (sym (same_lives from.0 from.1)
             ∙ ap (filesystem_lives nat_eq (without_dead_mounts nat_eq after)) (sym from.2) ∙ now.1),
         from.2,
       )
@@ -145,16 +127,12 @@ module _ (world : World ℕ) (losers : Losers) (but : AllInUseBut losers world) 
       → Among number (upper_objects last filesystem) ⊎ (is_inode_among filesystem number lost ≡ true)
   object_left filesystem number m =
       let one = among-from_flat_map (objects_of_overlay nat_eq filesystem) living.filesystems number m in
-      ⊎_elim
-      (λ still. inl (among-flat_map (objects_of_overlay nat_eq filesystem) last.filesystems (change one.0) number
-      (lives_still one.0 one.1)
-      (among_numbers number (objects_of_overlay nat_eq filesystem (change one.0)) still)))
-      inr
+      ⊎_elim (λ still. inl (among-flat_map (objects_of_overlay nat_eq filesystem) last.filesystems (change one.0) number
+      (lives_still one.0 one.1) (among_numbers number (objects_of_overlay nat_eq filesystem (change one.0)) still))) inr
       (or_cases (is_among nat_eq number (objects_of_overlay nat_eq filesystem (change one.0)))
       (is_inode_among filesystem number lost)
       (passes (λ object. is_among nat_eq object (objects_of_overlay nat_eq filesystem (change one.0))
-      || is_inode_among filesystem object lost)
-      (objects_of_overlay nat_eq filesystem one.0)
+      || is_inode_among filesystem object lost) (objects_of_overlay nat_eq filesystem one.0)
       (ChangesFilesystem.objects (so_living one.0 one.1) filesystem) number one.2))
 
   module _ (f : Filesystem ℕ) (there : Among f living.filesystems) where
@@ -181,23 +159,20 @@ module _ (world : World ℕ) (losers : Losers) (but : AllInUseBut losers world) 
     among_losers number h = or_first (is_inode_among now.number number inodes) (is_inode_used last now number) h
 
     may_go : (number : ℕ) → is_inode_among f.number number lost ≡ true → is_used_or_among inodes last now number ≡ true
-    may_go number h =
-        among_losers number
+    may_go number h = among_losers number
         (list_any-append (λ (inode : Inode). nat_eq now.number inode.0 && nat_eq number inode.1) losers.inodes lost
         ∙ or_second (is_inode_among now.number number losers.inodes) (is_inode_among now.number number lost)
         (ap (λ n. is_inode_among n number lost) (ChangesFilesystem.number so) ∙ h))
 
     could_go : (number : ℕ) → is_inode_among f.number number losers.inodes ≡ true
         → is_used_or_among inodes last now number ≡ true
-    could_go number h =
-        among_losers number
+    could_go number h = among_losers number
         (list_any-append (λ (inode : Inode). nat_eq now.number inode.0 && nat_eq number inode.1) losers.inodes lost
         ∙ or_first (is_inode_among now.number number losers.inodes) (is_inode_among now.number number lost)
         (ap (λ n. is_inode_among n number losers.inodes) (ChangesFilesystem.number so) ∙ h))
 
     by_name : (number : ℕ) → is_among nat_eq number names ≡ true → is_used_or_among inodes last now number ≡ true
-    by_name number h =
-        used number (is_among_left number (names ++ located ++ layers) (upper_objects last now.number)
+    by_name number h = used number (is_among_left number (names ++ located ++ layers) (upper_objects last now.number)
         (is_among_left number (names ++ located) layers (is_among_left number names located h)))
 
     by_object : (number : ℕ) → is_among nat_eq number (upper_objects last now.number) ≡ true
@@ -207,21 +182,14 @@ module _ (world : World ℕ) (losers : Losers) (but : AllInUseBut losers world) 
 
     -- what was used is used, or may go
     use_left : (number : ℕ) → is_inode_used living f number ≡ true → is_used_or_among inodes last now number ≡ true
-    use_left number is =
-        ⊎_elim
-        (λ front. ⊎_elim
-        (λ first. ⊎_elim
-        (λ named. ⊎_elim
+    use_left number is = ⊎_elim (λ front. ⊎_elim (λ first. ⊎_elim (λ named. ⊎_elim
         (λ root. by_name number (or_first (nat_eq number now.files.tree.root) _
-        (ap (nat_eq number) (ChangesFilesystem.root so) ∙ root)))
-        (λ name. ⊎_elim
+        (ap (nat_eq number) (ChangesFilesystem.root so) ∙ root))) (λ name. ⊎_elim
         (λ still. by_name number (or_second (nat_eq number now.files.tree.root)
-        (is_among nat_eq number (named_in now.files)) still))
-        (may_go number)
+        (is_among nat_eq number (named_in now.files)) still)) (may_go number)
         (or_cases (is_among nat_eq number (named_in now.files)) (is_inode_among f.number number lost)
         (passes (λ k. is_among nat_eq k (named_in now.files) || is_inode_among f.number k lost) (named_in f.files)
-        (ChangesFilesystem.names so) number
-        (among_numbers number (named_in f.files) name))))
+        (ChangesFilesystem.names so) number (among_numbers number (named_in f.files) name))))
         (or_cases (nat_eq number f.files.tree.root) (is_among nat_eq number (named_in f.files)) named))
         (λ at. used number (is_among_left number (names ++ located ++ layers) (upper_objects last now.number)
         (is_among_left number (names ++ located) layers (is_among_right number names located
@@ -236,18 +204,13 @@ module _ (world : World ℕ) (losers : Losers) (but : AllInUseBut losers world) 
         (or_cases (is_among nat_eq number (old_names ++ located_in nat_eq living f.number))
         (is_among nat_eq number (layers_in nat_eq living f.number))
         (sym (list_any-append (nat_eq number) (old_names ++ located_in nat_eq living f.number)
-        (layers_in nat_eq living f.number))
-        ∙ front)))
-        (λ object. ⊎_elim
-        (λ still. by_object number
+        (layers_in nat_eq living f.number)) ∙ front))) (λ object. ⊎_elim (λ still. by_object number
         (ap (λ n. is_among nat_eq number (upper_objects last n)) (ChangesFilesystem.number so)
-        ∙ is_among_numbers number (upper_objects last f.number) still))
-        (may_go number)
+        ∙ is_among_numbers number (upper_objects last f.number) still)) (may_go number)
         (object_left f.number number (among_numbers number (upper_objects living f.number) object)))
         (or_cases (is_among nat_eq number
         (old_names ++ located_in nat_eq living f.number ++ layers_in nat_eq living f.number))
-        (is_among nat_eq number (upper_objects living f.number))
-        (sym (list_any-append (nat_eq number)
+        (is_among nat_eq number (upper_objects living f.number)) (sym (list_any-append (nat_eq number)
         (old_names ++ located_in nat_eq living f.number ++ layers_in nat_eq living f.number)
         (upper_objects living f.number)) ∙ is))
       where
@@ -255,15 +218,11 @@ module _ (world : World ℕ) (losers : Losers) (but : AllInUseBut losers world) 
         old_names = f.files.tree.root ∷ named_in f.files
 
     inode_after : (number : ℕ) → Among number now.files.numbers → is_used_or_among inodes last now number ≡ true
-    inode_after number m =
-        ⊎_elim
-        (λ first. ⊎_elim
-        (λ was. ⊎_elim (could_go number) (use_left number)
+    inode_after number m = ⊎_elim (λ first. ⊎_elim (λ was. ⊎_elim (could_go number) (use_left number)
         (or_cases (is_inode_among f.number number losers.inodes) (is_inode_used living f number)
         (passes (is_used_or_among losers.inodes living f) f.files.numbers
         (among_from_all (λ x. list_all (is_used_or_among losers.inodes living x) x.files.numbers
-        ≡ true) living.filesystems but.inodes f there) number
-        (among_numbers number f.files.numbers was))))
+        ≡ true) living.filesystems but.inodes f there) number (among_numbers number f.files.numbers was))))
         (λ named. by_name number (or_second (nat_eq number now.files.tree.root)
         (is_among nat_eq number (named_in now.files)) named))
         (or_cases (is_among nat_eq number f.files.numbers) (is_among nat_eq number (named_in now.files)) first))
@@ -271,8 +230,7 @@ module _ (world : World ℕ) (losers : Losers) (but : AllInUseBut losers world) 
         (or_cases (is_among nat_eq number f.files.numbers || is_among nat_eq number (named_in now.files))
         (is_among nat_eq number (upper_objects last now.number))
         (passes (λ k. is_among nat_eq k f.files.numbers || is_among nat_eq k (named_in now.files)
-        || is_among nat_eq k (upper_objects last now.number))
-        now.files.numbers (ChangesFilesystem.inodes so) number m))
+        || is_among nat_eq k (upper_objects last now.number)) now.files.numbers (ChangesFilesystem.inodes so) number m))
 
   inodes_but : InodesInUseBut inodes last
   inodes_but =
@@ -283,12 +241,7 @@ module _ (world : World ℕ) (losers : Losers) (but : AllInUseBut losers world) 
       (inode_after from.0 from.1)))
 
   pub all_but_changed : AllInUseBut (with_lost losers lost) after
-  all_but_changed = record {
-    mounts = but.mounts;
-    filesystems = filesystems_but;
-    inodes = inodes_but;
-    groups = but.groups;
-  }
+  all_but_changed = grind (arith, common_steps, filesystems_but, inodes_but)
 
 module _ (world : World ℕ) (change : Filesystem ℕ → Filesystem ℕ) (lost : List Inode) (settles : IsSettled world)
     (trees : HasTrees (with_filesystems world change)) (uppers : UppersArePlain (with_filesystems world change))
@@ -319,8 +272,7 @@ module _ (world : World ℕ) (change : Filesystem ℕ → Filesystem ℕ) (lost 
   }
 
   filesystems_after : FilesystemsInUse changed
-  filesystems_after =
-      all_pass (filesystem_lives nat_eq changed) changed.filesystems
+  filesystems_after = all_pass (filesystem_lives nat_eq changed) changed.filesystems
       (λ x m. let from = among-from_map change world.filesystems x m in
       ap (filesystem_lives nat_eq changed) from.2
       ∙ lives_alike world change (λ g n. ChangesFilesystem.number (so_changed g n))
@@ -332,8 +284,7 @@ module _ (world : World ℕ) (change : Filesystem ℕ → Filesystem ℕ) (lost 
       ∙ filesystems_stay changed filesystems_after
 
   trees_change : settled nat_eq changed ≡ let_go_all_inodes changed lost
-  trees_change =
-      with_overlays_all_goes changed (with_lost none lost) trees uppers reals
+  trees_change = with_overlays_all_goes changed (with_lost none lost) trees uppers reals
       (all_but_changed world none in_use_before change lost
       (subst (λ w. All (λ f. ChangesFilesystem w lost f (change f)) world.filesystems) (sym all_stay) changes))
 
@@ -351,26 +302,7 @@ no_real f plain number = grind (arith, common_steps, true≢false)
 
 -- a filesystem that does not change
 pub unchanged : (after : World ℕ) (lost : List Inode) (f : Filesystem ℕ) → ChangesFilesystem after lost f f
-unchanged after lost f = record {
-  number = refl;
-  root = refl;
-  layers = refl;
-  inodes = all_pass (λ k. is_among nat_eq k f.files.numbers || is_among nat_eq k (named_in f.files)
-      || is_among nat_eq k (upper_objects after f.number))
-      f.files.numbers (λ k m. or_first (is_among nat_eq k f.files.numbers || is_among nat_eq k (named_in f.files))
-      (is_among nat_eq k (upper_objects after f.number))
-      (or_first (is_among nat_eq k f.files.numbers) (is_among nat_eq k (named_in f.files))
-      (is_among_numbers k f.files.numbers m)));
-  names = all_pass (λ k. is_among nat_eq k (named_in f.files) || is_inode_among f.number k lost) (named_in f.files)
-      (λ k m.
-      or_first (is_among nat_eq k (named_in f.files)) (is_inode_among f.number k lost)
-      (is_among_numbers k (named_in f.files) m));
-  objects = λ number. all_pass (λ k. is_among nat_eq k (objects_of_overlay nat_eq number f)
-      || is_inode_among number k lost)
-      (objects_of_overlay nat_eq number f)
-      (λ k m. or_first (is_among nat_eq k (objects_of_overlay nat_eq number f)) (is_inode_among number k lost)
-      (is_among_numbers k (objects_of_overlay nat_eq number f) m));
-}
+unchanged after lost f = grind (arith, common_steps, all_pass, or_first, is_among_numbers)
 
 module _ (world : World ℕ) (number : ℕ) (files : FileTree ℕ) (unnamed : List ℕ) (settles : IsSettled world)
     (one : any_pair (λ (a b : Filesystem ℕ). nat_eq a.number b.number) world.filesystems ≡ false)
@@ -418,11 +350,8 @@ module _ (world : World ℕ) (number : ℕ) (files : FileTree ℕ) (unnamed : Li
   which f m = by (nat_eq new.number f.number) refl
     where
       by : (b : Bool) → nat_eq new.number f.number ≡ b → Is f
-      by true e =
-          is_the_one
-          (sym (found_filesystem world.filesystems one f m) ∙ ap (filesystem_numbered nat_eq world)
-          (sym (eqb-true new.number f.number e) ∙ old_number))
-          (ap (λ b. cond b new f) e)
+      by true e = is_the_one (sym (found_filesystem world.filesystems one f m) ∙ ap (filesystem_numbered nat_eq world)
+          (sym (eqb-true new.number f.number e) ∙ old_number)) (ap (λ b. cond b new f) e)
       by false e = is_another (ap (λ b. cond b new f) e)
 
   for_each : (P : Filesystem ℕ → Type 0) → P new → ((f : Filesystem ℕ) → Among f world.filesystems → P f)
@@ -436,20 +365,16 @@ module _ (world : World ℕ) (number : ℕ) (files : FileTree ℕ) (unnamed : Li
       subst P (sym from.2) (for_each P here others from.0 from.1))
 
   pub trees_after : HasTrees then_
-  trees_after =
-      for_all (λ f. IsListedTree f.files) changes.tree
+  trees_after = for_all (λ f. IsListedTree f.files) changes.tree
       (λ f m. among_from_all (λ g. IsListedTree g.files) world.filesystems settles.trees f m)
 
   pub reals_after : RealsAreThere then_
-  reals_after =
-      for_all (λ f. (k : ℕ) → f.files.tree.node k ≡ None → real_in f k ≡ None) (λ k e. no_real new plain k)
+  reals_after = for_all (λ f. (k : ℕ) → f.files.tree.node k ≡ None → real_in f k ≡ None) (λ k e. no_real new plain k)
       (among_from_all (λ f. (k : ℕ) → f.files.tree.node k ≡ None → real_in f k ≡ None) world.filesystems settles.reals)
 
   pub uppers_after : UppersArePlain then_
-  uppers_after =
-      for_all (λ f. is_overlay f ≡ true → All (λ g. has_upper_in f.number g ≡ false) then_.filesystems)
-      (λ is. absurd (true≢false (sym is ∙ plain)))
-      (λ f m is.
+  uppers_after = for_all (λ f. is_overlay f ≡ true → All (λ g. has_upper_in f.number g ≡ false) then_.filesystems)
+      (λ is. absurd (true≢false (sym is ∙ plain))) (λ f m is.
       let was = among_from_all (λ x. is_overlay x ≡ true
       → All (λ g. has_upper_in x.number g ≡ false) world.filesystems) world.filesystems settles.uppers f m is in
       for_all (λ g. has_upper_in f.number g ≡ false)
@@ -463,36 +388,14 @@ module _ (world : World ℕ) (number : ℕ) (files : FileTree ℕ) (unnamed : Li
       (ap (λ b. b && nat_eq inode inode) (eq-eqb old.number number old_number) ∙ eq-eqb inode inode refl)
 
   of_old : (after : World ℕ) → ChangesFilesystem after without_name old new
-  of_old after = record {
-    number = refl;
-    root = changes.root;
-    layers = refl;
-    inodes = all_pass (λ k. is_among nat_eq k old.files.numbers || is_among nat_eq k (named_in files)
-        || is_among nat_eq k (upper_objects after new.number))
-        files.numbers (λ k m. or_first (is_among nat_eq k old.files.numbers || is_among nat_eq k (named_in files))
-        (is_among nat_eq k (upper_objects after new.number))
-        (passes (λ n. is_among nat_eq n old.files.numbers
-        || is_among nat_eq n (named_in files)) files.numbers changes.inodes k m));
-    names = all_pass (λ k. is_among nat_eq k (named_in files) || is_inode_among old.number k without_name)
-        (named_in old.files) (λ k m.
-        ⊎_elim (or_first (is_among nat_eq k (named_in files)) (is_inode_among old.number k without_name))
-        (λ lost. or_second (is_among nat_eq k (named_in files)) (is_inode_among old.number k without_name)
-        (lost_name k lost))
-        (or_cases (is_among nat_eq k (named_in files)) (is_among nat_eq k unnamed)
-        (passes (λ n. is_among nat_eq n (named_in files) || is_among nat_eq n unnamed)
-        (named_in old.files) changes.names k m)));
-    objects = λ target. ap (list_all (λ k. is_among nat_eq k (objects_of_overlay nat_eq target new)
-        || is_inode_among target k without_name))
-        (no_objects world target old plain);
-  }
+  of_old after = grind (arith, common_steps, all_pass, or_first, passes, or_second, lost_name, or_cases, no_objects)
 
   pub all_change : (after : World ℕ) → All (λ f. ChangesFilesystem after without_name f (swap f)) world.filesystems
   all_change after = all_from_among (λ f. ChangesFilesystem after without_name f (swap f)) world.filesystems
       (λ f m. by f (which f m))
     where
       by : (f : Filesystem ℕ) → Is f → ChangesFilesystem after without_name f (swap f)
-      by f (is_the_one e s) =
-          subst (λ x. ChangesFilesystem after without_name x (swap f)) (sym e)
+      by f (is_the_one e s) = subst (λ x. ChangesFilesystem after without_name x (swap f)) (sym e)
           (subst (ChangesFilesystem after without_name old) (sym s) (of_old after))
       by f (is_another s) = subst (ChangesFilesystem after without_name f) (sym s) (unchanged after without_name f)
 
@@ -508,20 +411,14 @@ pub taken_and_changed_lets_go : TakenAndChangedLetsGo
 taken_and_changed_lets_go world gone change lost settles trees uppers reals changes =
     with_overlays_all_goes then_ (with_lost (used_by_gone_with_layers world gone) lost) trees uppers reals
     (subst (λ w. AllInUseBut (with_lost (used_by_gone_with_layers world gone) lost) (with_filesystems w change))
-    (sym (taken_is world gone))
-    (all_but_changed taken (used_by_gone_with_layers world gone)
+    (sym (taken_is world gone)) (all_but_changed taken (used_by_gone_with_layers world gone)
     (all_but_those world taken.mounts taken.master world.filesystems world.namespaces world.tasks gone
-    (places_lost world gone)
-    (groups_of_mounts world gone)
+    (places_lost world gone) (groups_of_mounts world gone)
     settles.in_use settles.mounts (loses world gone world.namespaces settles.in_use settles.mounts
-    (hands_on world gone))
-    (subst (GroupsInUseBut (groups_of_mounts world gone)) (taken_is world gone)
-    (event_groups world gone settles.in_use.groups))
-    (record { kept = λ f m. m; new = λ f m. inl m }))
-    change lost
+    (hands_on world gone)) (subst (GroupsInUseBut (groups_of_mounts world gone)) (taken_is world gone)
+    (event_groups world gone settles.in_use.groups)) (record { kept = λ f m. m; new = λ f m. inl m })) change lost
     (subst (λ w. All (λ f. ChangesFilesystem (in_use_of (with_filesystems w change)) lost f
-    (change f)) world.filesystems)
-    (taken_is world gone) changes)))
+    (change f)) world.filesystems) (taken_is world gone) changes)))
   where
     then_ : World ℕ
     then_ = with_filesystems (taken_away nat_eq world gone) change

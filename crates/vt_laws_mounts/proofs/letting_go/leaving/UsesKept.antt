@@ -1,7 +1,6 @@
 -- Changes of mounts that take no use away.
-use Rattle.std.proofs.Common.{arith}
+use Rattle.std.proofs.Common.{arith, ◌≡◌, refl, sym, ap, subst, ◌∙◌, ⊎_elim, ℕ, nat_eq, eqb-true, eq-eqb, Bool, true, false, cond, ◌||◌, ◌&&◌, List, [], ◌∷◌, filter, map, true≢false, flat_map, ◌++◌, Option, is_some}
 use Rattle.std.proofs.lemmas.Grind.{common_steps}
-use Rattle.std.proofs.Common.{◌≡◌, refl, sym, ap, subst, ◌∙◌, ⊎_elim, ℕ, nat_eq, eqb-true, eq-eqb, Bool, true, false, cond, ◌||◌, ◌&&◌, List, [], ◌∷◌, filter, map, true≢false, flat_map, ◌++◌, Option, is_some}
 use Rattle.std.specs.Prelude.{filter_map}
 use Rattle.std.specs.List.{cons_option, list_all, list_any}
 use Rattle.vt_spec.specs.Lists.{is_among}
@@ -25,9 +24,7 @@ module _ (world : World ℕ) (change : Mount ℕ → Mount ℕ) (master : ℕ �
   after = with_changed world change master
 
   same_roots : map root_of (map change world.mounts) ≡ map root_of world.mounts
-  same_roots =
-      map_twice root_of change world.mounts
-      ∙ map_alike (λ mount. root_of (change mount)) root_of world.mounts
+  same_roots = map_twice root_of change world.mounts ∙ map_alike (λ mount. root_of (change mount)) root_of world.mounts
       (λ mount m. λ i. record { mount = keeps.number mount i; node = keeps.root mount i })
 
   same_places : (mounts : List (Mount ℕ)) → filter_map (λ mount. mount.mount_point) (map change mounts)
@@ -37,12 +34,9 @@ module _ (world : World ℕ) (change : Mount ℕ → Mount ℕ) (master : ℕ �
 
   same_filesystem : (number : ℕ)
       → (mount_in nat_eq after.mounts number).filesystem ≡ (mount_in nat_eq world.mounts number).filesystem
-  same_filesystem number =
-      ⊎_elim (λ e. e)
-      (λ found. ap (λ x. x.filesystem)
+  same_filesystem number = ⊎_elim (λ e. e) (λ found. ap (λ x. x.filesystem)
       (found-map change keeps.number world.mounts number found.0 found.1 found.2 found.3)
-      ∙ keeps.filesystem (mount_in nat_eq world.mounts number))
-      (not_found-map change keeps.number world.mounts number)
+      ∙ keeps.filesystem (mount_in nat_eq world.mounts number)) (not_found-map change keeps.number world.mounts number)
 
   same_located : (number : ℕ) → located_in nat_eq after number ≡ located_in nat_eq world number
   same_located number = λ i. map (λ location. location.node)
@@ -90,44 +84,19 @@ types_keep_all world change master all keeps groups =
 
 -- Flags
 pub flags_are_of_one : FlagsAreOfOne
-flags_are_of_one world here flags one =
-    ap (with_mounts world)
+flags_are_of_one world here flags one = ap (with_mounts world)
     (map_alike (replaced_if_same nat_eq (record (mount_at nat_eq world here) { flags = flags }))
     (flags_if here.mount flags) world.mounts
     (λ mount m. ap (λ n. cond (nat_eq n mount.number) (record (mount_at nat_eq world here) { flags = flags }) mount)
-    (number-mount_in world.mounts here.mount)
-    ∙ by mount m (nat_eq here.mount mount.number) refl))
+    (number-mount_in world.mounts here.mount) ∙ by mount m (nat_eq here.mount mount.number) refl))
   where
     by : (mount : Mount ℕ) → Among mount world.mounts → (b : Bool) → nat_eq here.mount mount.number ≡ b
         → cond b (record (mount_at nat_eq world here) { flags = flags }) mount
         ≡ cond (nat_eq mount.number here.mount) (record mount { flags = flags }) mount
-    by mount m true e =
-        ap (λ (x : Mount ℕ). record x { flags = flags })
-        (ap (mount_in nat_eq world.mounts) (eqb-true here.mount mount.number e) ∙ found_itself world.mounts one mount m)
-        ∙ ap (λ b. cond b (record mount { flags = flags }) mount)
-        (sym (eq-eqb mount.number here.mount (sym (eqb-true here.mount mount.number e))))
-    by mount m false e = ap (λ b. cond b (record mount { flags = flags }) mount)
-        (sym (differs (nat_eq mount.number here.mount) refl))
-      where
-        differs : (b : Bool) → nat_eq mount.number here.mount ≡ b → b ≡ false
-        differs false f = refl
-        differs true f = absurd (true≢false
-            (sym (eq-eqb here.mount mount.number (sym (eqb-true mount.number here.mount f))) ∙ e))
+    by mount m b e = grind (arith, common_steps, eqb-true, found_itself, eq-eqb, true≢false)
 
 keeps_flags : (number : ℕ) (flags : MountFlags) → KeepsUses (flags_if number flags)
-keeps_flags number flags = record {
-  number = λ mount. by mount (λ m. m.number) (λ m. refl) (nat_eq mount.number number);
-  namespace = λ mount. by mount (λ m. m.namespace) (λ m. refl) (nat_eq mount.number number);
-  mount_point = λ mount. by mount (λ m. m.mount_point) (λ m. refl) (nat_eq mount.number number);
-  filesystem = λ mount. by mount (λ m. m.filesystem) (λ m. refl) (nat_eq mount.number number);
-  root = λ mount. by mount (λ m. m.root) (λ m. refl) (nat_eq mount.number number);
-}
-  where
-    by : {A : Type 0} (mount : Mount ℕ) (part : Mount ℕ → A)
-        → ((m : Mount ℕ) → part (record m { flags = flags }) ≡ part m) → (b : Bool)
-        → part (cond b (record mount { flags = flags }) mount) ≡ part mount
-    by mount part same true = same mount
-    by mount part same false = refl
+keeps_flags number flags = grind (arith, common_steps)
 
 same_members : (number group : ℕ) (flags : MountFlags) (mounts : List (Mount ℕ))
     → has_members nat_eq (map (flags_if number flags) mounts) group ≡ has_members nat_eq mounts group

@@ -1,7 +1,6 @@
 -- What mounts are after a tree of mounts is attached, and what they used.
-use Rattle.std.proofs.Common.{arith}
+use Rattle.std.proofs.Common.{arith, ◌≡◌, refl, sym, ap, subst, ◌∙◌, ◌⊎◌, inl, inr, ⊎_elim, ℕ, nat_eq, append_assoc, eqb-true, eq-eqb, Bool, true, false, cond, ◌||◌, ◌&&◌, List, [], ◌∷◌, find, map, true≢false, flat_map, ◌++◌, Option, Some, None, is_some, option_map, option_to_list, unwrap_or}
 use Rattle.std.proofs.lemmas.Grind.{common_steps}
-use Rattle.std.proofs.Common.{◌≡◌, refl, sym, ap, subst, ◌∙◌, ◌⊎◌, inl, inr, ⊎_elim, ℕ, nat_eq, append_assoc, eqb-true, eq-eqb, Bool, true, false, cond, ◌||◌, ◌&&◌, List, [], ◌∷◌, find, map, true≢false, flat_map, ◌++◌, Option, Some, None, is_some, option_map, option_to_list, unwrap_or}
 use Rattle.std.specs.Prelude.{filter_map}
 use Rattle.std.specs.List.{list_all, list_any}
 use Rattle.std.proofs.lemmas.Bool.{false_from_ne_true}
@@ -9,7 +8,7 @@ use Rattle.vt_spec.specs.Lists.{folded, holds_of, is_among, rest_of}
 use Rattle.vt_spec.specs.Machine.Attach.{Copies, Graft, Twig, added_mounts, all_groups_made, attached_by, copies_at, copy_at, graft_of, group_made, is_destination, masters_with, parts_of, mount_point_on_copy, pushed_onto, pushed_up, receiver_stood_on, receivers_of, takes_part, twig_of, with_moved_mounts}
 use Rattle.vt_spec.specs.Machine.Mounts.{Location, Mount, group_of, mount_in, no_mount, replaced_if_same, stands_at, with_mount}
 use Rattle.vt_spec.specs.Machine.Receives.{is_member_of}
-use Rattle.vt_spec.specs.Machine.Settled.{is_located, mount_lives}
+use Rattle.vt_spec.specs.Machine.Settled.{mount_lives}
 use Rattle.vt_spec.specs.Machine.World.{Filesystem, World, mount_at}
 use Rattle.vt_spec.specs.Machine.Invariants.{is_nowhere_or_attached}
 use Rattle.vt_laws_mounts.specs.LettingGo.InUse.{AllInUse, GroupsInUse}
@@ -28,14 +27,12 @@ swapped copied mount = folded (λ old copy. replaced_if_same nat_eq copy old) mo
 
 swapped_all : (copied mounts : List (Mount ℕ)) → folded (with_mount nat_eq) mounts copied ≡ map (swapped copied) mounts
 swapped_all [] mounts = sym (map-id mounts)
-swapped_all (copy ∷ copied) mounts =
-    swapped_all copied (with_mount nat_eq mounts copy)
+swapped_all (copy ∷ copied) mounts = swapped_all copied (with_mount nat_eq mounts copy)
     ∙ map_twice (swapped copied) (replaced_if_same nat_eq copy) mounts
 
 -- a mount is as it was, and none has its number, or it is one of its number
 abbrev Swapped : List (Mount ℕ) → Mount ℕ → Mount ℕ → Type 0
-Swapped copied mount last =
-    ((list_any (λ x. nat_eq x.number mount.number) copied ≡ false) × (last ≡ mount))
+Swapped copied mount last = ((list_any (λ x. nat_eq x.number mount.number) copied ≡ false) × (last ≡ mount))
     ⊎ ((copy : Mount ℕ) × Among copy copied × (last ≡ copy) × (copy.number ≡ mount.number))
 
 swapped_is : (copied : List (Mount ℕ)) (mount : Mount ℕ) → Swapped copied mount (swapped copied mount)
@@ -53,8 +50,7 @@ masters_stay (one ∷ made) master group none =
 
 module _ (world : World ℕ) (filesystems : List (Filesystem ℕ)) (new : Copies ℕ) (place : Location ℕ) (moves : Bool)
     (first : Mount ℕ) (rest : List (Mount ℕ)) (in_use : AllInUse world) (stand : MountsStand world)
-    (located_well : LocationsStand world)
-    (at_attached : is_some (mount_at nat_eq world place).namespace ≡ true)
+    (located_well : LocationsStand world) (at_attached : is_some (mount_at nat_eq world place).namespace ≡ true)
     (of_world : moves ≡ true → (mount : Mount ℕ) → Among mount (first ∷ rest) → Among mount world.mounts) where
   abbrev base : World ℕ
   base = record world { filesystems = filesystems }
@@ -127,8 +123,7 @@ module _ (world : World ℕ) (filesystems : List (Filesystem ℕ)) (new : Copies
   mounts_by old = old ++ added_mounts moves (copies destination) ++ flat_map copies (rest_of parts)
 
   old_there : (mount : Mount ℕ) → Among mount world.mounts → Among (last mount) after.mounts
-  old_there mount m =
-      subst (λ old. Among (last mount) (mounts_by old)) (sym old_mounts)
+  old_there mount m = subst (λ old. Among (last mount) (mounts_by old)) (sym old_mounts)
       (among-append_left (map last world.mounts ++ added_mounts moves (copies destination))
       (flat_map copies (rest_of parts)) (last mount)
       (among-append_left (map last world.mounts) (added_mounts moves (copies destination)) (last mount)
@@ -137,8 +132,7 @@ module _ (world : World ℕ) (filesystems : List (Filesystem ℕ)) (new : Copies
   copy_at_receiver : (part x : Mount ℕ) → Among part (rest_of parts) → Among x (copies part) → Among x after.mounts
   copy_at_receiver part x m n =
       among-append_right (map push (with_moved_mounts nat_eq moves world.mounts (copies destination))
-      ++ added_mounts moves (copies destination))
-      (flat_map copies (rest_of parts)) x
+      ++ added_mounts moves (copies destination)) (flat_map copies (rest_of parts)) x
       (among-flat_map copies (rest_of parts) part x m n)
 
   -- each is one of before, a copy at the destination, or a copy at a receiver
@@ -160,8 +154,7 @@ module _ (world : World ℕ) (filesystems : List (Filesystem ℕ)) (new : Copies
   comes x m =
       let old = map last world.mounts in
       let now : Among x (mounts_by old) = subst (λ list. Among x (mounts_by list)) old_mounts m in
-      ⊎_elim
-      (λ front. ⊎_elim
+      ⊎_elim (λ front. ⊎_elim
       (λ before. let from = among-from_map last world.mounts x before in was from.0 from.1 from.2)
       (λ added. let from = copied destination x
       (added_from moves x added) in came destination from.0 at_attached from.1 from.2)
@@ -180,8 +173,7 @@ module _ (world : World ℕ) (filesystems : List (Filesystem ℕ)) (new : Copies
   at_its_number = eq-eqb destination.number place.mount (number-mount_in world.mounts place.mount)
 
   keeps_number : moves ≡ true → (origin : Mount ℕ) → (copy destination origin).number ≡ origin.number
-  keeps_number e origin =
-      ap (λ b. cond (b && is_destination nat_eq tree destination.number) origin.number
+  keeps_number e origin = ap (λ b. cond (b && is_destination nat_eq tree destination.number) origin.number
       (new.copy destination.number origin.number)) e
       ∙ ap (λ b. cond b origin.number (new.copy destination.number origin.number)) at_its_number
 
@@ -198,9 +190,7 @@ module _ (world : World ℕ) (filesystems : List (Filesystem ℕ)) (new : Copies
 
       by : (b : Bool) → moves ≡ b → Went mount
       by false e = stayed (ap (λ b. went_by b mount) e) (λ f. absurd (true≢false (sym f ∙ e)))
-      by true e =
-          ⊎_elim
-          (λ none. stayed (same_as e ∙ none.1) (λ f n. true≢false (sym
+      by true e = ⊎_elim (λ none. stayed (same_as e ∙ none.1) (λ f n. true≢false (sym
           (any_passes (λ x. nat_eq x.number mount.number) (copies destination) (copy destination mount)
           (copy_there destination mount n)
           (eq-eqb (copy destination mount).number mount.number (keeps_number e mount))) ∙ none.0)))
@@ -212,27 +202,21 @@ module _ (world : World ℕ) (filesystems : List (Filesystem ℕ)) (new : Copies
 
   -- what is pushed up keeps all but its place
   push_keeps : {A : Type 0} (part : Mount ℕ → A) → ((mount : Mount ℕ) (at : Option (Location ℕ))
-      → part (record mount { mount_point = at }) ≡ part mount)
-      → (mount : Mount ℕ) → part (push mount) ≡ part mount
+      → part (record mount { mount_point = at }) ≡ part mount) → (mount : Mount ℕ) → part (push mount) ≡ part mount
   push_keeps part same mount = grind (arith, common_steps)
 
   -- where it is pushed up, the first copy has its place
-  pushed : (mount : Mount ℕ) → (push mount ≡ mount)
-      ⊎ ((part : Mount ℕ) × Among part (rest_of parts) ×
+  pushed : (mount : Mount ℕ) → (push mount ≡ mount) ⊎ ((part : Mount ℕ) × Among part (rest_of parts) ×
       (mount.mount_point ≡ Some (record { mount = part.number; node = place.node })))
   pushed mount = by (receiver_stood_on nat_eq tree parts mount) refl
     where
       stands : (part : Mount ℕ) (at : Option (Location ℕ)) → mount.mount_point ≡ at
           → stands_at nat_eq (record { mount = part.number; node = place.node }) mount ≡ true
           → mount.mount_point ≡ Some (record { mount = part.number; node = place.node })
-      stands part None e h = absurd (true≢false
-          (sym h ∙ ap (holds_of (λ l. nat_eq part.number l.mount && nat_eq place.node l.node)) e))
-      stands part (Some at) e h =
-          e ∙ ap Some (sym (same_location_is (record { mount = part.number; node = place.node }) at
-          (sym (ap (holds_of (λ l. nat_eq part.number l.mount && nat_eq place.node l.node)) e) ∙ h)))
+      stands part None e h = grind (arith, common_steps, true≢false)
+      stands part (Some at) e h = grind (arith, common_steps, same_location_is)
 
-      by : (below : Option (Mount ℕ)) → receiver_stood_on nat_eq tree parts mount ≡ below
-          → (push mount ≡ mount)
+      by : (below : Option (Mount ℕ)) → receiver_stood_on nat_eq tree parts mount ≡ below → (push mount ≡ mount)
           ⊎ ((part : Mount ℕ) × Among part (rest_of parts) ×
           (mount.mount_point ≡ Some (record { mount = part.number; node = place.node })))
       by None e = inl (ap (pushed_onto nat_eq base new tree parts mount) e)
@@ -243,8 +227,7 @@ module _ (world : World ℕ) (filesystems : List (Filesystem ℕ)) (new : Copies
 
   first_copy : (part : Mount ℕ) → (copy part first).mount_point
       ≡ Some (record { mount = part.number; node = place.node })
-  first_copy part =
-      ap (λ b. Some (cond b (record { mount = part.number; node = place.node })
+  first_copy part = ap (λ b. Some (cond b (record { mount = part.number; node = place.node })
       (unwrap_or (option_map (mount_point_on_copy nat_eq new tree part.number) first.mount_point) place)))
       (eq-eqb first.number first.number refl)
 
@@ -266,41 +249,14 @@ module _ (world : World ℕ) (filesystems : List (Filesystem ℕ)) (new : Copies
 
   -- in use still
   last_lives : (mount : Mount ℕ) → Among mount world.mounts → mount_lives nat_eq after (last mount) ≡ true
-  last_lives mount m =
-      ap (λ n. n || is_located nat_eq world (last mount).number)
-      (push_keeps (λ x. is_some x.namespace) (λ x at. refl) (went mount))
-      ∙ ap (λ n. is_some (went mount).namespace || is_located nat_eq world n) (last_number mount m)
-      ∙ by (went_is mount m)
-    where
-      by : Went mount → (is_some (went mount).namespace || is_located nat_eq world mount.number) ≡ true
-      by (stayed e none) =
-          ap (λ (x : Mount ℕ). is_some x.namespace || is_located nat_eq world mount.number) e
-          ∙ passes (mount_lives nat_eq world) world.mounts in_use.mounts mount m
-      by (moved b n e) =
-          ap (λ (x : Mount ℕ). is_some x.namespace || is_located nat_eq world mount.number) e
-          ∙ or_first (is_some destination.namespace) (is_located nat_eq world mount.number) at_attached
+  last_lives mount m = grind (arith, common_steps, push_keeps, last_number, went_is, passes, or_first)
 
   all_live : (x : Mount ℕ) → Among x after.mounts → mount_lives nat_eq after x ≡ true
   all_live x m = grind (arith, common_steps, comes x m, last_lives)
 
   last_nowhere : (mount : Mount ℕ) → Among mount world.mounts → is_nowhere_or_attached (last mount) ≡ true
-  last_nowhere mount m = by (is_some mount.namespace) refl (went_is mount m)
-    where
-      at_a_namespace : is_some (went mount).namespace ≡ true → is_nowhere_or_attached (last mount) ≡ true
-      at_a_namespace e = or_first (is_some (last mount).namespace) _
-          (push_keeps (λ x. is_some x.namespace) (λ x at. refl) (went mount) ∙ e)
-
-      by : (b : Bool) → is_some mount.namespace ≡ b → Went mount → is_nowhere_or_attached (last mount) ≡ true
-      by b f (moved g n e) = at_a_namespace (ap (λ (x : Mount ℕ). is_some x.namespace) e ∙ at_attached)
-      by true f (stayed e none) = at_a_namespace (ap (λ (x : Mount ℕ). is_some x.namespace) e ∙ f)
-      by false f (stayed e none) =
-          let was : is_nowhere_or_attached mount ≡ true =
-          passes is_nowhere_or_attached world.mounts stand.nowhere mount m in
-          ap (λ x. is_nowhere_or_attached (push x)) e
-          ∙ ⊎_elim
-          (λ same. ap is_nowhere_or_attached same ∙ was)
-          (λ up. absurd (true≢false (sym (ap is_some up.2) ∙ (nowhere_parts mount was f).0)))
-          (pushed mount)
+  last_nowhere mount m =
+      grind (arith, common_steps, went_is, or_first, push_keeps, passes, true≢false, nowhere_parts, pushed)
 
   all_nowhere : list_all is_nowhere_or_attached after.mounts ≡ true
   all_nowhere = all_pass is_nowhere_or_attached after.mounts (λ x m. by x (comes x m))
@@ -317,10 +273,8 @@ module _ (world : World ℕ) (filesystems : List (Filesystem ℕ)) (new : Copies
       → is_among nat_eq number (map (λ x. x.number) mounts) ≡ true
       → (mount_in nat_eq (map last mounts ++ others) number).filesystem ≡ (mount_in nat_eq mounts number).filesystem
   found_changed [] others number sub h = absurd (true≢false (sym h))
-  found_changed (one ∷ mounts) others number sub h =
-      ap (λ n. (unwrap_or (cond (nat_eq number n) (Some (last one))
-      (find (λ x. nat_eq number x.number) (map last mounts ++ others)))
-      (no_mount number)).filesystem)
+  found_changed (one ∷ mounts) others number sub h = ap (λ n. (unwrap_or (cond (nat_eq number n) (Some (last one))
+      (find (λ x. nat_eq number x.number) (map last mounts ++ others))) (no_mount number)).filesystem)
       (last_number one (sub one (inl refl)))
       ∙ by (nat_eq number one.number) h (found_changed mounts others number (λ x m. sub x (inr m)))
     where
@@ -336,8 +290,7 @@ module _ (world : World ℕ) (filesystems : List (Filesystem ℕ)) (new : Copies
 
   shown_still : (location : Location ℕ) → Among location (places_of world)
       → (mount_at nat_eq after location).filesystem ≡ (mount_at nat_eq world location).filesystem
-  shown_still location m =
-      ap (λ old. (mount_in nat_eq (mounts_by old) location.mount).filesystem) old_mounts
+  shown_still location m = ap (λ old. (mount_in nat_eq (mounts_by old) location.mount).filesystem) old_mounts
       ∙ ap (λ list. (mount_in nat_eq list location.mount).filesystem)
       (append_assoc (map last world.mounts) (added_mounts moves (copies destination)) (flat_map copies (rest_of parts)))
       ∙ found_changed world.mounts more location.mount (λ x n. n) (places_stand world stand located_well location m)
@@ -359,20 +312,14 @@ module _ (world : World ℕ) (filesystems : List (Filesystem ℕ)) (new : Copies
 
   place_still : (mount : Mount ℕ) → Among mount world.mounts → (at : Location ℕ) → mount.mount_point ≡ Some at
       → StillAPlace after.mounts [] at ⊎ Among at (left_by moves)
-  place_still mount m at e =
-      ⊎_elim
-      (λ there. inl (⊎_elim
-      (λ same. (last mount, (old_there mount m, (ap (λ (x : Mount ℕ). x.mount_point) same ∙ there, inl refl))))
-      (λ up. (
+  place_still mount m at e = ⊎_elim (λ there. inl (⊎_elim
+      (λ same. (last mount, (old_there mount m, (ap (λ (x : Mount ℕ). x.mount_point) same ∙ there, inl refl)))) (λ up. (
         copy up.0 first,
         (
           copy_at_receiver up.0 (copy up.0 first) up.1 (copy_there up.0 first (inl refl)),
           (first_copy up.0 ∙ sym up.2 ∙ there, inl refl),
         ),
-      ))
-      (pushed (went mount))))
-      inr
-      (place_went mount m at e)
+      )) (pushed (went mount)))) inr (place_went mount m at e)
 
   pub attached_loses : Loses world after [] (left_by moves)
   attached_loses = record {
@@ -393,18 +340,10 @@ module _ (world : World ℕ) (filesystems : List (Filesystem ℕ)) (new : Copies
   -- the first is shown at the destination
   pub first_shown : moves ≡ false → (x : Mount ℕ)
       × (Among x after.mounts × ((mount_lives nat_eq after x ≡ true) × (x.filesystem ≡ first.filesystem)))
-  first_shown e =
-      (copy destination first, (there, (all_live (copy destination first) there, refl)))
+  first_shown e = (copy destination first, (there, (all_live (copy destination first) there, refl)))
     where
       there : Among (copy destination first) after.mounts
-      there =
-          among-append_left (map push (with_moved_mounts nat_eq moves world.mounts (copies destination))
-          ++ added_mounts moves (copies destination))
-          (flat_map copies (rest_of parts)) (copy destination first)
-          (among-append_right (map push (with_moved_mounts nat_eq moves world.mounts (copies destination)))
-          (added_mounts moves (copies destination)) (copy destination first)
-          (subst (λ b. Among (copy destination first) (added_mounts b (copies destination))) (sym e)
-          (copy_there destination first (inl refl))))
+      there = grind (arith, common_steps, among-append_left, among-append_right, copy_there)
 
   -- Groups
 
@@ -417,21 +356,17 @@ module _ (world : World ℕ) (filesystems : List (Filesystem ℕ)) (new : Copies
   -- what a copy is, some mount is afterwards
   copy_stands : (part origin : Mount ℕ) → Among part parts → Among origin origins
       → (x : Mount ℕ) × Among x after.mounts × (x.propagation ≡ (copy part origin).propagation)
-  copy_stands part origin m n =
-      ⊎_elim
+  copy_stands part origin m n = ⊎_elim
       (λ here. subst (λ p. (x : Mount ℕ) × Among x after.mounts × (x.propagation ≡ (copy p origin).propagation))
-      (sym here)
-      (at_destination moves refl))
-      (λ there. (copy part origin, copy_at_receiver part (copy part origin) there (copy_there part origin n), refl))
-      m
+      (sym here) (at_destination moves refl))
+      (λ there. (copy part origin, copy_at_receiver part (copy part origin) there (copy_there part origin n), refl)) m
     where
       at_destination : (b : Bool) → moves ≡ b → (x : Mount ℕ) × Among x after.mounts
           × (x.propagation ≡ (copy destination origin).propagation)
       at_destination false e = (
         copy destination origin,
         among-append_left (map push (with_moved_mounts nat_eq moves world.mounts (copies destination))
-            ++ added_mounts moves (copies destination))
-            (flat_map copies (rest_of parts)) (copy destination origin)
+            ++ added_mounts moves (copies destination)) (flat_map copies (rest_of parts)) (copy destination origin)
             (among-append_right (map push (with_moved_mounts nat_eq moves world.mounts (copies destination)))
             (added_mounts moves (copies destination)) (copy destination origin)
             (subst (λ b. Among (copy destination origin) (added_mounts b (copies destination))) (sym e)
@@ -461,8 +396,7 @@ module _ (world : World ℕ) (filesystems : List (Filesystem ℕ)) (new : Copies
       ∙ ap (holds_of (nat_eq group)) f ∙ same
 
   pub attached_groups : GroupsInUse after
-  attached_groups group none =
-      masters_stay (all_groups_made nat_eq base new tree parts) world.master group
+  attached_groups group none = masters_stay (all_groups_made nat_eq base new tree parts) world.master group
       (λ made m. false_from_ne_true (nat_eq group made.0) (λ same.
       let part = among-from_flat_map
       (λ p. filter_map (group_made nat_eq base new tree parts p) tree.twigs) parts made m in
@@ -472,8 +406,7 @@ module _ (world : World ℕ) (filesystems : List (Filesystem ℕ)) (new : Copies
       let its = made_has_it part.0 origin.0 made
       (ap (group_made nat_eq base new tree parts part.0) (sym origin.2) ∙ t.2) in
       true≢false (sym (any_passes (is_member_of nat_eq group) after.mounts stands.0 stands.1
-      (is_its_member stands.0 origin.0 part.0 group made.0 stands.2 its same)) ∙ none)))
-      ∙ in_use.groups group
+      (is_its_member stands.0 origin.0 part.0 group made.0 stands.2 its same)) ∙ none))) ∙ in_use.groups group
       (none_passes (is_member_of nat_eq group) world.mounts (λ mount m.
       false_from_ne_true (is_member_of nat_eq group mount) (λ is.
       true≢false (sym (any_passes (is_member_of nat_eq group) after.mounts (last mount) (old_there mount m)

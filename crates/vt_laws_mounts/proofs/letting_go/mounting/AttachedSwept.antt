@@ -29,8 +29,7 @@ of_tree world number is depth mount m =
 
 -- a tree of copies, of mounts that show filesystems of the world or a new one
 copies_with : (world : World ℕ) (filesystems : List (Filesystem ℕ)) (new : Copies ℕ) (place : Location ℕ)
-    (first : Mount ℕ)
-    (rest : List (Mount ℕ))
+    (first : Mount ℕ) (rest : List (Mount ℕ))
     → AllInUse world → MountsStand world → LocationsStand world → is_attached world place.mount ≡ true
     → Comes world (attached_by nat_eq (record world { filesystems = filesystems }) new place false (first ∷ rest))
     → settled nat_eq (attached_by nat_eq (record world { filesystems = filesystems }) new place false (first ∷ rest))
@@ -40,8 +39,7 @@ copies_with world filesystems new place first rest in_use stand located at_attac
     (attached_loses world filesystems new place false first rest in_use stand located at_attached
     (λ e. absurd (true≢false (sym e))))
     (attached_groups world filesystems new place false first rest in_use stand located at_attached
-    (λ e. absurd (true≢false (sym e))))
-    come
+    (λ e. absurd (true≢false (sym e)))) come
   where
     after : World ℕ
     after = attached_by nat_eq (record world { filesystems = filesystems }) new place false (first ∷ rest)
@@ -54,13 +52,10 @@ copies_keep_all world new place first rest in_use stand located at_attached =
 pub binds_keep_all : BindsKeepAll
 binds_keep_all fresh world task source place false in_use stand located at_attached =
     copies_keep_all world (copies_from nat_eq fresh (parts_of nat_eq world place)
-    (bind_tree nat_eq world source false)) place
-    (bound nat_eq world source) []
-    in_use stand located at_attached
+    (bind_tree nat_eq world source false)) place (bound nat_eq world source) [] in_use stand located at_attached
 binds_keep_all fresh world task source place true in_use stand located at_attached =
     copies_keep_all world (copies_from nat_eq fresh (parts_of nat_eq world place)
-    (bind_tree nat_eq world source true)) place
-    (bound nat_eq world source)
+    (bind_tree nat_eq world source true)) place (bound nat_eq world source)
     (flat_map (bindable_tree nat_eq (length world.mounts) world.mounts)
     (filter (stands_under nat_eq world source) (bindable_children nat_eq world.mounts source.mount)))
     in_use stand located at_attached
@@ -70,20 +65,10 @@ new_filesystems_keep_all fresh world place filesystem flags in_use stand located
     copies_with world (world.filesystems ++ (filesystem ∷ [])) new place mount [] in_use stand located at_attached
     (record {
       kept = λ f m. among-append_left world.filesystems (filesystem ∷ []) f m;
-      new = λ f m. ⊎_elim inl
-          (λ last. ⊎_elim
-          (λ same. inr (subst (IsNew after) (sym same) (
-            shown.0,
-            (
-              shown.1.0,
-              (
-                shown.1.1.0,
-                (eq-eqb filesystem.number shown.0.filesystem (sym shown.1.1.1), named),
-              ),
-            ),
-          )))
-          (λ none. absurd none) last)
-          (among-append world.filesystems (filesystem ∷ []) f m);
+      new = λ f m. ⊎_elim inl (λ last. ⊎_elim (λ same. inr (subst (IsNew after) (sym same) (
+        shown.0,
+        (shown.1.0, (shown.1.1.0, (eq-eqb filesystem.number shown.0.filesystem (sym shown.1.1.1), named))),
+      ))) (λ none. absurd none) last) (among-append world.filesystems (filesystem ∷ []) f m);
     })
   where
     mount : Mount ℕ
@@ -118,8 +103,7 @@ moved_trees_let_go world new place first rest settles located at_attached of_wor
     losers_go world after.mounts after.master world.namespaces world.tasks []
     (option_to_list first.mount_point) [] settles
     (attached_loses world world.filesystems new place true first rest settles.in_use settles.mounts located at_attached
-    its)
-    (λ group among none.
+    its) (λ group among none.
     attached_groups world world.filesystems new place true first rest settles.in_use settles.mounts located
     at_attached its group none)
   where
@@ -137,8 +121,7 @@ moves_let_go fresh world task number place settles located at_attached is = by (
     mount = mount_numbered nat_eq world number
 
     all_of_world : (depth : ℕ) → All (Contains world.mounts) (tree_from nat_eq depth world.mounts mount)
-    all_of_world depth =
-        all_from_among (Contains world.mounts) (tree_from nat_eq depth world.mounts mount) (λ x m.
+    all_of_world depth = all_from_among (Contains world.mounts) (tree_from nat_eq depth world.mounts mount) (λ x m.
         contains_from_among world.mounts x (of_tree world number is depth x m))
 
     new : List (Mount ℕ) → Copies ℕ
@@ -148,8 +131,6 @@ moves_let_go fresh world task number place settles located at_attached is = by (
         ≡ let_go_inodes (attach nat_eq world fresh place true (tree_from nat_eq depth world.mounts mount))
         (inodes_of_mount_point world mount)
     by zero = moved_trees_let_go world (new (mount ∷ [])) place mount [] settles located at_attached (all_of_world zero)
-    by (suc depth) =
-        moved_trees_let_go world (new (tree_from nat_eq (suc depth) world.mounts mount)) place mount
+    by (suc depth) = moved_trees_let_go world (new (tree_from nat_eq (suc depth) world.mounts mount)) place mount
         (flat_map (tree_from nat_eq depth world.mounts)
-        (children nat_eq world.mounts mount.number)) settles located at_attached
-        (all_of_world (suc depth))
+        (children nat_eq world.mounts mount.number)) settles located at_attached (all_of_world (suc depth))

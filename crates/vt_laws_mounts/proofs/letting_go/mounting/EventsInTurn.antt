@@ -1,18 +1,17 @@
 -- Unmount events in a world that was swept before, or that was not.
 use Rattle.std.proofs.lemmas.Grind.{common_steps}
-use Rattle.std.proofs.Common.{◌≡◌, refl, sym, ap, subst, ◌∙◌, inl, inr, ⊎_elim, ℕ, nat_eq, Bool, true, false, true≢false, cond, List, [], ◌∷◌, filter, find, length, map, Option, Some, None, is_some, unwrap_or, arith}
-use Rattle.std.specs.Prelude.{filter_map}
-use Rattle.std.proofs.lemmas.Bool.{cases_Bool}
+use Rattle.std.proofs.Common.{◌≡◌, refl, sym, ap, subst, ◌∙◌, ⊎_elim, ℕ, nat_eq, Bool, true, false, true≢false, cond, List, [], ◌∷◌, filter, find, length, map, Option, Some, None, is_some, arith}
+use Rattle.std.proofs.lemmas.Bool.{cases_Bool, or_parts}
 use Rattle.std.proofs.lemmas.List.{length-map}
 use Rattle.vt_spec.specs.Lists.{holds_of, is_among}
 use Rattle.vt_spec.specs.Machine.Attach.{receivers_of}
 use Rattle.vt_spec.specs.Machine.Detach.{going, going_at, going_from, goes_at, taken_away, unmounted, unmounted_if_there}
 use Rattle.vt_spec.specs.Machine.Invariants.{HasLivingGroups, MountInvariants, is_nowhere_or_attached, is_private}
-use Rattle.vt_spec.specs.Machine.Mounts.{Location, Mount, Propagation, child_at, children, group_of, mount_in, source_of, stands_at, stands_on}
+use Rattle.vt_spec.specs.Machine.Mounts.{Location, Mount, Propagation, child_at, children, mount_in, source_of, stands_at, stands_on}
 use Rattle.vt_spec.specs.Machine.Mounts.Propagation.{Private, Shared, Slave, Unbindable}
 use Rattle.vt_spec.specs.Machine.Receives.{groups_up, receivers, receives}
 use Rattle.vt_spec.specs.Machine.Settled.{is_located, mount_lives, settled}
-use Rattle.vt_spec.specs.Machine.World.{World, mount_at, mount_numbered}
+use Rattle.vt_spec.specs.Machine.World.{World, mount_numbered}
 use Rattle.vt_spec.proofs.Found.{filter_alike}
 use Rattle.vt_spec.proofs.Options.{none_from_not_some}
 use Rattle.vt_spec.proofs.Worlds.{filesystems-taken_away, found_or_none, number-mount_in}
@@ -25,31 +24,21 @@ use Rattle.vt_laws_mounts.proofs.letting_go.leaving.PlacesLeft.{found_is_there, 
 use Rattle.vt_laws_mounts.proofs.letting_go.mounting.MountsSwept.{IsAttached, LivesIn, first_mounts, groups_there, mounts_stand, of_world, same_found, shorter, unused_private, way_up}
 use Rattle.vt_laws_mounts.proofs.letting_go.mounting.TakenInTurn.{one_sweep_for_mounts_with_overlays, one_sweep_in_turn}
 use Rattle.vt_laws_mounts.proofs.letting_go.sweeps.InUse.{one_sweep_is_enough}
-use Rattle.std.proofs.lemmas.Bool.{or_parts}
 
 -- A search that passes over what another test skips finds the same.
 module _ {A : Type 0} (p q : A → Bool) where
-  find_less : (xs : List A) → ((x : A) → Among x xs → q x ≡ false → p x ≡ false)
-      → find p (filter q xs) ≡ find p xs
+  find_less : (xs : List A) → ((x : A) → Among x xs → q x ≡ false → p x ≡ false) → find p (filter q xs) ≡ find p xs
   find_less [] h = refl
-  find_less (y ∷ ys) h = by (q y) refl (find_less ys (λ x m. h x (inr m)))
-    where
-      by : (b : Bool) → q y ≡ b → find p (filter q ys) ≡ find p ys
-          → find p (cond b (y ∷ filter q ys) (filter q ys)) ≡ find p (y ∷ ys)
-      by true e later = ap (λ l. cond (p y) (Some y) l) later
-      by false e later = later ∙ ap (λ b. cond b (Some y) (find p ys)) (sym (h y (inl refl) e))
+  find_less (y ∷ ys) h = grind (arith, common_steps, find_less ys)
 
 -- a mount outside every namespace that is looked for has no mount point
 no_point_outside : (mounts : List (Mount ℕ)) → ((mount : Mount ℕ) → Among mount mounts
-    → is_nowhere_or_attached mount ≡ true)
-    → (number : ℕ) → is_some (mount_in nat_eq mounts number).namespace ≡ false
+    → is_nowhere_or_attached mount ≡ true) → (number : ℕ) → is_some (mount_in nat_eq mounts number).namespace ≡ false
     → (mount_in nat_eq mounts number).mount_point ≡ None
-no_point_outside mounts nowhere number e =
-    ⊎_elim
+no_point_outside mounts nowhere number e = ⊎_elim
     (λ there. none_from_not_some (mount_in nat_eq mounts number).mount_point
     (nowhere_parts (mount_in nat_eq mounts number) (nowhere (mount_in nat_eq mounts number) there) e).0)
-    (λ none. ap (λ (x : Mount ℕ). x.mount_point) none)
-    (found_or_none mounts number)
+    (λ none. ap (λ (x : Mount ℕ). x.mount_point) none) (found_or_none mounts number)
 
 module _ (world : World ℕ) (kept : MountInvariants nat_eq world) where
   abbrev swept : World ℕ
@@ -65,20 +54,16 @@ module _ (world : World ℕ) (kept : MountInvariants nat_eq world) where
   nowhere mount m = passes is_nowhere_or_attached world.mounts kept.nowhere mount m
 
   unused_nowhere : (mount : Mount ℕ) → Among mount world.mounts → lives mount ≡ false → mount.mount_point ≡ None
-  unused_nowhere mount m dead =
-      none_from_not_some mount.mount_point
-      (nowhere_parts mount (nowhere mount m)
+  unused_nowhere mount m dead = none_from_not_some mount.mount_point (nowhere_parts mount (nowhere mount m)
       (or_parts (is_some mount.namespace) (is_located nat_eq world mount.number) dead).0).0
 
   -- Children
   same_children : (number : ℕ) → children nat_eq mounts_left number ≡ children nat_eq world.mounts number
-  same_children number =
-      filter_less (stands_on nat_eq number) lives world.mounts
+  same_children number = filter_less (stands_on nat_eq number) lives world.mounts
       (λ mount m dead. ap (holds_of (λ (l : Location ℕ). nat_eq number l.mount)) (unused_nowhere mount m dead))
 
   same_child : (location : Location ℕ) → child_at nat_eq mounts_left location ≡ child_at nat_eq world.mounts location
-  same_child location =
-      find_less (stands_at nat_eq location) lives world.mounts
+  same_child location = find_less (stands_at nat_eq location) lives world.mounts
       (λ mount m dead. ap (λ o. stands_at nat_eq location (record mount { mount_point = o }))
       (unused_nowhere mount m dead))
 
@@ -88,12 +73,7 @@ module _ (world : World ℕ) (kept : MountInvariants nat_eq world) where
 
   -- Receivers
   same_groups : (source : ℕ) → LivesIn world kept source → groups_up swept source ≡ groups_up world source
-  same_groups source life =
-      let many : length (groups_there world kept) ≡ length mounts_left =
-      length-map mounts_left (λ (mount : Mount ℕ). unwrap_or (group_of mount.propagation) 0) in
-      sym (chains_alike world.master swept.master (λ (g : ℕ). g) (groups_there world kept)
-      (λ a b e. ap world.master e) (length world.mounts) (length mounts_left) source (way_up world kept source life)
-      (omega (arith, many, shorter world kept)) (omega (arith, many)))
+  same_groups source life = grind (arith, common_steps, groups_there, length-map, chains_alike, way_up, shorter)
 
   receives_alike : (group : ℕ) (mount : Mount ℕ) → Among mount world.mounts
       → receives nat_eq swept group mount ≡ receives nat_eq world group mount
@@ -103,13 +83,11 @@ module _ (world : World ℕ) (kept : MountInvariants nat_eq world) where
           → holds_of (λ source. is_among nat_eq group (groups_up swept source)) o
           ≡ holds_of (λ source. is_among nat_eq group (groups_up world source)) o
       by None e = refl
-      by (Some source) e =
-          ap (is_among nat_eq group) (same_groups source
+      by (Some source) e = ap (is_among nat_eq group) (same_groups source
           (among_from_all (HasLivingGroups nat_eq world) world.mounts kept.groups mount m source e))
 
   same_receivers : (group : ℕ) → receivers nat_eq swept group ≡ receivers nat_eq world group
-  same_receivers group =
-      filter_alike (receives nat_eq swept group) (receives nat_eq world group) mounts_left
+  same_receivers group = filter_alike (receives nat_eq swept group) (receives nat_eq world group) mounts_left
       (λ mount m. receives_alike group mount (of_world world kept mount m))
       ∙ filter_less (receives nat_eq world group) lives world.mounts
       (λ mount m dead. none mount.propagation (unused_private world kept mount m dead))
@@ -128,10 +106,7 @@ module _ (world : World ℕ) (kept : MountInvariants nat_eq world) where
   goes_from_alike : (mount : Mount ℕ) (place : Location ℕ) → IsAttached world kept place.mount → (shared : Bool)
       → going_from nat_eq swept mount place shared ≡ going_from nat_eq world mount place shared
   goes_from_alike mount place attached false = refl
-  goes_from_alike mount place attached true =
-      λ i. map (λ (gone : Mount ℕ). gone.number) (filter_map (λ receiver. goes_alike place.node receiver i)
-      ((ap (receivers_of nat_eq swept) (same_found world kept place.mount attached)
-      ∙ same_receivers_of (mount_at nat_eq world place)) i))
+  goes_from_alike mount place attached true = grind (arith, common_steps, goes_alike, same_found, same_receivers_of)
 
   goes_alike_at : (mount : Mount ℕ)
       → ((place : Location ℕ) → mount.mount_point ≡ Some place → IsAttached world kept place.mount)
@@ -146,9 +121,7 @@ module _ (world : World ℕ) (kept : MountInvariants nat_eq world) where
           → is_some (mount_in nat_eq mounts_left number).namespace
           ≡ is_some (mount_numbered nat_eq world number).namespace
       by true e = ap (λ (x : Mount ℕ). is_some x.namespace) (same_found world kept number e)
-      by false e =
-          ⊎_elim
-          (λ is.
+      by false e = ⊎_elim (λ is.
           let found = mount_in nat_eq mounts_left number in
           let itself = found_itself world.mounts kept.one_number found
           (of_world world kept found (found_is_there mounts_left number is)) in
@@ -165,8 +138,7 @@ module _ (world : World ℕ) (kept : MountInvariants nat_eq world) where
           ≡ going nat_eq world (mount_numbered nat_eq world number)
       by true e =
           let mount = mount_numbered nat_eq world number in
-          ap (going nat_eq swept) (same_found world kept number e)
-          ∙ goes_alike_at mount (λ place p.
+          ap (going nat_eq swept) (same_found world kept number e) ∙ goes_alike_at mount (λ place p.
           place_attached world (mounts_stand world kept) mount (found_is_there world.mounts number e) place p)
       by false e =
           let left = mount_numbered nat_eq swept number in
@@ -191,14 +163,12 @@ one_sweep_for_events_with_overlays world mount trees uppers reals kept afterward
         ap (λ b. settled nat_eq (cond b (unmounted nat_eq (settled nat_eq world) mount.number) (settled nat_eq world)))
         (attached_alike world kept mount.number ∙ e)
         ∙ ap (λ numbers. settled nat_eq (taken_away nat_eq (settled nat_eq world) numbers))
-        (same_going world kept mount.number)
-        ∙ one_sweep_for_mounts_with_overlays world gone trees uppers reals kept
+        (same_going world kept mount.number) ∙ one_sweep_for_mounts_with_overlays world gone trees uppers reals kept
         (subst (λ b. MountsStand (cond b (unmounted nat_eq world mount.number) world)) e afterwards)
         ∙ sym (ap (λ b. settled nat_eq (cond b (unmounted nat_eq world mount.number) world)) e)
     by false e =
         ap (λ b. settled nat_eq (cond b (unmounted nat_eq (settled nat_eq world) mount.number) (settled nat_eq world)))
-        (attached_alike world kept mount.number ∙ e)
-        ∙ one_sweep_is_enough world trees uppers
+        (attached_alike world kept mount.number ∙ e) ∙ one_sweep_is_enough world trees uppers
         ∙ sym (ap (λ b. settled nat_eq (cond b (unmounted nat_eq world mount.number) world)) e)
 
 pub one_sweep_for_events : OneSweepForEvents
@@ -213,11 +183,9 @@ filesystems-event world mount = grind (arith, common_steps, filesystems-taken_aw
 
 pub one_sweep_for_all_events_with_overlays : OneSweepForAllEventsWithOverlays
 one_sweep_for_all_events_with_overlays world mounts trees uppers reals kept =
-    one_sweep_in_turn (unmounted_if_there nat_eq) filesystems-event
-    (λ now mount t u r before after.
+    one_sweep_in_turn (unmounted_if_there nat_eq) filesystems-event (λ now mount t u r before after.
     one_sweep_for_events_with_overlays now mount t u r before
-    (mounts_stand (unmounted_if_there nat_eq now mount) after))
-    world mounts trees uppers reals kept
+    (mounts_stand (unmounted_if_there nat_eq now mount) after)) world mounts trees uppers reals kept
 
 pub one_sweep_for_all_events : OneSweepForAllEvents
 one_sweep_for_all_events world mounts plain trees kept =

@@ -1,5 +1,6 @@
 -- Which things may have lost a use after a change of mounts and tasks.
-use Rattle.std.proofs.Common.{◌≡◌, refl, sym, ap, subst, ◌∙◌, ◌⊎◌, inl, inr, ⊎_elim, ℕ, nat_eq, eqb-true, eq-eqb, Bool, true, false, ◌||◌, ◌&&◌, List, filter, map, true≢false, flat_map, ◌++◌, Option, Some, is_some}
+use Rattle.std.proofs.Common.{arith, ◌≡◌, refl, sym, ap, subst, ◌∙◌, ◌⊎◌, inl, inr, ⊎_elim, ℕ, nat_eq, eqb-true, eq-eqb, Bool, true, false, ◌||◌, ◌&&◌, List, filter, map, true≢false, flat_map, ◌++◌, Option, Some, is_some}
+use Rattle.std.proofs.lemmas.Grind.{common_steps}
 use Rattle.std.specs.Prelude.{filter_map}
 use Rattle.std.specs.List.{list_all}
 use Rattle.std.proofs.lemmas.Bool.{or_cases, or_parts, cases_Bool}
@@ -30,14 +31,11 @@ places_of world = all_locations world ++ map root_of world.mounts
 pub places_stand : (world : World ℕ) → MountsStand world → LocationsStand world → (location : Location ℕ)
     → Among location (places_of world)
     → is_among nat_eq location.mount (map (λ mount. mount.number) world.mounts) ≡ true
-places_stand world stand located_well location m =
-    ⊎_elim
-    (λ front. ⊎_elim
+places_stand world stand located_well location m = ⊎_elim (λ front. ⊎_elim
     (λ at. passes (λ l. is_among nat_eq l.mount numbers) (all_locations world) located_well location at)
     (λ root. let t = among-from_map root_of world.mounts location root in
     ap (λ l. is_among nat_eq l.mount numbers) t.2 ∙ numbered t.0 t.1)
-    (among-append (all_locations world) (map root_of world.mounts) location front))
-    (λ at.
+    (among-append (all_locations world) (map root_of world.mounts) location front)) (λ at.
     let t = among-from_filter_map (λ x. x.mount_point) world.mounts location at in
     let on = place_attached world stand t.0 t.1 location t.2 in
     ap (λ n. is_among nat_eq n numbers) (sym (number-mount_in world.mounts location.mount))
@@ -59,10 +57,8 @@ Image mounts mount = (image : Mount ℕ)
 
 -- the mounts of a number are none of those that may go, or in a namespace
 abbrev pub Stays : List (Mount ℕ) → List ℕ → ℕ → Type 0
-Stays mounts gone number =
-    (is_among nat_eq number gone ≡ false)
-    ⊎ ((mount : Mount ℕ) → Among mount mounts → mount.number ≡ number → is_some mount.namespace
-    ≡ true)
+Stays mounts gone number = (is_among nat_eq number gone ≡ false)
+    ⊎ ((mount : Mount ℕ) → Among mount mounts → mount.number ≡ number → is_some mount.namespace ≡ true)
 
 -- a place that a mount in use has still, on a mount that stays
 abbrev pub StillAPlace : List (Mount ℕ) → List ℕ → Location ℕ → Type 0
@@ -88,8 +84,7 @@ StillALocation after gone location = Among location (all_locations after) ⊎ Is
 
 -- a new filesystem, which a mount in use shows, and of which each inode is the root or has a name
 abbrev pub IsNew : World ℕ → Filesystem ℕ → Type 0
-IsNew after filesystem =
-    (mount : Mount ℕ) × (Among mount after.mounts × ((mount_lives nat_eq after mount ≡ true)
+IsNew after filesystem = (mount : Mount ℕ) × (Among mount after.mounts × ((mount_lives nat_eq after mount ≡ true)
     × ((nat_eq filesystem.number mount.filesystem ≡ true) × (has_only_named filesystem ≡ true))))
 
 -- what was there is there, and what is new is shown
@@ -112,8 +107,7 @@ pub record Loses (world after : World ℕ) (gone : List ℕ) (left : List (Locat
 
 module _ (world : World ℕ) (mounts : List (Mount ℕ)) (master : ℕ → Option ℕ) (filesystems : List (Filesystem ℕ))
     (namespaces : List (Namespace ℕ)) (tasks : List (Task ℕ)) (gone : List ℕ) (left : List (Location ℕ))
-    (groups : List ℕ)
-    (in_use : AllInUse world) (stand : MountsStand world)
+    (groups : List ℕ) (in_use : AllInUse world) (stand : MountsStand world)
     (loses : Loses world (changed_with world mounts master filesystems namespaces tasks) gone left)
     (hears : GroupsInUseBut groups (changed_with world mounts master filesystems namespaces tasks))
     (come : Comes world (changed_with world mounts master filesystems namespaces tasks)) where
@@ -136,8 +130,7 @@ module _ (world : World ℕ) (mounts : List (Mount ℕ)) (master : ℕ → Optio
   found_mount mount m = found_itself world.mounts stand.one_number mount m
 
   pub mounts_but : MountsInUseBut gone after
-  mounts_but =
-      all_pass (λ mount. is_among nat_eq mount.number gone || mount_lives nat_eq after mount) mounts
+  mounts_but = all_pass (λ mount. is_among nat_eq mount.number gone || mount_lives nat_eq after mount) mounts
       (λ mount m. ⊎_elim (λ is. or_first (is_among nat_eq mount.number gone) (mount_lives nat_eq after mount) is)
       (λ isnt. or_second (is_among nat_eq mount.number gone) (mount_lives nat_eq after mount) (loses.live mount m isnt))
       (cases_Bool (is_among nat_eq mount.number gone)))
@@ -151,35 +144,28 @@ module _ (world : World ℕ) (mounts : List (Mount ℕ)) (master : ℕ → Optio
   -- a filesystem that a mount in use shows is mounted
   pub shown_is_mounted : (number : ℕ) (mount : Mount ℕ) → Among mount mounts → mount_lives nat_eq after mount ≡ true
       → nat_eq number mount.filesystem ≡ true → is_mounted nat_eq mounted number ≡ true
-  shown_is_mounted number mount m lives shows =
-      any_passes (λ x. nat_eq number x.filesystem) mounted.mounts mount
+  shown_is_mounted number mount m lives shows = any_passes (λ x. nat_eq number x.filesystem) mounted.mounts mount
       (among-filter (mount_lives nat_eq after) mounts mount m lives) shows
 
   -- one that was mounted is, or a mount of it may go
-  pub still_mounted : (number : ℕ) → is_mounted nat_eq world number ≡ true
-      → (is_mounted nat_eq mounted number ≡ true)
+  pub still_mounted : (number : ℕ) → is_mounted nat_eq world number ≡ true → (is_mounted nat_eq mounted number ≡ true)
       ⊎ ((one : ℕ) × Among one gone × (number ≡ (mount_numbered nat_eq world one).filesystem))
   still_mounted number was =
       let t = one_passes (λ mount. nat_eq number mount.filesystem) world.mounts was in
-      ⊎_elim
-      (λ is. inr (
+      ⊎_elim (λ is. inr (
         t.0.number,
         among_numbers t.0.number gone is,
         eqb-true number t.0.filesystem t.2 ∙ ap (λ x. x.filesystem) (sym (found_mount t.0 t.1)),
-      ))
-      (λ isnt. let image = loses.images t.0 t.1 in
+      )) (λ isnt. let image = loses.images t.0 t.1 in
       inl (shown_is_mounted number image.0 image.1.0 (image_lives t.0 isnt image)
-      (ap (nat_eq number) image.1.1.1 ∙ t.2)))
-      (cases_Bool (is_among nat_eq t.0.number gone))
+      (ap (nat_eq number) image.1.1.1 ∙ t.2))) (cases_Bool (is_among nat_eq t.0.number gone))
 
   pub groups_but : GroupsInUseBut groups mounted
-  groups_but group among none =
-      hears group among
+  groups_but group among none = hears group among
       (sym (any-filter (is_member_of nat_eq group) (mount_lives nat_eq after) mounts
       (λ mount m dead. private_is_no_member group mount
       (nowhere_parts mount (passes is_nowhere_or_attached mounts loses.nowhere mount m)
-      (or_parts (is_some mount.namespace) (is_located nat_eq after mount.number) dead).0).1))
-      ∙ none)
+      (or_parts (is_some mount.namespace) (is_located nat_eq after mount.number) dead).0).1)) ∙ none)
 
   -- where all of a number live, it is found as before
   found_still : (location : Location ℕ) → Among location (places_of world)
@@ -190,8 +176,7 @@ module _ (world : World ℕ) (mounts : List (Mount ℕ)) (master : ℕ → Optio
       ∙ loses.shown location m
 
   stays_there : (number : ℕ) → is_among nat_eq number gone ≡ false → (mount : Mount ℕ) → Among mount mounts
-      → mount.number ≡ number
-      → mount_lives nat_eq after mount ≡ true
+      → mount.number ≡ number → mount_lives nat_eq after mount ≡ true
   stays_there number isnt mount m e = loses.live mount m (ap (λ n. is_among nat_eq n gone) e ∙ isnt)
 
   module _ (others : List (Filesystem ℕ)) (filesystem : Filesystem ℕ) where
@@ -216,23 +201,19 @@ module _ (world : World ℕ) (mounts : List (Mount ℕ)) (master : ℕ → Optio
     left_may_go : (location : Location ℕ) → Among location left
         → filesystem.number ≡ (mount_at nat_eq world location).filesystem
         → is_used_or_among inodes swept filesystem location.node ≡ true
-    left_may_go location m e =
-        may_go (inode_at world location)
+    left_may_go location m e = may_go (inode_at world location)
         (among-append_right (map (root_inode world) gone) (map (inode_at world) left) (inode_at world location)
-        (among-map (inode_at world) left location m))
-        e location.node refl
+        (among-map (inode_at world) left location m)) e location.node refl
 
     was_a_place : (location : Location ℕ) → Among location (all_locations world) → Among location (places_of world)
-    was_a_place location m =
-        among-append_left (all_locations world ++ map root_of world.mounts)
+    was_a_place location m = among-append_left (all_locations world ++ map root_of world.mounts)
         (filter_map (λ mount. mount.mount_point) world.mounts) location
         (among-append_left (all_locations world) (map root_of world.mounts) location m)
 
     located_still : (location : Location ℕ) → Among location (all_locations world)
         → filesystem.number ≡ (mount_at nat_eq world location).filesystem
         → Among location (all_locations after) → is_inode_used swept filesystem location.node ≡ true
-    located_still location m e stays =
-        used_still location
+    located_still location m e stays = used_still location
         (among-append_left (all_locations after ++ map root_of mounted.mounts)
         (filter_map (λ mount. mount.mount_point) mounted.mounts) location
         (among-append_left (all_locations after) (map root_of mounted.mounts) location stays))
@@ -245,13 +226,11 @@ module _ (world : World ℕ) (mounts : List (Mount ℕ)) (master : ℕ → Optio
         → filesystem.number ≡ (mount_at nat_eq world location).filesystem
         → (mount : Mount ℕ) → Among mount mounts → root_of mount ≡ location → is_among nat_eq mount.number gone ≡ false
         → is_inode_used swept filesystem location.node ≡ true
-    root_still location m e mount n is isnt =
-        used_still location
+    root_still location m e mount n is isnt = used_still location
         (among-append_left (all_locations after ++ map root_of mounted.mounts)
         (filter_map (λ x. x.mount_point) mounted.mounts) location
         (among-append_right (all_locations after) (map root_of mounted.mounts) location
-        (subst (λ l. Among l (map root_of mounted.mounts)) is
-        (among-map root_of mounted.mounts mount
+        (subst (λ l. Among l (map root_of mounted.mounts)) is (among-map root_of mounted.mounts mount
         (among-filter (mount_lives nat_eq after) mounts mount n (loses.live mount n isnt))))))
         (e ∙ sym (found_still location (was_a_place location m)
         (stays_there location.mount (ap (λ (l : Location ℕ). is_among nat_eq l.mount gone) (sym is) ∙ isnt))))
@@ -259,103 +238,77 @@ module _ (world : World ℕ) (mounts : List (Mount ℕ)) (master : ℕ → Optio
     by_location : (location : Location ℕ) → Among location (all_locations world)
         → filesystem.number ≡ (mount_at nat_eq world location).filesystem
         → is_used_or_among inodes swept filesystem location.node ≡ true
-    by_location location m e =
-        ⊎_elim
-        (λ stays. or_second (is_inode_among filesystem.number location.node inodes) _
+    by_location location m e = ⊎_elim (λ stays. or_second (is_inode_among filesystem.number location.node inodes) _
         (⊎_elim (located_still location m e)
         (λ root. root_still location m e root.0 root.1.0 root.1.1.0 root.1.1.1) stays))
-        (λ gone_from. left_may_go location gone_from e)
-        (loses.locations location m)
+        (λ gone_from. left_may_go location gone_from e) (loses.locations location m)
 
     by_root : (mount : Mount ℕ) → Among mount world.mounts
         → filesystem.number ≡ (mount_at nat_eq world (root_of mount)).filesystem
         → is_used_or_among inodes swept filesystem mount.root ≡ true
-    by_root mount m e =
-        ⊎_elim
-        (λ is. may_go (root_inode world mount.number)
+    by_root mount m e = ⊎_elim (λ is. may_go (root_inode world mount.number)
         (among-append_left (map (root_inode world) gone) (map (inode_at world) left) (root_inode world mount.number)
         (among-map (root_inode world) gone mount.number (among_numbers mount.number gone is)))
-        e mount.root (ap (λ x. x.root) (sym (found_mount mount m))))
-        (λ isnt. let image = loses.images mount m in
-        or_second (is_inode_among filesystem.number mount.root inodes) _
-        (used_still (root_of mount)
+        e mount.root (ap (λ x. x.root) (sym (found_mount mount m)))) (λ isnt. let image = loses.images mount m in
+        or_second (is_inode_among filesystem.number mount.root inodes) _ (used_still (root_of mount)
         (among-append_left (all_locations after ++ map root_of mounted.mounts)
-        (filter_map (λ x. x.mount_point) mounted.mounts)
-        (root_of mount)
+        (filter_map (λ x. x.mount_point) mounted.mounts) (root_of mount)
         (among-append_right (all_locations after) (map root_of mounted.mounts) (root_of mount)
         (subst (λ l. Among l (map root_of mounted.mounts)) image.1.1.0
         (among-map root_of mounted.mounts image.0 (among-filter (mount_lives nat_eq after) mounts image.0 image.1.0
-        (image_lives mount isnt image))))))
-        (e ∙ sym (found_still (root_of mount)
+        (image_lives mount isnt image)))))) (e ∙ sym (found_still (root_of mount)
         (among-append_left (all_locations world ++ map root_of world.mounts)
         (filter_map (λ x. x.mount_point) world.mounts) (root_of mount)
         (among-append_right (all_locations world) (map root_of world.mounts) (root_of mount)
-        (among-map root_of world.mounts mount m)))
-        (stays_there mount.number isnt)))))
+        (among-map root_of world.mounts mount m))) (stays_there mount.number isnt)))))
         (cases_Bool (is_among nat_eq mount.number gone))
 
     by_place : (mount : Mount ℕ) → Among mount world.mounts → (place : Location ℕ) → mount.mount_point ≡ Some place
         → filesystem.number ≡ (mount_at nat_eq world place).filesystem
         → is_used_or_among inodes swept filesystem place.node ≡ true
-    by_place mount m place p e =
-        ⊎_elim
-        (λ still. or_second (is_inode_among filesystem.number place.node inodes) _
-        (used_still place
-        (among-append_right (all_locations after ++ map root_of mounted.mounts)
+    by_place mount m place p e = ⊎_elim (λ still. or_second (is_inode_among filesystem.number place.node inodes) _
+        (used_still place (among-append_right (all_locations after ++ map root_of mounted.mounts)
         (filter_map (λ x. x.mount_point) mounted.mounts) place
         (among-filter_map (λ x. x.mount_point) mounted.mounts still.0 place
         (among-filter (mount_lives nat_eq after) mounts still.0 still.1.0
         (or_first (is_some still.0.namespace) (is_located nat_eq after still.0.number)
-        (is_attached still.0 still.1.0 still.1.1.0 (is_some still.0.namespace) refl)))
-        still.1.1.0))
-        (e ∙ sym (found_still place
-        (among-append_right (all_locations world ++ map root_of world.mounts)
+        (is_attached still.0 still.1.0 still.1.1.0 (is_some still.0.namespace) refl))) still.1.1.0))
+        (e ∙ sym (found_still place (among-append_right (all_locations world ++ map root_of world.mounts)
         (filter_map (λ x. x.mount_point) world.mounts) place
-        (among-filter_map (λ x. x.mount_point) world.mounts mount place m p))
-        (⊎_elim (stays_there place.mount)
+        (among-filter_map (λ x. x.mount_point) world.mounts mount place m p)) (⊎_elim (stays_there place.mount)
         (λ in_one other n same. or_first (is_some other.namespace) (is_located nat_eq after other.number)
-        (in_one other n same)) still.1.1.1)))))
-        (λ gone_from. left_may_go place gone_from e)
+        (in_one other n same)) still.1.1.1))))) (λ gone_from. left_may_go place gone_from e)
         (loses.places mount m place p)
       where
         is_attached : (on : Mount ℕ) → Among on mounts → on.mount_point ≡ Some place → (b : Bool)
-            → is_some on.namespace ≡ b
-            → is_some on.namespace ≡ true
+            → is_some on.namespace ≡ b → is_some on.namespace ≡ true
         is_attached on n q true f = f
-        is_attached on n q false f =
-            absurd (true≢false (sym (ap is_some q)
+        is_attached on n q false f = absurd (true≢false (sym (ap is_some q)
             ∙ (nowhere_parts on (passes is_nowhere_or_attached mounts loses.nowhere on n) f).0))
 
     pub by_located : (inode : ℕ) → Among inode (located_in nat_eq world filesystem.number)
         → is_used_or_among inodes swept filesystem inode ≡ true
     by_located inode m =
         let from = among-from_map (λ l. l.node)
-        (filter (λ l. nat_eq filesystem.number (mount_at nat_eq world l).filesystem)
-        (places_of world)) inode m in
+        (filter (λ l. nat_eq filesystem.number (mount_at nat_eq world l).filesystem) (places_of world)) inode m in
         let here = among-from_filter (λ l. nat_eq filesystem.number (mount_at nat_eq world l).filesystem)
         (places_of world) from.0 from.1 in
         let e : filesystem.number ≡ (mount_at nat_eq world from.0).filesystem = eqb-true filesystem.number
         (mount_at nat_eq world from.0).filesystem here.1 in
-        ap (is_used_or_among inodes swept filesystem) from.2
-        ∙ ⊎_elim
-        (λ other. ⊎_elim
-        (λ at. by_location from.0 at e)
+        ap (is_used_or_among inodes swept filesystem) from.2 ∙ ⊎_elim (λ other. ⊎_elim (λ at. by_location from.0 at e)
         (λ root. let mount = among-from_map root_of world.mounts from.0 root in
         ap (λ l. is_used_or_among inodes swept filesystem l.node) mount.2
         ∙ by_root mount.0 mount.1 (e ∙ ap (λ l. (mount_at nat_eq world l).filesystem) mount.2))
         (among-append (all_locations world) (map root_of world.mounts) from.0 other))
         (λ place. let mount = among-from_filter_map (λ x. x.mount_point) world.mounts from.0 place in
-        by_place mount.0 mount.1 from.0 mount.2 e)
-        (among-append (all_locations world ++ map root_of world.mounts)
+        by_place mount.0 mount.1 from.0 mount.2 e) (among-append (all_locations world ++ map root_of world.mounts)
         (filter_map (λ mount. mount.mount_point) world.mounts) from.0 here.0)
 
     -- an inode of a new filesystem is its root, or has a name
     pub by_a_name : (inode : ℕ) → (nat_eq inode filesystem.files.tree.root
         || is_among nat_eq inode (named_in filesystem.files)) ≡ true
         → is_used_or_among inodes swept filesystem inode ≡ true
-    by_a_name inode is =
-        or_second (is_inode_among filesystem.number inode inodes) _
-        (⊎_elim
+    by_a_name inode is = or_second (is_inode_among filesystem.number inode inodes) _ (⊎_elim
         (or_first (nat_eq inode filesystem.files.tree.root) _)
         (λ named. or_second (nat_eq inode filesystem.files.tree.root) _
         (is_among_left inode (named_in filesystem.files ++ located_in nat_eq swept filesystem.number
@@ -370,72 +323,51 @@ module _ (world : World ℕ) (mounts : List (Mount ℕ)) (master : ℕ → Optio
   module _ (plain : IsPlain world) where
     was_mounted : (filesystem : Filesystem ℕ) → Among filesystem world.filesystems
         → is_mounted nat_eq world filesystem.number ≡ true
-    was_mounted filesystem m =
-        ⊎_elim (λ e. e) (λ layered. absurd
+    was_mounted filesystem m = ⊎_elim (λ e. e) (λ layered. absurd
         (true≢false (sym layered ∙ no_layers filesystem.number world world.filesystems plain)))
         (or_cases (is_mounted nat_eq world filesystem.number) _
         (passes (filesystem_lives nat_eq world) world.filesystems in_use.filesystems filesystem m))
 
     filesystems_but : FilesystemsInUseBut losers.filesystems mounted
-    filesystems_but =
-        all_pass (λ filesystem. is_among nat_eq filesystem.number losers.filesystems
-        || filesystem_lives nat_eq mounted filesystem) filesystems
-        (λ filesystem m.
+    filesystems_but = all_pass (λ filesystem. is_among nat_eq filesystem.number losers.filesystems
+        || filesystem_lives nat_eq mounted filesystem) filesystems (λ filesystem m.
         let lives = λ (e : is_mounted nat_eq mounted filesystem.number ≡ true).
         or_second (is_among nat_eq filesystem.number losers.filesystems) (filesystem_lives nat_eq mounted filesystem)
         (or_first (is_mounted nat_eq mounted filesystem.number) _ e) in
-        ⊎_elim
-        (λ was. ⊎_elim lives
-        (λ gone_with. or_first (is_among nat_eq filesystem.number losers.filesystems)
-        (filesystem_lives nat_eq mounted filesystem)
-        (is_among_numbers filesystem.number losers.filesystems
+        ⊎_elim (λ was. ⊎_elim lives (λ gone_with. or_first (is_among nat_eq filesystem.number losers.filesystems)
+        (filesystem_lives nat_eq mounted filesystem) (is_among_numbers filesystem.number losers.filesystems
         (subst (λ n. Among n losers.filesystems) (sym gone_with.2)
         (among-map (λ n. (mount_numbered nat_eq world n).filesystem) gone gone_with.0 gone_with.1))))
         (still_mounted filesystem.number (was_mounted filesystem was)))
-        (λ new. lives (shown_is_mounted filesystem.number new.0 new.1.0 new.1.1.0 new.1.1.1.0))
-        (come.new filesystem m))
+        (λ new. lives (shown_is_mounted filesystem.number new.0 new.1.0 new.1.1.0 new.1.1.1.0)) (come.new filesystem m))
 
     by_a_use : (filesystem : Filesystem ℕ) (inode : ℕ) → is_inode_used world filesystem inode ≡ true
         → is_used_or_among inodes living filesystem inode ≡ true
-    by_a_use filesystem inode is =
-        ⊎_elim
-        (λ root. or_second (is_inode_among filesystem.number inode inodes) _
+    by_a_use filesystem inode is = ⊎_elim (λ root. or_second (is_inode_among filesystem.number inode inodes) _
         (or_first (nat_eq inode filesystem.files.tree.root) _ (eq-eqb inode filesystem.files.tree.root root)))
-        (λ rest. ⊎_elim
-        (λ named. by_a_name living.filesystems filesystem inode
+        (λ rest. ⊎_elim (λ named. by_a_name living.filesystems filesystem inode
         (or_second (nat_eq inode filesystem.files.tree.root) (is_among nat_eq inode (named_in filesystem.files)) named))
-        (by_located living.filesystems filesystem inode)
-        rest)
-        (plain_uses world plain filesystem inode is)
+        (by_located living.filesystems filesystem inode) rest) (plain_uses world plain filesystem inode is)
 
     inodes_but : InodesInUseBut inodes living
     inodes_but =
         all_from_among (λ f. list_all (is_used_or_among inodes living f) f.files.numbers ≡ true) living.filesystems
         (λ filesystem m. let there = among-from_filter (filesystem_lives nat_eq mounted) filesystems filesystem m in
-        all_pass (is_used_or_among inodes living filesystem) filesystem.files.numbers
-        (λ inode n. ⊎_elim
-        (λ was. by_a_use filesystem inode
-        (passes (is_inode_used world filesystem) filesystem.files.numbers
+        all_pass (is_used_or_among inodes living filesystem) filesystem.files.numbers (λ inode n. ⊎_elim
+        (λ was. by_a_use filesystem inode (passes (is_inode_used world filesystem) filesystem.files.numbers
         (among_from_all (λ f. list_all (is_inode_used world f) f.files.numbers
         ≡ true) world.filesystems in_use.inodes filesystem was) inode n))
         (λ new. by_a_name living.filesystems filesystem inode
         (passes (λ k. nat_eq k filesystem.files.tree.root || is_among nat_eq k
-        (named_in filesystem.files)) filesystem.files.numbers new.1.1.1.1 inode n))
-        (come.new filesystem there.0)))
+        (named_in filesystem.files)) filesystem.files.numbers new.1.1.1.1 inode n)) (come.new filesystem there.0)))
 
     -- all but what lost a use is in use
     pub all_but_losers : AllInUseBut losers after
-    all_but_losers = record {
-      mounts = mounts_but;
-      filesystems = filesystems_but;
-      inodes = inodes_but;
-      groups = groups_but;
-    }
+    all_but_losers = grind (arith, common_steps, mounts_but, filesystems_but, inodes_but, groups_but)
 
 -- what lost a use goes, if nothing uses it, and nothing else
 pub losers_go : (world : World ℕ) (mounts : List (Mount ℕ)) (master : ℕ → Option ℕ) (namespaces : List (Namespace ℕ))
-    (tasks : List (Task ℕ))
-    (gone : List ℕ) (left : List (Location ℕ)) (groups : List ℕ) → IsSettledPlain world
+    (tasks : List (Task ℕ)) (gone : List ℕ) (left : List (Location ℕ)) (groups : List ℕ) → IsSettledPlain world
     → Loses world (changed world mounts master namespaces tasks) gone left
     → GroupsInUseBut groups (changed world mounts master namespaces tasks)
     → settled nat_eq (changed world mounts master namespaces tasks)
@@ -444,5 +376,4 @@ losers_go world mounts master namespaces tasks gone left groups settles loses he
     all_goes_one_by_one (changed world mounts master namespaces tasks)
     (used_by_mounts world gone left groups) settles.plain settles.trees
     (all_but_losers world mounts master world.filesystems namespaces tasks gone left groups settles.in_use
-    settles.mounts loses hears
-    (record { kept = λ f m. m; new = λ f m. inl m }) settles.plain)
+    settles.mounts loses hears (record { kept = λ f m. m; new = λ f m. inl m }) settles.plain)

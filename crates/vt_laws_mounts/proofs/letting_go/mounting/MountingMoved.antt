@@ -17,8 +17,7 @@ use Rattle.vt_laws_mounts.proofs.letting_go.leaving.PlacesLeft.{found_itself}
 use Rattle.vt_laws_mounts.proofs.letting_go.mounting.MountingLosers.{Loses, losers_go}
 
 pub loses : (world : World ℕ) (moved : List ℕ) (change : Mount ℕ → Mount ℕ) (master : ℕ → Option ℕ) → AllInUse world
-    → MovesSome moved change
-    → list_all is_nowhere_or_attached (with_changed world change master).mounts ≡ true
+    → MovesSome moved change → list_all is_nowhere_or_attached (with_changed world change master).mounts ≡ true
     → Loses world (with_changed world change master) [] (places_moved world moved)
 loses world moved change master in_use moves nowhere = record {
   images = λ mount m. (
@@ -28,8 +27,7 @@ loses world moved change master in_use moves nowhere = record {
       ((λ i. record { mount = moves.number mount i; node = moves.root mount i }), moves.filesystem mount),
     ),
   );
-  shown = λ location m. ⊎_elim (λ e. e)
-      (λ found. ap (λ x. x.filesystem)
+  shown = λ location m. ⊎_elim (λ e. e) (λ found. ap (λ x. x.filesystem)
       (found-map change moves.number world.mounts location.mount found.0 found.1 found.2 found.3)
       ∙ moves.filesystem (mount_in nat_eq world.mounts location.mount))
       (not_found-map change moves.number world.mounts location.mount);
@@ -38,31 +36,23 @@ loses world moved change master in_use moves nowhere = record {
       ∙ (λ i. is_some (moves.namespace from.0 i) || is_located nat_eq world (moves.number from.0 i))
       ∙ passes (mount_lives nat_eq world) world.mounts in_use.mounts from.0 from.1;
   locations = λ location m. inl (inl m);
-  places = λ mount m place p. ⊎_elim
-      (λ is. inr (among-filter_map (λ x. x.mount_point)
+  places = λ mount m place p. ⊎_elim (λ is. inr (among-filter_map (λ x. x.mount_point)
       (filter (λ x. is_among nat_eq x.number moved) world.mounts) mount place
-      (among-filter (λ x. is_among nat_eq x.number moved) world.mounts mount m is) p))
-      (λ isnt. inl (
+      (among-filter (λ x. is_among nat_eq x.number moved) world.mounts mount m is) p)) (λ isnt. inl (
         change mount,
-        (
-          among-map change world.mounts mount m,
-          (moves.mount_point mount isnt ∙ p, inl refl),
-        ),
-      ))
-      (cases_Bool (is_among nat_eq mount.number moved));
+        (among-map change world.mounts mount m, (moves.mount_point mount isnt ∙ p, inl refl)),
+      )) (cases_Bool (is_among nat_eq mount.number moved));
   nowhere = nowhere;
 }
 
 pub moving_lets_go : MovingLetsGo
 moving_lets_go world moved groups change master settles moves nowhere hears =
     losers_go world (map change world.mounts) master world.namespaces world.tasks []
-    (places_moved world moved) groups settles
-    (loses world moved change master settles.in_use moves nowhere) hears
+    (places_moved world moved) groups settles (loses world moved change master settles.in_use moves nowhere) hears
 
 -- One mount on which no other stands leaves its mount point
 one_loses : (world : World ℕ) (number : ℕ) (change : Mount ℕ → Mount ℕ) (master : ℕ → Option ℕ) → AllInUse world
-    → MovesOne number change
-    → has_child nat_eq world number ≡ false
+    → MovesOne number change → has_child nat_eq world number ≡ false
     → any_pair (λ (a b : Mount ℕ). nat_eq a.number b.number) world.mounts ≡ false
     → list_all is_nowhere_or_attached (with_changed world change master).mounts ≡ true
     → Loses world (with_changed world change master) (number ∷ [])
@@ -75,40 +65,32 @@ one_loses world number change master in_use moves alone one nowhere = record {
       ((λ i. record { mount = moves.number mount i; node = moves.root mount i }), moves.filesystem mount),
     ),
   );
-  shown = λ location m. ⊎_elim (λ e. e)
-      (λ found. ap (λ x. x.filesystem)
+  shown = λ location m. ⊎_elim (λ e. e) (λ found. ap (λ x. x.filesystem)
       (found-map change moves.number world.mounts location.mount found.0 found.1 found.2 found.3)
       ∙ moves.filesystem (mount_in nat_eq world.mounts location.mount))
       (not_found-map change moves.number world.mounts location.mount);
   live = λ last m isnt. let from = among-from_map change world.mounts last m in
-      let other : nat_eq from.0.number number ≡ false =
-      (or_parts (nat_eq from.0.number number) false
+      let other : nat_eq from.0.number number ≡ false = (or_parts (nat_eq from.0.number number) false
       (ap (λ n. nat_eq n number || false) (sym (moves.number from.0) ∙ ap (λ (x : Mount ℕ). x.number) (sym from.2))
       ∙ isnt)).0 in
       ap (mount_lives nat_eq world) from.2
       ∙ (λ i. is_some (moves.namespace from.0 other i) || is_located nat_eq world (moves.number from.0 i))
       ∙ passes (mount_lives nat_eq world) world.mounts in_use.mounts from.0 from.1;
   locations = λ location m. inl (inl m);
-  places = λ mount m place p. ⊎_elim
-      (λ is. inr (subst (λ o. Among place (option_to_list o))
+  places = λ mount m place p. ⊎_elim (λ is. inr (subst (λ o. Among place (option_to_list o))
       (sym p ∙ ap (λ (x : Mount ℕ). x.mount_point) (sym (found_itself world.mounts one mount m))
       ∙ ap (λ n. (mount_in nat_eq world.mounts n).mount_point) (eqb-true mount.number number is)) (inl refl)))
       (λ isnt. inl (
         change mount,
-        (
-          among-map change world.mounts mount m,
-          (moves.mount_point mount isnt ∙ p, inl (not_on mount m place p)),
-        ),
-      ))
-      (cases_Bool (nat_eq mount.number number));
+        (among-map change world.mounts mount m, (moves.mount_point mount isnt ∙ p, inl (not_on mount m place p))),
+      )) (cases_Bool (nat_eq mount.number number));
   nowhere = nowhere;
 }
   where
     -- no mount stands on it
     not_on : (mount : Mount ℕ) → Among mount world.mounts → (place : Location ℕ) → mount.mount_point ≡ Some place
         → (nat_eq place.mount number || false) ≡ false
-    not_on mount m place p =
-        ap (λ b. b || false) (false_from_ne_true (nat_eq place.mount number) (λ is.
+    not_on mount m place p = ap (λ b. b || false) (false_from_ne_true (nat_eq place.mount number) (λ is.
         true≢false (sym (ap (holds_of (λ l. nat_eq number l.mount)) p
         ∙ eq-eqb number place.mount (sym (eqb-true place.mount number is)))
         ∙ fails (stands_on nat_eq number) world.mounts alone mount m)))

@@ -24,8 +24,7 @@ use Rattle.vt_spec.proofs.Found.{is_among_left, is_among_right}
 
 module _ (world : World ℕ) (mounts : List (Mount ℕ)) (master : ℕ → Option ℕ) (filesystems : List (Filesystem ℕ))
     (namespaces : List (Namespace ℕ)) (tasks : List (Task ℕ)) (gone : List ℕ) (left : List (Location ℕ))
-    (groups : List ℕ)
-    (in_use : AllInUse world) (stand : MountsStand world)
+    (groups : List ℕ) (in_use : AllInUse world) (stand : MountsStand world)
     (loses : Loses world (changed_with world mounts master filesystems namespaces tasks) gone left)
     (hears : GroupsInUseBut groups (changed_with world mounts master filesystems namespaces tasks))
     (come : Comes world (changed_with world mounts master filesystems namespaces tasks)) where
@@ -43,24 +42,18 @@ module _ (world : World ℕ) (mounts : List (Mount ℕ)) (master : ℕ → Optio
 
   old_filesystem : (f : Filesystem ℕ) → Among f world.filesystems
       → (is_among nat_eq f.number losing || filesystem_lives nat_eq now f) ≡ true
-  old_filesystem f m =
-      ⊎_elim
-      (λ here. ⊎_elim
+  old_filesystem f m = ⊎_elim (λ here. ⊎_elim
       (λ lives. or_second (is_among nat_eq f.number losing) (filesystem_lives nat_eq now f)
       (or_first (is_mounted nat_eq now f.number) _ lives))
       (λ gone_with. or_first (is_among nat_eq f.number losing) (filesystem_lives nat_eq now f)
       (is_among_numbers f.number losing
-      (among-flat_map (filesystems_of_mount world) gone gone_with.0 f.number gone_with.1
-      (inl gone_with.2))))
+      (among-flat_map (filesystems_of_mount world) gone gone_with.0 f.number gone_with.1 (inl gone_with.2))))
       (still_mounted world mounts master filesystems namespaces tasks gone left groups in_use stand loses hears
-      come f.number here))
-      (λ layered. let t = one_passes (λ merged. has_layer_on nat_eq f.number merged
+      come f.number here)) (λ layered. let t = one_passes (λ merged. has_layer_on nat_eq f.number merged
       && is_mounted nat_eq world merged.number) world.filesystems layered in
       let parts = and_parts (has_layer_on nat_eq f.number t.0) (is_mounted nat_eq world t.0.number) t.2 in
-      ⊎_elim
-      (λ lives. or_second (is_among nat_eq f.number losing) (filesystem_lives nat_eq now f)
-      (or_second (is_mounted nat_eq now f.number) _
-      (any_passes (λ merged. has_layer_on nat_eq f.number merged
+      ⊎_elim (λ lives. or_second (is_among nat_eq f.number losing) (filesystem_lives nat_eq now f)
+      (or_second (is_mounted nat_eq now f.number) _ (any_passes (λ merged. has_layer_on nat_eq f.number merged
       && is_mounted nat_eq now merged.number) filesystems t.0 (come.kept t.0 t.1)
       (ap (λ b. b && is_mounted nat_eq now t.0.number) parts.0 ∙ lives))))
       (λ gone_with. or_first (is_among nat_eq f.number losing) (filesystem_lives nat_eq now f)
@@ -69,20 +62,16 @@ module _ (world : World ℕ) (mounts : List (Mount ℕ)) (master : ℕ → Optio
       (inr (in_layers world f.number t.0 t.1
       (mount_numbered nat_eq world gone_with.0).filesystem gone_with.2 parts.0)))))
       (still_mounted world mounts master filesystems namespaces tasks gone left groups in_use stand loses hears
-      come t.0.number parts.1))
-      (or_cases (is_mounted nat_eq world f.number) _
+      come t.0.number parts.1)) (or_cases (is_mounted nat_eq world f.number) _
       (passes (filesystem_lives nat_eq world) world.filesystems in_use.filesystems f m))
 
   filesystems_but : FilesystemsInUseBut losing now
-  filesystems_but =
-      all_pass (λ f. is_among nat_eq f.number losing || filesystem_lives nat_eq now f) filesystems
+  filesystems_but = all_pass (λ f. is_among nat_eq f.number losing || filesystem_lives nat_eq now f) filesystems
       (λ f m. ⊎_elim (old_filesystem f)
       (λ new. or_second (is_among nat_eq f.number losing) (filesystem_lives nat_eq now f)
       (or_first (is_mounted nat_eq now f.number) _
       (shown_is_mounted world mounts master filesystems namespaces tasks gone left groups in_use stand loses hears come
-      f.number new.0
-      new.1.0 new.1.1.0 new.1.1.1.0)))
-      (come.new f m))
+      f.number new.0 new.1.0 new.1.1.0 new.1.1.1.0))) (come.new f m))
 
   layers_kept : (filesystem number : ℕ) → Among number (layers_in nat_eq world filesystem)
       → Among number (layers_in nat_eq now filesystem)
@@ -98,17 +87,12 @@ module _ (world : World ℕ) (mounts : List (Mount ℕ)) (master : ℕ → Optio
   -- what the world used is used where mounts have gone, or may go
   use_left : (f : Filesystem ℕ) (number : ℕ) → is_inode_used world f number ≡ true
       → is_used_or_among lost now f number ≡ true
-  use_left f number is =
-      ⊎_elim
-      (λ front. ⊎_elim
-      (λ first. ⊎_elim
-      (λ named. used (is_among_left number
+  use_left f number is = ⊎_elim (λ front. ⊎_elim (λ first. ⊎_elim (λ named. used (is_among_left number
       (names ++ located_in nat_eq now f.number ++ layers_in nat_eq now f.number) objects
       (is_among_left number (names ++ located_in nat_eq now f.number) (layers_in nat_eq now f.number)
       (is_among_left number names (located_in nat_eq now f.number) named))))
       (λ at. by_located world mounts master filesystems namespaces tasks gone left groups in_use stand loses hears come
-      filesystems f number
-      (among_numbers number (located_in nat_eq world f.number) at))
+      filesystems f number (among_numbers number (located_in nat_eq world f.number) at))
       (or_cases (is_among nat_eq number names) (is_among nat_eq number (located_in nat_eq world f.number))
       (sym (list_any-append (nat_eq number) names (located_in nat_eq world f.number)) ∙ first)))
       (λ layer. used (is_among_left number
@@ -119,8 +103,7 @@ module _ (world : World ℕ) (mounts : List (Mount ℕ)) (master : ℕ → Optio
       (or_cases (is_among nat_eq number (names ++ located_in nat_eq world f.number))
       (is_among nat_eq number (layers_in nat_eq world f.number))
       (sym (list_any-append (nat_eq number) (names ++ located_in nat_eq world f.number)
-      (layers_in nat_eq world f.number)) ∙ front)))
-      (λ object. used (is_among_right number
+      (layers_in nat_eq world f.number)) ∙ front))) (λ object. used (is_among_right number
       (names ++ located_in nat_eq now f.number ++ layers_in nat_eq now f.number) objects
       (is_among_numbers number objects (objects_kept f.number number
       (among_numbers number (flat_map (objects_of_overlay nat_eq f.number) world.filesystems) object)))))
@@ -140,26 +123,20 @@ module _ (world : World ℕ) (mounts : List (Mount ℕ)) (master : ℕ → Optio
       used h = or_second (is_inode_among f.number number lost) (is_inode_used now f number) h
 
   inodes_but : InodesInUseBut lost now
-  inodes_but =
-      all_from_among (λ f. list_all (is_used_or_among lost now f) f.files.numbers ≡ true) filesystems
-      (λ f m. all_pass (is_used_or_among lost now f) f.files.numbers
-      (λ number n. ⊎_elim
-      (λ was. use_left f number
+  inodes_but = all_from_among (λ f. list_all (is_used_or_among lost now f) f.files.numbers ≡ true) filesystems
+      (λ f m. all_pass (is_used_or_among lost now f) f.files.numbers (λ number n. ⊎_elim (λ was. use_left f number
       (passes (is_inode_used world f) f.files.numbers
       (among_from_all (λ x. list_all (is_inode_used world x) x.files.numbers
       ≡ true) world.filesystems in_use.inodes f was) number n))
       (λ new. by_a_name world mounts master filesystems namespaces tasks gone left groups in_use stand loses hears come
-      filesystems f number
-      (passes (λ k. nat_eq k f.files.tree.root
-      || is_among nat_eq k (named_in f.files)) f.files.numbers new.1.1.1.1 number n))
-      (come.new f m)))
+      filesystems f number (passes (λ k. nat_eq k f.files.tree.root
+      || is_among nat_eq k (named_in f.files)) f.files.numbers new.1.1.1.1 number n)) (come.new f m)))
 
   abbrev all_losers : Losers
   all_losers = record {
     mounts = gone;
     filesystems = losing;
-    inodes = lost
-        ++ used_by_filesystems after losing;
+    inodes = lost ++ used_by_filesystems after losing;
     groups = groups;
   }
 
@@ -181,23 +158,19 @@ pub all_losers_go : (world : World ℕ) (mounts : List (Mount ℕ)) (master : �
     ≡ let_go_all (changed world mounts master namespaces tasks) (used_by_mounts_with_layers world gone left groups)
 all_losers_go world mounts master namespaces tasks gone left groups settles loses hears =
     with_overlays_all_goes (changed world mounts master namespaces tasks)
-    (used_by_mounts_with_layers world gone left groups)
-    settles.trees settles.uppers settles.reals
+    (used_by_mounts_with_layers world gone left groups) settles.trees settles.uppers settles.reals
     (all_but_those world mounts master world.filesystems namespaces tasks gone left groups settles.in_use settles.mounts
-    loses hears
-    (record { kept = λ f m. m; new = λ f m. inl m }))
+    loses hears (record { kept = λ f m. m; new = λ f m. inl m }))
 
 -- where only groups lost members, only they go
 pub only_groups_go : (world : World ℕ) (mounts : List (Mount ℕ)) (master : ℕ
-    → Option ℕ) (filesystems : List (Filesystem ℕ)) (groups : List ℕ)
-    → AllInUse world → MountsStand world
+    → Option ℕ) (filesystems : List (Filesystem ℕ)) (groups : List ℕ) → AllInUse world → MountsStand world
     → Loses world (changed_with world mounts master filesystems world.namespaces world.tasks) [] []
     → GroupsInUseBut groups (changed_with world mounts master filesystems world.namespaces world.tasks)
     → Comes world (changed_with world mounts master filesystems world.namespaces world.tasks)
     → settled nat_eq (changed_with world mounts master filesystems world.namespaces world.tasks)
     ≡ let_go_groups (changed_with world mounts master filesystems world.namespaces world.tasks) groups
-only_groups_go world mounts master filesystems groups in_use stand loses hears come =
-    ap (without_dead_groups nat_eq)
+only_groups_go world mounts master filesystems groups in_use stand loses hears come = ap (without_dead_groups nat_eq)
     (ap (without_dead_inodes nat_eq) all
     ∙ ap (without_dead_in nat_eq (λ filesystem. not (is_overlay filesystem))) (inodes_stay is_overlay after_all inodes)
     ∙ inodes_stay (λ filesystem. not (is_overlay filesystem)) after_all inodes)
@@ -222,8 +195,7 @@ only_groups_go world mounts master filesystems groups in_use stand loses hears c
 
 -- where nothing lost a use, nothing goes
 pub nothing_lost : (world : World ℕ) (mounts : List (Mount ℕ)) (master : ℕ → Option ℕ)
-    (filesystems : List (Filesystem ℕ))
-    → AllInUse world → MountsStand world
+    (filesystems : List (Filesystem ℕ)) → AllInUse world → MountsStand world
     → Loses world (changed_with world mounts master filesystems world.namespaces world.tasks) [] []
     → GroupsInUse (changed_with world mounts master filesystems world.namespaces world.tasks)
     → Comes world (changed_with world mounts master filesystems world.namespaces world.tasks)

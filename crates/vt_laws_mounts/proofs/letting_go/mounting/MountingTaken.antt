@@ -1,7 +1,6 @@
 -- What goes when mounts are taken away.
-use Rattle.std.proofs.Common.{arith}
+use Rattle.std.proofs.Common.{arith, ◌≡◌, refl, sym, ap, subst, ◌∙◌, inl, inr, ⊎_elim, ℕ, nat_eq, Bool, true, false, cond, ◌||◌, List, filter, map, Option, Some, is_some, option_map, true≢false}
 use Rattle.std.proofs.lemmas.Grind.{common_steps}
-use Rattle.std.proofs.Common.{◌≡◌, refl, sym, ap, subst, ◌∙◌, inl, inr, ⊎_elim, ℕ, nat_eq, Bool, true, false, cond, ◌||◌, List, filter, map, Option, Some, is_some, option_map, true≢false}
 use Rattle.std.specs.List.{list_any}
 use Rattle.std.proofs.lemmas.Bool.{or_parts, cases_Bool}
 use Rattle.vt_spec.specs.Machine.Detach.{after_going, is_going, mount_point_left, taken_away}
@@ -40,16 +39,14 @@ module _ (world : World ℕ) (gone : List ℕ) (namespaces : List (Namespace ℕ
   after b = changed world (map (change b) world.mounts) (masters b) namespaces world.tasks
 
   pub is_changed : (b : Bool) → record (regrouped_by nat_eq b without) { namespaces = namespaces } ≡ after b
-  is_changed true =
-      ap (λ mounts. changed world mounts (masters true) namespaces world.tasks)
+  is_changed true = ap (λ mounts. changed world mounts (masters true) namespaces world.tasks)
       (map_twice (inheriting nat_eq without) (after_going nat_eq world gone) world.mounts)
   is_changed false = refl
 
   -- what a mount shows stays
   same_part : {A : Type 0} (part : Mount ℕ → A) (mount : Mount ℕ) → part (detached mount) ≡ part mount
       → part (record mount { mount_point = option_map (mount_point_left nat_eq world gone) mount.mount_point })
-      ≡ part mount
-      → part (after_going nat_eq world gone mount) ≡ part mount
+      ≡ part mount → part (after_going nat_eq world gone mount) ≡ part mount
   same_part part mount down up = grind (arith, common_steps)
 
   pub same_root : (b : Bool) (mount : Mount ℕ) → root_of (change b mount) ≡ root_of mount
@@ -66,9 +63,7 @@ module _ (world : World ℕ) (gone : List ℕ) (namespaces : List (Namespace ℕ
 
   pub shows_the_same : (b : Bool) (number : ℕ) → (mount_in nat_eq (map (change b) world.mounts) number).filesystem
       ≡ (mount_in nat_eq world.mounts number).filesystem
-  shows_the_same b number =
-      ⊎_elim (λ e. e)
-      (λ found. ap (λ x. x.filesystem)
+  shows_the_same b number = ⊎_elim (λ e. e) (λ found. ap (λ x. x.filesystem)
       (found-map (change b) (same_number b) world.mounts number found.0 found.1 found.2 found.3)
       ∙ same_filesystem b (mount_in nat_eq world.mounts number))
       (not_found-map (change b) (same_number b) world.mounts number)
@@ -76,8 +71,7 @@ module _ (world : World ℕ) (gone : List ℕ) (namespaces : List (Namespace ℕ
   -- a mount that does not go
   pub stays : (mount : Mount ℕ) → is_going nat_eq gone mount.number ≡ false
       → after_going nat_eq world gone mount ≡ record mount {
-        mount_point = option_map
-            (mount_point_left nat_eq world gone) mount.mount_point;
+        mount_point = option_map (mount_point_left nat_eq world gone) mount.mount_point;
       }
   stays mount isnt = ap (λ c. cond c (detached mount)
       (record mount { mount_point = option_map (mount_point_left nat_eq world gone) mount.mount_point })) isnt
@@ -94,12 +88,7 @@ module _ (world : World ℕ) (gone : List ℕ) (namespaces : List (Namespace ℕ
   pub same_place : (b : Bool) (mount : Mount ℕ) (place : Location ℕ) → mount.mount_point ≡ Some place
       → is_going nat_eq gone mount.number ≡ false
       → is_going nat_eq gone place.mount ≡ false → (change b mount).mount_point ≡ Some place
-  same_place true mount place p isnt on =
-      ap (λ m. m.mount_point) (stays mount isnt) ∙ ap (option_map (mount_point_left nat_eq world gone)) p
-      ∙ ap Some (stays_at place on)
-  same_place false mount place p isnt on =
-      ap (λ m. m.mount_point) (stays mount isnt) ∙ ap (option_map (mount_point_left nat_eq world gone)) p
-      ∙ ap Some (stays_at place on)
+  same_place b mount place p isnt on = grind (arith, common_steps, stays, stays_at)
 
   -- one outside every namespace has no place and is private
   private_still : (propagation : Propagation ℕ) → is_private propagation ≡ true
@@ -137,12 +126,8 @@ module _ (world : World ℕ) (gone : List ℕ) (namespaces : List (Namespace ℕ
           sym (ap (holds_of (λ l. is_going nat_eq gone l.mount)) p) ∙ parts.1 in
           inl (
             change b mount,
-            (
-              among-map (change b) world.mounts mount m,
-              (same_place b mount place p parts.0 on, inl on),
-            ),
-          ))
-          (cases_Bool (loses_its_place gone mount));
+            (among-map (change b) world.mounts mount m, (same_place b mount place p parts.0 on, inl on)),
+          )) (cases_Bool (loses_its_place gone mount));
       nowhere = all_pass is_nowhere_or_attached (map (change b) world.mounts) (λ last m.
           let from = among-from_map (change b) world.mounts last m in
           ap is_nowhere_or_attached from.2
@@ -151,8 +136,7 @@ module _ (world : World ℕ) (gone : List ℕ) (namespaces : List (Namespace ℕ
 
 -- the world without mounts, with other namespaces
 taken_with_namespaces : (world : World ℕ) (gone groups : List ℕ) (namespaces : List (Namespace ℕ))
-    → IsSettledPlain world
-    → GroupsInUseBut groups (record (taken_away nat_eq world gone) { namespaces = namespaces })
+    → IsSettledPlain world → GroupsInUseBut groups (record (taken_away nat_eq world gone) { namespaces = namespaces })
     → settled nat_eq (record (taken_away nat_eq world gone) { namespaces = namespaces })
     ≡ let_go (record (taken_away nat_eq world gone) { namespaces = namespaces })
     (used_by_mounts world gone (places_lost world gone) groups)
@@ -164,17 +148,14 @@ taken_with_namespaces world gone groups namespaces settles hears =
 
     by : (b : Bool) → GroupsInUseBut groups (taken b) → settled nat_eq (taken b)
         ≡ let_go (taken b) (used_by_mounts world gone (places_lost world gone) groups)
-    by b h =
-        subst (λ w. settled nat_eq w ≡ let_go w (used_by_mounts world gone (places_lost world gone) groups))
-        (sym (is_changed world gone namespaces b))
-        (losers_go world (map (change world gone namespaces b) world.mounts)
+    by b h = subst (λ w. settled nat_eq w ≡ let_go w (used_by_mounts world gone (places_lost world gone) groups))
+        (sym (is_changed world gone namespaces b)) (losers_go world (map (change world gone namespaces b) world.mounts)
         (masters world gone namespaces b) namespaces world.tasks gone
         (places_lost world gone) groups settles (loses world gone namespaces settles.in_use settles.mounts b)
         (subst (GroupsInUseBut groups) (is_changed world gone namespaces b) h))
 
 pub same_namespaces : (world : World ℕ) (b : Bool)
-    → record (regrouped_by nat_eq b world) { namespaces = world.namespaces }
-    ≡ regrouped_by nat_eq b world
+    → record (regrouped_by nat_eq b world) { namespaces = world.namespaces } ≡ regrouped_by nat_eq b world
 same_namespaces world true = refl
 same_namespaces world false = refl
 
@@ -185,20 +166,13 @@ hands_on world gone = list_any (lost_a_group nat_eq (without world gone world.na
 
 pub taken_is : (world : World ℕ) (gone : List ℕ)
     → taken_away nat_eq world gone ≡ after world gone world.namespaces (hands_on world gone)
-taken_is world gone =
-    sym (same_namespaces (without world gone world.namespaces) (hands_on world gone))
+taken_is world gone = sym (same_namespaces (without world gone world.namespaces) (hands_on world gone))
     ∙ is_changed world gone world.namespaces (hands_on world gone)
 
 pub taking_away_lets_go : TakingAwayLetsGo
 taking_away_lets_go world gone groups settles hears =
-    grind (
-      arith,
-      common_steps,
-      taken_with_namespaces world gone groups world.namespaces settles hears,
-      same_namespaces,
-    )
+    grind (arith, common_steps, taken_with_namespaces, same_namespaces)
 
 pub ending_lets_go : EndingLetsGo
-ending_lets_go world groups settles hears =
-    taken_with_namespaces world (ended_mounts world) groups
+ending_lets_go world groups settles hears = taken_with_namespaces world (ended_mounts world) groups
     (filter (has_tasks nat_eq world) world.namespaces) settles hears

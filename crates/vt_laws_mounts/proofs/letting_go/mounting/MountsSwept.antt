@@ -1,4 +1,5 @@
 -- What the sweep leaves of mounts: those in namespaces stay, with all their groups, and those outside are private.
+use Rattle.std.proofs.lemmas.Grind.{common_steps}
 use Rattle.std.proofs.Common.{◌≡◌, refl, sym, ap, subst, ◌∙◌, ℕ, nat_eq, true, false, cond, not, ◌&&◌, List, ◌≤◌, filter, length, map, true≢false, Option, Some, None, is_some, unwrap_or, arith}
 use Rattle.std.specs.Prelude.{option_to_list}
 use Rattle.std.specs.List.{list_all}
@@ -24,26 +25,19 @@ module _ (world : World ℕ) (kept : MountInvariants nat_eq world) where
   parent : (mount : Mount ℕ) → (place : Location ℕ) → mount.mount_point ≡ Some place
       → (number : ℕ) → Stands nat_eq world number → mount_numbered nat_eq world number ≡ mount
       → mount.namespace ≡ (mount_at nat_eq world place).namespace
-  parent mount place p number (at_root it e) itself =
-      absurd (true≢false (sym (ap is_some (ap (λ (x : Mount ℕ). x.mount_point) itself ∙ p)) ∙ ap is_some e))
-  parent mount place p number (on_parent it below e same rest) itself =
-      let at : below ≡ place = same_Some below place (sym e ∙ ap (λ (x : Mount ℕ). x.mount_point) itself ∙ p) in
-      ap (λ (x : Mount ℕ). x.namespace) (sym itself) ∙ same
-      ∙ ap (λ (l : Location ℕ). (mount_at nat_eq world l).namespace) at
+  parent mount place p number (at_root it e) itself = grind (arith, common_steps, true≢false)
+  parent mount place p number (on_parent it below e same rest) itself = grind (arith, common_steps, same_Some)
 
   pub beside_parent : (mount : Mount ℕ) → Among mount world.mounts → (place : Location ℕ)
       → mount.mount_point ≡ Some place → mount.namespace ≡ (mount_at nat_eq world place).namespace
-  beside_parent mount m place p =
-      parent mount place p mount.number
+  beside_parent mount m place p = parent mount place p mount.number
       (among_from_all (λ x. Stands nat_eq world x.number) world.mounts kept.standing mount m)
       (found_itself world.mounts kept.one_number mount m)
 
   on : (mount : Mount ℕ) → Among mount world.mounts → (o : Option (Location ℕ)) → mount.mount_point ≡ o
       → list_all (λ place. is_some (mount_at nat_eq world place).namespace) (option_to_list o) ≡ true
   on mount m None e = refl
-  on mount m (Some place) e =
-      ap (λ b. b && true)
-      (ap is_some (sym (beside_parent mount m place e))
+  on mount m (Some place) e = ap (λ b. b && true) (ap is_some (sym (beside_parent mount m place e))
       ∙ placed_is_attached mount (passes is_nowhere_or_attached world.mounts kept.nowhere mount m) place e)
 
   pub mounts_stand : MountsStand world
@@ -70,14 +64,12 @@ module _ (world : World ℕ) (kept : MountInvariants nat_eq world) where
 
   pub the_one : (number : ℕ) → IsAttached number → (mount : Mount ℕ) → Among mount world.mounts → mount.number ≡ number
       → is_some mount.namespace ≡ true
-  the_one number attached mount m same =
-      ap (λ (x : Mount ℕ). is_some x.namespace)
+  the_one number attached mount m same = ap (λ (x : Mount ℕ). is_some x.namespace)
       (sym (found_itself world.mounts kept.one_number mount m) ∙ ap (mount_in nat_eq world.mounts) same) ∙ attached
 
   pub same_found : (number : ℕ) → IsAttached number
       → mount_in nat_eq first_mounts number ≡ mount_in nat_eq world.mounts number
-  same_found number attached =
-      found_in_filter (mount_lives nat_eq world) world.mounts number
+  same_found number attached = found_in_filter (mount_lives nat_eq world) world.mounts number
       (λ mount m same. attached_lives mount (the_one number attached mount m same))
 
   pub number_there : (number : ℕ) → IsAttached number → Among number numbers
@@ -89,8 +81,7 @@ module _ (world : World ℕ) (kept : MountInvariants nat_eq world) where
       (attached_lives found attached)))
 
   pub standing_at : (number : ℕ) → IsAttached number → Stands nat_eq world number
-  standing_at number attached =
-      subst (Stands nat_eq world) (number-mount_in world.mounts number)
+  standing_at number attached = subst (Stands nat_eq world) (number-mount_in world.mounts number)
       (among_from_all (λ x. Stands nat_eq world x.number) world.mounts kept.standing
       (mount_in nat_eq world.mounts number) (found_is_there world.mounts number attached))
 
@@ -103,13 +94,11 @@ module _ (world : World ℕ) (kept : MountInvariants nat_eq world) where
 
   pub unused_private : (mount : Mount ℕ) → Among mount world.mounts → mount_lives nat_eq world mount ≡ false
       → is_private mount.propagation ≡ true
-  unused_private mount m dead =
-      (nowhere_parts mount (passes is_nowhere_or_attached world.mounts kept.nowhere mount m)
+  unused_private mount m dead = (nowhere_parts mount (passes is_nowhere_or_attached world.mounts kept.nowhere mount m)
       (or_parts (is_some mount.namespace) (is_located nat_eq world mount.number) dead).0).1
 
   pub members_first : (group : ℕ) → has_members nat_eq first_mounts group ≡ has_members nat_eq world.mounts group
-  members_first group =
-      any-filter (is_member_of nat_eq group) (mount_lives nat_eq world) world.mounts
+  members_first group = any-filter (is_member_of nat_eq group) (mount_lives nat_eq world) world.mounts
       (λ mount m dead. private_is_no_member group mount (unused_private mount m dead))
 
   abbrev pub LivesIn : ℕ → Type 0
@@ -129,8 +118,7 @@ module _ (world : World ℕ) (kept : MountInvariants nat_eq world) where
   pub group_there : (group : ℕ) → has_members nat_eq world.mounts group ≡ true → Among group groups_there
   group_there group has =
       let t = one_passes (is_member_of nat_eq group) first_mounts (members_first group ∙ has) in
-      subst (λ n. Among n groups_there)
-      (ap (λ o. unwrap_or o 0) (held_number group (group_of t.0.propagation) t.2))
+      subst (λ n. Among n groups_there) (ap (λ o. unwrap_or o 0) (held_number group (group_of t.0.propagation) t.2))
       (among-map (λ (mount : Mount ℕ). unwrap_or (group_of mount.propagation) 0) first_mounts t.0 t.1)
 
   pub way_up : (group : ℕ) → LivesIn group

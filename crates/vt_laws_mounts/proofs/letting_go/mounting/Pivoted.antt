@@ -1,7 +1,6 @@
 -- What goes after pivot_root.
-use Rattle.std.proofs.Common.{arith}
+use Rattle.std.proofs.Common.{arith, ◌≡◌, refl, sym, ap, ◌∙◌, ◌⊎◌, inl, inr, ⊎_elim, ℕ, nat_eq, eqb-true, eq-eqb, true, cond, ◌||◌, [], Option, Some, is_some, option_to_list}
 use Rattle.std.proofs.lemmas.Grind.{common_steps}
-use Rattle.std.proofs.Common.{◌≡◌, refl, sym, ap, subst, ◌∙◌, ◌⊎◌, inl, inr, ⊎_elim, ℕ, nat_eq, eqb-true, eq-eqb, true, cond, ◌||◌, [], Option, Some, is_some, option_to_list}
 use Rattle.std.proofs.lemmas.Bool.{or_cases}
 use Rattle.vt_spec.specs.Machine.Mounts.{Location, Mount, mount_in, root_of}
 use Rattle.vt_spec.specs.Machine.Namespaces.{pivoted, pivoted_location, pivoted_mount, pivoted_task}
@@ -41,23 +40,20 @@ module _ (world : World ℕ) (namespace old new : ℕ) (put : Location ℕ) (in_
   target_there = found_is_there world.mounts new new_attached
 
   itself : (a b : Mount ℕ) → Among a world.mounts → Among b world.mounts → nat_eq a.number b.number ≡ true → a ≡ b
-  itself a b m n e =
-      sym (found_itself world.mounts stand.one_number a m)
+  itself a b m n e = sym (found_itself world.mounts stand.one_number a m)
       ∙ ap (mount_in nat_eq world.mounts) (eqb-true a.number b.number e)
       ∙ found_itself world.mounts stand.one_number b n
 
   -- a mount keeps all but its place
   keeps : {A : Type 0} (part : Mount ℕ → A) → ((mount : Mount ℕ) (at : Option (Location ℕ))
-      → part (record mount { mount_point = at }) ≡ part mount)
-      → (mount : Mount ℕ) → part (change mount) ≡ part mount
+      → part (record mount { mount_point = at }) ≡ part mount) → (mount : Mount ℕ) → part (change mount) ≡ part mount
   keeps part same mount = grind (arith, common_steps)
 
   number_kept : (mount : Mount ℕ) → (change mount).number ≡ mount.number
   number_kept mount = keeps (λ x. x.number) (λ x at. refl) mount
 
   target_gets : (change target).mount_point ≡ root.mount_point
-  target_gets =
-      ap (λ b. (cond b (record target { mount_point = root.mount_point })
+  target_gets = ap (λ b. (cond b (record target { mount_point = root.mount_point })
       (cond (nat_eq target.number root.number) (record target { mount_point = Some put }) target)).mount_point)
       (eq-eqb target.number target.number refl)
 
@@ -85,38 +81,26 @@ module _ (world : World ℕ) (namespace old new : ℕ) (put : Location ℕ) (in_
       let from = among-from_flat_map locations_of world.tasks location m in
       ⊎_elim
       (λ there. inl (among-flat_map locations_of after.tasks (pivoted_task nat_eq namespace root target from.0) location
-      (among-map (pivoted_task nat_eq namespace root target) world.tasks from.0 from.1) there))
-      inr
+      (among-map (pivoted_task nat_eq namespace root target) world.tasks from.0 from.1) there)) inr
       (of_task from.0 location from.2)
 
   still_used : (location : Location ℕ) → Among location (all_locations world) → StillALocation after [] location
-  still_used location m =
-      ⊎_elim inl
-      (λ was. inr (
-        change root,
-        (
-          among-map change world.mounts root root_there,
-          (keeps root_of (λ x at. refl) root ∙ sym was, refl),
-        ),
-      ))
-      (still location m)
+  still_used location m = ⊎_elim inl (λ was. inr (
+    change root,
+    (among-map change world.mounts root root_there, (keeps root_of (λ x at. refl) root ∙ sym was, refl)),
+  )) (still location m)
 
   lives : (mount : Mount ℕ) → Among mount world.mounts → mount_lives nat_eq after (change mount) ≡ true
-  lives mount m =
-      ap (λ b. b || is_located nat_eq after (change mount).number)
+  lives mount m = ap (λ b. b || is_located nat_eq after (change mount).number)
       (keeps (λ x. is_some x.namespace) (λ x at. refl) mount)
-      ∙ ap (λ n. is_some mount.namespace || is_located nat_eq after n) (number_kept mount)
-      ∙ ⊎_elim
+      ∙ ap (λ n. is_some mount.namespace || is_located nat_eq after n) (number_kept mount) ∙ ⊎_elim
       (or_first (is_some mount.namespace) (is_located nat_eq after mount.number))
       (λ at. let t = one_passes (λ l. nat_eq mount.number l.mount) (all_locations world) at in
-      ⊎_elim
-      (λ there. or_second (is_some mount.namespace) (is_located nat_eq after mount.number)
+      ⊎_elim (λ there. or_second (is_some mount.namespace) (is_located nat_eq after mount.number)
       (any_passes (λ l. nat_eq mount.number l.mount) (all_locations after) t.0 there t.2))
       (λ was. or_first (is_some mount.namespace) (is_located nat_eq after mount.number)
       (ap (λ (x : Mount ℕ). is_some x.namespace) (itself mount root m root_there
-      (sym (ap (λ (l : Location ℕ). nat_eq mount.number l.mount) was) ∙ t.2))
-      ∙ old_attached))
-      (still t.0 t.1))
+      (sym (ap (λ (l : Location ℕ). nat_eq mount.number l.mount) was) ∙ t.2)) ∙ old_attached)) (still t.0 t.1))
       (or_cases (is_some mount.namespace) (is_located nat_eq world mount.number)
       (passes (mount_lives nat_eq world) world.mounts in_use.mounts mount m))
 
@@ -137,20 +121,7 @@ module _ (world : World ℕ) (namespace old new : ℕ) (put : Location ℕ) (in_
   place_still mount m place p = by (which mount m)
     where
       by : Is mount → StillAPlace after.mounts [] place ⊎ Among place (option_to_list target.mount_point)
-      by (is_target e) =
-          inr (subst (λ o. Among place (option_to_list o)) (sym p ∙ ap (λ (x : Mount ℕ). x.mount_point) e) (inl refl))
-      by (is_root e) =
-          inl (
-            change target,
-            (
-              among-map change world.mounts target target_there,
-              (target_gets ∙ ap (λ (x : Mount ℕ). x.mount_point) (sym e) ∙ p, inl refl),
-            ),
-          )
-      by (is_other e) = inl (
-        change mount,
-        (among-map change world.mounts mount m, (ap (λ (x : Mount ℕ). x.mount_point) e ∙ p, inl refl)),
-      )
+      by known = grind (arith, common_steps, among-map, target_there, target_gets)
 
   pub loses : Loses world after [] (option_to_list target.mount_point)
   loses = record {
@@ -161,8 +132,7 @@ module _ (world : World ℕ) (namespace old new : ℕ) (put : Location ℕ) (in_
         (keeps root_of (λ x at. refl) mount, keeps (λ x. x.filesystem) (λ x at. refl) mount),
       ),
     );
-    shown = λ location m. ⊎_elim (λ e. e)
-        (λ found. ap (λ x. x.filesystem)
+    shown = λ location m. ⊎_elim (λ e. e) (λ found. ap (λ x. x.filesystem)
         (found-map change number_kept world.mounts location.mount found.0 found.1 found.2 found.3)
         ∙ keeps (λ x. x.filesystem) (λ x at. refl) (mount_in nat_eq world.mounts location.mount))
         (not_found-map change number_kept world.mounts location.mount);
@@ -176,18 +146,14 @@ module _ (world : World ℕ) (namespace old new : ℕ) (put : Location ℕ) (in_
   }
 
   pub groups : GroupsInUse after
-  groups group none =
-      in_use.groups group
-      (sym (any-map (is_member_of nat_eq group) change world.mounts
-      (λ mount. keeps (is_member_of nat_eq group) (λ x at. refl) mount))
-      ∙ none)
+  groups group none = in_use.groups group (sym (any-map (is_member_of nat_eq group) change world.mounts
+      (λ mount. keeps (is_member_of nat_eq group) (λ x at. refl) mount)) ∙ none)
 
 pub pivoted_lets_go : PivotedLetsGo
 pivoted_lets_go world namespace old new put settles old_attached new_attached =
     losers_go world last.mounts world.master world.namespaces last.tasks []
     (option_to_list (mount_numbered nat_eq world new).mount_point) [] settles
-    (loses world namespace old new put settles.in_use settles.mounts old_attached new_attached)
-    (λ group among none.
+    (loses world namespace old new put settles.in_use settles.mounts old_attached new_attached) (λ group among none.
     groups world namespace old new put settles.in_use settles.mounts old_attached new_attached group none)
   where
     last : World ℕ

@@ -1,7 +1,7 @@
 -- Mounts are taken away from a world that was swept before, or that was not: after the sweep that follows the two
 -- worlds are one.
 use Rattle.std.proofs.lemmas.Grind.{common_steps}
-use Rattle.std.proofs.Common.{◌≡◌, refl, sym, ap, subst, ◌∙◌, ⊎_elim, ℕ, zero, suc, nat_eq, eqb-true, eq-eqb, Bool, true, false, cond, not, ◌||◌, List, ◌++◌, filter, find, length, map, true≢false, Option, Some, None, is_some, option_map, unwrap_or, arith}
+use Rattle.std.proofs.Common.{◌≡◌, refl, sym, ap, subst, ◌∙◌, ⊎_elim, ℕ, zero, suc, nat_eq, eqb-true, eq-eqb, Bool, true, false, cond, not, ◌||◌, List, ◌++◌, filter, find, length, map, true≢false, Option, Some, None, is_some, option_map, arith}
 use Rattle.std.specs.Prelude.{filter_map}
 use Rattle.std.specs.List.{list_any}
 use Rattle.std.proofs.lemmas.Bool.{or_cases}
@@ -11,9 +11,9 @@ use Rattle.vt_spec.specs.Machine.Detach.{after_going, is_going, mount_point_left
 use Rattle.vt_spec.specs.Machine.Invariants.{HasLivingGroups, MountInvariants, Stands, is_nowhere_or_attached, is_private}
 use Rattle.vt_spec.specs.Machine.Invariants.Lives.{has_master, has_no_master}
 use Rattle.vt_spec.specs.Machine.Invariants.Stands.{at_root, on_parent}
-use Rattle.vt_spec.specs.Machine.Mounts.{Location, Mount, Propagation, detached, group_of, mount_in, root_of, source_of}
+use Rattle.vt_spec.specs.Machine.Mounts.{Location, Mount, Propagation, detached, mount_in, root_of, source_of}
 use Rattle.vt_spec.specs.Machine.Mounts.Propagation.{Private, Shared, Slave, Unbindable}
-use Rattle.vt_spec.specs.Machine.Receives.{groups_up, has_members, heir, inherited, inheriting, is_lost_group, is_member_of, lost_a_group, slave_of_heir}
+use Rattle.vt_spec.specs.Machine.Receives.{has_members, heir, inherited, inheriting, is_lost_group, is_member_of, lost_a_group, slave_of_heir}
 use Rattle.vt_spec.specs.Machine.Settled.{is_located, is_mounted, located_in, mount_lives, settled, without_dead_mounts}
 use Rattle.vt_spec.specs.Machine.World.{Namespace, Task, World, all_locations}
 use Rattle.vt_laws_mounts.specs.LettingGo.InUse.{HasTrees, UppersArePlain}
@@ -68,32 +68,9 @@ module _ (world : World ℕ) (tasks : List (Task ℕ)) (namespaces : List (Names
 
   way_down : (number : ℕ) → Stands nat_eq world number → (place : Location ℕ) → place.mount ≡ number
       → IsAttached place.mount → WayDown place
-  way_down number (at_root it e) place same attached =
-      ends place
-      (cond-None (is_going nat_eq gone place.mount) (mount_in nat_eq world.mounts place.mount).mount_point root)
-      (cond-None (is_going nat_eq gone place.mount) (mount_in nat_eq first_mounts place.mount).mount_point
-      (ap (λ (x : Mount ℕ). x.mount_point) (same_found world kept place.mount attached) ∙ root))
-    where
-      root : (mount_in nat_eq world.mounts place.mount).mount_point ≡ None
-      root = ap (λ n. (mount_in nat_eq world.mounts n).mount_point) same ∙ e
+  way_down number (at_root it e) place same attached = grind (arith, common_steps, same, ends, cond-None, same_found)
   way_down number (on_parent it below e beside rest) place same attached =
-      by (is_going nat_eq gone place.mount) refl
-      (way_down below.mount rest below refl
-      (ap is_some (sym beside) ∙ ap (λ n. is_some (mount_in nat_eq world.mounts n).namespace) (sym same) ∙ attached))
-    where
-      point : (mount_in nat_eq world.mounts place.mount).mount_point ≡ Some below
-      point = ap (λ n. (mount_in nat_eq world.mounts n).mount_point) same ∙ e
-
-      by : (b : Bool) → is_going nat_eq gone place.mount ≡ b → WayDown below → WayDown place
-      by false f later =
-          ends place (ap (λ b. cond b (mount_in nat_eq world.mounts place.mount).mount_point None) f)
-          (ap (λ b. cond b (mount_in nat_eq first_mounts place.mount).mount_point None) f)
-      by true f later =
-          goes_on place below
-          (ap (λ b. cond b (mount_in nat_eq world.mounts place.mount).mount_point None) f ∙ point)
-          (ap (λ b. cond b (mount_in nat_eq first_mounts place.mount).mount_point None) f
-          ∙ ap (λ (x : Mount ℕ). x.mount_point) (same_found world kept place.mount attached) ∙ point)
-          (number_there world kept place.mount attached) later
+      grind (arith, common_steps, same, ends, goes_on, same_found, number_there, way_down below.mount rest below refl)
 
   same_left : (place : Location ℕ) → IsAttached place.mount
       → mount_point_left nat_eq swept gone place ≡ mount_point_left nat_eq not_swept gone place
@@ -103,8 +80,7 @@ module _ (world : World ℕ) (tasks : List (Task ℕ)) (namespaces : List (Names
         arith,
         common_steps,
         chains_alike,
-        way_down place.mount (standing_at world kept place.mount attached)
-            place refl attached,
+        way_down place.mount (standing_at world kept place.mount attached) place refl attached,
         shorter world kept,
       )
 
@@ -121,10 +97,9 @@ module _ (world : World ℕ) (tasks : List (Task ℕ)) (namespaces : List (Names
 
       by : (b : Bool) → cond b (detached mount) (record mount {
         mount_point = option_map (mount_point_left nat_eq swept gone) mount.mount_point;
+      }) ≡ cond b (detached mount) (record mount {
+        mount_point = option_map (mount_point_left nat_eq not_swept gone) mount.mount_point;
       })
-          ≡ cond b (detached mount) (record mount {
-            mount_point = option_map (mount_point_left nat_eq not_swept gone) mount.mount_point;
-          })
       by true = refl
       by false = ap (λ point. record mount { mount_point = point }) (points mount.mount_point refl)
 
@@ -136,8 +111,7 @@ module _ (world : World ℕ) (tasks : List (Task ℕ)) (namespaces : List (Names
   before_swept = MountingTaken.without swept gone namespaces
 
   swept_mounts : before_swept.mounts ≡ map going first_mounts
-  swept_mounts =
-      map_alike (after_going nat_eq swept gone) going first_mounts
+  swept_mounts = map_alike (after_going nat_eq swept gone) going first_mounts
       (λ mount m. going_alike mount (of_world world kept mount m))
 
   private_then : (mount : Mount ℕ) → is_private mount.propagation ≡ true → is_private (going mount).propagation ≡ true
@@ -146,40 +120,23 @@ module _ (world : World ℕ) (tasks : List (Task ℕ)) (namespaces : List (Names
   -- a test of what is left of each mount, which private ones do not pass
   tested : (test : Mount ℕ → Bool) → ((mount : Mount ℕ) → is_private mount.propagation ≡ true → test mount ≡ false)
       → list_any test (map going first_mounts) ≡ list_any test (map going world.mounts)
-  tested test fails =
-      any-map test {q = λ mount. test (going mount)} going first_mounts (λ mount. refl)
+  tested test fails = any-map test {q = λ mount. test (going mount)} going first_mounts (λ mount. refl)
       ∙ any-filter (λ mount. test (going mount)) (mount_lives nat_eq world) world.mounts
       (λ mount m dead. fails (going mount) (private_then mount (unused_private world kept mount m dead)))
       ∙ sym (any-map test {q = λ mount. test (going mount)} going world.mounts (λ mount. refl))
 
   members_before : (group : ℕ) → has_members nat_eq before_swept.mounts group ≡ has_members nat_eq before.mounts group
-  members_before group =
-      ap (λ mounts. has_members nat_eq mounts group) swept_mounts
+  members_before group = ap (λ mounts. has_members nat_eq mounts group) swept_mounts
       ∙ tested (is_member_of nat_eq group) (private_is_no_member group)
 
-  heir_alike : (group : ℕ) → LivesIn group
-      → heir nat_eq before_swept (Some group) ≡ heir nat_eq before (Some group)
+  heir_alike : (group : ℕ) → LivesIn group → heir nat_eq before_swept (Some group) ≡ heir nat_eq before (Some group)
   heir_alike group lives =
-      let many : length groups_there ≡ length first_mounts =
-      length-map first_mounts (λ (mount : Mount ℕ). unwrap_or (group_of mount.propagation) 0) in
-      let all : length before.mounts ≡ length world.mounts = length-map world.mounts going in
-      let rest : length before_swept.mounts ≡ length first_mounts =
-      length-map first_mounts (after_going nat_eq swept gone) in
-      find_agrees (has_members nat_eq before_swept.mounts) (has_members nat_eq before.mounts) members_before
-      (groups_up before_swept group)
-      ∙ ap (find (has_members nat_eq before.mounts))
-      (sym (chains_alike world.master (settled nat_eq world).master (λ (g : ℕ). g) groups_there
-      (λ a b e. ap world.master e) (length before.mounts) (length before_swept.mounts) group
-      (way_up world kept group lives)
-      (omega (arith, many, all, shorter world kept)) (omega (arith, many, rest))))
+      grind (arith, common_steps, length-map, find_agrees, members_before, chains_alike, way_up, shorter)
 
   heir_of_master : (group : ℕ) → LivesIn group
       → heir nat_eq before_swept ((settled nat_eq world).master group) ≡ heir nat_eq before (world.master group)
-  heir_of_master group (has_no_master it has e) =
-      ap (heir nat_eq before_swept) (master_kept world kept it has ∙ e) ∙ sym (ap (heir nat_eq before) e)
-  heir_of_master group (has_master it above has e rest) =
-      ap (heir nat_eq before_swept) (master_kept world kept it has ∙ e) ∙ heir_alike above rest
-      ∙ sym (ap (heir nat_eq before) e)
+  heir_of_master group (has_no_master it has e) = grind (arith, common_steps, master_kept)
+  heir_of_master group (has_master it above has e rest) = grind (arith, common_steps, above, master_kept, heir_alike)
 
   abbrev HasLivingSource : Propagation ℕ → Type 0
   HasLivingSource kind = (group : ℕ) → source_of kind ≡ Some group → LivesIn group
@@ -198,21 +155,18 @@ module _ (world : World ℕ) (tasks : List (Task ℕ)) (namespaces : List (Names
         mount_point = option_map (mount_point_left nat_eq not_swept gone) mount.mount_point;
       })).propagation
       by true group e = absurd (true≢false (sym (ap is_some e)))
-      by false group e =
-          among_from_all (HasLivingGroups nat_eq world) world.mounts kept.groups mount m group e
+      by false group e = among_from_all (HasLivingGroups nat_eq world) world.mounts kept.groups mount m group e
 
   change_alike : (b : Bool) (mount : Mount ℕ) → Among mount world.mounts
       → MountingTaken.change swept gone namespaces b mount ≡ MountingTaken.change not_swept gone namespaces b mount
-  change_alike true mount m =
-      ap (inheriting nat_eq before_swept) (going_alike mount m)
+  change_alike true mount m = ap (inheriting nat_eq before_swept) (going_alike mount m)
       ∙ ap (λ kind. record (going mount) { propagation = kind })
       (inherited_alike (going mount).propagation (source_then mount m))
   change_alike false mount m = going_alike mount m
 
   lost_alike : (mount : Mount ℕ) → Among mount world.mounts
       → lost_a_group nat_eq before_swept (going mount) ≡ lost_a_group nat_eq before (going mount)
-  lost_alike mount m =
-      λ i. lost (source_of (going mount).propagation) i
+  lost_alike mount m = λ i. lost (source_of (going mount).propagation) i
       || (ap (is_lost_group nat_eq before_swept) (above (source_of (going mount).propagation) refl)
       ∙ lost (then_some (source_of (going mount).propagation) world.master)) i
     where
@@ -232,16 +186,13 @@ module _ (world : World ℕ) (tasks : List (Task ℕ)) (namespaces : List (Names
   hands_on_swept = list_any (lost_a_group nat_eq before_swept) before_swept.mounts
 
   hands_alike : hands_on_swept ≡ hands_on
-  hands_alike =
-      ap (list_any (lost_a_group nat_eq before_swept)) swept_mounts
+  hands_alike = ap (list_any (lost_a_group nat_eq before_swept)) swept_mounts
       ∙ any_changed going (lost_a_group nat_eq before_swept) (λ mount. lost_a_group nat_eq before (going mount))
       first_mounts (λ mount m. lost_alike mount (of_world world kept mount m))
       ∙ sym (any-map (lost_a_group nat_eq before) {q = λ mount. lost_a_group nat_eq before (going mount)}
-      going first_mounts (λ mount. refl))
-      ∙ tested (lost_a_group nat_eq before) (λ mount e. none mount.propagation e)
+      going first_mounts (λ mount. refl)) ∙ tested (lost_a_group nat_eq before) (λ mount e. none mount.propagation e)
     where
-      none : (kind : Propagation ℕ) → is_private kind ≡ true
-          → (is_lost_group nat_eq before (source_of kind)
+      none : (kind : Propagation ℕ) → is_private kind ≡ true → (is_lost_group nat_eq before (source_of kind)
           || is_lost_group nat_eq before (then_some (source_of kind) world.master)) ≡ false
       none (Shared group) e = absurd (true≢false (sym e))
       none (Slave master) e = absurd (true≢false (sym e))
@@ -269,8 +220,7 @@ module _ (world : World ℕ) (tasks : List (Task ℕ)) (namespaces : List (Names
   last_mounts = filter (mount_lives nat_eq once) once_mounts
 
   again_is : again_mounts ≡ map change first_mounts
-  again_is =
-      ap (λ b. map (MountingTaken.change swept gone namespaces b) first_mounts) hands_alike
+  again_is = ap (λ b. map (MountingTaken.change swept gone namespaces b) first_mounts) hands_alike
       ∙ map_alike (MountingTaken.change swept gone namespaces hands_on) change first_mounts
       (λ mount m. change_alike hands_on mount (of_world world kept mount m))
 
@@ -278,31 +228,25 @@ module _ (world : World ℕ) (tasks : List (Task ℕ)) (namespaces : List (Names
   number-change mount = same_number not_swept gone namespaces hands_on mount
 
   was_attached : (mount : Mount ℕ) → is_some (change mount).namespace ≡ true → is_some mount.namespace ≡ true
-  was_attached mount e =
-      ap is_some (sym (same_namespace not_swept gone namespaces hands_on mount
+  was_attached mount e = ap is_some (sym (same_namespace not_swept gone namespaces hands_on mount
       (does_not_go not_swept gone hands_on mount e))) ∙ e
 
   lived : (mount : Mount ℕ) → mount_lives nat_eq once (change mount) ≡ true → mount_lives nat_eq world mount ≡ true
-  lived mount lives =
-      ⊎_elim (λ attached. attached_lives world kept mount (was_attached mount attached))
-      (λ located.
+  lived mount lives = ⊎_elim (λ attached. attached_lives world kept mount (was_attached mount attached)) (λ located.
       let t = one_passes (λ (l : Location ℕ). nat_eq (change mount).number l.mount) (all_locations once) located in
       or_second (is_some mount.namespace) (is_located nat_eq world mount.number)
       (any_passes (λ (l : Location ℕ). nat_eq mount.number l.mount) (all_locations world) t.0
-      (was_located world tasks nowhere_new t.0 t.1)
-      (ap (λ n. nat_eq n t.0.mount) (sym (number-change mount)) ∙ t.2)))
+      (was_located world tasks nowhere_new t.0 t.1) (ap (λ n. nat_eq n t.0.mount) (sym (number-change mount)) ∙ t.2)))
       (or_cases (is_some (change mount).namespace) (is_located nat_eq once (change mount).number) lives)
 
   same_mounts : filter (mount_lives nat_eq again) again_mounts ≡ last_mounts
-  same_mounts =
-      ap (filter (mount_lives nat_eq once)) again_is
+  same_mounts = ap (filter (mount_lives nat_eq once)) again_is
       ∙ filter-map (mount_lives nat_eq once) {q = λ mount. mount_lives nat_eq once (change mount)} change first_mounts
       (λ mount. refl)
       ∙ ap (map change) (filter_twice (λ mount. mount_lives nat_eq once (change mount)) (mount_lives nat_eq world)
       (λ mount. mount_lives nat_eq once (change mount))
       (λ mount. follows (mount_lives nat_eq once (change mount)) (mount_lives nat_eq world mount) (lived mount))
-      world.mounts)
-      ∙ sym (filter-map (mount_lives nat_eq once) {q = λ mount. mount_lives nat_eq once (change mount)}
+      world.mounts) ∙ sym (filter-map (mount_lives nat_eq once) {q = λ mount. mount_lives nat_eq once (change mount)}
       change world.mounts (λ mount. refl))
 
   -- what a mount that is in use at the end was
@@ -336,10 +280,7 @@ module _ (world : World ℕ) (tasks : List (Task ℕ)) (namespaces : List (Names
   same_master group has =
       let t = one_passes (is_member_of nat_eq group) last_mounts has in
       let old = was t.0 t.1 in
-      ap (λ b. MountingTaken.masters swept gone namespaces b group) hands_alike
-      ∙ masters_alike hands_on group
-      (source_then old.0 old.1 group
-      (member_was hands_on old.0 group (ap (is_member_of nat_eq group) (sym old.2) ∙ t.2)))
+      grind (arith, common_steps, hands_alike, masters_alike, source_then, member_was)
 
   -- What is mounted and located
   mounted_was : (number : ℕ) → is_mounted nat_eq (without_dead_mounts nat_eq once) number ≡ true
@@ -347,21 +288,17 @@ module _ (world : World ℕ) (tasks : List (Task ℕ)) (namespaces : List (Names
   mounted_was number is =
       let t = one_passes (λ (mount : Mount ℕ). nat_eq number mount.filesystem) last_mounts is in
       let old = was t.0 t.1 in
-      any_passes (λ (mount : Mount ℕ). nat_eq number mount.filesystem) first_mounts old.0 (was_first old.0 old.1 old.3)
-      (ap (nat_eq number) (sym (ap (λ (x : Mount ℕ). x.filesystem) old.2
-      ∙ same_filesystem not_swept gone namespaces hands_on old.0)) ∙ t.2)
+      grind (arith, common_steps, any_passes, was_first, same_filesystem)
 
   shows_alike : (number : ℕ) → ((mount : Mount ℕ) → Among mount world.mounts → mount.number ≡ number
       → mount_lives nat_eq once (change mount) ≡ true)
       → (mount_in nat_eq last_mounts number).filesystem ≡ (mount_in nat_eq first_mounts number).filesystem
-  shows_alike number stays =
-      ap (λ (x : Mount ℕ). x.filesystem)
+  shows_alike number stays = ap (λ (x : Mount ℕ). x.filesystem)
       (found_in_filter (mount_lives nat_eq once) once_mounts number (λ mount m same.
       let from = among-from_map change world.mounts mount m in
       ap (mount_lives nat_eq once) from.2
       ∙ stays from.0 from.1 (sym (number-change from.0) ∙ ap (λ (x : Mount ℕ). x.number) (sym from.2) ∙ same)))
-      ∙ shows_the_same not_swept gone namespaces hands_on number
-      ∙ ap (λ (x : Mount ℕ). x.filesystem)
+      ∙ shows_the_same not_swept gone namespaces hands_on number ∙ ap (λ (x : Mount ℕ). x.filesystem)
       (sym (found_in_filter (mount_lives nat_eq world) world.mounts number
       (λ mount m same. lived mount (stays mount m same))))
 
@@ -381,8 +318,7 @@ module _ (world : World ℕ) (tasks : List (Task ℕ)) (namespaces : List (Names
           → (other : Mount ℕ) × Among other world.mounts × (other.mount_point ≡ Some (last_or at (chain n falls at))))
           → (other : Mount ℕ) × Among other world.mounts
           × (other.mount_point ≡ Some (last_or place (chain (suc n) falls place)))
-      by None e later =
-          (mount, m, p ∙ ap (λ l. Some (last_or place l)) (sym (chain_ends falls n place e)))
+      by None e later = (mount, m, p ∙ ap (λ l. Some (last_or place l)) (sym (chain_ends falls n place e)))
       by (Some below) e later =
           let parent = mount_in nat_eq world.mounts place.mount in
           let t = later parent (found_is_there world.mounts place.mount
@@ -402,19 +338,16 @@ module _ (world : World ℕ) (tasks : List (Task ℕ)) (namespaces : List (Names
   point_was : (mount : Mount ℕ) → Among mount world.mounts → (place : Location ℕ)
       → (change mount).mount_point ≡ Some place
       → (other : Mount ℕ) × Among other world.mounts × (other.mount_point ≡ Some place)
-  point_was mount m place p =
-      by (is_going nat_eq gone mount.number) mount.mount_point refl (sym (same hands_on) ∙ p)
+  point_was mount m place p = by (is_going nat_eq gone mount.number) mount.mount_point refl (sym (same hands_on) ∙ p)
     where
       same : (b : Bool) → (MountingTaken.change not_swept gone namespaces b mount).mount_point
           ≡ (going mount).mount_point
       same true = refl
       same false = refl
 
-      by : (b : Bool) (o : Option (Location ℕ)) → mount.mount_point ≡ o
-          → (cond b (detached mount) (record mount {
-            mount_point = option_map (mount_point_left nat_eq not_swept gone) o;
-          })).mount_point ≡ Some place
-          → (other : Mount ℕ) × Among other world.mounts × (other.mount_point ≡ Some place)
+      by : (b : Bool) (o : Option (Location ℕ)) → mount.mount_point ≡ o → (cond b (detached mount) (record mount {
+        mount_point = option_map (mount_point_left nat_eq not_swept gone) o;
+      })).mount_point ≡ Some place → (other : Mount ℕ) × Among other world.mounts × (other.mount_point ≡ Some place)
       by true o e f = absurd (true≢false (sym (ap is_some f)))
       by false None e f = absurd (true≢false (sym (ap is_some f)))
       by false (Some at) e f =
@@ -427,34 +360,27 @@ module _ (world : World ℕ) (tasks : List (Task ℕ)) (namespaces : List (Names
     the_last : (mount : Mount ℕ) → Among mount world.mounts → mount_lives nat_eq once (change mount) ≡ true
         → (other : Mount ℕ) → Among other world.mounts → other.number ≡ mount.number
         → mount_lives nat_eq once (change other) ≡ true
-    the_last mount m lives other n e =
-        ap (λ x. mount_lives nat_eq once (change x))
+    the_last mount m lives other n e = ap (λ x. mount_lives nat_eq once (change x))
         (sym (found_itself world.mounts kept.one_number other n) ∙ ap (mount_in nat_eq world.mounts) e
-        ∙ found_itself world.mounts kept.one_number mount m)
-        ∙ lives
+        ∙ found_itself world.mounts kept.one_number mount m) ∙ lives
 
     was_at : (f : ℕ) (location : Location ℕ) → Among location (places_in world first_mounts)
         → f ≡ (mount_in nat_eq first_mounts location.mount).filesystem
         → Among location.node (located_in nat_eq (without_dead_mounts nat_eq world) f)
-    was_at f location m e =
-        among-map (λ (l : Location ℕ). l.node)
+    was_at f location m e = among-map (λ (l : Location ℕ). l.node)
         (filter (λ l. nat_eq f (mount_in nat_eq first_mounts l.mount).filesystem)
         (places_in world first_mounts)) location
         (among-filter (λ l. nat_eq f (mount_in nat_eq first_mounts l.mount).filesystem)
-        (places_in world first_mounts) location m
-        (eq-eqb f (mount_in nat_eq first_mounts location.mount).filesystem e))
+        (places_in world first_mounts) location m (eq-eqb f (mount_in nat_eq first_mounts location.mount).filesystem e))
 
     -- a location of a task, the root of a mount, and a mount point
     task_was : (f : ℕ) (location : Location ℕ) → Among location (all_locations once)
         → f ≡ (mount_in nat_eq last_mounts location.mount).filesystem
         → Among location.node (located_in nat_eq (without_dead_mounts nat_eq world) f)
-    task_was f location at e =
-        was_at f location
-        (among-append_left (all_locations world ++ map root_of first_mounts)
+    task_was f location at e = was_at f location (among-append_left (all_locations world ++ map root_of first_mounts)
         (filter_map (λ mount. mount.mount_point) first_mounts) location
         (among-append_left (all_locations world) (map root_of first_mounts) location
-        (was_located world tasks nowhere_new location at)))
-        (e ∙ shows_alike location.mount (λ mount m same.
+        (was_located world tasks nowhere_new location at))) (e ∙ shows_alike location.mount (λ mount m same.
         or_second (is_some (change mount).namespace) (is_located nat_eq once (change mount).number)
         (any_passes (λ (l : Location ℕ). nat_eq (change mount).number l.mount) (all_locations once) location at
         (eq-eqb (change mount).number location.mount (number-change mount ∙ same)))))
@@ -467,8 +393,7 @@ module _ (world : World ℕ) (tasks : List (Task ℕ)) (namespaces : List (Names
         let old = was from.0 from.1 in
         let here : location ≡ root_of old.0 =
         from.2 ∙ ap root_of old.2 ∙ same_root not_swept gone namespaces hands_on old.0 in
-        was_at f location
-        (among-append_left (all_locations world ++ map root_of first_mounts)
+        was_at f location (among-append_left (all_locations world ++ map root_of first_mounts)
         (filter_map (λ mount. mount.mount_point) first_mounts) location
         (among-append_right (all_locations world) (map root_of first_mounts) location
         (subst (λ l. Among l (map root_of first_mounts)) (sym here)
@@ -488,13 +413,11 @@ module _ (world : World ℕ) (tasks : List (Task ℕ)) (namespaces : List (Names
         let other = point_was old.0 old.1 location (ap (λ (x : Mount ℕ). x.mount_point) (sym old.2) ∙ from.2) in
         let in_one = placed_is_attached other.0
         (passes is_nowhere_or_attached world.mounts kept.nowhere other.0 other.1) location other.2 in
-        was_at f location
-        (among-append_right (all_locations world ++ map root_of first_mounts)
+        was_at f location (among-append_right (all_locations world ++ map root_of first_mounts)
         (filter_map (λ x. x.mount_point) first_mounts) location
         (among-filter_map (λ (x : Mount ℕ). x.mount_point) first_mounts other.0 location
         (among-filter (mount_lives nat_eq world) world.mounts other.0 other.1
-        (attached_lives world kept other.0 in_one)) other.2))
-        (e ∙ shows_alike location.mount (λ mount m same.
+        (attached_lives world kept other.0 in_one)) other.2)) (e ∙ shows_alike location.mount (λ mount m same.
         or_first (is_some (change mount).namespace) (is_located nat_eq once (change mount).number)
         (ap (λ (x : Mount ℕ). is_some x.namespace)
         (sym (found_itself once_mounts afterwards.one_number (change mount) (among-map change world.mounts mount m))
@@ -510,21 +433,14 @@ module _ (world : World ℕ) (tasks : List (Task ℕ)) (namespaces : List (Names
         (places_in once last_mounts) from.0 from.1 in
         let e : f ≡ (mount_in nat_eq last_mounts from.0.mount).filesystem =
         eqb-true f (mount_in nat_eq last_mounts from.0.mount).filesystem here.1 in
-        subst (λ n. Among n (located_in nat_eq (without_dead_mounts nat_eq world) f)) (sym from.2)
-        (⊎_elim
+        subst (λ n. Among n (located_in nat_eq (without_dead_mounts nat_eq world) f)) (sym from.2) (⊎_elim
         (λ front. ⊎_elim (λ at. task_was f from.0 at e) (λ at. root_was f from.0 at e)
-        (among-append (all_locations once) (map root_of last_mounts) from.0 front))
-        (λ at. point_located f from.0 at e)
+        (among-append (all_locations once) (map root_of last_mounts) from.0 front)) (λ at. point_located f from.0 at e)
         (among-append (all_locations once ++ map root_of last_mounts)
         (filter_map (λ mount. mount.mount_point) last_mounts) from.0 here.0))
 
     same_uses : SameUses world once again
-    same_uses = record {
-      mounts = same_mounts;
-      master = same_master;
-      mounted = mounted_was;
-      located = located_was;
-    }
+    same_uses = grind (arith, common_steps, same_mounts, same_master, mounted_was, located_was)
 
   abbrev taken : World ℕ → World ℕ
   taken now = record (taken_away nat_eq now gone) { namespaces = namespaces }

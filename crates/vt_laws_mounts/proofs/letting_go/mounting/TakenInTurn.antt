@@ -20,8 +20,7 @@ pub one_sweep_for_mounts_with_overlays : OneSweepForMountsWithOverlays
 one_sweep_for_mounts_with_overlays world gone trees uppers reals kept afterwards =
     ap (settled nat_eq) (sym (itself (settled nat_eq world)))
     ∙ one_sweep_between world world.tasks world.namespaces gone kept (comes_nowhere_itself world) trees uppers reals
-    (subst MountsStand (sym (itself world)) afterwards)
-    ∙ ap (settled nat_eq) (itself world)
+    (subst MountsStand (sym (itself world)) afterwards) ∙ ap (settled nat_eq) (itself world)
   where
     itself : (now : World ℕ) → record (taken_away nat_eq now gone) { namespaces = now.namespaces }
         ≡ taken_away nat_eq now gone
@@ -48,11 +47,9 @@ module _ {A : Type 0} (change : World ℕ → A → World ℕ)
       → RealsAreThere world → KeepsMounts change world list
       → with_sweeps change (settled nat_eq world) list ≡ settled nat_eq (folded change world list)
   one_sweep_in_turn world [] trees uppers reals kept = refl
-  one_sweep_in_turn world (a ∷ rest) trees uppers reals kept =
-      ap (λ now. with_sweeps change now rest)
+  one_sweep_in_turn world (a ∷ rest) trees uppers reals kept = ap (λ now. with_sweeps change now rest)
       (for_two world a trees uppers reals kept.0 (keeps_first change (change world a) rest kept.1))
-      ∙ one_sweep_in_turn (change world a) rest
-      (subst (λ fs. HasTrees (record world { filesystems = fs })) same trees)
+      ∙ one_sweep_in_turn (change world a) rest (subst (λ fs. HasTrees (record world { filesystems = fs })) same trees)
       (subst (λ fs. UppersArePlain (record world { filesystems = fs })) same uppers)
       (subst (λ fs. RealsAreThere (record world { filesystems = fs })) same reals) kept.1
     where
@@ -61,8 +58,7 @@ module _ {A : Type 0} (change : World ℕ → A → World ℕ)
 
 pub one_sweep_for_all_mounts_with_overlays : OneSweepForAllMountsWithOverlays
 one_sweep_for_all_mounts_with_overlays world parts trees uppers reals kept =
-    one_sweep_in_turn (taken_away nat_eq) filesystems-taken_away
-    (λ now gone t u r before after.
+    one_sweep_in_turn (taken_away nat_eq) filesystems-taken_away (λ now gone t u r before after.
     one_sweep_for_mounts_with_overlays now gone t u r before (mounts_stand (taken_away nat_eq now gone) after))
     world parts trees uppers reals kept
 

@@ -1,11 +1,10 @@
 -- What goes after unmounts, one or several after one another.
-use Rattle.std.proofs.Common.{arith}
+use Rattle.std.proofs.Common.{arith, ◌≡◌, refl, sym, ap, subst, ◌∙◌, ◌⊎◌, inl, inr, ⊎_elim, ℕ, nat_eq, Bool, true, false, cond, not, ◌&&◌, List, [], ◌∷◌, filter, map, true≢false, Option, Some, None, is_some}
 use Rattle.std.proofs.lemmas.Grind.{common_steps}
-use Rattle.std.proofs.Common.{◌≡◌, refl, sym, ap, subst, ◌∙◌, ◌⊎◌, inl, inr, ⊎_elim, ℕ, nat_eq, Bool, true, false, cond, not, ◌&&◌, List, [], ◌∷◌, filter, map, true≢false, Option, Some, None, is_some, option_map}
 use Rattle.std.specs.List.{list_any}
-use Rattle.std.proofs.lemmas.Bool.{false_from_ne_true, or_cases, cases_Bool}
+use Rattle.std.proofs.lemmas.Bool.{false_from_ne_true, or_cases, cases_Bool, or_parts}
 use Rattle.vt_spec.specs.Lists.{folded, holds_of, is_among}
-use Rattle.vt_spec.specs.Machine.Detach.{deepest_first, going, is_going, lazily_unmounted, mount_point_left, mounts_on, taken_away, unmounted, unmounted_if_there}
+use Rattle.vt_spec.specs.Machine.Detach.{deepest_first, going, is_going, lazily_unmounted, mounts_on, taken_away, unmounted, unmounted_if_there}
 use Rattle.vt_spec.specs.Machine.Mounts.{Location, Mount, detached, group_of, mount_in, mount_tree, root_of}
 use Rattle.vt_spec.specs.Machine.Receives.{has_members, heir, is_member_of, lost_a_group, regrouped_by}
 use Rattle.vt_spec.specs.Machine.Settled.{is_located, mount_lives, settled}
@@ -22,7 +21,6 @@ use Rattle.vt_laws_mounts.proofs.letting_go.mounting.MountingLosers.{Loses, Stil
 use Rattle.vt_laws_mounts.proofs.letting_go.mounting.MountingTaken.{is_changed, nowhere_after, same_filesystem, same_namespace, same_namespaces, same_number, same_place, same_root, stays, taking_away_lets_go}
 use Rattle.vt_laws_mounts.proofs.letting_go.mounting.MountingTaken
 use Rattle.vt_laws_mounts.proofs.letting_go.leaving.PlacesLeft.{found_is_there, found_itself, nowhere_parts, placed_is_attached, private_is_no_member, place_attached}
-use Rattle.std.proofs.lemmas.Bool.{or_parts}
 use Rattle.vt_spec.proofs.Worlds.{number-mount_in}
 use Rattle.vt_spec.proofs.Lists.{map_twice}
 
@@ -32,20 +30,16 @@ pub no_members : (world after : World ℕ) (gone : List ℕ) → GroupsInUse wor
     → ((mount : Mount ℕ) → Among mount world.mounts → is_among nat_eq mount.number gone ≡ false → (group : ℕ)
     → is_member_of nat_eq group mount ≡ true → has_members nat_eq after.mounts group ≡ true)
     → (group : ℕ) → is_among nat_eq group (groups_of_mounts world gone) ≡ false
-    → has_members nat_eq after.mounts group ≡ false
-    → world.master group ≡ None
-no_members world after gone in_use stay group among none =
-    in_use group
+    → has_members nat_eq after.mounts group ≡ false → world.master group ≡ None
+no_members world after gone in_use stay group among none = in_use group
     (none_passes (is_member_of nat_eq group) world.mounts
     (λ mount m. false_from_ne_true (is_member_of nat_eq group mount) (λ is.
-    ⊎_elim
-    (λ went. true≢false (sym (is_among_numbers group (groups_of_mounts world gone)
+    ⊎_elim (λ went. true≢false (sym (is_among_numbers group (groups_of_mounts world gone)
     (among-filter_map (λ x. group_of x.propagation)
     (filter (λ x. is_among nat_eq x.number gone) world.mounts) mount group
     (among-filter (λ x. is_among nat_eq x.number gone) world.mounts mount m went)
     (held_number group (group_of mount.propagation) is))) ∙ among))
-    (λ kept. true≢false (sym (stay mount m kept group is) ∙ none))
-    (cases_Bool (is_among nat_eq mount.number gone)))))
+    (λ kept. true≢false (sym (stay mount m kept group is) ∙ none)) (cases_Bool (is_among nat_eq mount.number gone)))))
 
 -- So all other groups have members or no master
 groups_but : (world after : World ℕ) (gone : List ℕ) → GroupsInUse world
@@ -77,16 +71,7 @@ module _ (world : World ℕ) (gone : List ℕ) where
   -- one that goes is in no namespace then
   outside : (b : Bool) (mount : Mount ℕ) → is_going nat_eq gone mount.number ≡ true
       → is_some (change b mount).namespace ≡ false
-  outside true mount is =
-      ap (λ c. is_some (cond c (detached mount) (record mount {
-        mount_point = option_map
-            (mount_point_left nat_eq world gone) mount.mount_point;
-      })).namespace) is
-  outside false mount is =
-      ap (λ c. is_some (cond c (detached mount) (record mount {
-        mount_point = option_map
-            (mount_point_left nat_eq world gone) mount.mount_point;
-      })).namespace) is
+  outside b mount is = grind (arith, common_steps)
 
   -- one that is in a namespace then does not go
   pub does_not_go : (b : Bool) (mount : Mount ℕ) → is_some (change b mount).namespace ≡ true
@@ -118,12 +103,9 @@ event_groups world gone in_use =
     after = changed world (map (change world gone b) world.mounts) (masters world gone b) world.namespaces world.tasks
 
     then_ : GroupsInUseBut (groups_of_mounts world gone) after
-    then_ =
-        groups_but world after gone in_use
-        (λ mount m isnt group is.
+    then_ = groups_but world after gone in_use (λ mount m isnt group is.
         any_passes (is_member_of nat_eq group) after.mounts (change world gone b mount)
-        (among-map (change world gone b) world.mounts mount m)
-        (stays_member world gone b mount isnt group is))
+        (among-map (change world gone b) world.mounts mount m) (stays_member world gone b mount isnt group is))
         (masters_end world gone b)
 
 one_event_lets_go : (world : World ℕ) (gone : List ℕ) → IsSettledPlain world
@@ -157,8 +139,7 @@ pub record Faded (world now : World ℕ) : Type 0 where
       → is_some (change (mount_at nat_eq world at)).namespace ≡ true → (change mount).mount_point ≡ Some at
   pub nowhere : (mount : Mount ℕ) → Among mount world.mounts → is_nowhere_or_attached (change mount) ≡ true
   pub member : (mount : Mount ℕ) → is_some (change mount).namespace ≡ true → (group : ℕ)
-      → is_member_of nat_eq group mount ≡ true
-      → is_member_of nat_eq group (change mount) ≡ true
+      → is_member_of nat_eq group mount ≡ true → is_member_of nat_eq group (change mount) ≡ true
   pub master : (group : ℕ) → world.master group ≡ None → now.master group ≡ None
 
 begun : (world : World ℕ) → MountsStand world → Faded world world
@@ -186,27 +167,11 @@ module _ (world now : World ℕ) (faded : Faded world now) (gone : List ℕ) whe
   then_ = taken_away nat_eq now gone
 
   next_is : then_ ≡ changed world (map next world.mounts) then_.master world.namespaces world.tasks
-  next_is = λ i. record {
-    mounts = mounts i;
-    master = then_.master;
-    filesystems = (ap (λ w. w.filesystems) event ∙ ap (λ w. w.filesystems) faded.is) i;
-    namespaces = (ap (λ w. w.namespaces) event ∙ ap (λ w. w.namespaces) faded.is) i;
-    tasks = (ap (λ w. w.tasks) event ∙ ap (λ w. w.tasks) faded.is) i;
-    change = (ap (λ w. w.change) event ∙ ap (λ w. w.change) faded.is) i;
-  }
-    where
-      event : then_ ≡ changed now (map (change now gone b) now.mounts) (masters now gone b) now.namespaces now.tasks
-      event = one_event now gone b
-
-      mounts : then_.mounts ≡ map next world.mounts
-      mounts =
-          ap (λ w. w.mounts) event ∙ ap (λ w. map (change now gone b) w.mounts) faded.is
-          ∙ map_twice (change now gone b) faded.change world.mounts
+  next_is = grind (arith, common_steps, then_, changed, one_event, map_twice)
 
   still_in_one : (mount : Mount ℕ) → is_some (next mount).namespace ≡ true
       → is_some (faded.change mount).namespace ≡ true
-  still_in_one mount e =
-      ap is_some (sym (same_namespace now gone now.namespaces b (faded.change mount)
+  still_in_one mount e = ap is_some (sym (same_namespace now gone now.namespaces b (faded.change mount)
       (does_not_go now gone b (faded.change mount) e))) ∙ e
 
   fades : Faded world then_
@@ -216,8 +181,7 @@ module _ (world now : World ℕ) (faded : Faded world now) (gone : List ℕ) whe
     number = λ mount. same_number now gone now.namespaces b (faded.change mount) ∙ faded.number mount;
     root = λ mount. same_root now gone now.namespaces b (faded.change mount) ∙ faded.root mount;
     filesystem = λ mount. same_filesystem now gone now.namespaces b (faded.change mount) ∙ faded.filesystem mount;
-    place = λ mount at e here there.
-        same_place now gone now.namespaces b (faded.change mount) at
+    place = λ mount at e here there. same_place now gone now.namespaces b (faded.change mount) at
         (faded.place mount at e (still_in_one mount here) (still_in_one (mount_at nat_eq world at) there))
         (does_not_go now gone b (faded.change mount) here)
         (ap (is_going nat_eq gone) (sym (faded.number (mount_at nat_eq world at)
@@ -234,8 +198,7 @@ module _ (world now : World ℕ) (faded : Faded world now) (gone : List ℕ) whe
 all_events : (world : World ℕ) (mounts : List (Mount ℕ)) (now : World ℕ) → Faded world now
     → Faded world (folded (unmounted_if_there nat_eq) now mounts)
 all_events world [] now faded = faded
-all_events world (mount ∷ mounts) now faded =
-    all_events world mounts (unmounted_if_there nat_eq now mount)
+all_events world (mount ∷ mounts) now faded = all_events world mounts (unmounted_if_there nat_eq now mount)
     (by (is_some (mount_numbered nat_eq now mount.number).namespace))
   where
     by : (c : Bool) → Faded world (cond c (unmounted nat_eq now mount.number) now)
@@ -253,22 +216,16 @@ module _ (world now : World ℕ) (in_use : AllInUse world) (stand : MountsStand 
   found_now mount m =
       let itself = found_itself world.mounts stand.one_number mount m in
       ap (λ w. mount_numbered nat_eq w mount.number) faded.is
-      ∙ found-map faded.change faded.number world.mounts mount.number mount m itself refl
-      ∙ ap faded.change itself
+      ∙ found-map faded.change faded.number world.mounts mount.number mount m itself refl ∙ ap faded.change itself
 
   -- what is not lost is in its namespace
   in_one_still : (mount : Mount ℕ) → Among mount world.mounts → is_some mount.namespace ≡ true
-      → is_among nat_eq mount.number lost ≡ false
-      → is_some (faded.change mount).namespace ≡ true
-  in_one_still mount m e isnt =
-      ⊎_elim (λ is. is)
-      (λ out. absurd (true≢false
-      (sym (is_among_numbers mount.number lost
+      → is_among nat_eq mount.number lost ≡ false → is_some (faded.change mount).namespace ≡ true
+  in_one_still mount m e isnt = ⊎_elim (λ is. is) (λ out. absurd (true≢false (sym (is_among_numbers mount.number lost
       (among-map (λ x. x.number) (filter (is_detached_in now) world.mounts) mount
       (among-filter (is_detached_in now) world.mounts mount m
       (ap (λ c. c && not (is_some (mount_numbered nat_eq now mount.number).namespace)) e
-      ∙ ap (λ x. not (is_some x.namespace)) (found_now mount m) ∙ ap not out))))
-      ∙ isnt)))
+      ∙ ap (λ x. not (is_some x.namespace)) (found_now mount m) ∙ ap not out)))) ∙ isnt)))
       (cases_Bool (is_some (faded.change mount).namespace))
 
   placed_in_one : (mount : Mount ℕ) → Among mount world.mounts → (at : Location ℕ) → mount.mount_point ≡ Some at
@@ -282,17 +239,14 @@ module _ (world now : World ℕ) (in_use : AllInUse world) (stand : MountsStand 
 
   member_is_in_one : (mount : Mount ℕ) → Among mount world.mounts → (group : ℕ) → is_member_of nat_eq group mount ≡ true
       → is_some mount.namespace ≡ true
-  member_is_in_one mount m group is =
-      ⊎_elim (λ in_one. in_one)
-      (λ out. absurd (true≢false
+  member_is_in_one mount m group is = ⊎_elim (λ in_one. in_one) (λ out. absurd (true≢false
       (sym is ∙ private_is_no_member group mount
       (nowhere_parts mount (passes is_nowhere_or_attached world.mounts stand.nowhere mount m) out).1)))
       (cases_Bool (is_some mount.namespace))
 
   lives : (mount : Mount ℕ) → Among mount world.mounts → is_among nat_eq mount.number lost ≡ false
       → mount_lives nat_eq last (faded.change mount) ≡ true
-  lives mount m isnt =
-      ⊎_elim
+  lives mount m isnt = ⊎_elim
       (λ in_one. or_first (is_some (faded.change mount).namespace) (is_located nat_eq last (faded.change mount).number)
       (in_one_still mount m in_one isnt))
       (λ at. or_second (is_some (faded.change mount).namespace) (is_located nat_eq last (faded.change mount).number)
@@ -302,8 +256,7 @@ module _ (world now : World ℕ) (in_use : AllInUse world) (stand : MountsStand 
 
   place_still : (mount : Mount ℕ) → Among mount world.mounts → (at : Location ℕ) → mount.mount_point ≡ Some at
       → StillAPlace last.mounts lost at ⊎ Among at (places_lost world lost)
-  place_still mount m at p =
-      ⊎_elim
+  place_still mount m at p = ⊎_elim
       (λ loses. inr (among-filter_map (λ x. x.mount_point) (filter (loses_its_place lost) world.mounts) mount at
       (among-filter (loses_its_place lost) world.mounts mount m loses) p))
       (λ keeps. let parts = or_parts (is_going nat_eq lost mount.number)
@@ -322,8 +275,7 @@ module _ (world now : World ℕ) (in_use : AllInUse world) (stand : MountsStand 
             inl on,
           ),
         ),
-      ))
-      (cases_Bool (loses_its_place lost mount))
+      )) (cases_Bool (loses_its_place lost mount))
 
   pub loses : Loses world last lost (places_lost world lost)
   loses = record {
@@ -331,16 +283,13 @@ module _ (world now : World ℕ) (in_use : AllInUse world) (stand : MountsStand 
       faded.change mount,
       (among-map faded.change world.mounts mount m, (faded.root mount, faded.filesystem mount)),
     );
-    shown = λ location m. ⊎_elim (λ e. e)
-        (λ found. ap (λ x. x.filesystem)
+    shown = λ location m. ⊎_elim (λ e. e) (λ found. ap (λ x. x.filesystem)
         (found-map faded.change faded.number world.mounts location.mount found.0 found.1 found.2 found.3)
         ∙ faded.filesystem (mount_in nat_eq world.mounts location.mount))
         (not_found-map faded.change faded.number world.mounts location.mount);
     live = λ x m isnt. let from = among-from_map faded.change world.mounts x m in
-        ap (mount_lives nat_eq last) from.2
-        ∙ lives from.0 from.1 (ap (λ n. is_among nat_eq n lost)
-        (sym (faded.number from.0) ∙ ap (λ (y : Mount ℕ). y.number) (sym from.2))
-        ∙ isnt);
+        ap (mount_lives nat_eq last) from.2 ∙ lives from.0 from.1 (ap (λ n. is_among nat_eq n lost)
+        (sym (faded.number from.0) ∙ ap (λ (y : Mount ℕ). y.number) (sym from.2)) ∙ isnt);
     locations = λ location m. inl (inl m);
     places = place_still;
     nowhere = all_pass is_nowhere_or_attached last.mounts (λ x m.
@@ -349,33 +298,26 @@ module _ (world now : World ℕ) (in_use : AllInUse world) (stand : MountsStand 
   }
 
   pub groups : GroupsInUseBut (groups_of_mounts world lost) last
-  groups =
-      groups_but world last lost in_use.groups
-      (λ mount m isnt group is.
+  groups = groups_but world last lost in_use.groups (λ mount m isnt group is.
       any_passes (is_member_of nat_eq group) last.mounts (faded.change mount)
       (among-map faded.change world.mounts mount m)
-      (faded.member mount (in_one_still mount m (member_is_in_one mount m group is) isnt) group is))
-      faded.master
+      (faded.member mount (in_one_still mount m (member_is_in_one mount m group is) isnt) group is)) faded.master
 
 pub faded_lets_go : (world now : World ℕ) → IsSettledPlain world → Faded world now
     → settled nat_eq now ≡ let_go now (used_by_gone world (detached_between world now))
-faded_lets_go world now settles faded =
-    grind (
-      arith,
-      common_steps,
-      losers_go,
-      loses world now settles.in_use settles.mounts faded,
-      groups world now
-          settles.in_use settles.mounts faded,
-    )
+faded_lets_go world now settles faded = grind (
+  arith,
+  common_steps,
+  losers_go,
+  loses world now settles.in_use settles.mounts faded,
+  groups world now settles.in_use settles.mounts faded,
+)
 
 -- a lazy unmount is several events
 pub lazily_fades : (world : World ℕ) (number : ℕ) → MountsStand world
     → Faded world (lazily_unmounted nat_eq world number)
-lazily_fades world number stand =
-    all_events world (deepest_first nat_eq world
-    (mount_tree nat_eq world.mounts (mount_numbered nat_eq world number))) world
-    (begun world stand)
+lazily_fades world number stand = all_events world (deepest_first nat_eq world
+    (mount_tree nat_eq world.mounts (mount_numbered nat_eq world number))) world (begun world stand)
 
 pub lazy_unmounts_let_go : LazyUnmountsLetGo
 lazy_unmounts_let_go fresh world task number settles =

@@ -1,7 +1,6 @@
 -- What goes after each change of mounts in worlds with overlays.
-use Rattle.std.proofs.Common.{arith}
+use Rattle.std.proofs.Common.{arith, ◌≡◌, sym, ap, subst, ◌∙◌, ℕ, nat_eq, Bool, true, List, [], ◌∷◌, filter, flat_map, length, map, suc, zero, option_to_list}
 use Rattle.std.proofs.lemmas.Grind.{common_steps}
-use Rattle.std.proofs.Common.{◌≡◌, sym, ap, subst, ◌∙◌, ℕ, nat_eq, Bool, true, List, [], ◌∷◌, filter, flat_map, length, map, suc, zero, option_to_list}
 use Rattle.std.proofs.lemmas.List.{append-nil}
 use Rattle.std.specs.List.{list_any}
 use Rattle.vt_spec.specs.Machine.Attach.{Copies, attach, copies_from, parts_of}
@@ -40,11 +39,9 @@ taken_with_namespaces world gone groups namespaces settles hears =
     taken : Bool → World ℕ
     taken b = record (regrouped_by nat_eq b (without world gone namespaces)) { namespaces = namespaces }
 
-    by : (b : Bool) → GroupsInUseBut groups (taken b)
-        → settled nat_eq (taken b) ≡ let_go_all (taken b)
+    by : (b : Bool) → GroupsInUseBut groups (taken b) → settled nat_eq (taken b) ≡ let_go_all (taken b)
         (used_by_mounts_with_layers world gone (places_lost world gone) groups)
-    by b h =
-        subst (λ w. settled nat_eq w ≡ let_go_all w
+    by b h = subst (λ w. settled nat_eq w ≡ let_go_all w
         (used_by_mounts_with_layers world gone (places_lost world gone) groups))
         (sym (is_changed world gone namespaces b))
         (all_losers_go world (map (change world gone namespaces b) world.mounts)
@@ -54,16 +51,10 @@ taken_with_namespaces world gone groups namespaces settles hears =
 
 pub taking_away_with_overlays_lets_go : TakingAwayWithOverlaysLetsGo
 taking_away_with_overlays_lets_go world gone groups settles hears =
-    grind (
-      arith,
-      common_steps,
-      taken_with_namespaces world gone groups world.namespaces settles hears,
-      same_namespaces,
-    )
+    grind (arith, common_steps, taken_with_namespaces, same_namespaces)
 
 pub ending_with_overlays_lets_go : EndingWithOverlaysLetsGo
-ending_with_overlays_lets_go world groups settles hears =
-    taken_with_namespaces world (ended_mounts world) groups
+ending_with_overlays_lets_go world groups settles hears = taken_with_namespaces world (ended_mounts world) groups
     (filter (has_tasks nat_eq world) world.namespaces) settles hears
 
 pub moving_with_overlays_lets_go : MovingWithOverlaysLetsGo
@@ -72,11 +63,9 @@ moving_with_overlays_lets_go world moved groups change master settles moves nowh
     (places_moved world moved) groups settles
     (MountingMoved.loses world moved change master settles.in_use moves nowhere) hears
 
-one_event : (world : World ℕ) (gone : List ℕ) → IsSettled world
-    → settled nat_eq (taken_away nat_eq world gone)
+one_event : (world : World ℕ) (gone : List ℕ) → IsSettled world → settled nat_eq (taken_away nat_eq world gone)
     ≡ let_go_all (taken_away nat_eq world gone) (used_by_gone_with_layers world gone)
-one_event world gone settles =
-    taking_away_with_overlays_lets_go world gone (groups_of_mounts world gone) settles
+one_event world gone settles = taking_away_with_overlays_lets_go world gone (groups_of_mounts world gone) settles
     (event_groups world gone settles.in_use.groups)
 
 pub unmounts_with_overlays_let_go : UnmountsWithOverlaysLetGo
@@ -91,8 +80,7 @@ pub lazy_unmounts_with_overlays_let_go : LazyUnmountsWithOverlaysLetGo
 lazy_unmounts_with_overlays_let_go fresh world task number settles =
     subst (λ w. settled nat_eq w ≡ let_go_all w (used_by_gone_with_layers world gone)) (sym faded.is)
     (all_losers_go world (map faded.change world.mounts) now.master world.namespaces world.tasks gone
-    (places_lost world gone)
-    (groups_of_mounts world gone)
+    (places_lost world gone) (groups_of_mounts world gone)
     settles (Unmounted.loses world now settles.in_use settles.mounts faded)
     (Unmounted.groups world now settles.in_use settles.mounts faded))
   where
@@ -114,12 +102,10 @@ moves_with_overlays_let_go fresh world task number place settles located at_atta
     moves : (rest : List (Mount ℕ)) → ((x : Mount ℕ) → Among x (mount ∷ rest) → Among x world.mounts)
         → settled nat_eq (attach nat_eq world fresh place true (mount ∷ rest))
         ≡ let_go_all_inodes (attach nat_eq world fresh place true (mount ∷ rest)) (inodes_of_mount_point world mount)
-    moves rest there =
-        all_losers_go world after.mounts after.master world.namespaces world.tasks []
+    moves rest there = all_losers_go world after.mounts after.master world.namespaces world.tasks []
         (option_to_list mount.mount_point) [] settles
         (attached_loses world world.filesystems new place true mount rest settles.in_use settles.mounts located
-        at_attached (λ e. there))
-        (λ group among none.
+        at_attached (λ e. there)) (λ group among none.
         attached_groups world world.filesystems new place true mount rest settles.in_use settles.mounts located
         at_attached (λ e. there) group none)
         ∙ ap (let_go_all_inodes after) (append-nil (inodes_of_mount_point world mount))

@@ -1,20 +1,18 @@
 -- Where all is in use nothing goes, and what is left is in use.
-use Rattle.std.proofs.Common.{arith}
+use Rattle.std.proofs.Common.{arith, ◌≡◌, refl, sym, ap, subst, ◌∙◌, ⊎_elim, ℕ, nat_eq, eq-eqb, Bool, true, false, cond, not, ◌||◌, ◌&&◌, List, [], ◌∷◌, filter, map, true≢false, flat_map, ◌++◌, None}
 use Rattle.std.proofs.lemmas.Grind.{common_steps}
-use Rattle.std.proofs.Common.{◌≡◌, refl, sym, ap, subst, ◌∙◌, ⊎_elim, ℕ, nat_eq, eq-eqb, Bool, true, false, cond, not, ◌||◌, ◌&&◌, List, [], ◌∷◌, filter, map, true≢false, flat_map, ◌++◌, None}
 use Rattle.std.specs.Prelude.{All, filter_map}
 use Rattle.std.specs.List.{list_all, list_any}
 use Rattle.vt_spec.specs.FileTree.{targets_in}
 use Rattle.vt_spec.specs.Lists.{is_among}
 use Rattle.vt_spec.specs.Machine.Locked.{of_overlay}
 use Rattle.vt_spec.specs.Machine.Mounts.{Location, root_of}
-use Rattle.vt_spec.specs.Machine.Settled.{filesystem_lives, has_layer_on, is_mounted, layers_in, located_in, mount_lives, named_in, objects_of_overlay, only_used, only_used_by, settled, used_in, without_dead_filesystems, without_dead_groups, without_dead_in, without_dead_inodes, without_dead_mounts}
+use Rattle.vt_spec.specs.Machine.Settled.{filesystem_lives, has_layer_on, is_mounted, layers_in, located_in, mount_lives, named_in, objects_of_overlay, only_used, only_used_by, settled, used_in, without_dead_filesystems, without_dead_groups, without_dead_in, without_dead_mounts}
 use Rattle.vt_spec.specs.Machine.World.{Filesystem, Layer, World, all_locations, is_overlay, layers_of, mount_at, with_mounts}
 use Rattle.vt_laws_mounts.specs.LettingGo.InUse.{AllInUse, FilesystemsInUse, GroupsInUse, HasTrees, InodesInUse, IsListedTree, MountsInUse, NothingGoes, OneSweepIsEnough, UppersArePlain, WhatIsLeftIsInUse, has_upper_in, is_inode_used}
 use Rattle.vt_laws_mounts.proofs.letting_go.Lists.{Among, all_from_among, all_pass, among-filter, among-flat_map, among-from_flat_map, among-from_map, among-map, among_from_all, any_passes, flat_map_none, one_passes, or_first, among-from_filter, flat_map-filter, flat_map-map, flat_map_alike, is_among_numbers, map_same, or_second, passes}
 use Rattle.vt_laws_mounts.proofs.letting_go.Trees.{unnamed_is_empty}
 use Rattle.std.proofs.lemmas.Bool.{and_parts, or_cases, or_parts, cases_Bool}
-use Rattle.std.proofs.lemmas.List.Folds.{list_any-append}
 use Rattle.vt_spec.proofs.Found.{is_among_left, is_among_right, filter_all}
 
 -- Where all is in use
@@ -27,8 +25,7 @@ used_by_all world filesystem false all = refl
 
 pub inodes_stay : (chosen : Filesystem ℕ → Bool) (world : World ℕ) → InodesInUse world
     → without_dead_in nat_eq chosen world ≡ world
-inodes_stay chosen world all =
-    ap (λ filesystems. record world { filesystems = filesystems })
+inodes_stay chosen world all = ap (λ filesystems. record world { filesystems = filesystems })
     (map_same (λ filesystem. only_used nat_eq world (chosen filesystem) filesystem) world.filesystems
     (λ filesystem m. used_by_all world filesystem (chosen filesystem)
     (among_from_all (λ f. list_all (is_inode_used world f) f.files.numbers ≡ true) world.filesystems all filesystem m)))
@@ -41,20 +38,12 @@ mounts_stay world all = ap (with_mounts world) (filter_all (mount_lives nat_eq w
     (passes (mount_lives nat_eq world) world.mounts all))
 
 pub filesystems_stay : (world : World ℕ) → FilesystemsInUse world → without_dead_filesystems nat_eq world ≡ world
-filesystems_stay world all =
-    ap (λ filesystems. record world { filesystems = filesystems })
+filesystems_stay world all = ap (λ filesystems. record world { filesystems = filesystems })
     (filter_all (filesystem_lives nat_eq world) world.filesystems
     (passes (filesystem_lives nat_eq world) world.filesystems all))
 
 pub nothing_goes : NothingGoes
-nothing_goes world all =
-    ap (λ w. without_dead_groups nat_eq (without_dead_inodes nat_eq (without_dead_filesystems nat_eq w)))
-    (mounts_stay world all.mounts)
-    ∙ ap (λ w. without_dead_groups nat_eq (without_dead_inodes nat_eq w)) (filesystems_stay world all.filesystems)
-    ∙ ap (λ w. without_dead_groups nat_eq (without_dead_in nat_eq (λ filesystem. not (is_overlay filesystem)) w))
-    (inodes_stay is_overlay world all.inodes)
-    ∙ ap (without_dead_groups nat_eq) (inodes_stay (λ filesystem. not (is_overlay filesystem)) world all.inodes)
-    ∙ groups_stay world all.groups
+nothing_goes world all = grind (arith, common_steps, mounts_stay, filesystems_stay, inodes_stay, groups_stay)
 
 -- What is left
 
@@ -97,8 +86,7 @@ module _ (used : List ℕ) (filesystem : Filesystem ℕ) where
   pub numbers-left : (all : Bool) → list_all (λ number. is_among nat_eq number used) filesystem.files.numbers ≡ all
       → list_all (λ number. is_among nat_eq number used) (left_by all).files.numbers ≡ true
   numbers-left true e = e
-  numbers-left false e =
-      all_pass (λ number. is_among nat_eq number used)
+  numbers-left false e = all_pass (λ number. is_among nat_eq number used)
       (filter (λ number. is_among nat_eq number used) filesystem.files.numbers)
       (λ x m. (among-from_filter (λ number. is_among nat_eq number used) filesystem.files.numbers x m).1)
 
@@ -106,37 +94,21 @@ module _ (used : List ℕ) (filesystem : Filesystem ℕ) where
 pub unused_are_empty : (world : World ℕ) (filesystem : Filesystem ℕ) → IsListedTree filesystem.files
     → UnusedAreEmpty (used_in nat_eq world filesystem) filesystem
 unused_are_empty world filesystem conditions number unused =
-    let parts = or_parts (nat_eq number filesystem.files.tree.root) _ unused in
-    unnamed_is_empty filesystem.files conditions number
-    (λ root. true≢false (sym (eq-eqb number filesystem.files.tree.root root) ∙ parts.0))
-    (⊎_elim
-    (λ named. absurd (true≢false
-    (sym (or_second (nat_eq number filesystem.files.tree.root) _
-    (is_among_left number (named_in filesystem.files ++ located_in nat_eq world filesystem.number
-    ++ layers_in nat_eq world filesystem.number)
-    (flat_map (objects_of_overlay nat_eq filesystem.number) world.filesystems)
-    (is_among_left number (named_in filesystem.files ++ located_in nat_eq world filesystem.number)
-    (layers_in nat_eq world filesystem.number)
-    (is_among_left number (named_in filesystem.files) (located_in nat_eq world filesystem.number) named)))) ∙ unused)))
-    (λ unnamed. unnamed)
-    (cases_Bool (is_among nat_eq number (named_in filesystem.files))))
+    grind (arith, common_steps, or_parts, unnamed_is_empty, true≢false, eq-eqb, or_second, is_among_left, cases_Bool)
 
 -- a place that is there is in use
-pub used_at : (world : World ℕ) (filesystem : Filesystem ℕ) (location : Location ℕ)
-    → Among location
+pub used_at : (world : World ℕ) (filesystem : Filesystem ℕ) (location : Location ℕ) → Among location
     (all_locations world ++ map root_of world.mounts ++ filter_map (λ mount. mount.mount_point) world.mounts)
     → filesystem.number ≡ (mount_at nat_eq world location).filesystem
     → is_inode_used world filesystem location.node ≡ true
-used_at world filesystem location m e =
-    or_second (nat_eq location.node filesystem.files.tree.root) _
+used_at world filesystem location m e = or_second (nat_eq location.node filesystem.files.tree.root) _
     (is_among_left location.node (named_in filesystem.files ++ located_in nat_eq world filesystem.number
     ++ layers_in nat_eq world filesystem.number)
     (flat_map (objects_of_overlay nat_eq filesystem.number) world.filesystems)
     (is_among_left location.node (named_in filesystem.files ++ located_in nat_eq world filesystem.number)
     (layers_in nat_eq world filesystem.number)
     (is_among_right location.node (named_in filesystem.files) (located_in nat_eq world filesystem.number)
-    (is_among_numbers location.node (located_in nat_eq world filesystem.number)
-    (among-map (λ l. l.node) (filter
+    (is_among_numbers location.node (located_in nat_eq world filesystem.number) (among-map (λ l. l.node) (filter
     (λ l. nat_eq filesystem.number (mount_at nat_eq world l).filesystem) places) location
     (among-filter (λ l. nat_eq filesystem.number (mount_at nat_eq world l).filesystem) places location m
     (eq-eqb filesystem.number (mount_at nat_eq world location).filesystem e)))))))
@@ -164,8 +136,7 @@ layers_stay before after still filesystem number m =
     is_layer : (f : Filesystem ℕ) (layer : Layer ℕ) → Among layer (of_overlay [] layers_of f)
         → ((g : Filesystem ℕ) × Among g after.filesystems × (of_overlay [] layers_of g ≡ of_overlay [] layers_of f))
         → Among layer (flat_map (of_overlay [] layers_of) after.filesystems)
-    is_layer f layer among same =
-        among-flat_map (of_overlay [] layers_of) after.filesystems same.0 layer same.1
+    is_layer f layer among same = among-flat_map (of_overlay [] layers_of) after.filesystems same.0 layer same.1
         (subst (Among layer) (sym same.2) among)
 
     is_in : Layer ℕ → Bool
@@ -225,16 +196,9 @@ module _ (world : World ℕ) where
   objects_after_second : (number : ℕ) (filesystem : Filesystem ℕ)
       → objects_of_overlay nat_eq number (after_second filesystem) ≡ objects_of_overlay nat_eq number filesystem
   objects_after_second number filesystem =
-      ⊎_elim
-      (λ e. ap (objects_of_overlay nat_eq number) (second_leaves filesystem e))
-      (λ e. no_objects number (after_second filesystem)
-      (ap (λ b. is_overlay (only_used nat_eq first (not b) filesystem)) e
-      ∙ overlay-left (used_in nat_eq first filesystem) filesystem _ ∙ e)
-      ∙ sym (no_objects number filesystem e))
-      (cases_Bool (is_overlay filesystem))
+      grind (arith, common_steps, second_leaves, no_objects, overlay-left, cases_Bool)
 
-  same_objects : (number : ℕ)
-      → flat_map (objects_of_overlay nat_eq number) (settled nat_eq world).filesystems
+  same_objects : (number : ℕ) → flat_map (objects_of_overlay nat_eq number) (settled nat_eq world).filesystems
       ≡ flat_map (objects_of_overlay nat_eq number) first.filesystems
   same_objects number = flat_map-map after_second (objects_of_overlay nat_eq number) first.filesystems
       (objects_after_second number)
@@ -250,8 +214,7 @@ module _ (world : World ℕ) where
   overlays_used filesystem conditions e plain =
       ap (λ f. list_all (is_inode_used (settled nat_eq world) f) f.files.numbers)
       (second_leaves (after_first filesystem) (ap (λ b. is_overlay (only_used nat_eq living b filesystem)) e
-      ∙ overlay-left used filesystem _ ∙ e)
-      ∙ ap (λ b. only_used nat_eq living b filesystem) e)
+      ∙ overlay-left used filesystem _ ∙ e) ∙ ap (λ b. only_used nat_eq living b filesystem) e)
       ∙ by (list_all (λ number. is_among nat_eq number used) filesystem.files.numbers) refl
     where
       used : List ℕ
@@ -270,29 +233,13 @@ module _ (world : World ℕ) where
 
       still : (all : Bool) (number : ℕ) → is_among nat_eq number used ≡ true
           → is_among nat_eq number (used_in nat_eq (settled nat_eq world) (left_by used filesystem all)) ≡ true
-      still all number is =
-          ap (is_among nat_eq number) (same all)
-          ∙ more (filesystem.files.tree.root ∷ (named_in filesystem.files ++ located_in nat_eq living filesystem.number
-          ++ layers_in nat_eq living filesystem.number))
-          (flat_map (objects_of_overlay nat_eq filesystem.number) living.filesystems)
-          (flat_map (objects_of_overlay nat_eq (left_by used filesystem all).number)
-          (settled nat_eq world).filesystems) plain is
-        where
-          more : (front before after : List ℕ) → before ≡ [] → is_among nat_eq number (front ++ before) ≡ true
-              → is_among nat_eq number (front ++ after) ≡ true
-          more front before after none h =
-              ⊎_elim (λ g. is_among_left number front after g)
-              (λ g. absurd (true≢false (sym g ∙ ap (is_among nat_eq number) none)))
-              (or_cases (is_among nat_eq number front) (is_among nat_eq number before)
-              (sym (list_any-append (nat_eq number) front before) ∙ h))
+      still all number is = grind (arith, common_steps, same all)
 
       by : (all : Bool) → list_all (λ number. is_among nat_eq number used) filesystem.files.numbers ≡ all
           → list_all (is_inode_used (settled nat_eq world) (left_by used filesystem all))
           (left_by used filesystem all).files.numbers ≡ true
-      by all f =
-          all_pass (is_inode_used (settled nat_eq world) (left_by used filesystem all))
-          (left_by used filesystem all).files.numbers
-          (λ number m. still all number
+      by all f = all_pass (is_inode_used (settled nat_eq world) (left_by used filesystem all))
+          (left_by used filesystem all).files.numbers (λ number m. still all number
           (passes (λ n. is_among nat_eq n used) (left_by used filesystem all).files.numbers
           (numbers-left used filesystem all f) number m))
 
@@ -300,8 +247,7 @@ module _ (world : World ℕ) where
   plain_used : (filesystem : Filesystem ℕ) → IsListedTree filesystem.files → is_overlay filesystem ≡ false
       → list_all (is_inode_used (settled nat_eq world) (after_second (after_first filesystem)))
       (after_second (after_first filesystem)).files.numbers ≡ true
-  plain_used filesystem conditions e =
-      ap (λ f. list_all (is_inode_used (settled nat_eq world) f) f.files.numbers)
+  plain_used filesystem conditions e = ap (λ f. list_all (is_inode_used (settled nat_eq world) f) f.files.numbers)
       (ap after_second (ap (λ b. only_used nat_eq living b filesystem) e)
       ∙ ap (λ b. only_used nat_eq first (not b) filesystem) e)
       ∙ by (list_all (λ number. is_among nat_eq number used) filesystem.files.numbers) refl
@@ -328,16 +274,14 @@ module _ (world : World ℕ) where
   -- a filesystem that is left was there, and lived
   was_there : (last : Filesystem ℕ) → Among last (settled nat_eq world).filesystems
       → (filesystem : Filesystem ℕ) × Among filesystem world.filesystems
-      × (filesystem_lives nat_eq mounted filesystem ≡ true)
-      × (last ≡ after_second (after_first filesystem))
+      × (filesystem_lives nat_eq mounted filesystem ≡ true) × (last ≡ after_second (after_first filesystem))
   was_there last m =
       let second = among-from_map after_second first.filesystems last m in
       let one = among-from_map after_first living.filesystems second.0 second.1 in
       let was = among-from_filter (filesystem_lives nat_eq mounted) world.filesystems one.0 one.1 in
       (one.0, was.0, was.1, second.2 ∙ ap after_second one.2)
 
-  pub layers_on : (number : ℕ) (filesystem : Filesystem ℕ)
-      → has_layer_on nat_eq number filesystem
+  pub layers_on : (number : ℕ) (filesystem : Filesystem ℕ) → has_layer_on nat_eq number filesystem
       ≡ list_any (λ layer. nat_eq number layer.filesystem) (of_overlay [] layers_of filesystem)
   layers_on number filesystem = grind (arith, common_steps)
 
@@ -346,8 +290,7 @@ module _ (world : World ℕ) where
   still_lives filesystem lives =
       ap (λ n. is_mounted nat_eq mounted n || list_any (λ merged. has_layer_on nat_eq n merged
       && is_mounted nat_eq mounted merged.number) (settled nat_eq world).filesystems)
-      (number-second (after_first filesystem) ∙ number-first filesystem)
-      ∙ ⊎_elim
+      (number-second (after_first filesystem) ∙ number-first filesystem) ∙ ⊎_elim
       (λ here. or_first (is_mounted nat_eq mounted filesystem.number) _ here)
       (λ layered. or_second (is_mounted nat_eq mounted filesystem.number) _ (by_overlay layered))
       (or_cases (is_mounted nat_eq mounted filesystem.number) _ lives)
@@ -362,17 +305,14 @@ module _ (world : World ℕ) where
           let parts = and_parts (has_layer_on nat_eq filesystem.number t.0)
           (is_mounted nat_eq mounted t.0.number) t.2 in
           any_passes (λ merged. has_layer_on nat_eq filesystem.number merged && is_mounted nat_eq mounted merged.number)
-          (settled nat_eq world).filesystems
-          (after_second (after_first t.0))
-          (among-map after_second first.filesystems (after_first t.0)
-          (among-map after_first living.filesystems t.0
+          (settled nat_eq world).filesystems (after_second (after_first t.0))
+          (among-map after_second first.filesystems (after_first t.0) (among-map after_first living.filesystems t.0
           (among-filter (filesystem_lives nat_eq mounted) world.filesystems t.0 t.1
           (or_first (is_mounted nat_eq mounted t.0.number) _ parts.1))))
           (ap (λ b. b && is_mounted nat_eq mounted (after_second (after_first t.0)).number)
           (layers_on filesystem.number (after_second (after_first t.0))
           ∙ ap (list_any (λ layer. nat_eq filesystem.number layer.filesystem))
-          (layers-second (after_first t.0) ∙ layers-first t.0)
-          ∙ sym (layers_on filesystem.number t.0) ∙ parts.0)
+          (layers-second (after_first t.0) ∙ layers-first t.0) ∙ sym (layers_on filesystem.number t.0) ∙ parts.0)
           ∙ ap (is_mounted nat_eq mounted) (number-second (after_first t.0) ∙ number-first t.0) ∙ parts.1)
 
   -- an overlay that has no upper layer there has no objects there
@@ -388,20 +328,16 @@ module _ (world : World ℕ) where
         (λ last m. let was = was_there last m in ap (filesystem_lives nat_eq (settled nat_eq world)) was.3
         ∙ still_lives was.0 was.2);
     inodes = all_from_among (λ f. list_all (is_inode_used (settled nat_eq world) f) f.files.numbers ≡ true)
-        (settled nat_eq world).filesystems
-        (λ last m. let was = was_there last m in
+        (settled nat_eq world).filesystems (λ last m. let was = was_there last m in
         let tree = among_from_all (λ f. IsListedTree f.files) world.filesystems trees was.0 was.1 in
-        ap (λ f. list_all (is_inode_used (settled nat_eq world) f) f.files.numbers) was.3
-        ∙ ⊎_elim
-        (λ e. overlays_used was.0 tree e
-        (flat_map_none (objects_of_overlay nat_eq was.0.number) living.filesystems
+        ap (λ f. list_all (is_inode_used (settled nat_eq world) f) f.files.numbers) was.3 ∙ ⊎_elim
+        (λ e. overlays_used was.0 tree e (flat_map_none (objects_of_overlay nat_eq was.0.number) living.filesystems
         (λ merged n. no_upper_objects was.0.number merged
         (among_from_all (λ f. has_upper_in was.0.number f ≡ false) world.filesystems
         (among_from_all (λ f. is_overlay f ≡ true → All (λ other. has_upper_in f.number other
         ≡ false) world.filesystems) world.filesystems plain was.0 was.1 e)
         merged (among-from_filter (filesystem_lives nat_eq mounted) world.filesystems merged n).0))))
-        (λ e. plain_used was.0 tree e)
-        (cases_Bool (is_overlay was.0)));
+        (λ e. plain_used was.0 tree e) (cases_Bool (is_overlay was.0)));
     groups = λ group none. ap (λ b. cond b (world.master group) None) none;
   }
 

@@ -1,7 +1,6 @@
 -- Inodes of plain trees go one by one.
-use Rattle.std.proofs.Common.{arith}
+use Rattle.std.proofs.Common.{arith, flat_map, ◌≡◌, refl, sym, ap, subst, ◌∙◌, ℕ, nat_eq, eqb-true, Bool, true, false, cond, not, ◌||◌, ◌&&◌, List, [], ◌∷◌, filter, map, true≢false, Option, Some, None, is_some, option_map}
 use Rattle.std.proofs.lemmas.Grind.{common_steps}
-use Rattle.std.proofs.Common.{flat_map, ◌≡◌, refl, sym, ap, subst, ◌∙◌, ℕ, nat_eq, eqb-true, Bool, true, false, cond, not, ◌||◌, ◌&&◌, List, [], ◌∷◌, filter, map, true≢false, Option, Some, None, is_some, option_map}
 use Rattle.std.specs.List.{list_all}
 use Rattle.std.proofs.lemmas.Bool.{and_parts, not-true}
 use Rattle.std.proofs.lemmas.List.Elements.{All-filter}
@@ -9,16 +8,13 @@ use Rattle.vt_spec.specs.Tree.{Node}
 use Rattle.vt_spec.specs.FileTree.{FileTree}
 use Rattle.vt_spec.specs.Lists.{is_among}
 use Rattle.vt_spec.specs.Machine.Locked.{of_overlay, overlay_or}
-use Rattle.vt_spec.specs.Machine.Receives.{has_members}
-use Rattle.vt_spec.specs.Machine.Settled.{filesystem_lives, layers_in, named_in, only_used, only_used_by, only_used_of, real_among, used_in, without_dead_filesystems, without_dead_groups, without_dead_in, without_dead_inodes, without_dead_mounts}
+use Rattle.vt_spec.specs.Machine.Settled.{filesystem_lives, layers_in, named_in, only_used, only_used_by, only_used_of, real_among, used_in, without_dead_filesystems, without_dead_in, without_dead_inodes, without_dead_mounts, objects_of_overlay}
 use Rattle.vt_spec.specs.Machine.World.{Filesystem, Overlay, World, is_overlay, layers_of}
 use Rattle.vt_spec.specs.Machine.Invariants.{ListsNumbers}
 use Rattle.vt_laws_mounts.specs.LettingGo.InUse.{HasTrees, IsListedTree, is_inode_used}
-use Rattle.vt_laws_mounts.specs.LettingGo.OneByOne.{AllGoesOneByOne, Inode, InodesGoOneByOne, IsPlain, is_inode_among, is_used_or_among, let_go_filesystems, let_go_inode, let_go_inode_of, let_go_inodes, let_go_groups}
-use Rattle.vt_laws_mounts.proofs.letting_go.sweeps.InUse.{UnusedAreEmpty, unused_are_empty}
+use Rattle.vt_laws_mounts.specs.LettingGo.OneByOne.{AllGoesOneByOne, Inode, InodesGoOneByOne, IsPlain, is_inode_among, is_used_or_among, let_go_inode, let_go_inode_of, let_go_inodes}
+use Rattle.vt_laws_mounts.proofs.letting_go.sweeps.InUse.{UnusedAreEmpty, unused_are_empty, no_objects}
 use Rattle.vt_laws_mounts.proofs.letting_go.sweeps.Merged.{named_without}
-use Rattle.vt_spec.specs.Machine.Settled.{objects_of_overlay}
-use Rattle.vt_laws_mounts.proofs.letting_go.sweeps.InUse.{no_objects}
 use Rattle.vt_laws_mounts.proofs.letting_go.Lists.{Among, flat_map_none, any-filter, among-from_filter, among-from_map, among_from_all, among_numbers, fails, filter_twice, flat_map-map, map_same, none_passes, passes}
 use Rattle.vt_laws_mounts.proofs.letting_go.sweeps.OneByOne.{filesystems_go_one_by_one, groups_go_one_by_one, mounts_go_one_by_one}
 use Rattle.vt_spec.proofs.Options.{none_from_not_some}
@@ -32,8 +28,7 @@ without_those gone filesystem = record filesystem {
   files = record {
     tree = record {
       root = filesystem.files.tree.root;
-      node = λ number.
-          cond (gone number) None (filesystem.files.tree.node number);
+      node = λ number. cond (gone number) None (filesystem.files.tree.node number);
     };
     numbers = filter (λ number. not (gone number)) filesystem.files.numbers;
   };
@@ -41,15 +36,13 @@ without_those gone filesystem = record filesystem {
 
 -- Where the test names none, the filesystem is as it was.
 without_none : (filesystem : Filesystem ℕ) → without_those (λ number. false) filesystem ≡ filesystem
-without_none filesystem =
-    ap (λ numbers. record filesystem { files = record filesystem.files { numbers = numbers } })
+without_none filesystem = ap (λ numbers. record filesystem { files = record filesystem.files { numbers = numbers } })
     (filter_all (λ number. true) filesystem.files.numbers (λ number m. refl))
 
 -- a world without overlays has no objects of overlays
 pub no_objects_of : (world : World ℕ) → IsPlain world → (number : ℕ)
     → flat_map (objects_of_overlay nat_eq number) world.filesystems ≡ []
-no_objects_of world plain number =
-    flat_map_none (objects_of_overlay nat_eq number) world.filesystems
+no_objects_of world plain number = flat_map_none (objects_of_overlay nat_eq number) world.filesystems
     (λ f m. no_objects world number f (fails is_overlay world.filesystems plain f m))
 
 -- one inode is looked at
@@ -61,8 +54,7 @@ one_step : (world : World ℕ) (inode : Inode) (filesystem : Filesystem ℕ)
     → let_go_inode_of world inode filesystem ≡ without_those (goes_here world inode filesystem) filesystem
 one_step world inode filesystem = by (nat_eq filesystem.number inode.0 && not (is_inode_used world filesystem inode.1))
   where
-    by : (b : Bool)
-        → cond b (without_those (λ number. nat_eq number inode.1) filesystem) filesystem
+    by : (b : Bool) → cond b (without_those (λ number. nat_eq number inode.1) filesystem) filesystem
         ≡ without_those (λ number. b && nat_eq number inode.1) filesystem
     by true = refl
     by false = sym (without_none filesystem)
@@ -95,16 +87,14 @@ two_steps world inode rest filesystem used same = λ i. record filesystem {
 
     here_or_later : (number : ℕ) → goes_of used (inode ∷ rest) filesystem number
         ≡ (here number || goes_of used rest filesystem number)
-    here_or_later number =
-        goes_on used inode rest filesystem number
+    here_or_later number = goes_on used inode rest filesystem number
         ∙ ap (λ u. ((nat_eq filesystem.number inode.0 && not (is_among nat_eq inode.1 u)) && nat_eq number inode.1)
         || goes_of used rest filesystem number) same
 
     node : (number : ℕ) → cond (goes_of used rest filesystem number) None
         (cond (here number) None (filesystem.files.tree.node number))
         ≡ cond (goes_of used (inode ∷ rest) filesystem number) None (filesystem.files.tree.node number)
-    node number =
-        by (here number) (goes_of used rest filesystem number)
+    node number = by (here number) (goes_of used rest filesystem number)
         ∙ ap (λ b. cond b None (filesystem.files.tree.node number)) (sym (here_or_later number))
       where
         by : (a b : Bool) → cond b None (cond a None (filesystem.files.tree.node number))
@@ -116,10 +106,8 @@ two_steps world inode rest filesystem used same = λ i. record filesystem {
     numbers : filter (λ number. not (goes_of used rest filesystem number))
         (filter (λ number. not (here number)) filesystem.files.numbers)
         ≡ filter (λ number. not (goes_of used (inode ∷ rest) filesystem number)) filesystem.files.numbers
-    numbers =
-        filter_twice (λ number. not (goes_of used rest filesystem number)) (λ number. not (here number))
-        (λ number. not (goes_of used (inode ∷ rest) filesystem number))
-        (λ number. ap not (here_or_later number)
+    numbers = filter_twice (λ number. not (goes_of used rest filesystem number)) (λ number. not (here number))
+        (λ number. not (goes_of used (inode ∷ rest) filesystem number)) (λ number. ap not (here_or_later number)
         ∙ by (here number) (goes_of used rest filesystem number)) filesystem.files.numbers
       where
         by : (a b : Bool) → not (a || b) ≡ (not a && not b)
@@ -159,19 +147,16 @@ module _ (world : World ℕ) (inode : Inode) (plain : IsPlain world) where
 
   used-step : (filesystem : Filesystem ℕ) → UnusedAreEmpty (used_in nat_eq world filesystem) filesystem
       → used_in nat_eq next (step filesystem) ≡ used_in nat_eq world filesystem
-  used-step filesystem empty =
-      grind (
-        arith,
-        common_steps,
-        named-step filesystem empty,
-        number-step filesystem,
-        layers-step (step
-            filesystem).number,
-        no_objects_of next plain-step (step filesystem).number,
-        no_objects_of world plain
-            filesystem.number,
-        one_step,
-      )
+  used-step filesystem empty = grind (
+    arith,
+    common_steps,
+    named-step filesystem empty,
+    number-step filesystem,
+    layers-step (step filesystem).number,
+    no_objects_of next plain-step (step filesystem).number,
+    no_objects_of world plain filesystem.number,
+    one_step,
+  )
 
   empty-step : (filesystem : Filesystem ℕ) → UnusedAreEmpty (used_in nat_eq world filesystem) filesystem
       → UnusedAreEmpty (used_in nat_eq next (step filesystem)) (step filesystem)
@@ -184,19 +169,16 @@ AllUnusedAreEmpty world = (filesystem : Filesystem ℕ) → Among filesystem wor
     → UnusedAreEmpty (used_in nat_eq world filesystem) filesystem
 
 inodes_folded : (world : World ℕ) (losers : List Inode) → IsPlain world → AllUnusedAreEmpty world
-    → let_go_inodes world losers
-    ≡ record world {
+    → let_go_inodes world losers ≡ record world {
       filesystems = map (λ filesystem. without_those
           (goes_of (used_in nat_eq world filesystem) losers filesystem) filesystem) world.filesystems;
     }
 unfolding AllUnusedAreEmpty
-inodes_folded world [] plain empty =
-    ap (λ filesystems. record world { filesystems = filesystems })
+inodes_folded world [] plain empty = ap (λ filesystems. record world { filesystems = filesystems })
     (sym (map_same (λ filesystem. without_those (λ number. false) filesystem) world.filesystems
     (λ filesystem m. without_none filesystem)))
 inodes_folded world (inode ∷ rest) plain empty =
-    inodes_folded (let_go_inode world inode) rest (plain-step world inode plain)
-    (λ filesystem m.
+    inodes_folded (let_go_inode world inode) rest (plain-step world inode plain) (λ filesystem m.
     let from = among-from_map (step world inode plain) world.filesystems filesystem m in
     subst (λ f. UnusedAreEmpty (used_in nat_eq (let_go_inode world inode) f) f) (sym from.2)
     (empty-step world inode plain from.0 (empty from.0 from.1)))
@@ -205,11 +187,9 @@ inodes_folded world (inode ∷ rest) plain empty =
     (step world inode plain) world.filesystems
     ∙ map_alike (λ f. without_those (goes_of (used_in nat_eq (let_go_inode world inode) (step world inode plain f)) rest
     (step world inode plain f)) (step world inode plain f))
-    (λ f. without_those (goes_of (used_in nat_eq world f) (inode ∷ rest) f) f) world.filesystems
-    (λ f m.
+    (λ f. without_those (goes_of (used_in nat_eq world f) (inode ∷ rest) f) f) world.filesystems (λ f m.
     (λ i. without_those (goes_by (used-step world inode plain f (empty f m) i) (number-step world inode plain f i) rest)
-    (one_step world inode f i))
-    ∙ two_steps world inode rest f (used_in nat_eq world f) refl))
+    (one_step world inode f i)) ∙ two_steps world inode rest f (used_in nat_eq world f) refl))
   where
     goes_by : List ℕ → ℕ → List Inode → ℕ → Bool
     goes_by used filesystem losers number = is_inode_among filesystem number losers && not (is_among nat_eq number used)
@@ -227,8 +207,7 @@ node_kept used files numbers all number =
     by (is_among nat_eq number used) refl (files.tree.node number) (numbers number)
   where
     by : (u : Bool) → is_among nat_eq number used ≡ u → (o : Option (Node ℕ))
-        → is_among nat_eq number files.numbers ≡ is_some o
-        → o ≡ cond u o None
+        → is_among nat_eq number files.numbers ≡ is_some o → o ≡ cond u o None
     by true f o there = refl
     by false f None there = refl
     by false f (Some node) there =
@@ -255,28 +234,8 @@ left_of_plain used filesystem numbers plain =
     by : (all : Bool) → list_all (λ number. is_among nat_eq number used) filesystem.files.numbers ≡ all
         → only_used_by nat_eq all used filesystem
         ≡ without_those (λ number. not (is_among nat_eq number used)) filesystem
-    by true e = λ i. record filesystem {
-      files = record {
-        tree = record {
-          root = filesystem.files.tree.root;
-          node = λ number. (node_kept used filesystem.files numbers e number
-              ∙ node number (is_among nat_eq number used)) i;
-        };
-        numbers = (sym (filter_all (λ number. is_among nat_eq number used) filesystem.files.numbers
-            (passes (λ number. is_among nat_eq number used) filesystem.files.numbers e)) ∙ twice) i;
-      };
-    }
-    by false e = λ i. record filesystem {
-      files = record {
-        tree = record {
-          root = filesystem.files.tree.root;
-          node = λ number.
-              node number (is_among nat_eq number used) i;
-        };
-        numbers = twice i;
-      };
-      overlay = no_real used filesystem.overlay plain i;
-    }
+    by true e = grind (arith, common_steps, node, node_kept, numbers, filter_all, passes, twice)
+    by false e = grind (arith, common_steps, node, numbers, twice, no_real)
 
 -- the numbers beside a tree without some
 pub numbers_without : (gone : ℕ → Bool) (filesystem : Filesystem ℕ) → ListsNumbers nat_eq filesystem.files
@@ -286,32 +245,18 @@ numbers_without gone filesystem numbers number = by (gone number) refl
     missing : (b : Bool) → is_among nat_eq number (filter (λ n. not (gone n)) filesystem.files.numbers) ≡ b
         → gone number ≡ true → b ≡ false
     missing false e f = refl
-    missing true e f =
-        absurd (true≢false
-        (sym (among-from_filter (λ n. not (gone n)) filesystem.files.numbers number
+    missing true e f = absurd (true≢false (sym (among-from_filter (λ n. not (gone n)) filesystem.files.numbers number
         (among_numbers number (filter (λ n. not (gone n)) filesystem.files.numbers) e)).1 ∙ ap not f))
 
     by : (b : Bool) → gone number ≡ b → is_among nat_eq number (filter (λ n. not (gone n)) filesystem.files.numbers)
         ≡ is_some (cond b None (filesystem.files.tree.node number))
-    by true f = missing (is_among nat_eq number (filter (λ n. not (gone n)) filesystem.files.numbers)) refl f
-    by false f =
-        any-filter (nat_eq number) (λ n. not (gone n)) filesystem.files.numbers
-        (λ n m skipped. differs n (nat_eq number n) refl skipped)
-        ∙ numbers number
-      where
-        differs : (n : ℕ) (b : Bool) → nat_eq number n ≡ b → not (gone n) ≡ false → b ≡ false
-        differs n false e skipped = refl
-        differs n true e skipped = absurd
-            (true≢false (sym (ap not f) ∙ ap (λ k. not (gone k)) (eqb-true number n e) ∙ skipped))
+    by b f = grind (arith, common_steps, missing, numbers, any-filter, true≢false, eqb-true)
 
 -- the sweep of a world of plain filesystems
-pub plain_sweep : (world : World ℕ) → IsPlain world
-    → without_dead_inodes nat_eq world ≡ record world {
-      filesystems = map (λ f. only_used_of nat_eq
-          (used_in nat_eq world f) f) world.filesystems;
-    }
-plain_sweep world plain =
-    ap (without_dead_in nat_eq (λ filesystem. not (is_overlay filesystem)))
+pub plain_sweep : (world : World ℕ) → IsPlain world → without_dead_inodes nat_eq world ≡ record world {
+  filesystems = map (λ f. only_used_of nat_eq (used_in nat_eq world f) f) world.filesystems;
+}
+plain_sweep world plain = ap (without_dead_in nat_eq (λ filesystem. not (is_overlay filesystem)))
     (ap (λ filesystems. record world { filesystems = filesystems })
     (map_same (λ filesystem. only_used nat_eq world (is_overlay filesystem) filesystem) world.filesystems
     (λ filesystem m. ap (λ b. only_used nat_eq world b filesystem)
@@ -326,21 +271,17 @@ plain_sweep world plain =
 module _ (used : List ℕ) (losers : List Inode) (filesystem : Filesystem ℕ)
     (numbers : ListsNumbers nat_eq filesystem.files)
     (others : list_all (λ number. is_inode_among filesystem.number number losers
-    || is_among nat_eq number used) filesystem.files.numbers
-    ≡ true) where
+    || is_among nat_eq number used) filesystem.files.numbers ≡ true) where
   -- an inode that is not used, and none of these, is not there
   not_there : (number : ℕ) → is_among nat_eq number used ≡ false
-      → is_inode_among filesystem.number number losers ≡ false
-      → filesystem.files.tree.node number ≡ None
+      → is_inode_among filesystem.number number losers ≡ false → filesystem.files.tree.node number ≡ None
   not_there number unused other = none_from_not_some (filesystem.files.tree.node number)
       (sym (numbers number) ∙ missing (is_among nat_eq number filesystem.files.numbers) refl)
     where
       missing : (b : Bool) → is_among nat_eq number filesystem.files.numbers ≡ b
           → is_among nat_eq number filesystem.files.numbers ≡ false
       missing false e = e
-      missing true e =
-          absurd (true≢false
-          (sym (passes (λ n. is_inode_among filesystem.number n losers
+      missing true e = absurd (true≢false (sym (passes (λ n. is_inode_among filesystem.number n losers
           || is_among nat_eq n used) filesystem.files.numbers others number
           (among_numbers number filesystem.files.numbers e))
           ∙ ap (λ b. b || is_among nat_eq number used) other ∙ unused))
@@ -352,16 +293,7 @@ module _ (used : List ℕ) (losers : List Inode) (filesystem : Filesystem ℕ)
   unused_goes : (number : ℕ) → Among number filesystem.files.numbers
       → not (not (is_among nat_eq number used)) ≡ not (goes number)
   unfolding goes
-  unused_goes number m =
-      by (is_inode_among filesystem.number number losers) (is_among nat_eq number used)
-      (passes (λ n. is_inode_among filesystem.number n losers
-      || is_among nat_eq n used) filesystem.files.numbers others number m)
-    where
-      by : (a u : Bool) → (a || u) ≡ true → not (not u) ≡ not (a && not u)
-      by true true e = refl
-      by true false e = refl
-      by false true e = refl
-      by false false e = absurd (true≢false (sym e))
+  unused_goes number m = grind (arith, common_steps, passes, numbers, true≢false)
 
   node_swept : (number : ℕ) → cond (not (is_among nat_eq number used)) None (filesystem.files.tree.node number)
       ≡ cond (goes number) None (filesystem.files.tree.node number)
@@ -369,8 +301,7 @@ module _ (used : List ℕ) (losers : List Inode) (filesystem : Filesystem ℕ)
   node_swept number = by (is_inode_among filesystem.number number losers) refl (is_among nat_eq number used) refl
     where
       by : (a : Bool) → is_inode_among filesystem.number number losers ≡ a → (u : Bool)
-          → is_among nat_eq number used ≡ u
-          → cond (not u) None (filesystem.files.tree.node number)
+          → is_among nat_eq number used ≡ u → cond (not u) None (filesystem.files.tree.node number)
           ≡ cond (a && not u) None (filesystem.files.tree.node number)
       by true e true f = refl
       by true e false f = refl
@@ -378,32 +309,26 @@ module _ (used : List ℕ) (losers : List Inode) (filesystem : Filesystem ℕ)
       by false e false f = sym (not_there number f e)
 
   swept : is_overlay filesystem ≡ false → only_used_of nat_eq used filesystem ≡ without_those goes filesystem
-  swept plain =
-      left_of_plain used filesystem numbers plain
-      ∙ (λ i. record filesystem {
-        files = record {
-          tree = record { root = filesystem.files.tree.root; node = λ number. node_swept number i };
-          numbers = filter_alike (λ number. not (not (is_among nat_eq number used)))
-              (λ number. not (goes number)) filesystem.files.numbers unused_goes i;
-        };
-      })
+  swept plain = left_of_plain used filesystem numbers plain ∙ (λ i. record filesystem {
+    files = record {
+      tree = record { root = filesystem.files.tree.root; node = λ number. node_swept number i };
+      numbers = filter_alike (λ number. not (not (is_among nat_eq number used)))
+          (λ number. not (goes number)) filesystem.files.numbers unused_goes i;
+    };
+  })
 
 pub inodes_go_one_by_one : InodesGoOneByOne
 unfolding AllUnusedAreEmpty goes
-inodes_go_one_by_one world losers plain trees others =
-    plain_sweep world plain
+inodes_go_one_by_one world losers plain trees others = plain_sweep world plain
     ∙ ap (λ filesystems. record world { filesystems = filesystems })
     (map_alike (λ filesystem. only_used_of nat_eq (used_in nat_eq world filesystem) filesystem)
     (λ filesystem. without_those (goes_of
-    (used_in nat_eq world filesystem) losers filesystem) filesystem) world.filesystems
-    (λ filesystem m.
+    (used_in nat_eq world filesystem) losers filesystem) filesystem) world.filesystems (λ filesystem m.
     let tree = among_from_all (λ f. IsListedTree f.files) world.filesystems trees filesystem m in
     swept (used_in nat_eq world filesystem) losers filesystem tree.numbers
     (among_from_all (λ f. list_all (is_used_or_among losers world f) f.files.numbers
-    ≡ true) world.filesystems others filesystem m)
-    (fails is_overlay world.filesystems plain filesystem m)))
-    ∙ sym (inodes_folded world losers plain
-    (λ filesystem m. unused_are_empty world filesystem
+    ≡ true) world.filesystems others filesystem m) (fails is_overlay world.filesystems plain filesystem m)))
+    ∙ sym (inodes_folded world losers plain (λ filesystem m. unused_are_empty world filesystem
     (among_from_all (λ f. IsListedTree f.files) world.filesystems trees filesystem m)))
 
 -- The whole sweep
@@ -411,18 +336,10 @@ pub all_goes_one_by_one : AllGoesOneByOne
 all_goes_one_by_one world losers plain trees others =
     let mounted = without_dead_mounts nat_eq world in
     let living = without_dead_filesystems nat_eq mounted in
-    let plain_living : IsPlain living =
-    none_passes is_overlay living.filesystems (λ filesystem m.
+    let plain_living : IsPlain living = none_passes is_overlay living.filesystems (λ filesystem m.
     fails is_overlay world.filesystems plain filesystem
     (among-from_filter (filesystem_lives nat_eq mounted) world.filesystems filesystem m).0) in
     let trees_living : HasTrees living = All-filter (filesystem_lives nat_eq mounted)
     (λ filesystem. IsListedTree filesystem.files) world.filesystems trees in
     let inodes = inodes_go_one_by_one living losers.inodes plain_living trees_living others.inodes in
-    ap (without_dead_groups nat_eq) inodes
-    ∙ groups_go_one_by_one (let_go_inodes living losers.inodes) losers.groups
-    (λ group among none. let same = sym inodes in
-    ap (λ w. w.master group) same ∙ others.groups group among
-    (ap (λ w. has_members nat_eq w.mounts group) inodes ∙ none))
-    ∙ ap (λ w. let_go_groups (let_go_inodes w losers.inodes) losers.groups)
-    (filesystems_go_one_by_one mounted losers.filesystems others.filesystems
-    ∙ ap (λ w. let_go_filesystems w losers.filesystems) (mounts_go_one_by_one world losers.mounts others.mounts))
+    grind (arith, common_steps, groups_go_one_by_one, filesystems_go_one_by_one, mounts_go_one_by_one)

@@ -1,7 +1,6 @@
 -- A mount, a filesystem, an inode or a group that is looked at is looked up by its number.
-use Rattle.std.proofs.Common.{arith}
+use Rattle.std.proofs.Common.{arith, ◌≡◌, refl, sym, ap, ◌∙◌, ℕ, nat_eq, eqb-true, Bool, true, false, cond, not, ◌&&◌, ◌||◌}
 use Rattle.std.proofs.lemmas.Grind.{common_steps}
-use Rattle.std.proofs.Common.{◌≡◌, refl, sym, ap, ◌∙◌, ℕ, nat_eq, eqb-true, Bool, true, false, cond, not, ◌&&◌, ◌||◌}
 use Rattle.vt_spec.specs.Machine.Settled.{filesystem_lives}
 use Rattle.vt_spec.specs.Machine.World.{Filesystem, filesystem_numbered, no_filesystem}
 use Rattle.vt_laws_mounts.specs.LettingGo.InUse.{is_inode_used}
@@ -32,33 +31,22 @@ filesystem_is_looked_up world number = by (is_filesystem_used world number) refl
 
     by : (b : Bool) → is_filesystem_used world number ≡ b
         → let_go_filesystem world number ≡ cond b world (without_filesystem world number)
-    by true e = ap (λ filesystems. record world { filesystems = filesystems })
-        (filter_all (λ filesystem. not (nat_eq filesystem.number number)
-        || filesystem_lives nat_eq world filesystem) world.filesystems
-        (λ filesystem m. kept_used (nat_eq filesystem.number number) (filesystem_lives nat_eq world filesystem)
-        (λ same. its_use filesystem same ∙ e)))
-    by false e = ap (λ filesystems. record world { filesystems = filesystems })
-        (filter_alike (λ filesystem. not (nat_eq filesystem.number number) || filesystem_lives nat_eq world filesystem)
-        (λ filesystem. not (nat_eq filesystem.number number)) world.filesystems
-        (λ filesystem m. gone_unused (nat_eq filesystem.number number) (filesystem_lives nat_eq world filesystem)
-        (λ same. its_use filesystem same ∙ e)))
+    by true e = grind (arith, common_steps, filter_all, kept_used, its_use)
+    by false e = grind (arith, common_steps, filter_alike, gone_unused, its_use)
 
 pub inode_is_looked_up : InodeIsLookedUp
 inode_is_looked_up world inode one = by (is_inode_used_in world inode) refl
   where
-    its_use : (filesystem : Filesystem ℕ) → Among filesystem world.filesystems
-        → nat_eq filesystem.number inode.0 ≡ true
+    its_use : (filesystem : Filesystem ℕ) → Among filesystem world.filesystems → nat_eq filesystem.number inode.0 ≡ true
         → is_inode_used world filesystem inode.1 ≡ is_inode_used_in world inode
     its_use filesystem m e =
         let it : filesystem_numbered nat_eq world inode.0 ≡ filesystem =
         ap (filesystem_numbered nat_eq world) (sym (eqb-true filesystem.number inode.0 e))
         ∙ found_by (λ (x : Filesystem ℕ). x.number) (no_filesystem filesystem.number) world.filesystems one filesystem m
-        in
-        ap (λ f. is_inode_used world f inode.1) (sym it)
+        in ap (λ f. is_inode_used world f inode.1) (sym it)
 
     left_or : Filesystem ℕ → Bool → Filesystem ℕ
-    left_or filesystem b =
-        cond b (record filesystem { files = without_inode inode.1 filesystem.files }) filesystem
+    left_or filesystem b = cond b (record filesystem { files = without_inode inode.1 filesystem.files }) filesystem
 
     stays : (filesystem : Filesystem ℕ) → (same used : Bool) → (same ≡ true → used ≡ true)
         → left_or filesystem (same && not used) ≡ filesystem

@@ -1,12 +1,9 @@
 -- Inodes of one kind of filesystem go one by one, overlays among them.
-use Rattle.std.proofs.Common.{arith}
+use Rattle.std.proofs.Common.{arith, ◌≡◌, refl, sym, ap, ◌∙◌, ◌⊎◌, ℕ, nat_eq, Bool, true, false, cond, not, ◌||◌, ◌&&◌, List, [], filter, true≢false, Option, Some, None, option_map}
 use Rattle.std.proofs.lemmas.Grind.{common_steps}
-use Rattle.std.proofs.Common.{◌≡◌, refl, sym, ap, ◌∙◌, ◌⊎◌, inl, inr, ℕ, nat_eq, Bool, true, false, cond, not, ◌||◌, ◌&&◌, List, [], filter, true≢false, Option, Some, None, is_some, option_map}
 use Rattle.std.specs.List.{list_all}
 use Rattle.vt_spec.specs.FileTree.{targets_in}
-use Rattle.vt_spec.specs.Tree.{Node}
 use Rattle.vt_spec.specs.Lists.{is_among}
-use Rattle.vt_spec.specs.Machine.Locked.{overlay_or}
 use Rattle.vt_spec.specs.Machine.Settled.{named_in, only_used_by, only_used_of, real_among}
 use Rattle.vt_spec.specs.Machine.World.{Filesystem, Overlay}
 use Rattle.vt_spec.specs.Machine.Invariants.{ListsNumbers}
@@ -26,8 +23,7 @@ without_all gone filesystem = record filesystem {
   files = record {
     tree = record {
       root = filesystem.files.tree.root;
-      node = λ number.
-          cond (gone number) None (filesystem.files.tree.node number);
+      node = λ number. cond (gone number) None (filesystem.files.tree.node number);
     };
     numbers = filter (λ number. not (gone number)) filesystem.files.numbers;
   };
@@ -35,28 +31,16 @@ without_all gone filesystem = record filesystem {
 }
 
 pub without_nothing : (filesystem : Filesystem ℕ) → without_all (λ number. false) filesystem ≡ filesystem
-without_nothing filesystem = λ i. record filesystem {
-  files = record filesystem.files {
-    numbers = filter_all (λ number. true) filesystem.files.numbers
-        (λ number m. refl) i;
-  };
-  overlay = by filesystem.overlay i;
-}
-  where
-    by : (o : Option (Overlay ℕ)) → option_map (reals_without (λ number. false)) o ≡ o
-    by None = refl
-    by (Some overlay) = refl
+without_nothing filesystem = grind (arith, common_steps, filter_all)
 
 -- without some, and then without others
 pub without_both : (some others both : ℕ → Bool) → ((number : ℕ) → both number ≡ (some number || others number))
-    → (filesystem : Filesystem ℕ)
-    → without_all others (without_all some filesystem) ≡ without_all both filesystem
+    → (filesystem : Filesystem ℕ) → without_all others (without_all some filesystem) ≡ without_all both filesystem
 without_both some others both h filesystem = λ i. record filesystem {
   files = record {
     tree = record {
       root = filesystem.files.tree.root;
-      node = λ number.
-          twice (filesystem.files.tree.node number) number i;
+      node = λ number. twice (filesystem.files.tree.node number) number i;
     };
     numbers = filter_twice (λ number. not (others number)) (λ number. not (some number)) (λ number. not (both number))
         (λ number. ap not (h number) ∙ nots (some number) (others number)) filesystem.files.numbers i;
@@ -70,12 +54,7 @@ without_both some others both h filesystem = λ i. record filesystem {
 
     twice : {A : Type 0} (o : Option A) (number : ℕ)
         → cond (others number) None (cond (some number) None o) ≡ cond (both number) None o
-    twice o number = by (some number) (others number) ∙ ap (λ b. cond b None o) (sym (h number))
-      where
-        by : (a b : Bool) → cond b None (cond a None o) ≡ cond (a || b) None o
-        by true true = refl
-        by true false = refl
-        by false b = refl
+    twice o number = grind (arith, common_steps)
 
     reals : (o : Option (Overlay ℕ)) → option_map (reals_without others) (option_map (reals_without some) o)
         ≡ option_map (reals_without both) o
@@ -97,54 +76,8 @@ pub same_without : (a b : ℕ → Bool) (filesystem : Filesystem ℕ) → ListsN
     → HasReals filesystem
     → ((number : ℕ) → is_among nat_eq number filesystem.files.numbers ≡ true → a number ≡ b number)
     → without_all a filesystem ≡ without_all b filesystem
-same_without a b filesystem numbers has h = λ i. record filesystem {
-  files = record {
-    tree = record {
-      root = filesystem.files.tree.root;
-      node = λ number. node number
-          (cases_Bool (is_among nat_eq number filesystem.files.numbers)) i;
-    };
-    numbers = filter_alike (λ number. not (a number)) (λ number. not (b number)) filesystem.files.numbers
-        (λ number m. ap not (h number (is_among_numbers number filesystem.files.numbers m))) i;
-  };
-  overlay = reals filesystem.overlay has i;
-}
-  where
-    no_node : (number : ℕ) → is_among nat_eq number filesystem.files.numbers ≡ false
-        → filesystem.files.tree.node number ≡ None
-    no_node number absent = none (filesystem.files.tree.node number) (sym (numbers number) ∙ absent)
-      where
-        none : (o : Option (Node ℕ)) → is_some o ≡ false → o ≡ None
-        none None e = refl
-        none (Some x) e = absurd (true≢false e)
-
-    nothing : {A : Type 0} (o : Option A) (x : Bool) → o ≡ None → cond x None o ≡ None
-    nothing o true e = refl
-    nothing o false e = e
-
-    both : {A : Type 0} (o : Option A) (number : ℕ)
-        → (is_among nat_eq number filesystem.files.numbers ≡ false → o ≡ None)
-        → (is_among nat_eq number filesystem.files.numbers ≡ true)
-        ⊎ (is_among nat_eq number filesystem.files.numbers ≡ false)
-        → cond (a number) None o ≡ cond (b number) None o
-    both o number absent (inl there) = ap (λ x. cond x None o) (h number there)
-    both o number absent (inr gone) = nothing o (a number) (absent gone) ∙ sym (nothing o (b number) (absent gone))
-
-    node : (number : ℕ) → (is_among nat_eq number filesystem.files.numbers ≡ true)
-        ⊎ (is_among nat_eq number filesystem.files.numbers ≡ false)
-        → cond (a number) None (filesystem.files.tree.node number)
-        ≡ cond (b number) None (filesystem.files.tree.node number)
-    node number one = both (filesystem.files.tree.node number) number (no_node number) one
-
-    reals : (o : Option (Overlay ℕ))
-        → ((number : ℕ) → filesystem.files.tree.node number ≡ None
-        → overlay_or None (λ overlay. overlay.real number) o ≡ None)
-        → option_map (reals_without a) o ≡ option_map (reals_without b) o
-    reals None each = refl
-    reals (Some overlay) each = λ i. Some (record overlay {
-      real = λ number. both (overlay.real number) number (λ absent. each number (no_node number absent))
-          (cases_Bool (is_among nat_eq number filesystem.files.numbers)) i;
-    })
+same_without a b filesystem numbers has h =
+    grind (arith, common_steps, cases_Bool, filter_alike, is_among_numbers, true≢false)
 
 -- What the sweep leaves is what is used.
 pub left_of : (used : List ℕ) (filesystem : Filesystem ℕ) → ListsNumbers nat_eq filesystem.files → HasReals filesystem
@@ -156,8 +89,7 @@ left_of used filesystem numbers has =
     flipped o true = refl
     flipped o false = refl
 
-    reals : (o : Option (Overlay ℕ))
-        → option_map (real_among nat_eq used) o
+    reals : (o : Option (Overlay ℕ)) → option_map (real_among nat_eq used) o
         ≡ option_map (reals_without (λ number. not (is_among nat_eq number used))) o
     reals None = refl
     reals (Some overlay) = λ i. Some
@@ -165,8 +97,7 @@ left_of used filesystem numbers has =
 
     by : (all : Bool) → list_all (λ number. is_among nat_eq number used) filesystem.files.numbers ≡ all
         → only_used_by nat_eq all used filesystem ≡ without_all (λ number. not (is_among nat_eq number used)) filesystem
-    by true e =
-        sym (without_nothing filesystem)
+    by true e = sym (without_nothing filesystem)
         ∙ same_without (λ number. false) (λ number. not (is_among nat_eq number used)) filesystem numbers has
         (λ number there. ap not (sym (passes (λ n. is_among nat_eq n used) filesystem.files.numbers e number
         (among_it number there))))
@@ -178,8 +109,7 @@ left_of used filesystem numbers has =
       files = record {
         tree = record {
           root = filesystem.files.tree.root;
-          node = λ number. flipped (filesystem.files.tree.node number)
-              (is_among nat_eq number used) i;
+          node = λ number. flipped (filesystem.files.tree.node number) (is_among nat_eq number used) i;
         };
         numbers = filter_alike (λ number. is_among nat_eq number used)
             (λ number. not (not (is_among nat_eq number used))) filesystem.files.numbers

@@ -1,7 +1,6 @@
 -- Inodes of one kind of filesystem go one by one, overlays among them.
-use Rattle.std.proofs.Common.{arith}
+use Rattle.std.proofs.Common.{arith, ◌≡◌, refl, sym, ap, subst, ◌∙◌, ⊎_elim, ℕ, nat_eq, eqb-true, Bool, true, false, cond, not, ◌||◌, ◌&&◌, List, [], ◌∷◌, filter, map, true≢false, flat_map, None}
 use Rattle.std.proofs.lemmas.Grind.{common_steps}
-use Rattle.std.proofs.Common.{◌≡◌, refl, sym, ap, subst, ◌∙◌, ⊎_elim, ℕ, nat_eq, eqb-true, Bool, true, false, cond, not, ◌||◌, ◌&&◌, List, [], ◌∷◌, filter, map, true≢false, flat_map, None}
 use Rattle.std.specs.List.{list_all}
 use Rattle.std.proofs.lemmas.Bool.{and_parts, not-true, cases_Bool}
 use Rattle.vt_spec.specs.FileTree.{targets_in}
@@ -28,8 +27,7 @@ module _ (chosen : Filesystem ℕ → Bool)
   -- no filesystem of the kind has an object of one of the kind in it, before or after inodes went
   unfoldable pub Apart : World ℕ → Type 0
   Apart world = (f g : Filesystem ℕ) → Among f world.filesystems → chosen f ≡ true → Among g world.filesystems
-      → chosen g ≡ true
-      → (gone : ℕ → Bool) → objects_of_overlay nat_eq f.number (without_all gone g)
+      → chosen g ≡ true → (gone : ℕ → Bool) → objects_of_overlay nat_eq f.number (without_all gone g)
       ≡ objects_of_overlay nat_eq f.number g
 
   -- each inode that is used no more has no entries
@@ -45,8 +43,7 @@ module _ (chosen : Filesystem ℕ → Bool)
       ((kind && nat_eq filesystem.number inode.0) && not (is_among nat_eq inode.1 used)) && nat_eq number inode.1
 
   here_or_later : (kind : Bool) (used : List ℕ) (inode : Inode) (rest : List Inode) (filesystem : Filesystem ℕ)
-      (number : ℕ)
-      → goes_in kind used (inode ∷ rest) filesystem number
+      (number : ℕ) → goes_in kind used (inode ∷ rest) filesystem number
       ≡ (here_in kind used inode filesystem number || goes_in kind used rest filesystem number)
   here_or_later true used inode rest filesystem number = goes_on used inode rest filesystem number
   here_or_later false used inode rest filesystem number = refl
@@ -84,14 +81,7 @@ module _ (chosen : Filesystem ℕ → Bool)
     -- what goes is not used
     is_unused : (filesystem : Filesystem ℕ) (number : ℕ) → here filesystem number ≡ true
         → is_among nat_eq number (used_in nat_eq world filesystem) ≡ false
-    is_unused filesystem number e =
-        let parts = and_parts ((chosen filesystem && nat_eq filesystem.number inode.0)
-        && not (is_inode_used world filesystem inode.1))
-        (nat_eq number inode.1) e in
-        let unused = and_parts (chosen filesystem && nat_eq filesystem.number inode.0)
-        (not (is_inode_used world filesystem inode.1)) parts.0 in
-        ap (λ n. is_among nat_eq n (used_in nat_eq world filesystem)) (eqb-true number inode.1 parts.1)
-        ∙ not-true (is_inode_used world filesystem inode.1) unused.1
+    is_unused filesystem number e = grind (arith, common_steps, and_parts, eqb-true, not-true)
 
     layers_step : (number : ℕ) → layers_in nat_eq next number ≡ layers_in nat_eq world number
     layers_step number =
@@ -101,35 +91,30 @@ module _ (chosen : Filesystem ℕ → Bool)
         ∙ layers_without (here filesystem) filesystem))
 
     objects_step : Apart world → (filesystem : Filesystem ℕ) → Among filesystem world.filesystems
-        → chosen filesystem ≡ true
-        → flat_map (objects_of_overlay nat_eq filesystem.number) next.filesystems
+        → chosen filesystem ≡ true → flat_map (objects_of_overlay nat_eq filesystem.number) next.filesystems
         ≡ flat_map (objects_of_overlay nat_eq filesystem.number) world.filesystems
     unfolding Apart
     objects_step apart filesystem m is =
-        flat_map-step step (objects_of_overlay nat_eq filesystem.number) world.filesystems
-        (λ other n. ⊎_elim
+        flat_map-step step (objects_of_overlay nat_eq filesystem.number) world.filesystems (λ other n. ⊎_elim
         (λ e. ap (objects_of_overlay nat_eq filesystem.number) (one_step other)
         ∙ apart filesystem other m is n e (here other))
-        (λ e. ap (objects_of_overlay nat_eq filesystem.number) (other_stays other e))
-        (cases_Bool (chosen other)))
+        (λ e. ap (objects_of_overlay nat_eq filesystem.number) (other_stays other e)) (cases_Bool (chosen other)))
 
     used_step : Apart world → (filesystem : Filesystem ℕ) → Among filesystem world.filesystems
         → chosen filesystem ≡ true
         → UnusedAreEmpty (used_in nat_eq world filesystem) filesystem → used_in nat_eq next (step filesystem)
         ≡ used_in nat_eq world filesystem
-    used_step apart filesystem m is empty =
-        grind (
-          arith,
-          common_steps,
-          one_step filesystem,
-          number_step filesystem,
-          layers_step (step
-              filesystem).number,
-          objects_step apart filesystem m is,
-          one_step,
-          named_without,
-          is_unused,
-        )
+    used_step apart filesystem m is empty = grind (
+      arith,
+      common_steps,
+      one_step filesystem,
+      number_step filesystem,
+      layers_step (step filesystem).number,
+      objects_step apart filesystem m is,
+      one_step,
+      named_without,
+      is_unused,
+    )
 
     empty_step : Apart world → ChosenAreEmpty world → ChosenAreEmpty next
     unfolding ChosenAreEmpty
@@ -145,8 +130,7 @@ module _ (chosen : Filesystem ℕ → Bool)
 
         each : (f : Filesystem ℕ) → Among f world.filesystems → chosen f ≡ true
             → UnusedAreEmpty (used_in nat_eq next (step f)) (step f)
-        each f n was number unused =
-            ap (λ g. targets_in (g.files.tree.node number)) (one_step f)
+        each f n was number unused = ap (λ g. targets_in (g.files.tree.node number)) (one_step f)
             ∙ by f number (here f number)
             (empty f n was number (ap (is_among nat_eq number) (sym (used_step apart f n was (empty f n was)))
             ∙ unused))
@@ -171,14 +155,11 @@ module _ (chosen : Filesystem ℕ → Bool)
 
   -- all that goes, one by one
   chosen_folded : (world : World ℕ) (losers : List Inode) → Apart world → ChosenAreEmpty world
-      → folded (let_go_in chosen) world losers
-      ≡ record world {
-        filesystems = map
-            (λ f. without_all (goes_in (chosen f) (used_in nat_eq world f) losers f) f) world.filesystems;
+      → folded (let_go_in chosen) world losers ≡ record world {
+        filesystems = map (λ f. without_all (goes_in (chosen f) (used_in nat_eq world f) losers f) f) world.filesystems;
       }
   unfolding ChosenAreEmpty
-  chosen_folded world [] apart empty =
-      ap (λ filesystems. record world { filesystems = filesystems })
+  chosen_folded world [] apart empty = ap (λ filesystems. record world { filesystems = filesystems })
       (sym (map_same (λ f. without_all (goes_in (chosen f) (used_in nat_eq world f) [] f) f) world.filesystems
       (λ f m. none (chosen f) f)))
     where
@@ -187,11 +168,9 @@ module _ (chosen : Filesystem ℕ → Bool)
       none false f = without_nothing f
   chosen_folded world (inode ∷ rest) apart empty =
       chosen_folded (let_go_in chosen world inode) rest (apart_step world inode apart)
-      (empty_step world inode apart empty)
-      ∙ ap (λ filesystems. record world { filesystems = filesystems })
+      (empty_step world inode apart empty) ∙ ap (λ filesystems. record world { filesystems = filesystems })
       (map_twice (λ f. without_all (goes_in (chosen f) (used_in nat_eq (let_go_in chosen world inode) f) rest f) f)
-      (step world inode) world.filesystems
-      ∙ map_alike (λ f. without_all (goes_in (chosen (step world inode f))
+      (step world inode) world.filesystems ∙ map_alike (λ f. without_all (goes_in (chosen (step world inode f))
       (used_in nat_eq (let_go_in chosen world inode) (step world inode f)) rest (step world inode f))
       (step world inode f))
       (λ f. without_all (goes_in (chosen f) (used_in nat_eq world f) (inode ∷ rest) f) f) world.filesystems
@@ -213,16 +192,13 @@ module _ (chosen : Filesystem ℕ → Bool)
           (goes_in (chosen f) (used_in nat_eq world f) (inode ∷ rest) f)
           (here_or_later (chosen f) (used_in nat_eq world f) inode rest f) f
 
-      by_other : (f : Filesystem ℕ) → chosen f ≡ false
-          → without_all (goes_in (chosen (step world inode f))
+      by_other : (f : Filesystem ℕ) → chosen f ≡ false → without_all (goes_in (chosen (step world inode f))
           (used_in nat_eq (let_go_in chosen world inode) (step world inode f)) rest
           (step world inode f)) (step world inode f)
           ≡ without_all (goes_in (chosen f) (used_in nat_eq world f) (inode ∷ rest) f) f
       by_other f isnt =
           ap (λ b. without_all (goes_in b (used_in nat_eq (let_go_in chosen world inode) (step world inode f)) rest
-          (step world inode f))
-          (step world inode f))
-          (chosen_step world inode f ∙ isnt)
+          (step world inode f)) (step world inode f)) (chosen_step world inode f ∙ isnt)
           ∙ ap (without_all (λ number. false)) (other_stays world inode f isnt)
           ∙ ap (λ b. without_all (goes_in b (used_in nat_eq world f) (inode ∷ rest) f) f) (sym isnt)
 
@@ -231,12 +207,10 @@ module _ (chosen : Filesystem ℕ → Bool)
       → ((f : Filesystem ℕ) → Among f world.filesystems → chosen f ≡ true → IsListedTree f.files × HasReals f
       × (list_all (is_used_or_among losers world f) f.files.numbers ≡ true))
       → without_dead_in nat_eq chosen world ≡ folded (let_go_in chosen) world losers
-  chosen_go_one_by_one world losers apart empty others =
-      ap (λ filesystems. record world { filesystems = filesystems })
+  chosen_go_one_by_one world losers apart empty others = ap (λ filesystems. record world { filesystems = filesystems })
       (map_alike (λ f. only_used nat_eq world (chosen f) f)
       (λ f. without_all (goes_in (chosen f) (used_in nat_eq world f) losers f) f) world.filesystems
-      (λ f m. by f m (chosen f) refl))
-      ∙ sym (chosen_folded world losers apart empty)
+      (λ f m. by f m (chosen f) refl)) ∙ sym (chosen_folded world losers apart empty)
     where
       same : (a u : Bool) → (a || u) ≡ true → not u ≡ (a && not u)
       same true u e = refl

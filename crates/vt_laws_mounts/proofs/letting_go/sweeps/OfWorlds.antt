@@ -1,5 +1,6 @@
 -- What a world is by its conditions.
-use Rattle.std.proofs.Common.{◌≡◌, refl, sym, ap, subst, ◌∙◌, inl, ℕ, nat_eq, eqb-true, Bool, true, false, not, ◌&&◌, ◌++◌, List, find, map, true≢false, Option, Some, None, is_some, option_to_list, unwrap_or}
+use Rattle.std.proofs.Common.{arith, ◌≡◌, refl, sym, ap, subst, ◌∙◌, inl, ℕ, nat_eq, eqb-true, Bool, true, false, not, ◌&&◌, ◌++◌, List, find, map, true≢false, Option, Some, None, is_some, option_to_list, unwrap_or}
+use Rattle.std.proofs.lemmas.Grind.{common_steps}
 use Rattle.std.specs.Prelude.{All}
 use Rattle.std.specs.List.{list_all}
 use Rattle.std.proofs.lemmas.Bool.{and_parts, not-true}
@@ -7,7 +8,7 @@ use Rattle.vt_spec.specs.Lists.{any_pair, holds_of, is_among}
 use Rattle.vt_spec.specs.Machine.Locked.{of_overlay, overlay_or}
 use Rattle.vt_spec.specs.Machine.Mounts.{Location, Mount}
 use Rattle.vt_spec.specs.Machine.World.{Filesystem, Layer, Overlay, World, all_locations, filesystem_numbered, is_overlay, layers_of, mount_at, mount_numbered, no_filesystem}
-use Rattle.vt_spec.specs.Machine.Invariants.{IsWorld, ListsNumbers, Stands, is_located_well, is_nowhere_or_attached, is_plain_layer}
+use Rattle.vt_spec.specs.Machine.Invariants.{IsWorld, ListsNumbers, Stands, is_located_well, is_plain_layer}
 use Rattle.vt_spec.specs.TreeInvariant.{IsTree}
 use Rattle.vt_laws_mounts.specs.LettingGo.InUse.{AllInUse, IsListedTree, has_upper_in}
 use Rattle.vt_laws_mounts.specs.LettingGo.Leaving.{stands_on_attached}
@@ -20,24 +21,16 @@ use Rattle.std.proofs.lemmas.Option.{same_Some}
 use Rattle.vt_spec.specs.Machine.Invariants.Stands.{at_root, on_parent}
 
 pub worlds_have_trees : WorldsHaveTrees
-worlds_have_trees world is =
-    all_from_among (λ f. IsListedTree f.files) world.filesystems (λ f m. record {
-      tree = among_from_all (λ g. IsTree g.files.tree) world.filesystems is.files.trees f m;
-      numbers = among_from_all (λ g. ListsNumbers nat_eq g.files) world.filesystems is.files.numbers f m;
-    })
+worlds_have_trees world is = all_from_among (λ f. IsListedTree f.files) world.filesystems (λ f m. record {
+  tree = among_from_all (λ g. IsTree g.files.tree) world.filesystems is.files.trees f m;
+  numbers = among_from_all (λ g. ListsNumbers nat_eq g.files) world.filesystems is.files.numbers f m;
+})
 
 module _ (world : World ℕ) (is : IsWorld nat_eq world) where
   -- a mount with a place is in a namespace
   attached : (mount : Mount ℕ) → Among mount world.mounts → is_some mount.mount_point ≡ true
       → is_some mount.namespace ≡ true
-  attached mount m placed = by (is_some mount.namespace) refl
-    where
-      by : (b : Bool) → is_some mount.namespace ≡ b → is_some mount.namespace ≡ true
-      by true e = e
-      by false e =
-          absurd (true≢false
-          (sym placed ∙ (nowhere_parts mount
-          (passes is_nowhere_or_attached world.mounts is.mounts.nowhere mount m) e).0))
+  attached mount m placed = grind (arith, common_steps, true≢false, nowhere_parts, passes)
 
   on_attached : (mount : Mount ℕ) → Among mount world.mounts → (place : Location ℕ) → mount.mount_point ≡ Some place
       → is_some (mount_at nat_eq world place).namespace ≡ true
@@ -47,14 +40,8 @@ module _ (world : World ℕ) (is : IsWorld nat_eq world) where
     where
       by : Stands nat_eq world mount.number → mount_numbered nat_eq world mount.number ≡ mount
           → is_some (mount_at nat_eq world place).namespace ≡ true
-      by (at_root number e) itself =
-          absurd (true≢false (sym (ap is_some p) ∙ sym (ap (λ (x : Mount ℕ). is_some x.mount_point) itself)
-          ∙ ap is_some e))
-      by (on_parent number at e same stands) itself =
-          let it : at ≡ place = same_Some at place (sym e ∙ ap (λ (x : Mount ℕ). x.mount_point) itself ∙ p) in
-          ap (λ l. is_some (mount_at nat_eq world l).namespace) (sym it)
-          ∙ ap is_some (sym same) ∙ ap (λ (x : Mount ℕ). is_some x.namespace) itself
-          ∙ attached mount m (ap is_some p)
+      by (at_root number e) itself = grind (arith, common_steps, true≢false)
+      by (on_parent number at e same stands) itself = grind (arith, common_steps, same, same_Some, attached)
 
 pub mounts_of_worlds_stand : MountsOfWorldsStand
 mounts_of_worlds_stand world is = record {
@@ -77,12 +64,10 @@ found_filesystem filesystems one f m =
     found_by (λ (x : Filesystem ℕ). x.number) (no_filesystem f.number) filesystems one f m
 
 pub uppers_of_worlds_are_plain : UppersOfWorldsArePlain
-uppers_of_worlds_are_plain world is =
-    all_from_among (λ f. is_overlay f ≡ true
+uppers_of_worlds_are_plain world is = all_from_among (λ f. is_overlay f ≡ true
     → All (λ merged. has_upper_in f.number merged ≡ false) world.filesystems) world.filesystems
     (λ f m overlay. all_from_among (λ merged. has_upper_in f.number merged ≡ false) world.filesystems
-    (λ merged n. by f m overlay merged.overlay
-    (passes (of_overlay true (λ o. list_all (is_plain_layer nat_eq world)
+    (λ merged n. by f m overlay merged.overlay (passes (of_overlay true (λ o. list_all (is_plain_layer nat_eq world)
     (layers_of o))) world.filesystems is.overlays.plain_layers merged n)))
   where
     by : (f : Filesystem ℕ) → Among f world.filesystems → is_overlay f ≡ true → (o : Option (Overlay ℕ))
@@ -108,9 +93,7 @@ uppers_of_worlds_are_plain world is =
           where
             same : (b : Bool) → nat_eq f.number layer.filesystem ≡ b → b ≡ false
             same false g = refl
-            same true g =
-                absurd (true≢false
-                (sym is_one
+            same true g = absurd (true≢false (sym is_one
                 ∙ ap is_overlay (sym (found_filesystem world.filesystems is.files.one_filesystem f m))
                 ∙ ap (λ n. is_overlay (filesystem_numbered nat_eq world n)) (eqb-true f.number layer.filesystem g)
                 ∙ plain_layer layer e))
@@ -119,15 +102,13 @@ uppers_of_worlds_are_plain world is =
 pub reals_of_worlds_are_there : RealsOfWorldsAreThere
 reals_of_worlds_are_there world is =
     all_from_among (λ f. (number : ℕ) → f.files.tree.node number ≡ None → real_in f number ≡ None) world.filesystems
-    (λ f m.
-    by f f.overlay refl (found_filesystem world.filesystems is.files.one_filesystem f m))
+    (λ f m. by f f.overlay refl (found_filesystem world.filesystems is.files.one_filesystem f m))
   where
     by : (f : Filesystem ℕ) (o : Option (Overlay ℕ)) → f.overlay ≡ o → filesystem_numbered nat_eq world f.number ≡ f
         → (number : ℕ) → f.files.tree.node number ≡ None
         → overlay_or None (λ overlay. overlay.real number) f.overlay ≡ None
     by f None e found number none = ap (overlay_or None (λ overlay. overlay.real number)) e
-    by f (Some overlay) e found number none =
-        ap (overlay_or None (λ overlay. overlay.real number)) e
+    by f (Some overlay) e found number none = ap (overlay_or None (λ overlay. overlay.real number)) e
         ∙ (is.overlays.overlays_merge f.number overlay
         (ap (λ (x : Filesystem ℕ). x.overlay) found ∙ e)).real_there number
         (ap (λ (x : Filesystem ℕ). x.files.tree.node number) found ∙ none)
@@ -140,8 +121,7 @@ locations_of_worlds_stand world is =
     (passes (is_located_well nat_eq world) (all_locations world) is.tasks.locations_live location m)).0)
 
 pub all_in_use : (world : World ℕ) → IsWorld nat_eq world → AllInUse world
-all_in_use world is =
-    subst AllInUse is.nothing_unused
+all_in_use world is = subst AllInUse is.nothing_unused
     (what_is_left_is_in_use world (worlds_have_trees world is) (uppers_of_worlds_are_plain world is))
 
 pub worlds_are_settled : WorldsAreSettled
@@ -154,9 +134,5 @@ worlds_are_settled world is = record {
 }
 
 pub plain_worlds_are_settled : PlainWorldsAreSettled
-plain_worlds_are_settled world is plain = record {
-  in_use = all_in_use world is;
-  plain = plain;
-  trees = worlds_have_trees world is;
-  mounts = mounts_of_worlds_stand world is;
-}
+plain_worlds_are_settled world is plain =
+    grind (arith, common_steps, all_in_use world is, worlds_have_trees world is, mounts_of_worlds_stand world is)

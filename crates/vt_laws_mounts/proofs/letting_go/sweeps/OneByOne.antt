@@ -1,11 +1,10 @@
 -- The sweep, one thing at a time.
-use Rattle.std.proofs.Common.{arith}
+use Rattle.std.proofs.Common.{arith, ◌≡◌, refl, sym, ap, ◌∙◌, ℕ, nat_eq, Bool, true, false, cond, not, ◌||◌, ◌&&◌, List, [], ◌∷◌, filter, true≢false, None}
 use Rattle.std.proofs.lemmas.Grind.{common_steps}
-use Rattle.std.proofs.Common.{◌≡◌, refl, sym, ap, ◌∙◌, ℕ, nat_eq, Bool, true, false, cond, not, ◌||◌, ◌&&◌, List, [], ◌∷◌, filter, true≢false, None}
 use Rattle.std.proofs.lemmas.Bool.{or_parts}
 use Rattle.vt_spec.specs.Lists.{is_among}
 use Rattle.vt_spec.specs.Machine.Receives.{has_members}
-use Rattle.vt_spec.specs.Machine.Settled.{filesystem_lives, has_layer_on, is_mounted, mount_lives}
+use Rattle.vt_spec.specs.Machine.Settled.{filesystem_lives, mount_lives}
 use Rattle.vt_spec.specs.Machine.World.{Filesystem, World, with_mounts}
 use Rattle.vt_laws_mounts.specs.LettingGo.OneByOne.{FilesystemsGoOneByOne, GroupsGoOneByOne, MountsGoOneByOne, let_go_filesystem, let_go_filesystems, let_go_group, let_go_groups, let_go_mount, let_go_mounts}
 use Rattle.vt_laws_mounts.proofs.letting_go.Lists.{any-filter, filter_twice, passes}
@@ -15,14 +14,7 @@ use Rattle.vt_spec.proofs.Found.{filter_alike, filter_all}
 -- one after the other: looked at here, or looked at later
 pub looked_at : (here later lives : Bool)
     → (not (here || later) || lives) ≡ ((not here || lives) && (not later || lives))
-looked_at true true true = refl
-looked_at true true false = refl
-looked_at true false true = refl
-looked_at true false false = refl
-looked_at false true true = refl
-looked_at false true false = refl
-looked_at false false true = refl
-looked_at false false false = refl
+looked_at here later lives = grind (arith, common_steps)
 
 -- a thing that lives, or was looked at
 pub kept_alike : (among lives : Bool) → (among || lives) ≡ true → lives ≡ (not among || lives)
@@ -32,14 +24,11 @@ kept_alike false true e = refl
 kept_alike false false e = absurd (true≢false (sym e))
 
 -- Mounts
-mounts_folded : (world : World ℕ) (losers : List ℕ)
-    → let_go_mounts world losers
+mounts_folded : (world : World ℕ) (losers : List ℕ) → let_go_mounts world losers
     ≡ with_mounts world (filter (λ mount. not (is_among nat_eq mount.number losers)
     || mount_lives nat_eq world mount) world.mounts)
 mounts_folded world [] = ap (with_mounts world) (sym (filter_all (λ mount. true) world.mounts (λ mount m. refl)))
-mounts_folded world (number ∷ rest) =
-    mounts_folded (let_go_mount world number) rest
-    ∙ ap (with_mounts world)
+mounts_folded world (number ∷ rest) = mounts_folded (let_go_mount world number) rest ∙ ap (with_mounts world)
     (filter_twice (λ mount. not (is_among nat_eq mount.number rest) || mount_lives nat_eq world mount)
     (λ mount. not (nat_eq mount.number number) || mount_lives nat_eq world mount)
     (λ mount. not (is_among nat_eq mount.number (number ∷ rest)) || mount_lives nat_eq world mount)
@@ -47,37 +36,20 @@ mounts_folded world (number ∷ rest) =
     (mount_lives nat_eq world mount)) world.mounts)
 
 pub mounts_go_one_by_one : MountsGoOneByOne
-mounts_go_one_by_one world losers others =
-    ap (with_mounts world)
-    (filter_alike (mount_lives nat_eq world) (λ mount. not (is_among nat_eq mount.number losers)
-    || mount_lives nat_eq world mount) world.mounts
-    (λ mount m. kept_alike (is_among nat_eq mount.number losers) (mount_lives nat_eq world mount)
-    (passes (λ x. is_among nat_eq x.number losers || mount_lives nat_eq world x) world.mounts others mount m)))
-    ∙ sym (mounts_folded world losers)
+mounts_go_one_by_one world losers others = grind (arith, common_steps, filter_alike, kept_alike, passes, mounts_folded)
 
 -- Filesystems: one that is not mounted keeps none
 filesystem_by_others : (world : World ℕ) (number : ℕ) (filesystem : Filesystem ℕ)
     → filesystem_lives nat_eq (let_go_filesystem world number) filesystem ≡ filesystem_lives nat_eq world filesystem
-filesystem_by_others world number filesystem =
-    ap (λ b. is_mounted nat_eq world filesystem.number || b)
-    (any-filter (λ merged. has_layer_on nat_eq filesystem.number merged && is_mounted nat_eq world merged.number)
-    (λ other. not (nat_eq other.number number) || filesystem_lives nat_eq world other) world.filesystems
-    (λ other m gone. ap (λ b. has_layer_on nat_eq filesystem.number other && b)
-    (or_parts (is_mounted nat_eq world other.number) _
-    (or_parts (not (nat_eq other.number number)) (filesystem_lives nat_eq world other) gone).1).0
-    ∙ and-false (has_layer_on nat_eq filesystem.number other)))
+filesystem_by_others world number filesystem = grind (arith, common_steps, any-filter, or_parts, and-false)
 
-filesystems_folded : (world : World ℕ) (losers : List ℕ)
-    → let_go_filesystems world losers
-    ≡ record world {
-      filesystems = filter (λ filesystem. not (is_among nat_eq filesystem.number losers)
-          || filesystem_lives nat_eq world filesystem) world.filesystems;
-    }
-filesystems_folded world [] =
-    ap (λ filesystems. record world { filesystems = filesystems })
+filesystems_folded : (world : World ℕ) (losers : List ℕ) → let_go_filesystems world losers ≡ record world {
+  filesystems = filter (λ filesystem. not (is_among nat_eq filesystem.number losers)
+      || filesystem_lives nat_eq world filesystem) world.filesystems;
+}
+filesystems_folded world [] = ap (λ filesystems. record world { filesystems = filesystems })
     (sym (filter_all (λ filesystem. true) world.filesystems (λ filesystem m. refl)))
-filesystems_folded world (number ∷ rest) =
-    filesystems_folded (let_go_filesystem world number) rest
+filesystems_folded world (number ∷ rest) = filesystems_folded (let_go_filesystem world number) rest
     ∙ ap (λ filesystems. record world { filesystems = filesystems })
     (filter_alike (λ filesystem. not (is_among nat_eq filesystem.number rest)
     || filesystem_lives nat_eq (let_go_filesystem world number) filesystem)
@@ -94,21 +66,13 @@ filesystems_folded world (number ∷ rest) =
 
 pub filesystems_go_one_by_one : FilesystemsGoOneByOne
 filesystems_go_one_by_one world losers others =
-    ap (λ filesystems. record world { filesystems = filesystems })
-    (filter_alike (filesystem_lives nat_eq world) (λ filesystem. not (is_among nat_eq filesystem.number losers)
-    || filesystem_lives nat_eq world filesystem) world.filesystems
-    (λ filesystem m. kept_alike (is_among nat_eq filesystem.number losers) (filesystem_lives nat_eq world filesystem)
-    (passes (λ x. is_among nat_eq x.number losers
-    || filesystem_lives nat_eq world x) world.filesystems others filesystem m)))
-    ∙ sym (filesystems_folded world losers)
+    grind (arith, common_steps, filter_alike, kept_alike, passes, filesystems_folded)
 
 -- Groups
-groups_folded : (world : World ℕ) (losers : List ℕ)
-    → let_go_groups world losers
-    ≡ record world {
-      master = λ other. cond (is_among nat_eq other losers && not (has_members nat_eq world.mounts other)) None
-          (world.master other);
-    }
+groups_folded : (world : World ℕ) (losers : List ℕ) → let_go_groups world losers ≡ record world {
+  master = λ other. cond (is_among nat_eq other losers && not (has_members nat_eq world.mounts other)) None
+      (world.master other);
+}
 groups_folded world [] = refl
 groups_folded world (group ∷ rest) = grind (arith, common_steps, groups_folded (let_go_group world group) rest)
 

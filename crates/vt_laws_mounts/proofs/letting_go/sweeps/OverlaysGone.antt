@@ -24,14 +24,11 @@ module _ (world : World ℕ) (losers : List ℕ) (others : FilesystemsInUseBut l
   -- a filesystem lives, or what it used is named
   lives_or_named : (g : Filesystem ℕ) → Among g world.filesystems
       → (filesystem_lives nat_eq world g ≡ true) ⊎ (is_among nat_eq g.number losers ≡ true)
-  lives_or_named g m =
-      ⊎_elim inr inl
-      (or_cases (is_among nat_eq g.number losers) (filesystem_lives nat_eq world g)
+  lives_or_named g m = ⊎_elim inr inl (or_cases (is_among nat_eq g.number losers) (filesystem_lives nat_eq world g)
       (passes (λ x. is_among nat_eq x.number losers || filesystem_lives nat_eq world x) world.filesystems others g m))
 
   named_use : (g : Filesystem ℕ) → Among g world.filesystems → is_among nat_eq g.number losers ≡ true
-      → (filesystem number target : ℕ)
-      → nat_eq filesystem target ≡ true → Among (target, number) (used_by_filesystem g)
+      → (filesystem number target : ℕ) → nat_eq filesystem target ≡ true → Among (target, number) (used_by_filesystem g)
       → is_inode_among filesystem number taken ≡ true
   named_use g m loses filesystem number target same used =
       let t = one_passes (nat_eq g.number) losers loses in
@@ -52,8 +49,7 @@ module _ (world : World ℕ) (losers : List ℕ) (others : FilesystemsInUseBut l
       let two = among-from_filter (is_on filesystem)
       (flat_map (of_overlay [] layers_of) world.filesystems) one.0 one.1 in
       let three = among-from_flat_map (of_overlay [] layers_of) world.filesystems one.0 two.0 in
-      ⊎_elim
-      (λ lives. inl (subst (λ n. Among n (layers_in nat_eq living filesystem)) (sym one.2)
+      ⊎_elim (λ lives. inl (subst (λ n. Among n (layers_in nat_eq living filesystem)) (sym one.2)
       (among-map (λ (layer : Layer ℕ). layer.directory)
       (filter (is_on filesystem) (flat_map (of_overlay [] layers_of) living.filesystems)) one.0
       (among-filter (is_on filesystem) (flat_map (of_overlay [] layers_of) living.filesystems) one.0
@@ -66,8 +62,7 @@ module _ (world : World ℕ) (losers : List ℕ) (others : FilesystemsInUseBut l
       (subst (λ n. Among {A = Inode} (one.0.filesystem, n)
       (map (λ (layer : Layer ℕ). (layer.filesystem, layer.directory)) (of_overlay [] layers_of three.0))) (sym one.2)
       (among-map (λ (layer : Layer ℕ). (layer.filesystem, layer.directory))
-      (of_overlay [] layers_of three.0) one.0 three.2)))))
-      (lives_or_named three.0 three.1)
+      (of_overlay [] layers_of three.0) one.0 three.2))))) (lives_or_named three.0 three.1)
 
   object_left : (filesystem number : ℕ)
       → Among number (flat_map (objects_of_overlay nat_eq filesystem) world.filesystems)
@@ -76,8 +71,7 @@ module _ (world : World ℕ) (losers : List ℕ) (others : FilesystemsInUseBut l
   object_left filesystem number m =
       let t = among-from_flat_map (objects_of_overlay nat_eq filesystem) world.filesystems number m in
       let p = object_parts filesystem number t.0 t.2 in
-      ⊎_elim
-      (λ lives. inl (among-flat_map (objects_of_overlay nat_eq filesystem) living.filesystems t.0 number
+      ⊎_elim (λ lives. inl (among-flat_map (objects_of_overlay nat_eq filesystem) living.filesystems t.0 number
       (among-filter (filesystem_lives nat_eq world) world.filesystems t.0 t.1 lives) t.2))
       (λ loses. inr (named_use t.0 t.1 loses filesystem number p.2.filesystem p.4
       (among-append_right (map (λ (layer : Layer ℕ). (layer.filesystem, layer.directory)) (of_overlay [] layers_of t.0))
@@ -92,22 +86,17 @@ module _ (world : World ℕ) (losers : List ℕ) (others : FilesystemsInUseBut l
 
   still_used : (f : Filesystem ℕ) (number : ℕ) → is_inode_used world f number ≡ true
       → (is_inode_used living f number ≡ true) ⊎ (is_inode_among f.number number taken ≡ true)
-  still_used f number h =
-      ⊎_elim
-      (λ before. ⊎_elim
+  still_used f number h = ⊎_elim (λ before. ⊎_elim
       (λ a. inl (is_among_left number (front ++ layers_in nat_eq living f.number) objects
-      (is_among_left number front (layers_in nat_eq living f.number) a)))
-      (λ a. ⊎_elim
+      (is_among_left number front (layers_in nat_eq living f.number) a))) (λ a. ⊎_elim
       (λ there. inl (is_among_left number (front ++ layers_in nat_eq living f.number) objects
       (is_among_right number front (layers_in nat_eq living f.number)
       (is_among_numbers number (layers_in nat_eq living f.number) there))))
       inr (layer_left f.number number (among_numbers number (layers_in nat_eq world f.number) a)))
       (or_cases (is_among nat_eq number front) (is_among nat_eq number (layers_in nat_eq world f.number))
-      (sym (list_any-append (nat_eq number) front (layers_in nat_eq world f.number)) ∙ before)))
-      (λ a. ⊎_elim
+      (sym (list_any-append (nat_eq number) front (layers_in nat_eq world f.number)) ∙ before))) (λ a. ⊎_elim
       (λ there. inl (is_among_right number (front ++ layers_in nat_eq living f.number) objects
-      (is_among_numbers number objects there)))
-      inr (object_left f.number number
+      (is_among_numbers number objects there))) inr (object_left f.number number
       (among_numbers number (flat_map (objects_of_overlay nat_eq f.number) world.filesystems) a)))
       (or_cases (is_among nat_eq number (front ++ layers_in nat_eq world f.number))
       (is_among nat_eq number (flat_map (objects_of_overlay nat_eq f.number) world.filesystems))
@@ -126,8 +115,7 @@ filesystems_take_their_uses world losers inodes others used =
     (without_dead_filesystems nat_eq world) f) f.files.numbers ≡ true)
     (without_dead_filesystems nat_eq world).filesystems
     (λ f m. all_pass (is_used_or_among (inodes ++ used_by_filesystems world losers)
-    (without_dead_filesystems nat_eq world) f) f.files.numbers
-    (λ number n. each f number
+    (without_dead_filesystems nat_eq world) f) f.files.numbers (λ number n. each f number
     (passes (is_used_or_among inodes world f) f.files.numbers
     (among_from_all (λ x. list_all (is_used_or_among inodes world x) x.files.numbers ≡ true) world.filesystems used f
     (among-from_filter (filesystem_lives nat_eq world) world.filesystems f m).0) number n)))
@@ -141,11 +129,8 @@ filesystems_take_their_uses world losers inodes others used =
     each : (f : Filesystem ℕ) (number : ℕ) → is_used_or_among inodes world f number ≡ true
         → is_used_or_among (inodes ++ used_by_filesystems world losers)
         (without_dead_filesystems nat_eq world) f number ≡ true
-    each f number h =
-        ⊎_elim
-        (λ a. or_first _ (is_inode_used (without_dead_filesystems nat_eq world) f number)
-        (more f number (or_first _ _ a)))
-        (λ u. ⊎_elim
+    each f number h = ⊎_elim (λ a. or_first _ (is_inode_used (without_dead_filesystems nat_eq world) f number)
+        (more f number (or_first _ _ a))) (λ u. ⊎_elim
         (λ there. or_second (is_inode_among f.number number (inodes ++ used_by_filesystems world losers)) _ there)
         (λ named. or_first _ (is_inode_used (without_dead_filesystems nat_eq world) f number)
         (more f number (or_second (is_inode_among f.number number inodes) _ named)))

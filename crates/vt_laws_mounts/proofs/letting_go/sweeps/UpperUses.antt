@@ -1,6 +1,6 @@
 -- An inode of an overlay that goes is one use less of its upper inode.
 use Rattle.std.proofs.lemmas.Grind.{common_steps}
-use Rattle.std.proofs.Common.{◌≡◌, refl, sym, ap, ◌∙◌, ℕ, nat_eq, eqb-true, eq-eqb, Bool, true, false, cond, not, ◌&&◌, ◌+◌, List, [], ◌∷◌, filter, map, true≢false, flat_map, ◌++◌, Option, Some, None, option_map, arith}
+use Rattle.std.proofs.Common.{◌≡◌, refl, sym, ap, ◌∙◌, ℕ, nat_eq, eqb-true, eq-eqb, Bool, true, false, cond, not, ◌&&◌, ◌+◌, List, [], ◌∷◌, filter, map, true≢false, flat_map, ◌++◌, Option, Some, option_map, arith}
 use Rattle.std.specs.Prelude.{filter_map}
 use Rattle.vt_spec.specs.Lists.{holds_of}
 use Rattle.vt_spec.specs.Machine.Locked.{of_overlay, overlay_or}
@@ -17,8 +17,7 @@ zero_first n = omega arith
 module _ {A : Type 0} where
   pub times_append : (test : A → Bool) (xs ys : List A) → times test (xs ++ ys) ≡ times test xs + times test ys
   times_append test [] ys = zero_first (times test ys)
-  times_append test (x ∷ xs) ys =
-      ap (λ n. cond (test x) 1 0 + n) (times_append test xs ys)
+  times_append test (x ∷ xs) ys = ap (λ n. cond (test x) 1 0 + n) (times_append test xs ys)
       ∙ sym (add_assoc (cond (test x) 1 0) (times test xs) (times test ys))
 
 module _ {A B : Type 0} where
@@ -30,19 +29,9 @@ module _ {A B : Type 0} where
   times_one : (test : B → Bool) (g : A → List B) (front back : List A) (x y : A) (less : ℕ)
       → times test (g x) ≡ times test (g y) + less
       → times test (flat_map g (front ++ (x ∷ back))) ≡ times test (flat_map g (front ++ (y ∷ back))) + less
-  times_one test g [] back x y less e =
-      grind (
-        arith,
-        common_steps,
-        times_append test (g x) (flat_map g back),
-        times_append test (g y) (flat_map g
-            back),
-      )
+  times_one test g [] back x y less e = grind (arith, common_steps, times_append)
   times_one test g (z ∷ front) back x y less e =
-      times_append test (g z) (flat_map g (front ++ (x ∷ back)))
-      ∙ ap (λ n. times test (g z) + n) (times_one test g front back x y less e)
-      ∙ sym (add_assoc (times test (g z)) (times test (flat_map g (front ++ (y ∷ back)))) less)
-      ∙ ap (λ n. n + less) (sym (times_append test (g z) (flat_map g (front ++ (y ∷ back)))))
+      grind (arith, common_steps, times_append, add_assoc, times_one test g front back x y less e)
 
 -- upper objects, with and without one inode
 module _ (overlay : Overlay ℕ) (inode object number : ℕ) (upper : overlay.real inode ≡ Some (Upper object)) where
@@ -66,14 +55,12 @@ module _ (overlay : Overlay ℕ) (inode object number : ℕ) (upper : overlay.re
 pub one_upper_use_less : OneUpperUseLess
 one_upper_use_less world front back merged overlay layer inode object all is upper real once filesystem number =
     ap (λ n. first + n) (times_append (nat_eq number) (others (layers_in nat_eq world filesystem.number))
-    (flat_map objects world.filesystems))
-    ∙ ap (λ (n : ℕ). first + (times (nat_eq number)
+    (flat_map objects world.filesystems)) ∙ ap (λ (n : ℕ). first + (times (nat_eq number)
     (others (layers_in nat_eq world filesystem.number)) + n)) objects_one
     ∙ ap (λ l. first + (times (nat_eq number) (others l) +
     (times (nat_eq number) (flat_map objects (front ++ (gone ∷ back))) + less))) layers
     ∙ over first (times (nat_eq number) (others (layers_in nat_eq later filesystem.number)))
-    (times (nat_eq number) (flat_map objects (front ++ (gone ∷ back)))) less
-    ∙ ap (λ n. (first + n) + less)
+    (times (nat_eq number) (flat_map objects (front ++ (gone ∷ back)))) less ∙ ap (λ n. (first + n) + less)
     (sym (times_append (nat_eq number) (others (layers_in nat_eq later filesystem.number))
     (flat_map objects (front ++ (gone ∷ back)))))
   where
@@ -99,16 +86,10 @@ one_upper_use_less world front back merged overlay layer inode object all is upp
     over a b c d = omega arith
 
     layers_gone : of_overlay [] layers_of merged ≡ of_overlay [] layers_of gone
-    layers_gone = by merged.overlay
-      where
-        by : (o : Option (Overlay ℕ)) → overlay_or [] layers_of o
-            ≡ overlay_or [] layers_of (option_map (without_real inode) o)
-        by None = refl
-        by (Some x) = refl
+    layers_gone = cc
 
     layers : layers_in nat_eq world filesystem.number ≡ layers_in nat_eq later filesystem.number
-    layers =
-        ap (λ list. map (λ l. l.directory) (filter (λ l. nat_eq filesystem.number l.filesystem) list))
+    layers = ap (λ list. map (λ l. l.directory) (filter (λ l. nat_eq filesystem.number l.filesystem) list))
         (ap (flat_map (of_overlay [] layers_of)) all
         ∙ flat_map_one (of_overlay [] layers_of) front back merged gone layers_gone)
 
@@ -124,32 +105,15 @@ one_upper_use_less world front back merged overlay layer inode object all is upp
     objects_gone : objects gone ≡ cond (nat_eq filesystem.number layer.filesystem)
         (filter_map (λ k. upper_object ((without_real inode overlay).real k))
         (filter (λ other. not (nat_eq other inode)) merged.files.numbers)) []
-    objects_gone =
-        ap (λ x. overlay_or [] (λ o. of_upper o.upper (filter_map (λ k. upper_object (o.real k))
-        (filter (λ other. not (nat_eq other inode)) merged.files.numbers)))
-        (option_map (without_real inode) x)) is
+    objects_gone = ap (λ x. overlay_or [] (λ o. of_upper o.upper (filter_map (λ k. upper_object (o.real k))
+        (filter (λ other. not (nat_eq other inode)) merged.files.numbers))) (option_map (without_real inode) x)) is
         ∙ ap (λ u. of_upper u (filter_map (λ k. upper_object ((without_real inode overlay).real k))
         (filter (λ other. not (nat_eq other inode)) merged.files.numbers))) upper
 
     of_merged : times (nat_eq number) (objects merged) ≡ times (nat_eq number) (objects gone) + less
-    of_merged =
-        ap (times (nat_eq number)) objects_merged ∙ by (nat_eq filesystem.number layer.filesystem)
-        ∙ ap (λ l. times (nat_eq number) l + less) (sym objects_gone)
-      where
-        by : (b : Bool)
-            → times (nat_eq number) (cond b (filter_map (λ k. upper_object (overlay.real k)) merged.files.numbers) [])
-            ≡ times (nat_eq number) (cond b (filter_map (λ k. upper_object ((without_real inode overlay).real k))
-            (filter (λ other. not (nat_eq other inode)) merged.files.numbers)) [])
-            + cond (b && nat_eq number object) 1 0
-        by true =
-            objects_less overlay inode object number real (nat_eq number object) refl merged.files.numbers
-            ∙ ap (λ n. times (nat_eq number) (filter_map (λ k. upper_object ((without_real inode overlay).real k))
-            (filter (λ other. not (nat_eq other inode)) merged.files.numbers))
-            + cond (nat_eq number object) n 0) once
-        by false = refl
+    of_merged = grind (arith, common_steps, objects_merged, objects_gone, objects_less)
 
     objects_one : times (nat_eq number) (flat_map objects world.filesystems)
         ≡ times (nat_eq number) (flat_map objects (front ++ (gone ∷ back))) + less
-    objects_one =
-        ap (λ list. times (nat_eq number) (flat_map objects list)) all
+    objects_one = ap (λ list. times (nat_eq number) (flat_map objects list)) all
         ∙ times_one (nat_eq number) objects front back merged gone less of_merged

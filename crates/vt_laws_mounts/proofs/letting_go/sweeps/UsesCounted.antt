@@ -20,15 +20,13 @@ pub members_while_counted : MembersWhileCounted
 members_while_counted world group = any_counted (is_member_of nat_eq group) world.mounts
 
 pub one_use_less : OneUseLess
-one_use_less world after front back location e f number =
-    ap (times (λ (l : Location ℕ). nat_eq number l.mount)) e
+one_use_less world after front back location e f number = ap (times (λ (l : Location ℕ). nat_eq number l.mount)) e
     ∙ times_around (λ l. nat_eq number l.mount) front back location
     ∙ ap (λ (list : List (Location ℕ)). times (λ l. nat_eq number l.mount) list + cond
     (nat_eq number location.mount) 1 0) (sym f)
 
 pub one_mount_less : OneMountLess
-one_mount_less world after front back mount e f number =
-    ap (times (λ (m : Mount ℕ). nat_eq number m.filesystem)) e
+one_mount_less world after front back mount e f number = ap (times (λ (m : Mount ℕ). nat_eq number m.filesystem)) e
     ∙ times_around (λ m. nat_eq number m.filesystem) front back mount
     ∙ ap (λ (list : List (Mount ℕ)). times (λ m. nat_eq number m.filesystem) list + cond
     (nat_eq number mount.filesystem) 1 0) (sym f)

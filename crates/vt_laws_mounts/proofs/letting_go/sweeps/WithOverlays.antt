@@ -1,20 +1,18 @@
 -- The sweep in worlds with overlays: inodes of overlays go one by one, then those of plain trees.
-use Rattle.std.proofs.Common.{arith}
+use Rattle.std.proofs.Common.{arith, ◌≡◌, refl, sym, ap, subst, ◌∙◌, ◌⊎◌, inl, inr, ℕ, nat_eq, eqb-true, eq-eqb, Bool, true, false, cond, not, ◌||◌, ◌&&◌, List, [], ◌∷◌, filter, map, true≢false, flat_map, ◌++◌, Option, Some, None, is_some, option_map, option_to_list}
 use Rattle.std.proofs.lemmas.Grind.{common_steps}
-use Rattle.std.proofs.Common.{◌≡◌, refl, sym, ap, subst, ◌∙◌, ◌⊎◌, inl, inr, ℕ, nat_eq, eqb-true, eq-eqb, Bool, true, false, cond, not, ◌||◌, ◌&&◌, List, [], ◌∷◌, filter, map, true≢false, flat_map, ◌++◌, Option, Some, None, is_some, option_map, option_to_list}
 use Rattle.std.specs.Prelude.{All, filter_map}
 use Rattle.std.specs.List.{list_all}
 use Rattle.std.proofs.lemmas.Bool.{and_parts, not-true}
 use Rattle.std.proofs.lemmas.List.Elements.{All-filter}
 use Rattle.std.proofs.lemmas.List.Folds.{list_any-append}
-use Rattle.vt_spec.specs.Lists.{holds_of, is_among}
+use Rattle.vt_spec.specs.Lists.{is_among}
 use Rattle.vt_spec.specs.Machine.Locked.{of_overlay, overlay_or}
-use Rattle.vt_spec.specs.Machine.Receives.{has_members}
-use Rattle.vt_spec.specs.Machine.Settled.{filesystem_lives, layers_in, objects_of_overlay, only_used, used_in, without_dead_filesystems, without_dead_groups, without_dead_in, without_dead_inodes, without_dead_mounts}
+use Rattle.vt_spec.specs.Machine.Settled.{filesystem_lives, layers_in, objects_of_overlay, only_used, used_in, without_dead_filesystems, without_dead_in, without_dead_inodes, without_dead_mounts}
 use Rattle.vt_spec.specs.Machine.World.{Filesystem, Layer, Overlay, World, is_overlay, layers_of, upper_object}
 use Rattle.vt_laws_mounts.specs.LettingGo.InUse.{HasTrees, IsListedTree, UppersArePlain, has_upper_in, is_inode_used}
-use Rattle.vt_laws_mounts.specs.LettingGo.OneByOne.{Inode, InodesInUseBut, is_inode_among, is_used_or_among, let_go_filesystems, let_go_groups}
-use Rattle.vt_laws_mounts.specs.LettingGo.Overlays.{AllInodesGoOneByOne, MergedGoOneByOne, RealsAreThere, WithOverlaysAllGoes, is_plain, let_go_all_inodes, let_go_plain, uppers_in, uppers_of, uppers_of_inode, uppers_of_inode_in}
+use Rattle.vt_laws_mounts.specs.LettingGo.OneByOne.{Inode, InodesInUseBut, is_inode_among, is_used_or_among}
+use Rattle.vt_laws_mounts.specs.LettingGo.Overlays.{AllInodesGoOneByOne, MergedGoOneByOne, RealsAreThere, WithOverlaysAllGoes, is_plain, let_go_plain, uppers_in, uppers_of, uppers_of_inode, uppers_of_inode_in}
 use Rattle.vt_laws_mounts.proofs.letting_go.sweeps.InUse.{layers-left, no_objects, no_upper_objects, overlay-left, unused_are_empty}
 use Rattle.vt_laws_mounts.proofs.letting_go.Lists.{Among, all_from_among, all_pass, among-filter, among-filter_map, among-flat_map, among-from_filter, among-from_filter_map, among-from_flat_map, among-from_map, among-map, among_from_all, among_numbers, any_passes, flat_map-map, is_among_numbers, one_passes, passes}
 use Rattle.vt_laws_mounts.proofs.letting_go.sweeps.Merged.{HasReals, left_of, reals_without, without_all}
@@ -39,8 +37,7 @@ overlays_apart world plain f g m is n are gone =
     let none = among_from_all (λ other. has_upper_in f.number other ≡ false) world.filesystems
     (among_from_all (λ x. is_overlay x ≡ true → All (λ other. has_upper_in x.number other
     ≡ false) world.filesystems) world.filesystems plain f m is) g n in
-    no_upper_objects world f.number (without_all gone g) (upper_without f.number gone g ∙ none)
-    ∙ sym (no_upper_objects world f.number g none)
+    grind (arith, common_steps, no_upper_objects, without_all, upper_without)
 
 -- no plain tree has an object
 plain_apart : (world : World ℕ) → Apart is_plain plain_without world
@@ -58,8 +55,7 @@ overlays_empty world trees f m is =
 pub merged_go_one_by_one : MergedGoOneByOne
 merged_go_one_by_one world losers trees plain reals others =
     chosen_go_one_by_one is_overlay overlay_without world losers (overlays_apart world plain)
-    (overlays_empty world trees)
-    (λ f m is. (
+    (overlays_empty world trees) (λ f m is. (
       among_from_all (λ x. IsListedTree x.files) world.filesystems trees f m,
       among_from_all HasReals world.filesystems reals f m,
       among_from_all (λ x. is_overlay x ≡ true → list_all (is_used_or_among losers world x) x.files.numbers
@@ -71,54 +67,17 @@ pub object_parts : (number object : ℕ) (g : Filesystem ℕ) → Among object (
     → (overlay : Overlay ℕ) × (g.overlay ≡ Some overlay) × (layer : Layer ℕ) × (overlay.upper ≡ Some layer)
     × (nat_eq number layer.filesystem ≡ true)
     × (k : ℕ) × Among k g.files.numbers × (upper_object (overlay.real k) ≡ Some object)
-object_parts number object g m = by g.overlay refl m
-  where
-    by : (o : Option (Overlay ℕ)) → g.overlay ≡ o
-        → Among object (overlay_or [] (λ overlay.
-        cond (holds_of (λ layer. nat_eq number layer.filesystem) overlay.upper)
-        (filter_map (λ k. upper_object (overlay.real k)) g.files.numbers) []) o)
-        → (overlay : Overlay ℕ) × (g.overlay ≡ Some overlay) × (layer : Layer ℕ) × (overlay.upper ≡ Some layer)
-        × (nat_eq number layer.filesystem ≡ true)
-        × (k : ℕ) × Among k g.files.numbers × (upper_object (overlay.real k) ≡ Some object)
-    by None e n = absurd n
-    by (Some overlay) e n = upper overlay.upper refl n
-      where
-        upper : (u : Option (Layer ℕ)) → overlay.upper ≡ u
-            → Among object (cond (holds_of (λ layer. nat_eq number layer.filesystem) u)
-            (filter_map (λ k. upper_object (overlay.real k)) g.files.numbers) [])
-            → (overlay : Overlay ℕ) × (g.overlay ≡ Some overlay) × (layer : Layer ℕ) × (overlay.upper ≡ Some layer)
-            × (nat_eq number layer.filesystem ≡ true)
-            × (k : ℕ) × Among k g.files.numbers × (upper_object (overlay.real k) ≡ Some object)
-        upper None d l = absurd l
-        upper (Some layer) d l = here (nat_eq number layer.filesystem) refl l
-          where
-            here : (b : Bool) → nat_eq number layer.filesystem ≡ b
-                → Among object (cond b (filter_map (λ k. upper_object (overlay.real k)) g.files.numbers) [])
-                → (overlay : Overlay ℕ) × (g.overlay ≡ Some overlay) × (layer : Layer ℕ) × (overlay.upper ≡ Some layer)
-                × (nat_eq number layer.filesystem ≡ true)
-                × (k : ℕ) × Among k g.files.numbers × (upper_object (overlay.real k) ≡ Some object)
-            here true c a =
-                let t = among-from_filter_map (λ k. upper_object (overlay.real k)) g.files.numbers object a in
-                (overlay, e, layer, d, c, t.0, t.1, t.2)
-            here false c a = absurd a
+object_parts number object g m = grind (arith, common_steps, among-from_filter_map)
 
 pub object_there : (number object : ℕ) (g : Filesystem ℕ) (overlay : Overlay ℕ) (layer : Layer ℕ)
-    → g.overlay ≡ Some overlay
-    → overlay.upper ≡ Some layer
+    → g.overlay ≡ Some overlay → overlay.upper ≡ Some layer
     → nat_eq number layer.filesystem ≡ true → (k : ℕ) → Among k g.files.numbers
-    → upper_object (overlay.real k) ≡ Some object
-    → Among object (objects_of_overlay nat_eq number g)
-object_there number object g overlay layer e d c k m r =
-    subst (λ l. Among object l) (sym here)
+    → upper_object (overlay.real k) ≡ Some object → Among object (objects_of_overlay nat_eq number g)
+object_there number object g overlay layer e d c k m r = subst (λ l. Among object l) (sym here)
     (among-filter_map (λ n. upper_object (overlay.real n)) g.files.numbers k object m r)
   where
     here : objects_of_overlay nat_eq number g ≡ filter_map (λ n. upper_object (overlay.real n)) g.files.numbers
-    here =
-        ap (overlay_or [] (λ o. cond (holds_of (λ l. nat_eq number l.filesystem) o.upper)
-        (filter_map (λ n. upper_object (o.real n)) g.files.numbers) [])) e
-        ∙ ap (λ u. cond (holds_of (λ l. nat_eq number l.filesystem) u)
-        (filter_map (λ n. upper_object (overlay.real n)) g.files.numbers) []) d
-        ∙ ap (λ b. cond b (filter_map (λ n. upper_object (overlay.real n)) g.files.numbers) []) c
+    here = cc
 
 -- the upper inode of an inode that is looked at is looked at
 upper_looked_at : (world : World ℕ) (losers : List Inode) (number object k : ℕ) (g : Filesystem ℕ)
@@ -131,8 +90,7 @@ upper_looked_at world losers number object k g overlay layer m e d c r among =
     let t = one_passes (λ inode. nat_eq g.number inode.0 && nat_eq k inode.1) losers among in
     let parts = and_parts (nat_eq g.number t.0.0) (nat_eq k t.0.1) t.2 in
     any_passes (λ inode. nat_eq number inode.0 && nat_eq object inode.1) (uppers_of world losers)
-    (layer.filesystem, object)
-    (among-flat_map (uppers_of_inode world) losers t.0 (layer.filesystem, object) t.1
+    (layer.filesystem, object) (among-flat_map (uppers_of_inode world) losers t.0 (layer.filesystem, object) t.1
     (among-flat_map (uppers_of_inode_in t.0) world.filesystems g (layer.filesystem, object) m
     (subst (λ l. Among (layer.filesystem, object) l) (sym (there t.0 parts.0 parts.1)) (inl refl))))
     (ap (λ b. b && nat_eq object object) c ∙ eq-eqb object object refl)
@@ -142,10 +100,8 @@ upper_looked_at world losers number object k g overlay layer m e d c r among =
 
     there : (inode : Inode) → nat_eq g.number inode.0 ≡ true → nat_eq k inode.1 ≡ true
         → uppers_of_inode_in inode g ≡ (layer.filesystem, object) ∷ []
-    there inode f n =
-        ap (λ b. cond b (of_overlay [] (uppers_in inode.1) g) []) f
-        ∙ ap (overlay_or [] (uppers_in inode.1)) e
-        ∙ ap (λ x. uppers_in x overlay) (sym (eqb-true k inode.1 n))
+    there inode f n = ap (λ b. cond b (of_overlay [] (uppers_in inode.1) g) []) f
+        ∙ ap (overlay_or [] (uppers_in inode.1)) e ∙ ap (λ x. uppers_in x overlay) (sym (eqb-true k inode.1 n))
         ∙ (λ i. listed (d i) (r i))
 
 module _ (world : World ℕ) (losers : List Inode) (trees : HasTrees world) (reals : RealsAreThere world)
@@ -169,11 +125,7 @@ module _ (world : World ℕ) (losers : List Inode) (trees : HasTrees world) (rea
 
   -- a plain tree is as it was
   plain_was : (f : Filesystem ℕ) → Among f after.filesystems → is_plain f ≡ true → Among f world.filesystems
-  plain_was f m is =
-      let from = among-from_map first world.filesystems f m in
-      let plain : is_overlay from.0 ≡ false =
-      sym (overlay_first from.0) ∙ ap is_overlay (sym from.2) ∙ not-true (is_overlay f) is in
-      subst (λ x. Among x world.filesystems) (sym (from.2 ∙ ap (λ b. only_used nat_eq world b from.0) plain)) from.1
+  plain_was f m is = grind (arith, common_steps, among-from_map first world.filesystems f m, not-true (is_overlay f) is)
 
   -- an upper object is one still, or is looked at
   object_left : (number object : ℕ) → Among object (flat_map (objects_of_overlay nat_eq number) world.filesystems)
@@ -185,11 +137,9 @@ module _ (world : World ℕ) (losers : List Inode) (trees : HasTrees world) (rea
       by t.0 t.1 p.0 p.1 p.2 p.3 p.4 p.5 p.6 p.7 (is_inode_used world t.0 p.5) refl
     where
       by : (g : Filesystem ℕ) → Among g world.filesystems → (overlay : Overlay ℕ) → g.overlay ≡ Some overlay
-          → (layer : Layer ℕ)
-          → overlay.upper ≡ Some layer
+          → (layer : Layer ℕ) → overlay.upper ≡ Some layer
           → nat_eq number layer.filesystem ≡ true → (k : ℕ) → Among k g.files.numbers
-          → upper_object (overlay.real k) ≡ Some object
-          → (u : Bool) → is_inode_used world g k ≡ u
+          → upper_object (overlay.real k) ≡ Some object → (u : Bool) → is_inode_used world g k ≡ u
           → Among object (flat_map (objects_of_overlay nat_eq number) after.filesystems)
           ⊎ (is_inode_among number object (uppers_of world losers) ≡ true)
       by g n overlay e layer d c k l r true used =
@@ -205,9 +155,7 @@ module _ (world : World ℕ) (losers : List Inode) (trees : HasTrees world) (rea
           gone = λ x. not (is_among nat_eq x (used_in nat_eq world g))
 
           itself : first g ≡ without_all gone g
-          itself =
-              ap (λ o. only_used nat_eq world (is_some o) g) e
-              ∙ left_of (used_in nat_eq world g) g
+          itself = ap (λ o. only_used nat_eq world (is_some o) g) e ∙ left_of (used_in nat_eq world g) g
               (among_from_all (λ x. IsListedTree x.files) world.filesystems trees g n).numbers
               (among_from_all HasReals world.filesystems reals g n)
       by g n overlay e layer d c k l r false unused =
@@ -224,20 +172,17 @@ module _ (world : World ℕ) (losers : List Inode) (trees : HasTrees world) (rea
   -- so what was used is used still, or is looked at
   still_used : (f : Filesystem ℕ) (number : ℕ) → is_used_or_among losers world f number ≡ true
       → is_used_or_among (losers ++ uppers_of world losers) after f number ≡ true
-  still_used f number h =
-      grind (
-        arith,
-        common_steps,
-        is_among_left,
-        same_layers f.number,
-        is_among_right,
-        is_among_numbers number
-            (flat_map (objects_of_overlay nat_eq f.number) after.filesystems),
-        object_left,
-        among_numbers number (flat_map
-            (objects_of_overlay nat_eq f.number) world.filesystems),
-        list_any-append,
-      )
+  still_used f number h = grind (
+    arith,
+    common_steps,
+    is_among_left,
+    same_layers f.number,
+    is_among_right,
+    is_among_numbers number (flat_map (objects_of_overlay nat_eq f.number) after.filesystems),
+    object_left,
+    among_numbers number (flat_map (objects_of_overlay nat_eq f.number) world.filesystems),
+    list_any-append,
+  )
 
   plain_empty : ChosenAreEmpty is_plain plain_without after
   unfolding ChosenAreEmpty
@@ -245,28 +190,19 @@ module _ (world : World ℕ) (losers : List Inode) (trees : HasTrees world) (rea
       (among_from_all (λ x. IsListedTree x.files) world.filesystems trees f (plain_was f m is))
 
   plain_go : without_dead_inodes nat_eq world ≡ let_go_plain after (losers ++ uppers_of world losers)
-  plain_go =
-      chosen_go_one_by_one is_plain plain_without after (losers ++ uppers_of world losers)
-      (plain_apart after) plain_empty
-      (λ f m is. let was = plain_was f m is in (
+  plain_go = chosen_go_one_by_one is_plain plain_without after (losers ++ uppers_of world losers)
+      (plain_apart after) plain_empty (λ f m is. let was = plain_was f m is in (
         among_from_all (λ x. IsListedTree x.files) world.filesystems trees f was,
         among_from_all HasReals world.filesystems reals f was,
         all_pass (is_used_or_among (losers ++ uppers_of world losers) after f) f.files.numbers
-            (λ number n. still_used f number
-            (passes (is_used_or_among losers world f) f.files.numbers
+            (λ number n. still_used f number (passes (is_used_or_among losers world f) f.files.numbers
             (among_from_all (λ x. list_all (is_used_or_among losers world x) x.files.numbers
             ≡ true) world.filesystems others f was) number n)),
       ))
 
 pub all_inodes_go_one_by_one : AllInodesGoOneByOne
 all_inodes_go_one_by_one world losers trees plain reals others =
-    plain_go world losers trees reals others
-    ∙ ap (λ w. let_go_plain w (losers ++ uppers_of world losers))
-    (merged_go_one_by_one world losers trees plain reals
-    (all_from_among (λ x. is_overlay x ≡ true
-    → list_all (is_used_or_among losers world x) x.files.numbers ≡ true) world.filesystems
-    (λ f m is. among_from_all (λ x. list_all (is_used_or_among losers world x) x.files.numbers
-    ≡ true) world.filesystems others f m)))
+    grind (arith, common_steps, plain_go, merged_go_one_by_one, all_from_among, among_from_all)
 
 -- The whole sweep
 pub with_overlays_all_goes : WithOverlaysAllGoes
@@ -277,19 +213,11 @@ with_overlays_all_goes world losers trees plain reals others =
     (λ filesystem. IsListedTree filesystem.files) world.filesystems trees in
     let reals_living : RealsAreThere living =
     All-filter (filesystem_lives nat_eq mounted) HasReals world.filesystems reals in
-    let plain_living : UppersArePlain living =
-    all_from_among (λ f. is_overlay f ≡ true
+    let plain_living : UppersArePlain living = all_from_among (λ f. is_overlay f ≡ true
     → All (λ g. has_upper_in f.number g ≡ false) living.filesystems) living.filesystems
     (λ f m is. All-filter (filesystem_lives nat_eq mounted) (λ g. has_upper_in f.number g ≡ false) world.filesystems
     (among_from_all (λ x. is_overlay x ≡ true
     → All (λ g. has_upper_in x.number g ≡ false) world.filesystems) world.filesystems plain f
     (among-from_filter (filesystem_lives nat_eq mounted) world.filesystems f m).0 is)) in
     let inodes = all_inodes_go_one_by_one living losers.inodes trees_living plain_living reals_living others.inodes in
-    ap (without_dead_groups nat_eq) inodes
-    ∙ groups_go_one_by_one (let_go_all_inodes living losers.inodes) losers.groups
-    (λ group among none. let same = sym inodes in
-    ap (λ w. w.master group) same ∙ others.groups group among
-    (ap (λ w. has_members nat_eq w.mounts group) inodes ∙ none))
-    ∙ ap (λ w. let_go_groups (let_go_all_inodes w losers.inodes) losers.groups)
-    (filesystems_go_one_by_one mounted losers.filesystems others.filesystems
-    ∙ ap (λ w. let_go_filesystems w losers.filesystems) (mounts_go_one_by_one world losers.mounts others.mounts))
+    grind (arith, common_steps, groups_go_one_by_one, filesystems_go_one_by_one, mounts_go_one_by_one)

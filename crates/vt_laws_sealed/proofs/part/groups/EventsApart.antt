@@ -22,8 +22,7 @@ module _ (world : World ℕ) (names : List TaskName) (is : MountInvariants nat_e
     (apart : shares_no_events nat_eq world names ≡ true) where
   -- a mount of theirs hears the group: it is in it, or its slave, or in a group whose master that is
   abbrev pub Hears : ℕ → Type 0
-  Hears group =
-      (own : Mount ℕ) × Among own (own_mounts nat_eq world names)
+  Hears group = (own : Mount ℕ) × Among own (own_mounts nat_eq world names)
       × ((group_of own.propagation ≡ Some group) ⊎ (master_of world own.propagation ≡ Some group))
 
   -- so it receives events of each member
@@ -50,8 +49,7 @@ module _ (world : World ℕ) (names : List TaskName) (is : MountInvariants nat_e
     where
       by : (namespace : Option ℕ) → member.namespace ≡ namespace
           → Among member (own_mounts nat_eq world names) ⊎ Among member (other_mounts nat_eq world names)
-      by None none =
-          absurd (outside member.propagation refl none
+      by None none = absurd (outside member.propagation refl none
           (among_from_list_all is_nowhere_or_attached world.mounts is.nowhere member m))
         where
           outside : (kind : Propagation ℕ) → member.propagation ≡ kind → member.namespace ≡ None
@@ -70,8 +68,7 @@ module _ (world : World ℕ) (names : List TaskName) (is : MountInvariants nat_e
         where
           which : (b : Bool) → is_own_namespace nat_eq world names namespace ≡ b
               → Among member (own_mounts nat_eq world names) ⊎ Among member (other_mounts nat_eq world names)
-          which true own =
-              inl (among-filter (is_own_mount nat_eq world names) world.mounts member m
+          which true own = inl (among-filter (is_own_mount nat_eq world names) world.mounts member m
               (ap (holds_of (is_own_namespace nat_eq world names)) there ∙ own))
           which false other =
               inr (among-filter (λ mount. holds_of (λ n. not (is_own_namespace nat_eq world names n)) mount.namespace)
@@ -98,10 +95,8 @@ module _ (world : World ℕ) (names : List TaskName) (is : MountInvariants nat_e
   heard_above group lower e (heard, lives) =
       let found = any_among (is_member_of nat_eq lower) world.mounts (members_of lower lives) in
       let is_in : group_of found.0.propagation ≡ Some lower = member_group lower found.0 found.2 in (
-        ⊎_elim
-            (λ own. (found.0, own, inr (master_by found.0.propagation is_in)))
-            (λ other. absurd (none_hears lower found.0 heard other found.2))
-            (sides found.0 lower found.1 is_in),
+        ⊎_elim (λ own. (found.0, own, inr (master_by found.0.propagation is_in)))
+            (λ other. absurd (none_hears lower found.0 heard other found.2)) (sides found.0 lower found.1 is_in),
         above_lives group lower e lives,
       )
     where
@@ -130,18 +125,14 @@ module _ (world : World ℕ) (names : List TaskName) (is : MountInvariants nat_e
       by : (o : Option ℕ) → source_of own.propagation ≡ o
           → holds_of (λ source. is_among nat_eq group (groups_up world source)) o ≡ true → HeardAndLives group
       by None e h = absurd (true≢false (sym h))
-      by (Some source) e h =
-          along_chain world.master HeardAndLives heard_above (length world.mounts) source group (
-            (own, m, start source own.propagation e),
-            among_from_all (HasLivingGroups nat_eq world) world.mounts is.groups own
-                (among-from_filter (is_own_mount nat_eq world names) world.mounts own m).0 source e,
-          )
-          h
+      by (Some source) e h = along_chain world.master HeardAndLives heard_above (length world.mounts) source group (
+        (own, m, start source own.propagation e),
+        among_from_all (HasLivingGroups nat_eq world) world.mounts is.groups own
+            (among-from_filter (is_own_mount nat_eq world names) world.mounts own m).0 source e,
+      ) h
 
 pub no_event_of_others_reaches_them : NoEventOfOthersReachesThem
-no_event_of_others_reaches_them world names own other group alone own_there other_there e =
-    false_from_ne_true _ (λ h.
+no_event_of_others_reaches_them world names own other group alone own_there other_there e = false_from_ne_true _ (λ h.
     none_hears world names alone.mounts alone.apart group other
     (heard_by world names alone.mounts alone.apart group own (among_from_contains _ own own_there) h).0
-    (among_from_contains _ other other_there)
-    (ap (holds_of (nat_eq group)) e ∙ eq-eqb group group refl))
+    (among_from_contains _ other other_there) (ap (holds_of (nat_eq group)) e ∙ eq-eqb group group refl))

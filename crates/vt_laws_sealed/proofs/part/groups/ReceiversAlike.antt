@@ -68,8 +68,7 @@ module _ (world : World ℕ) (names : List TaskName) (is : MountInvariants nat_e
 
   -- the other way round: a mount of another namespace hears the group
   abbrev pub OtherHears : ℕ → Type 0
-  OtherHears group =
-      (other : Mount ℕ) × Among other others
+  OtherHears group = (other : Mount ℕ) × Among other others
       × ((group_of other.propagation ≡ Some group) ⊎ (master_of world other.propagation ≡ Some group))
 
   pub none_other : (group : ℕ) (own : Mount ℕ) → OtherHears group → Among own owns
@@ -78,8 +77,7 @@ module _ (world : World ℕ) (names : List TaskName) (is : MountInvariants nat_e
       let alone = among_from_list_all
       (λ o. list_all (λ b. not (share_events nat_eq world o b)) others) owns apart own there in
       let no = not-true _ (among_from_list_all (λ b. not (share_events nat_eq world own b)) others alone other m) in
-      let hears : receives_events_of nat_eq world other own ≡ true =
-      ⊎_elim
+      let hears : receives_events_of nat_eq world other own ≡ true = ⊎_elim
       (λ e. or_left _ _ (ap (holds_of (λ g. is_member_of nat_eq g own)) e ∙ is_in))
       (λ e. or_right _ _ (ap (holds_of (λ g. is_member_of nat_eq g own)) e ∙ is_in)) how in
       true≢false (sym (or_right (receives_events_of nat_eq world own other) _ hears) ∙ no)
@@ -91,8 +89,7 @@ module _ (world : World ℕ) (names : List TaskName) (is : MountInvariants nat_e
   other_above group lower e (heard, lives) =
       let found = any_among (is_member_of nat_eq lower) world.mounts (members_of world names is apart lower lives) in
       let is_in = member_group lower found.0 found.2 in (
-        ⊎_elim
-            (λ own. absurd (none_other lower found.0 heard own found.2))
+        ⊎_elim (λ own. absurd (none_other lower found.0 heard own found.2))
             (λ other. (found.0, other, inr (master_by world lower group e found.0.propagation is_in)))
             (sides world names is apart found.0 lower found.1 is_in),
         above_lives world names is apart group lower e lives,
@@ -114,8 +111,7 @@ module _ (world : World ℕ) (names : List TaskName) (is : MountInvariants nat_e
           ) h in
           let found = any_among (is_member_of nat_eq group) world.mounts
           (members_of world names is apart group lives) in
-          ⊎_elim
-          (λ own. none_other group found.0 reached.0 own found.2)
+          ⊎_elim (λ own. none_other group found.0 reached.0 own found.2)
           (λ outside. none_hears world names is apart group found.0 heard outside found.2)
           (sides world names is apart found.0 group found.1 (member_group group found.0 found.2))
 
@@ -134,8 +130,7 @@ module _ (world : World ℕ) (names : List TaskName) (is : MountInvariants nat_e
   listed : (group : ℕ) → OwnHears group → Living group → Among group group_numbers
   listed group heard lives =
       let own = own_member group heard lives in
-      subst (λ n. Among n group_numbers)
-      (ap (λ o. unwrap_or o 0) (member_group group own.0 own.2))
+      subst (λ n. Among n group_numbers) (ap (λ o. unwrap_or o 0) (member_group group own.0 own.2))
       (among-map (λ (mount : Mount ℕ). unwrap_or (group_of mount.propagation) 0) owns own.0 own.1)
 
   same_master : (group : ℕ) → OwnHears group → Living group → part.master group ≡ world.master group
@@ -175,8 +170,7 @@ module _ (world : World ℕ) (names : List TaskName) (is : MountInvariants nat_e
           → holds_of (λ source. is_among nat_eq group (groups_up part source)) o
           ≡ holds_of (λ source. is_among nat_eq group (groups_up world source)) o
       by None e = refl
-      by (Some source) e =
-          ap (is_among nat_eq group)
+      by (Some source) e = ap (is_among nat_eq group)
           (same_up source (own, m, start_hears world source own.propagation e)
           (among_from_all (HasLivingGroups nat_eq world) world.mounts is.groups own there source e))
 
@@ -206,10 +200,8 @@ module _ (world : World ℕ) (names : List TaskName) (is : MountInvariants nat_e
               let it : is_own world names theirs x ≡ true = ap (holds_of (is_own_namespace nat_eq world names)) e
               ∙ own in
               inl (among-filter (is_own_mount nat_eq world names) world.mounts x m it, it)
-          which false other =
-              inr (inl (among-filter
-              (λ mount. holds_of (λ k. not (is_own_namespace nat_eq world names k)) mount.namespace)
-              world.mounts x m
+          which false other = inr (inl (among-filter
+              (λ mount. holds_of (λ k. not (is_own_namespace nat_eq world names k)) mount.namespace) world.mounts x m
               (ap (holds_of (λ k. not (is_own_namespace nat_eq world names k))) e ∙ ap not other)))
 
   no_source : (in_world : World ℕ) (group : ℕ) (x : Mount ℕ) → source_of x.propagation ≡ None
@@ -225,8 +217,7 @@ module _ (world : World ℕ) (names : List TaskName) (is : MountInvariants nat_e
       up group lower e other_hears = which (list_any (is_member_of nat_eq lower) owns) refl e
         where
           which : (b : Bool) → list_any (is_member_of nat_eq lower) owns ≡ b
-              → cond b (world.master lower) None ≡ Some group
-              → OtherHears group
+              → cond b (world.master lower) None ≡ Some group → OtherHears group
           which true f e = let own = any_among (is_member_of nat_eq lower) owns f in
               absurd (none_other lower own.0 other_hears own.1 own.2)
           which false f e = none_is_some group e
@@ -236,34 +227,24 @@ module _ (world : World ℕ) (names : List TaskName) (is : MountInvariants nat_e
       by None e h = true≢false (sym h)
       by (Some source) e h =
           let own = own_member group heard lives in
-          none_other group own.0
-          (along_chain part.master OtherHears up (length part.mounts) source group
+          none_other group own.0 (along_chain part.master OtherHears up (length part.mounts) source group
           (other, there, start_hears world source other.propagation e) h) own.1 own.2
 
   -- the receivers of a group of theirs
   pub same_receivers : (group : ℕ) → OwnHears group → Living group
       → receivers nat_eq part group ≡ receivers nat_eq world group
   same_receivers group heard lives =
-      filter_both kept (receives nat_eq part group) (receives nat_eq world group) world.mounts
-      (λ x m h.
-      ⊎_elim
-      (λ own. (
+      filter_both kept (receives nat_eq part group) (receives nat_eq world group) world.mounts (λ x m h.
+      ⊎_elim (λ own. (
         ap (λ b. cond (b || is_at nat_eq (roots_and_directories theirs) x) (Some x)
             (when (is_at nat_eq (locations theirs) x) (seen_by_descriptor x))) own.1,
         same_receives group x own.0 m ∙ h,
-      ))
-      (λ not_own. absurd (true≢false (sym h ∙ ⊎_elim (λ other. none_receives group x heard lives other m)
-      (λ none. no_source world group x none) not_own)))
-      (place_of x m))
-      (λ x y m h e.
-      ⊎_elim
-      (λ same. ap (receives nat_eq part group) (sym same)
-      ∙ ⊎_elim (λ own. same_receives group x own.0 m ∙ h)
+      )) (λ not_own. absurd (true≢false (sym h ∙ ⊎_elim (λ other. none_receives group x heard lives other m)
+      (λ none. no_source world group x none) not_own))) (place_of x m)) (λ x y m h e. ⊎_elim
+      (λ same. ap (receives nat_eq part group) (sym same) ∙ ⊎_elim (λ own. same_receives group x own.0 m ∙ h)
       (λ not_own. ⊎_elim (λ other. none_in_part group x heard lives other)
-      (λ none. no_source part group x none) not_own)
-      (place_of x m))
-      (λ stub. ap (receives nat_eq part group) (sym stub.0))
-      (kept_how world names theirs x y e))
+      (λ none. no_source part group x none) not_own) (place_of x m))
+      (λ stub. ap (receives nat_eq part group) (sym stub.0)) (kept_how world names theirs x y e))
 
 -- a group of theirs lives, and a mount of theirs hears it
 source_from_group : (kind : Propagation ℕ) (group : ℕ) → group_of kind ≡ Some group → source_of kind ≡ Some group

@@ -78,14 +78,10 @@ module _ (world : World ℕ) (names : List TaskName) (number : ℕ)
   pub all_locked : wholly_locked nat_eq world names number ≡ true → (object : ℕ)
       → is_some (files.tree.node object) ≡ true → is_locked nat_eq world number object ≡ true
   all_locked h object there =
-      let both = and_parts
-      (list_any (λ merged. is_lower_root nat_eq number files.tree.root merged
-      && used_alone nat_eq world names merged.number)
-      (overlays world)) (all_named nat_eq files) h in
-      let found = any_among
-      (λ (merged : Filesystem ℕ). is_lower_root nat_eq number files.tree.root merged
-      && used_alone nat_eq world names merged.number)
-      (overlays world) both.0 in
+      let both = and_parts (list_any (λ merged. is_lower_root nat_eq number files.tree.root merged
+      && used_alone nat_eq world names merged.number) (overlays world)) (all_named nat_eq files) h in
+      let found = any_among (λ (merged : Filesystem ℕ). is_lower_root nat_eq number files.tree.root merged
+      && used_alone nat_eq world names merged.number) (overlays world) both.0 in
       let layer = layer_there found.0 (and_true_left (is_lower_root nat_eq number files.tree.root found.0) _ found.2) in
       any_from_among (lies_or_counts_under nat_eq world number object) (live_layers world) layer.0
       (among-flat_map (of_overlay [] layers_of) (overlays world) found.0 layer.0 found.1 layer.1)
@@ -98,15 +94,12 @@ module _ (world : World ℕ) (names : List TaskName) (number : ℕ)
           → is_under nat_eq files files.tree.root object ≡ true
       under object there =
           let named = among_from_list_all
-          (λ number. nat_eq number files.tree.root || is_among nat_eq number (named_in files))
-          files.numbers
+          (λ number. nat_eq number files.tree.root || is_among nat_eq number (named_in files)) files.numbers
           (and_parts (list_any (λ (merged : Filesystem ℕ). is_lower_root nat_eq number files.tree.root merged
           && used_alone nat_eq world names merged.number) (overlays world)) (all_named nat_eq files) h).1
           object (among_numbers files.numbers object (listed object ∙ there)) in
-          ⊎_elim
-          (λ root. subst (λ o. is_under nat_eq files files.tree.root o ≡ true)
-          (sym (eqb-true object files.tree.root root))
-          (root_under files tree listed))
+          ⊎_elim (λ root. subst (λ o. is_under nat_eq files files.tree.root o ≡ true)
+          (sym (eqb-true object files.tree.root root)) (root_under files tree listed))
           (λ name. named_under files tree listed object (among_numbers (named_in files) object name))
           (or_cases (nat_eq object files.tree.root) (is_among nat_eq object (named_in files)) named)
 
@@ -116,8 +109,7 @@ module _ (world : World ℕ) (names : List TaskName) (location : Location ℕ) (
   number = (mount_at nat_eq world location).filesystem
 
   fourth : list_all (λ filesystem. used_alone nat_eq world names filesystem
-      || wholly_locked nat_eq world names filesystem)
-      (used_filesystems nat_eq world names) ≡ true
+      || wholly_locked nat_eq world names filesystem) (used_filesystems nat_eq world names) ≡ true
   unfolding sealed
   fourth = (and_parts _ (list_all (λ filesystem. used_alone nat_eq world names filesystem
       || wholly_locked nat_eq world names filesystem) (used_filesystems nat_eq world names)) is).1
@@ -127,10 +119,8 @@ module _ (world : World ℕ) (names : List TaskName) (location : Location ℕ) (
       → no_outsider_on nat_eq world names number ≡ false
       → is_some (node_at nat_eq world location) ≡ true → is_locked_at nat_eq world location ≡ false
       → is_among nat_eq number (used_filesystems nat_eq world names) ≡ false
-  not_used tree listed there node free =
-      false_from_ne_true _ (λ used.
-      ⊎_elim
-      (λ alone. true≢false (sym (and_true_left (no_outsider_on nat_eq world names number) _ alone) ∙ there))
+  not_used tree listed there node free = false_from_ne_true _ (λ used.
+      ⊎_elim (λ alone. true≢false (sym (and_true_left (no_outsider_on nat_eq world names number) _ alone) ∙ there))
       (λ whole. true≢false (sym (all_locked world names number tree listed whole location.node node) ∙ free))
       (or_cases (used_alone nat_eq world names number) (wholly_locked nat_eq world names number)
       (among_from_list_all (λ f. used_alone nat_eq world names f || wholly_locked nat_eq world names f)

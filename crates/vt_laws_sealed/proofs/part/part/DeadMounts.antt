@@ -36,11 +36,9 @@ module _ (world : World ℕ) (names : List TaskName) where
 
   located_lives : (x : Mount ℕ) (location : Location ℕ) → Among location (locations theirs)
       → nat_eq location.mount x.number ≡ true → lives x ≡ true
-  located_lives x location m e =
-      or_right (is_some x.namespace) _
+  located_lives x location m e = or_right (is_some x.namespace) _
       (any_from_among (λ (l : Location ℕ). nat_eq x.number l.mount) (all_locations world) location
-      (among_all location m)
-      (ap (λ n. nat_eq n location.mount) (sym (eqb-true location.mount x.number e))
+      (among_all location m) (ap (λ n. nat_eq n location.mount) (sym (eqb-true location.mount x.number e))
       ∙ eq-eqb location.mount location.mount refl))
 
   own_lives : (x : Mount ℕ) → is_own world names theirs x ≡ true → lives x ≡ true

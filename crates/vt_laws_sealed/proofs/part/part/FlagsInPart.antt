@@ -42,36 +42,30 @@ module _ (world : World ℕ) (names : List TaskName) (one : OneNumberEach world)
   apart : (x : Mount ℕ) → nat_eq old.number x.number ≡ false → set x ≡ x
   apart x e = ap (λ b. cond b new x) e
 
-  which : (x : Mount ℕ) → Among x world.mounts
-      → ((x ≡ old) × (set x ≡ new)) ⊎ (nat_eq old.number x.number ≡ false)
+  which : (x : Mount ℕ) → Among x world.mounts → ((x ≡ old) × (set x ≡ new)) ⊎ (nat_eq old.number x.number ≡ false)
   which x m = by (nat_eq old.number x.number) refl
     where
       by : (b : Bool) → nat_eq old.number x.number ≡ b
           → ((x ≡ old) × (set x ≡ new)) ⊎ (nat_eq old.number x.number ≡ false)
-      by true e =
-          inl (
-            sym (found_itself world.mounts one x m)
-                ∙ ap (mount_in nat_eq world.mounts) (sym (eqb-true old.number x.number e))
-                ∙ found_itself world.mounts one old there,
-            ap (λ b. cond b new x) e,
-          )
+      by true e = inl (
+        sym (found_itself world.mounts one x m)
+            ∙ ap (mount_in nat_eq world.mounts) (sym (eqb-true old.number x.number e))
+            ∙ found_itself world.mounts one old there,
+        ap (λ b. cond b new x) e,
+      )
       by false e = inr e
 
   set_old : set old ≡ new
   set_old = ap (λ b. cond b new old) (eq-eqb old.number old.number refl)
 
   whole : (x : Mount ℕ) → owns x ≡ true → kept x ≡ Some x
-  whole x e =
-      ap (λ b. cond (b || is_at nat_eq (roots_and_directories theirs) x) (Some x)
+  whole x e = ap (λ b. cond (b || is_at nat_eq (roots_and_directories theirs) x) (Some x)
       (when (is_at nat_eq (locations theirs) x) (seen_by_descriptor x))) e
 
   kept_set : (x : Mount ℕ) → Among x world.mounts → kept (set x) ≡ option_map set (kept x)
-  kept_set x m =
-      ⊎_elim
+  kept_set x m = ⊎_elim
       (λ t. ap kept t.1 ∙ whole new own ∙ ap Some (sym set_old) ∙ ap (option_map set) (sym (whole old own))
-      ∙ ap (λ y. option_map set (kept y)) (sym t.0))
-      (λ t. ap kept (apart x t) ∙ same t (kept x) refl)
-      (which x m)
+      ∙ ap (λ y. option_map set (kept y)) (sym t.0)) (λ t. ap kept (apart x t) ∙ same t (kept x) refl) (which x m)
     where
       same : nat_eq old.number x.number ≡ false → (o : Option (Mount ℕ)) → kept x ≡ o → o ≡ option_map set o
       same t None e = refl
@@ -80,11 +74,10 @@ module _ (world : World ℕ) (names : List TaskName) (one : OneNumberEach world)
   all_of : {B : Type 0} (f : Mount ℕ → B) → f new ≡ f old → (list : List (Mount ℕ))
       → ((x : Mount ℕ) → Among x list → Among x world.mounts) → map f (map set list) ≡ map f list
   all_of f e [] h = refl
-  all_of f e (x ∷ rest) h =
-      cc (
-        ⊎_elim (λ t. ap f t.1 ∙ e ∙ ap f (sym t.0)) (λ t. ap f (apart x t)) (which x (h x (inl refl))),
-        all_of f e rest (λ y m. h y (inr m)),
-      )
+  all_of f e (x ∷ rest) h = cc (
+    ⊎_elim (λ t. ap f t.1 ∙ e ∙ ap f (sym t.0)) (λ t. ap f (apart x t)) (which x (h x (inl refl))),
+    all_of f e rest (λ y m. h y (inr m)),
+  )
 
   own_set : (list : List (Mount ℕ)) → ((x : Mount ℕ) → Among x list → Among x world.mounts)
       → filter owns (map set list) ≡ map set (filter owns list)
@@ -106,8 +99,7 @@ module _ (world : World ℕ) (names : List TaskName) (one : OneNumberEach world)
   mounts_set : (list : List (Mount ℕ)) → ((x : Mount ℕ) → Among x list → Among x world.mounts)
       → filter_map kept (map set list) ≡ map set (filter_map kept list)
   mounts_set [] h = refl
-  mounts_set (x ∷ rest) h =
-      ap (λ o. cons_option o (filter_map kept (map set rest))) (kept_set x (h x (inl refl)))
+  mounts_set (x ∷ rest) h = ap (λ o. cons_option o (filter_map kept (map set rest))) (kept_set x (h x (inl refl)))
       ∙ by (kept x) (mounts_set rest (λ y m. h y (inr m)))
     where
       by : (o : Option (Mount ℕ)) → filter_map kept (map set rest) ≡ map set (filter_map kept rest)
@@ -134,26 +126,21 @@ module _ (world : World ℕ) (names : List TaskName) (one : OneNumberEach world)
   found_set : (number : ℕ) (list : List (Mount ℕ)) → ((x : Mount ℕ) → Among x list → Among x world.mounts)
       → found_filesystem number (map set list) ≡ found_filesystem number list
   found_set number [] h = refl
-  found_set number (x ∷ rest) h =
-      ⊎_elim
-      (λ t. ap (λ (f : Mount ℕ). cond (nat_eq number f.number) f.filesystem
+  found_set number (x ∷ rest) h = ⊎_elim (λ t. ap (λ (f : Mount ℕ). cond (nat_eq number f.number) f.filesystem
       (found_filesystem number (map set rest))) t.1
       ∙ ap (λ (f : Mount ℕ). cond (nat_eq number f.number) f.filesystem (found_filesystem number (map set rest)))
       (sym t.0))
       (λ t. ap (λ (f : Mount ℕ). cond (nat_eq number f.number) f.filesystem (found_filesystem number (map set rest)))
-      (apart x t))
-      (which x (h x (inl refl)))
+      (apart x t)) (which x (h x (inl refl)))
       ∙ ap (cond (nat_eq number x.number) x.filesystem) (found_set number rest (λ y m. h y (inr m)))
 
   located : (location : Location ℕ)
       → (mount_at nat_eq later location).filesystem ≡ (mount_at nat_eq world location).filesystem
-  located location =
-      found_so location.mount (map set world.mounts) ∙ found_set location.mount world.mounts all_there
+  located location = found_so location.mount (map set world.mounts) ∙ found_set location.mount world.mounts all_there
       ∙ sym (found_so location.mount world.mounts)
 
   same_directly : used_directly nat_eq later names ≡ used_directly nat_eq world names
-  same_directly =
-      ap (λ l. map (λ (mount : Mount ℕ). mount.filesystem) l
+  same_directly = ap (λ l. map (λ (mount : Mount ℕ). mount.filesystem) l
       ++ map (λ location. (mount_at nat_eq later location).filesystem) (locations theirs)) own_later
       ∙ ap (λ l. l ++ map (λ location. (mount_at nat_eq later location).filesystem) (locations theirs))
       (all_of (λ (mount : Mount ℕ). mount.filesystem) refl (own_mounts nat_eq world names) own_there)
@@ -166,8 +153,7 @@ module _ (world : World ℕ) (names : List TaskName) (one : OneNumberEach world)
   shown_by direct x =
       let used : List ℕ = each_once nat_eq
       (direct ++ flat_map (λ n. change_layers (filesystem_numbered nat_eq world n)) direct) in
-      let lowers : List (Layer ℕ) =
-      flat_map (λ n. of_overlay [] (λ (overlay : Overlay ℕ). overlay.lowers)
+      let lowers : List (Layer ℕ) = flat_map (λ n. of_overlay [] (λ (overlay : Overlay ℕ). overlay.lowers)
       (filesystem_numbered nat_eq world n)) direct in
       cond (is_among nat_eq x.number used) (Some x)
       (when (list_any (λ layer. nat_eq x.number layer.filesystem) lowers) (record x {
@@ -187,8 +173,7 @@ module _ (world : World ℕ) (names : List TaskName) (one : OneNumberEach world)
       any_set : (group : ℕ) (list : List (Mount ℕ)) → ((x : Mount ℕ) → Among x list → Among x world.mounts)
           → list_any (is_member_of nat_eq group) (map set list) ≡ list_any (is_member_of nat_eq group) list
       any_set group [] h = refl
-      any_set group (x ∷ rest) h =
-          ap (λ b. b || list_any (is_member_of nat_eq group) (map set rest))
+      any_set group (x ∷ rest) h = ap (λ b. b || list_any (is_member_of nat_eq group) (map set rest))
           (⊎_elim (λ t. ap (is_member_of nat_eq group) t.1 ∙ ap (is_member_of nat_eq group) (sym t.0))
           (λ t. ap (is_member_of nat_eq group) (apart x t)) (which x (h x (inl refl))))
           ∙ ap (λ b. is_member_of nat_eq group x || b) (any_set group rest (λ y m. h y (inr m)))

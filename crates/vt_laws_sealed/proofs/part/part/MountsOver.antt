@@ -35,8 +35,7 @@ module _ (world : World ℕ) (names : List TaskName) (is : MountInvariants nat_e
 
   -- a mount that the part has whole
   abbrev pub IsWhole : ℕ → Type 0
-  IsWhole number =
-      (mount : Mount ℕ) × Among mount world.mounts × (mount.number ≡ number) × (kept mount ≡ Some mount)
+  IsWhole number = (mount : Mount ℕ) × Among mount world.mounts × (mount.number ≡ number) × (kept mount ≡ Some mount)
       × ((is_own world names theirs mount ≡ true) ⊎ (mount.namespace ≡ None))
 
   numbered : (mount : Mount ℕ) → Among mount world.mounts → mount_numbered nat_eq world mount.number ≡ mount
@@ -56,23 +55,19 @@ module _ (world : World ℕ) (names : List TaskName) (is : MountInvariants nat_e
       → stands_at nat_eq here child ≡ true → IsWhole child.number × (kept child ≡ Some child)
   child_whole here child (mount, m, number, whole, how) there stands =
       let at : child.mount_point ≡ Some here = stands_there here child stands in
-      let same : child.namespace ≡ mount.namespace =
-      sym (ap (λ (x : Mount ℕ). x.namespace) (numbered child there))
+      let same : child.namespace ≡ mount.namespace = sym (ap (λ (x : Mount ℕ). x.namespace) (numbered child there))
       ∙ namespace_below world child.number here
       (among_from_all (λ (x : Mount ℕ). Stands nat_eq world x.number) world.mounts is.standing child there)
       (ap (λ (x : Mount ℕ). x.mount_point) (numbered child there) ∙ at)
       ∙ ap (λ n. (mount_numbered nat_eq world n).namespace) (sym number)
       ∙ ap (λ (x : Mount ℕ). x.namespace) (numbered mount m) in
-      ⊎_elim
-      (λ own.
+      ⊎_elim (λ own.
       let too : is_own world names theirs child ≡ true =
       ap (holds_of (λ n. list_any (λ (task : Task ℕ). nat_eq n task.namespace) theirs)) same ∙ own in
       let it : kept child ≡ Some child =
       ap (λ b. cond (b || is_at nat_eq (roots_and_directories theirs) child) (Some child)
       (when (is_at nat_eq (locations theirs) child) (seen_by_descriptor child))) too in
-      ((child, there, refl, it, inl too), it))
-      (λ none. absurd (nowhere_stands child here there (same ∙ none) at))
-      how
+      ((child, there, refl, it, inl too), it)) (λ none. absurd (nowhere_stands child here there (same ∙ none) at)) how
 
   -- what stands at a location is the same
   module _ (here : Location ℕ) (own : IsWhole here.mount) where
@@ -91,8 +86,7 @@ module _ (world : World ℕ) (names : List TaskName) (is : MountInvariants nat_e
             → find (stands_at nat_eq here) (filter_map kept rest) ≡ find (stands_at nat_eq here) rest
             → find (stands_at nat_eq here) (cons_option (kept x) (filter_map kept rest))
             ≡ cond b (Some x) (find (stands_at nat_eq here) rest)
-        by true e later =
-            ap (λ o. find (stands_at nat_eq here) (cons_option o (filter_map kept rest)))
+        by true e later = ap (λ o. find (stands_at nat_eq here) (cons_option o (filter_map kept rest)))
             (child_whole here x own (all x (inl refl)) e).1
             ∙ ap (λ b. cond b (Some x) (find (stands_at nat_eq here) (filter_map kept rest))) e
         by false e later = skip (kept x) refl e ∙ later
@@ -122,12 +116,11 @@ module _ (world : World ℕ) (names : List TaskName) (is : MountInvariants nat_e
       by None None f g e = refl
       by None (Some d) f g e = absurd (omega (arith, e))
       by (Some c) None f g e = absurd (omega (arith, e))
-      by (Some c) (Some d) f g e =
-          cc (
-            numbered c (found_among (stands_at nat_eq a) world.mounts c f),
-            e,
-            numbered d (found_among (stands_at nat_eq b) world.mounts d g),
-          )
+      by (Some c) (Some d) f g e = cc (
+        numbered c (found_among (stands_at nat_eq a) world.mounts c f),
+        e,
+        numbered d (found_among (stands_at nat_eq b) world.mounts d g),
+      )
 
   way : (n : ℕ) (a : Location ℕ) → IsWhole a.mount
       → up world (last_or a (chain n (up world) a)) ≡ None → Way (up world) (up part) key there a
@@ -136,8 +129,7 @@ module _ (world : World ℕ) (names : List TaskName) (is : MountInvariants nat_e
     where
       by : (o : Option (Mount ℕ)) → child_at nat_eq world.mounts a ≡ o
           → ((b : Location ℕ) → IsWhole b.mount → up world (last_or b (chain n (up world) b)) ≡ None
-          → Way (up world) (up part) key there b)
-          → Way (up world) (up part) key there a
+          → Way (up world) (up part) key there b) → Way (up world) (up part) key there a
       by None f later =
           let none : up world a ≡ None = ap (option_map root_of) f in
           ends a none (ap (option_map root_of) (same_child a own) ∙ none)
@@ -148,8 +140,7 @@ module _ (world : World ℕ) (names : List TaskName) (is : MountInvariants nat_e
           goes_on a (root_of c) goes (ap (option_map root_of) (same_child a own) ∙ goes)
           (subst (λ k. Among k there) (sym (ap key_of f))
           (among-map (λ (mount : Mount ℕ). suc mount.number) part.mounts c
-          (among-filter_map kept world.mounts c c among whole.1)))
-          (later (root_of c) whole.0
+          (among-filter_map kept world.mounts c c among whole.1))) (later (root_of c) whole.0
           (sym (ap (up world) (ap (last_or a) (chain_goes_on (up world) n a (root_of c) goes)
           ∙ last_of_chain (up world) n (root_of c) a)) ∙ e))
 
@@ -157,8 +148,7 @@ module _ (world : World ℕ) (names : List TaskName) (is : MountInvariants nat_e
   pub same_over : (here : Location ℕ) → IsWhole here.mount
       → mounts_over nat_eq part.mounts here ≡ mounts_over nat_eq world.mounts here
   same_over here own =
-      let size : length there ≡ length part.mounts =
-      length-map part.mounts (λ (mount : Mount ℕ). suc mount.number) in
+      let size : length there ≡ length part.mounts = length-map part.mounts (λ (mount : Mount ℕ). suc mount.number) in
       let less : length part.mounts ≤ length world.mounts = length-filter_map kept world.mounts in
       sym (chains_alike (up world) (up part) key there by_key (length world.mounts) (length part.mounts) here
       (way (length world.mounts) here own (ap (option_map root_of) (topmost_is_free world here is)))
@@ -172,8 +162,7 @@ mounts_over_are_those_of_the_part world names mount here is there on stands =
       mount,
       among,
       sym on,
-      ⊎_elim
-          (λ own. kept_whole world names tasks mount
+      ⊎_elim (λ own. kept_whole world names tasks mount
           (or_left (is_own world names tasks mount) (is_at nat_eq (roots_and_directories tasks) mount) own))
           (λ stood. kept_whole world names tasks mount
           (or_right (is_own world names tasks mount) (is_at nat_eq (roots_and_directories tasks) mount) stood.1))

@@ -22,11 +22,9 @@ module _ (world later : World ℕ) (names : List TaskName) (same : SeesTheSame w
   tasks_of_parts = same_members later names ∙ same.tasks ∙ sym (same_members world names)
 
   pub own_mounts_same : own_mounts nat_eq later names ≡ own_mounts nat_eq world names
-  own_mounts_same =
-      sym (same_own later names)
+  own_mounts_same = sym (same_own later names)
       ∙ ap (λ tasks. owned_by tasks (part_of nat_eq later names).mounts) tasks_of_parts
-      ∙ ap (owned_by (members (part_of nat_eq world names) names)) same.mounts
-      ∙ same_own world names
+      ∙ ap (owned_by (members (part_of nat_eq world names) names)) same.mounts ∙ same_own world names
 
   pub directly_same : used_directly nat_eq later names ≡ used_directly nat_eq world names
   directly_same = grind (arith, common_steps, same_directly, tasks_of_parts)
@@ -35,8 +33,7 @@ module _ (world later : World ℕ) (names : List TaskName) (same : SeesTheSame w
   direct = used_directly nat_eq world names
 
   pub used_same : used_filesystems nat_eq later names ≡ used_filesystems nat_eq world names
-  used_same =
-      ap (λ d. each_once nat_eq
+  used_same = ap (λ d. each_once nat_eq
       (d ++ flat_map (λ n. change_layers (filesystem_numbered nat_eq later n)) d)) directly_same
       ∙ ap (λ l. each_once nat_eq (direct ++ l))
       (flat_map_alike (λ n. change_layers (filesystem_numbered nat_eq later n))
@@ -44,10 +41,8 @@ module _ (world later : World ℕ) (names : List TaskName) (same : SeesTheSame w
       (λ n m. ap change_layers (same.direct n (contains_from_among direct n m))))
 
   pub lowers_same : own_lowers nat_eq later names ≡ own_lowers nat_eq world names
-  lowers_same =
-      ap (λ d. flat_map (λ n. of_overlay [] (λ (overlay : Overlay ℕ). overlay.lowers)
-      (filesystem_numbered nat_eq later n)) d)
-      directly_same
+  lowers_same = ap (λ d. flat_map (λ n. of_overlay [] (λ (overlay : Overlay ℕ). overlay.lowers)
+      (filesystem_numbered nat_eq later n)) d) directly_same
       ∙ flat_map_alike (λ n. of_overlay [] (λ (overlay : Overlay ℕ). overlay.lowers)
       (filesystem_numbered nat_eq later n))
       (λ n. of_overlay [] (λ (overlay : Overlay ℕ). overlay.lowers) (filesystem_numbered nat_eq world n)) direct
@@ -58,11 +53,9 @@ module _ (world later : World ℕ) (names : List TaskName) (same : SeesTheSame w
   masters_same = grind (arith, common_steps, own_mounts_same)
 
   pub part_same : part_of nat_eq later names ≡ part_of nat_eq world names
-  part_same =
-      ap (λ m. record (part_of nat_eq later names) { mounts = m }) same.mounts
+  part_same = ap (λ m. record (part_of nat_eq later names) { mounts = m }) same.mounts
       ∙ ap (λ m. record (part_of nat_eq later names) { mounts = (part_of nat_eq world names).mounts; master = m })
-      masters_same
-      ∙ ap (λ f. record (part_of nat_eq world names) {
+      masters_same ∙ ap (λ f. record (part_of nat_eq world names) {
         filesystems = f;
         namespaces = (part_of nat_eq later names).namespaces;
         tasks = members later names;

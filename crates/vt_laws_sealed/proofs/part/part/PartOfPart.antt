@@ -30,21 +30,18 @@ module _ (world : World ℕ) (names : List TaskName) where
   is_own tasks mount = holds_of (λ n. list_any (λ (task : Task ℕ). nat_eq n task.namespace) tasks) mount.namespace
 
   abbrev pub keep : List (Task ℕ) → Mount ℕ → Option (Mount ℕ)
-  keep tasks mount =
-      cond (is_own tasks mount || is_at nat_eq (roots_and_directories tasks) mount) (Some mount)
+  keep tasks mount = cond (is_own tasks mount || is_at nat_eq (roots_and_directories tasks) mount) (Some mount)
       (when (is_at nat_eq (locations tasks) mount) (seen_by_descriptor mount))
 
   -- kept whole, or as a descriptor shows it
   pub kept_how : (tasks : List (Task ℕ)) (x y : Mount ℕ) → keep tasks x ≡ Some y
       → (x ≡ y) ⊎ ((seen_by_descriptor x ≡ y) × (is_own tasks x ≡ false)
       × (is_at nat_eq (roots_and_directories tasks) x ≡ false) × (is_at nat_eq (locations tasks) x ≡ true))
-  kept_how tasks x y e =
-      by (is_own tasks x) (is_at nat_eq (roots_and_directories tasks) x)
+  kept_how tasks x y e = by (is_own tasks x) (is_at nat_eq (roots_and_directories tasks) x)
       (is_at nat_eq (locations tasks) x) refl refl refl e
     where
       by : (a b c : Bool) → is_own tasks x ≡ a → is_at nat_eq (roots_and_directories tasks) x ≡ b
-          → is_at nat_eq (locations tasks) x ≡ c
-          → cond (a || b) (Some x) (when c (seen_by_descriptor x)) ≡ Some y
+          → is_at nat_eq (locations tasks) x ≡ c → cond (a || b) (Some x) (when c (seen_by_descriptor x)) ≡ Some y
           → (x ≡ y) ⊎ ((seen_by_descriptor x ≡ y) × (is_own tasks x ≡ false)
           × (is_at nat_eq (roots_and_directories tasks) x ≡ false) × (is_at nat_eq (locations tasks) x ≡ true))
       by true b c f g h e = inl (same_Some x y e)
@@ -54,30 +51,25 @@ module _ (world : World ℕ) (names : List TaskName) where
 
   pub kept_whole : (tasks : List (Task ℕ)) (x : Mount ℕ)
       → (is_own tasks x || is_at nat_eq (roots_and_directories tasks) x) ≡ true → keep tasks x ≡ Some x
-  kept_whole tasks x e =
-      ap (λ b. cond b (Some x) (when (is_at nat_eq (locations tasks) x) (seen_by_descriptor x))) e
+  kept_whole tasks x e = ap (λ b. cond b (Some x) (when (is_at nat_eq (locations tasks) x) (seen_by_descriptor x))) e
 
   keeps_again : (tasks : List (Task ℕ)) (x y : Mount ℕ) → keep tasks x ≡ Some y → keep tasks y ≡ Some y
   keeps_again tasks x y e = grind (arith, common_steps)
 
   whole_own : (x : Mount ℕ) → is_own theirs x ≡ true → keep theirs x ≡ Some x
-  whole_own x e =
-      ap (λ b. cond (b || is_at nat_eq (roots_and_directories theirs) x) (Some x)
+  whole_own x e = ap (λ b. cond (b || is_at nat_eq (roots_and_directories theirs) x) (Some x)
       (when (is_at nat_eq (locations theirs) x) (seen_by_descriptor x))) e
 
   none_own : (x y : Mount ℕ) → keep theirs x ≡ Some y → is_own theirs x ≡ false → is_own theirs y ≡ false
-  none_own x y e f =
-      ⊎_elim (λ same. ap (is_own theirs) (sym same) ∙ f) (λ stub. ap (is_own theirs) (sym stub.0))
+  none_own x y e f = ⊎_elim (λ same. ap (is_own theirs) (sym same) ∙ f) (λ stub. ap (is_own theirs) (sym stub.0))
       (kept_how theirs x y e)
 
   pub same_own : own_mounts nat_eq part names ≡ own_mounts nat_eq world names
-  same_own =
-      ap (λ tasks. filter (is_own tasks) (filter_map (keep theirs) world.mounts)) same_members
+  same_own = ap (λ tasks. filter (is_own tasks) (filter_map (keep theirs) world.mounts)) same_members
       ∙ filter_kept (keep theirs) (is_own theirs) whole_own none_own world.mounts
 
   same_mounts : filter_map (part_of_mount nat_eq part names) part.mounts ≡ part.mounts
-  same_mounts =
-      ap (λ tasks. filter_map (keep tasks) (filter_map (keep theirs) world.mounts)) same_members
+  same_mounts = ap (λ tasks. filter_map (keep tasks) (filter_map (keep theirs) world.mounts)) same_members
       ∙ kept_again (keep theirs) (keeps_again theirs) world.mounts
 
   -- Filesystems that they use
@@ -90,8 +82,7 @@ module _ (world : World ℕ) (names : List TaskName) where
     where
       by : (b : Bool) → (is_own theirs x || is_at nat_eq (roots_and_directories theirs) x) ≡ b
           → (y : Mount ℕ) × (keep theirs x ≡ Some y) × (nat_eq number y.number ≡ true)
-      by true f =
-          (x, ap (λ b. cond b (Some x) (when (is_at nat_eq (locations theirs) x) (seen_by_descriptor x))) f, e)
+      by true f = (x, ap (λ b. cond b (Some x) (when (is_at nat_eq (locations theirs) x) (seen_by_descriptor x))) f, e)
       by false f = (
         seen_by_descriptor x,
         ap (λ b. cond b (Some x) (when (is_at nat_eq (locations theirs) x) (seen_by_descriptor x))) f
@@ -105,15 +96,12 @@ module _ (world : World ℕ) (names : List TaskName) where
       (kept_how theirs x y e)
 
   same_filesystem : (x y : Mount ℕ) → keep theirs x ≡ Some y → y.filesystem ≡ x.filesystem
-  same_filesystem x y e =
-      ⊎_elim (λ same. ap (λ (m : Mount ℕ). m.filesystem) (sym same))
+  same_filesystem x y e = ⊎_elim (λ same. ap (λ (m : Mount ℕ). m.filesystem) (sym same))
       (λ stub. ap (λ (m : Mount ℕ). m.filesystem) (sym stub.0)) (kept_how theirs x y e)
 
   pub located : (location : Location ℕ) → Among location (locations theirs)
       → (mount_at nat_eq part location).filesystem ≡ (mount_at nat_eq world location).filesystem
-  located location m =
-      find_kept (keep theirs) (λ mount. nat_eq location.mount mount.number)
-      (kept_at location.mount
+  located location m = find_kept (keep theirs) (λ mount. nat_eq location.mount mount.number) (kept_at location.mount
       (λ x e. any_from_among (λ (l : Location ℕ). nat_eq l.mount x.number) (locations theirs) location m e))
       (λ x y e f. ap (nat_eq location.mount) (same_number x y e) ∙ f)
       ℕ (λ (mount : Mount ℕ). mount.filesystem) same_filesystem (no_mount location.mount) world.mounts
@@ -131,10 +119,8 @@ module _ (world : World ℕ) (names : List TaskName) where
       → ((x ≡ y) × (is_among nat_eq x.number used ≡ true)) ⊎ ((part_of_lower nat_eq world names x ≡ y)
       × (is_among nat_eq x.number used ≡ false)
       × (list_any (λ layer. nat_eq x.number layer.filesystem) (own_lowers nat_eq world names) ≡ true))
-  shown_how x y e =
-      by (is_among nat_eq x.number used)
-      (list_any (λ layer. nat_eq x.number layer.filesystem) (own_lowers nat_eq world names))
-      refl refl e
+  shown_how x y e = by (is_among nat_eq x.number used)
+      (list_any (λ layer. nat_eq x.number layer.filesystem) (own_lowers nat_eq world names)) refl refl e
     where
       by : (a b : Bool) → is_among nat_eq x.number used ≡ a
           → list_any (λ layer. nat_eq x.number layer.filesystem) (own_lowers nat_eq world names) ≡ b

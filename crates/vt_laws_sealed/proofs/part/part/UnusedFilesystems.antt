@@ -38,15 +38,13 @@ module _ (world : World ℕ) (names : List TaskName) (new : Filesystem ℕ)
   -- what the part has of a filesystem depends on it alone, and on itself
   abbrev lower_by : Filesystem ℕ → Filesystem ℕ → Filesystem ℕ
   lower_by there x = record x {
-    files = only_among nat_eq
-        (filter (λ object. list_any (λ layer. nat_eq x.number layer.filesystem
+    files = only_among nat_eq (filter (λ object. list_any (λ layer. nat_eq x.number layer.filesystem
         && is_under nat_eq there.files layer.directory object) lowers) x.files.numbers) x.files;
     change = 0;
   }
 
   abbrev part_by : Filesystem ℕ → Filesystem ℕ → Option (Filesystem ℕ)
-  part_by there x =
-      cond (is_among nat_eq x.number used) (Some x)
+  part_by there x = cond (is_among nat_eq x.number used) (Some x)
       (when (list_any (λ layer. nat_eq x.number layer.filesystem) lowers) (lower_by there x))
 
   none_of_it : (there x : Filesystem ℕ) → x.number ≡ new.number → part_by there x ≡ None
@@ -58,12 +56,9 @@ module _ (world : World ℕ) (names : List TaskName) (new : Filesystem ℕ)
     where
       by : (b : Bool) → nat_eq new.number x.number ≡ b
           → shown_of later used lowers (cond b new x) ≡ shown_of world used lowers x
-      by true e =
-          none_of_it (filesystem_numbered nat_eq later new.number) new refl
+      by true e = none_of_it (filesystem_numbered nat_eq later new.number) new refl
           ∙ sym (none_of_it (filesystem_numbered nat_eq world x.number) x (sym (eqb-true new.number x.number e)))
-      by false e =
-          ap (λ f. part_by f x)
-          (filesystem_elsewhere world new x.number
+      by false e = ap (λ f. part_by f x) (filesystem_elsewhere world new x.number
           (λ same. true≢false (sym (eq-eqb new.number x.number (sym same)) ∙ e)))
 
   pub sees_the_same : SeesTheSame world later names

@@ -40,13 +40,10 @@ module _ (world : World ℕ) (names : List TaskName) (is : IsWorld nat_eq world)
       by location task there at here true member =
           among-append_right (map (λ (m : Mount ℕ). m.filesystem) (own_mounts nat_eq world names)) _ filesystem
           (subst (λ f. Among f (map (λ (l : Location ℕ). (mount_at nat_eq world l).filesystem)
-          (locations (members world names)))) here
-          (among-map (λ (l : Location ℕ). (mount_at nat_eq world l).filesystem)
-          (locations (members world names)) location
-          (among-flat_map locations_of (members world names) task location
+          (locations (members world names)))) here (among-map (λ (l : Location ℕ). (mount_at nat_eq world l).filesystem)
+          (locations (members world names)) location (among-flat_map locations_of (members world names) task location
           (among-filter (is_member_task names) world.tasks task there member) at)))
-      by location task there at here false member =
-          absurd (true≢false
+      by location task there at here false member = absurd (true≢false
           (sym (any_from_among (λ (l : Location ℕ). nat_eq filesystem (mount_at nat_eq world l).filesystem)
           (locations (outsiders world names)) location
           (among-flat_map locations_of (outsiders world names) task location
@@ -61,8 +58,7 @@ module _ (world : World ℕ) (names : List TaskName) (is : IsWorld nat_eq world)
   mounted_by filesystem mount there shows alone = by mount.namespace refl
     where
       by : (o : Option ℕ) → mount.namespace ≡ o → Among filesystem (used_directly nat_eq world names)
-      by None none =
-          located_by mount.number filesystem mount
+      by None none = located_by mount.number filesystem mount
           (found_itself world.mounts is.mounts.one_number mount there) shows alone
           (ap (λ o. is_some o || is_located nat_eq world mount.number) (sym none)
           ∙ among_from_list_all (mount_lives nat_eq world) world.mounts (all_in_use world is).mounts mount there)
@@ -76,9 +72,7 @@ module _ (world : World ℕ) (names : List TaskName) (is : IsWorld nat_eq world)
               (among-map (λ (m : Mount ℕ). m.filesystem) (own_mounts nat_eq world names) mount
               (among-filter (is_own_mount nat_eq world names) world.mounts mount there
               (ap (holds_of (is_own_namespace nat_eq world names)) at ∙ own))))
-          which false other =
-              absurd (true≢false
-              (sym (any_from_among (λ (m : Mount ℕ). nat_eq filesystem m.filesystem)
+          which false other = absurd (true≢false (sym (any_from_among (λ (m : Mount ℕ). nat_eq filesystem m.filesystem)
               (other_mounts nat_eq world names) mount
               (among-filter (λ (m : Mount ℕ). holds_of (λ n. not (is_own_namespace nat_eq world names n)) m.namespace)
               world.mounts mount there
@@ -105,8 +99,7 @@ module _ (world : World ℕ) (names : List TaskName) (is : IsWorld nat_eq world)
   no_layer merged other there other_there overlaid has = by other.overlay refl
     where
       by : (o : Option (Overlay ℕ)) → other.overlay ≡ o → ⊥
-      by None e =
-          true≢false (sym has ∙ ap
+      by None e = true≢false (sym has ∙ ap
           (overlay_or false (λ overlay. list_any (λ layer. nat_eq merged.number layer.filesystem)
           (layers_of overlay))) e)
       by (Some overlay) e =
@@ -120,9 +113,7 @@ module _ (world : World ℕ) (names : List TaskName) (is : IsWorld nat_eq world)
 
   overlay_mounted : (merged : Filesystem ℕ) → Among merged world.filesystems → is_overlay merged ≡ true
       → is_mounted nat_eq world merged.number ≡ true
-  overlay_mounted merged there overlaid =
-      ⊎_elim (λ mounted. mounted)
-      (λ layered.
+  overlay_mounted merged there overlaid = ⊎_elim (λ mounted. mounted) (λ layered.
       let at = any_among (λ (other : Filesystem ℕ). has_layer_on nat_eq merged.number other
       && is_mounted nat_eq world other.number) world.filesystems layered in
       absurd (no_layer merged at.0 there at.1 overlaid
@@ -149,8 +140,7 @@ module _ (world : World ℕ) (names : List TaskName) (is : IsWorld nat_eq world)
       overlay_without_others merged there (and_parts (no_outsider_on nat_eq world names merged.number) _ alone).0
 
   overlay_in_part : (merged : Filesystem ℕ) → Among merged (overlays world)
-      → used_alone nat_eq world names merged.number ≡ true
-      → Among merged (overlays (part_of nat_eq world names))
+      → used_alone nat_eq world names merged.number ≡ true → Among merged (overlays (part_of nat_eq world names))
   overlay_in_part merged there alone =
       let from = among-from_filter is_overlay world.filesystems merged there in
       among-filter is_overlay (part_of nat_eq world names).filesystems merged
@@ -162,28 +152,24 @@ module _ (world : World ℕ) (names : List TaskName) (is : IsWorld nat_eq world)
   -- an overlay of the part is one of the world, with its layers
   from_part : (merged : Filesystem ℕ) → Among merged (overlays (part_of nat_eq world names))
       → (whole : Filesystem ℕ) × Among whole (overlays world) × (whole.number ≡ merged.number)
-      × (whole.overlay ≡ merged.overlay)
-      × ((is_among nat_eq whole.number (used_filesystems nat_eq world names) ≡ true)
+      × (whole.overlay ≡ merged.overlay) × ((is_among nat_eq whole.number (used_filesystems nat_eq world names) ≡ true)
       ⊎ (list_any (λ layer. nat_eq whole.number layer.filesystem) (own_lowers nat_eq world names) ≡ true))
   from_part merged there =
       let from = among-from_filter is_overlay (part_of nat_eq world names).filesystems merged there in
       let kept = among-from_filter_map (part_of_filesystem nat_eq world names) world.filesystems merged from.0 in
-      ⊎_elim
-      (λ whole. (
+      ⊎_elim (λ whole. (
         kept.0,
         among-filter is_overlay world.filesystems kept.0 kept.1 (ap is_overlay whole.0 ∙ from.1),
         ap (λ (f : Filesystem ℕ). f.number) whole.0,
         ap (λ (f : Filesystem ℕ). f.overlay) whole.0,
         inl whole.1,
-      ))
-      (λ lower. (
+      )) (λ lower. (
         kept.0,
         among-filter is_overlay world.filesystems kept.0 kept.1 (ap is_overlay lower.0 ∙ from.1),
         ap (λ (f : Filesystem ℕ). f.number) lower.0,
         ap (λ (f : Filesystem ℕ). f.overlay) lower.0,
         inr lower.2,
-      ))
-      (shown_how world names kept.0 merged kept.2)
+      )) (shown_how world names kept.0 merged kept.2)
 
   -- a lower layer of theirs is in no overlay
   pub lower_plain : (number : ℕ)
@@ -216,8 +202,7 @@ module _ (world : World ℕ) (names : List TaskName) (is : IsWorld nat_eq world)
       by number None e layer m =
           absurd (subst (λ o. Among layer (of_overlay [] (λ (overlay : Overlay ℕ). overlay.lowers)
           (unwrap_or o (no_filesystem number)))) e m)
-      by number (Some merged) e layer m =
-          layer_plain merged (found_among
+      by number (Some merged) e layer m = layer_plain merged (found_among
           (λ (f : Filesystem ℕ). nat_eq number f.number) world.filesystems merged e) layer
           (layered merged layer (subst (λ o. Among layer (of_overlay [] (λ (overlay : Overlay ℕ). overlay.lowers)
           (unwrap_or o (no_filesystem number)))) e m))
@@ -232,8 +217,7 @@ module _ (world : World ℕ) (names : List TaskName) (is : IsWorld nat_eq world)
       (⊎_elim (among_numbers (used_filesystems nat_eq world names) whole.0.number)
       (λ lower. absurd (true≢false (sym from.1
       ∙ ap is_overlay (sym (found_filesystem world.filesystems is.files.one_filesystem whole.0 from.0))
-      ∙ lower_plain whole.0.number lower)))
-      whole.4)
+      ∙ lower_plain whole.0.number lower))) whole.4)
 
   -- wholly locked: by the part and the footholds
   abbrev locks : ℕ → Filesystem ℕ → Bool
@@ -245,11 +229,9 @@ module _ (world : World ℕ) (names : List TaskName) (is : IsWorld nat_eq world)
       → locks filesystem a ≡ locks filesystem b
   locks_by_overlay filesystem a b number overlay = cc (overlay, number)
 
-  same_locks : (filesystem : ℕ)
-      → list_any (locks filesystem) (overlays (part_of nat_eq world names))
+  same_locks : (filesystem : ℕ) → list_any (locks filesystem) (overlays (part_of nat_eq world names))
       ≡ list_any (locks filesystem) (overlays world)
-  same_locks filesystem =
-      same_truth (list_any (locks filesystem) (overlays (part_of nat_eq world names)))
+  same_locks filesystem = same_truth (list_any (locks filesystem) (overlays (part_of nat_eq world names)))
       (list_any (locks filesystem) (overlays world))
       (λ h. let at = any_among (locks filesystem) (overlays (part_of nat_eq world names)) h in
       let whole = from_part at.0 at.1 in
@@ -272,11 +254,9 @@ module _ (world : World ℕ) (names : List TaskName) (is : IsWorld nat_eq world)
       ∙ ap (λ b. b && all_named nat_eq (filesystem_numbered nat_eq world filesystem).files) (same_locks filesystem)
 
   abbrev free_or_locked : ℕ → Bool
-  free_or_locked filesystem =
-      used_alone nat_eq world names filesystem || wholly_locked nat_eq world names filesystem
+  free_or_locked filesystem = used_alone nat_eq world names filesystem || wholly_locked nat_eq world names filesystem
 
-  same_all : (p q : ℕ → Bool) (list : List ℕ) → ((x : ℕ) → Among x list → p x ≡ q x)
-      → list_all p list ≡ list_all q list
+  same_all : (p q : ℕ → Bool) (list : List ℕ) → ((x : ℕ) → Among x list → p x ≡ q x) → list_all p list ≡ list_all q list
   same_all p q [] same = refl
   same_all p q (x ∷ rest) same = cc (same x (inl refl), same_all p q rest (λ y m. same y (inr m)))
 
@@ -297,8 +277,7 @@ sealed_is_by_part_and_footholds world names apart =
     ∙ ap (λ a. a && no_outsider_on_mounts nat_eq world names
     && list_all (free_or_locked world names apart.is) (used_filesystems nat_eq world names)) apart.events
     ∙ ap (λ a. a && list_all (free_or_locked world names apart.is)
-    (used_filesystems nat_eq world names)) apart.locations
-    ∙ sym (used_by_part world names apart.is)
+    (used_filesystems nat_eq world names)) apart.locations ∙ sym (used_by_part world names apart.is)
 
 -- the first three of what makes a set sealed off
 pub apart_if_sealed : (world : World ℕ) (names : List TaskName) → IsWorld nat_eq world
@@ -332,19 +311,18 @@ more_free : (part : World ℕ) (names : List TaskName) (free more : ℕ → Bool
     → more filesystem ≡ true)
     → ((merged : Filesystem ℕ) → Among merged (overlays part) → free merged.number ≡ true → more merged.number ≡ true)
     → is_sealed_by part names free ≡ true → is_sealed_by part names more ≡ true
-more_free part names free more used over h =
-    grind (
-      arith,
-      common_steps,
-      list_all_from_among,
-      or_left,
-      or_right,
-      or_cases,
-      among_from_list_all,
-      any_among,
-      and_from,
-      any_from_among,
-    )
+more_free part names free more used over h = grind (
+  arith,
+  common_steps,
+  list_all_from_among,
+  or_left,
+  or_right,
+  or_cases,
+  among_from_list_all,
+  any_among,
+  and_from,
+  any_from_among,
+)
 
 pub fewer_footholds_seal_too : FewerFootholdsSealToo
 fewer_footholds_seal_too world other names apart other_is parts no_more other_sealed =
@@ -357,5 +335,4 @@ fewer_footholds_seal_too world other names apart other_is parts no_more other_se
     (λ f m. no_more f (contains_from_among (used_filesystems nat_eq world names) f
     (subst (Among f) (same_used world names) m)))
     (λ merged m. no_more merged.number (contains_from_among (used_filesystems nat_eq world names) merged.number
-    (part_overlay_used world names apart.is merged m)))
-    by_other
+    (part_overlay_used world names apart.is merged m))) by_other

@@ -87,24 +87,20 @@ module _ (one other : Looks ℕ) (task : Task ℕ) (Own : ℕ → Type 0) (Seen 
   up_agrees here good seen = (
     ap (λ t. cond t (Ok here)
         (unless ((is_lost nat_eq one here, W8) ∷ []) (Ok (topmost one (parent_location nat_eq one here)))))
-        (same_top here good.0)
-        ∙ ap (λ l. cond (is_top nat_eq other task here) (Ok here)
+        (same_top here good.0) ∙ ap (λ l. cond (is_top nat_eq other task here) (Ok here)
         (unless ((l, W8) ∷ []) (Ok (topmost one (parent_location nat_eq one here))))) (alike.lost here good.0 good.1)
         ∙ ap (λ r. cond (is_top nat_eq other task here) (Ok here)
         (unless ((is_lost nat_eq other here, W8) ∷ []) (Ok r)))
         (same_topmost (parent_location nat_eq one here) good.0 ∙ ap (topmost other) (same_parent here good)),
     up_by (is_top nat_eq one task here) (is_lost nat_eq one here) here
-        (topmost one (parent_location nat_eq one here)) good
-        (λ e. good_over (parent_location nat_eq one here) good.0
+        (topmost one (parent_location nat_eq one here)) good (λ e. good_over (parent_location nat_eq one here) good.0
         (subst (λ b. Each Seen
         (filesystems_of nat_eq one (cond b [] (one.mounts_over (parent_location nat_eq one here))))) e seen)),
   )
 
-  named_by : (here : Location ℕ) → Own here.mount → (o : Option ℕ)
-      → Each Seen (filesystems_of nat_eq one
+  named_by : (here : Location ℕ) → Own here.mount → (o : Option ℕ) → Each Seen (filesystems_of nat_eq one
       (flat_map one.mounts_over
-      (option_to_list (option_map (λ object. record { mount = here.mount; node = object }) o))))
-      → Agree Good
+      (option_to_list (option_map (λ object. record { mount = here.mount; node = object }) o)))) → Agree Good
       (ok_or (option_map (topmost one) (option_map (λ object. record { mount = here.mount; node = object }) o))
       (denial W6))
       (ok_or (option_map (topmost other) (option_map (λ object. record { mount = here.mount; node = object }) o))
@@ -135,8 +131,7 @@ module _ (one other : Looks ℕ) (task : Task ℕ) (Own : ℕ → Type 0) (Seen 
       map-append Fs way (entered_upward nat_eq one task top) in
       let good : Good top = (
         last_each OnOwn way here own (alike.hopped here own),
-        seen (Fs top) (subst (Among (Fs top)) (sym split)
-            (among-append_left (filesystems_of nat_eq one way) _ (Fs top)
+        seen (Fs top) (subst (Among (Fs top)) (sym split) (among-append_left (filesystems_of nat_eq one way) _ (Fs top)
             (among-map Fs way top (last_among way here (alike.hops_start here))))),
       ) in
       let up = up_agrees top good (λ f m. seen f (subst (Among f) (sym split)

@@ -103,19 +103,16 @@ module _ (one other : Looks ℕ) (task : Task ℕ) (Own : ℕ → Type 0) (alike
   up_agrees here own = (
     ap (λ t. cond t (Ok here)
         (unless ((is_lost nat_eq one here, W8) ∷ []) (Ok (topmost one (parent_location nat_eq one here)))))
-        (same_top here own)
-        ∙ ap (λ l. cond (is_top nat_eq other task here) (Ok here)
+        (same_top here own) ∙ ap (λ l. cond (is_top nat_eq other task here) (Ok here)
         (unless ((l, W8) ∷ []) (Ok (topmost one (parent_location nat_eq one here))))) (alike.lost here own)
         ∙ ap (λ r. cond (is_top nat_eq other task here) (Ok here)
         (unless ((is_lost nat_eq other here, W8) ∷ []) (Ok r)))
         (same_topmost (parent_location nat_eq one here) own ∙ ap (topmost other) (same_parent here own)),
     up_by (is_top nat_eq one task here) (is_lost nat_eq one here) here
-        (topmost one (parent_location nat_eq one here)) own
-        (own_topmost (parent_location nat_eq one here) own),
+        (topmost one (parent_location nat_eq one here)) own (own_topmost (parent_location nat_eq one here) own),
   )
 
-  named_by : (here : Location ℕ) → Own here.mount → (o : Option ℕ)
-      → Agree OnOwn
+  named_by : (here : Location ℕ) → Own here.mount → (o : Option ℕ) → Agree OnOwn
       (ok_or (option_map (topmost one) (option_map (λ object. record { mount = here.mount; node = object }) o))
       (denial W6))
       (ok_or (option_map (topmost other) (option_map (λ object. record { mount = here.mount; node = object }) o))
@@ -144,8 +141,7 @@ module _ (one other : Looks ℕ) (task : Task ℕ) (Own : ℕ → Type 0) (alike
 
   pub same_filesystems : (list : List (Location ℕ)) → Each OnOwn list
       → filesystems_of nat_eq one list ≡ filesystems_of nat_eq other list
-  same_filesystems list h =
-      map_each OnOwn (λ l. (mount_at one l).filesystem) (λ l. (mount_at other l).filesystem) list
+  same_filesystems list h = map_each OnOwn (λ l. (mount_at one l).filesystem) (λ l. (mount_at other l).filesystem) list
       (λ l own. ap (λ (m : Mount ℕ). m.filesystem) (alike.mount l own)) h
 
   pub one_each : (here : Location ℕ) → Own here.mount → (list : List (Location ℕ)) → Each OnOwn list
@@ -167,15 +163,12 @@ module _ (one other : Looks ℕ) (task : Task ℕ) (Own : ℕ → Type 0) (alike
 
   same_entered : (here : Location ℕ) → Own here.mount
       → entered_upward nat_eq one task here ≡ entered_upward nat_eq other task here
-  same_entered here own =
-      cc (same_top here own, alike.over (parent_location nat_eq one here) own, same_parent here own)
+  same_entered here own = cc (same_top here own, alike.over (parent_location nat_eq one here) own, same_parent here own)
 
-  pub over_by : (here : Location ℕ) → Own here.mount → (o : Option ℕ)
-      → (flat_map one.mounts_over
+  pub over_by : (here : Location ℕ) → Own here.mount → (o : Option ℕ) → (flat_map one.mounts_over
       (option_to_list (option_map (λ object. record { mount = here.mount; node = object }) o))
       ≡ flat_map other.mounts_over
-      (option_to_list (option_map (λ object. record { mount = here.mount; node = object }) o)))
-      × Each OnOwn
+      (option_to_list (option_map (λ object. record { mount = here.mount; node = object }) o))) × Each OnOwn
       (flat_map one.mounts_over
       (option_to_list (option_map (λ object. record { mount = here.mount; node = object }) o)))
   over_by here own None = (refl, none_each)
@@ -201,13 +194,11 @@ module _ (one other : Looks ℕ) (task : Task ℕ) (Own : ℕ → Type 0) (alike
   same_met here own (Named name) =
       let by = over_by here own (entry_named name (entries_in (one.node here))) in
       same_filesystems (here ∷ flat_map one.mounts_over (option_to_list (entry_location nat_eq one here name)))
-      (one_each here own _ by.1)
-      ∙ ap (λ l. filesystems_of nat_eq other (here ∷ l))
+      (one_each here own _ by.1) ∙ ap (λ l. filesystems_of nat_eq other (here ∷ l))
       (by.0 ∙ ap (λ o. flat_map other.mounts_over (option_to_list o)) (same_entry here name own))
 
   abbrev word_by : ℕ → List (List ℕ) → Rules → Result (Location ℕ) Deny → Result (Here ℕ) (Stop ℕ)
-  word_by left steps rules found =
-      stopped_by steps (and_then (unless rules found)
+  word_by left steps rules found = stopped_by steps (and_then (unless rules found)
       (λ reached. Ok (record { location = reached; left = left; steps = steps })))
 
   word_own : (left : ℕ) (steps : List (List ℕ)) (rules : Rules) (found : Result (Location ℕ) Deny) → IfOk found OnOwn
@@ -233,8 +224,7 @@ module _ (one other : Looks ℕ) (task : Task ℕ) (Own : ℕ → Type 0) (alike
 
   -- walks of texts that agree
   abbrev pub FollowsAgree : Follow ℕ → Follow ℕ → Type 0
-  FollowsAgree f g =
-      (directory : Location ℕ) (symlink : Here ℕ) (text : List ℕ) → Own directory.mount → HereOwn symlink
+  FollowsAgree f g = (directory : Location ℕ) (symlink : Here ℕ) (text : List ℕ) → Own directory.mount → HereOwn symlink
       → Agree HereOwn (f directory symlink text) (g directory symlink text)
 
   symlink_by : (f g : Follow ℕ) → FollowsAgree f g → (directory : Location ℕ) → Own directory.mount → (next : Here ℕ)
@@ -253,14 +243,12 @@ module _ (one other : Looks ℕ) (task : Task ℕ) (Own : ℕ → Type 0) (alike
       if_symlink next (symlink_text (one.node next.location)) (f reached.location next)))
       (λ reached. then_walk (word_walked nat_eq other task reached (last_word word)) (λ next.
       if_symlink next (symlink_text (other.node next.location)) (g reached.location next)))
-      (words_agree f g agree here own prefix)
-      (λ reached there.
+      (words_agree f g agree here own prefix) (λ reached there.
       then_agree HereOwn HereOwn (word_walked nat_eq one task reached (last_word word))
       (word_walked nat_eq other task reached (last_word word))
       (λ next. if_symlink next (symlink_text (one.node next.location)) (f reached.location next))
       (λ next. if_symlink next (symlink_text (other.node next.location)) (g reached.location next))
-      (word_agrees reached there (last_word word))
-      (λ next after.
+      (word_agrees reached there (last_word word)) (λ next after.
       let by = symlink_by f g agree reached.location there next after (symlink_text (one.node next.location)) in (
         by.0 ∙ ap (λ n. if_symlink next (symlink_text n) (g reached.location next)) (alike.node next.location after),
         by.1,
@@ -270,8 +258,7 @@ module _ (one other : Looks ℕ) (task : Task ℕ) (Own : ℕ → Type 0) (alike
   pub texts_agree : (depth : ℕ)
       → FollowsAgree (symlink_walked nat_eq depth one task) (symlink_walked nat_eq depth other task)
   texts_agree zero directory symlink text from own = (refl, tt)
-  texts_agree (suc depth) directory symlink text from own =
-      then_agree HereOwn HereOwn
+  texts_agree (suc depth) directory symlink text from own = then_agree HereOwn HereOwn
       (walk_unless symlink.steps (follow_rules nat_eq one symlink text)
       (symlink_start nat_eq one task directory symlink text))
       (walk_unless symlink.steps (follow_rules nat_eq other symlink text)
@@ -287,18 +274,14 @@ module _ (one other : Looks ℕ) (task : Task ℕ) (Own : ℕ → Type 0) (alike
             (symlink_start nat_eq one task directory symlink text)) (alike.mount symlink.location own)
             ∙ ap (walk_unless symlink.steps (follow_rules nat_eq other symlink text)) same_start,
         unless_agree HereOwn symlink.steps (follow_rules nat_eq one symlink text)
-            (symlink_start nat_eq one task directory symlink text)
-            start_own,
-      )
-      (λ start there.
-      then_agree HereOwn HereOwn
+            (symlink_start nat_eq one task directory symlink text) start_own,
+      ) (λ start there. then_agree HereOwn HereOwn
       (words_walked nat_eq one task (symlink_walked nat_eq depth one task) start (reverse (words text)))
       (words_walked nat_eq other task (symlink_walked nat_eq depth other task) start (reverse (words text)))
       (λ reached. walk_unless reached.steps (slash_rules nat_eq one text reached.location) reached)
       (λ reached. walk_unless reached.steps (slash_rules nat_eq other text reached.location) reached)
       (words_agree (symlink_walked nat_eq depth one task) (symlink_walked nat_eq depth other task) (texts_agree depth)
-      start there (reverse (words text)))
-      (λ reached after. (
+      start there (reverse (words text))) (λ reached after. (
         ap (λ n. walk_unless reached.steps
             ((cond (ends_in_slash text) (not (is_directory_node n)) false, W3) ∷ []) reached)
             (alike.node reached.location after),

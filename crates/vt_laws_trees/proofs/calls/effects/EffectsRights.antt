@@ -1,10 +1,10 @@
 -- A right stands behind each effect.
-use Rattle.std.proofs.Common.{Bool, List, None, Option, Result, Some, [], ap, eqb-true, false, inl, inr, nat_eq, refl, subst, sym, true, true≢false, ℕ, ◌&&◌, ◌==◌, ◌||◌, ◌∙◌, ◌∷◌, ◌≡◌}
+use Rattle.std.proofs.Common.{arith, Bool, List, None, Option, Result, Some, [], ap, eqb-true, false, inl, inr, nat_eq, refl, subst, sym, true, true≢false, ℕ, ◌&&◌, ◌==◌, ◌||◌, ◌∙◌, ◌∷◌, ◌≡◌}
+use Rattle.std.proofs.lemmas.Grind.{common_steps}
 use Rattle.vt_spec.specs.Errors.{NoneFails}
 use Rattle.std.proofs.lemmas.Bool.{and_parts, or_parts}
 use Rattle.std.proofs.lemmas.Option.{same_Some}
 use Rattle.std.specs.Prelude.{Ok, ⊤, ◌⊎◌}
-use Rattle.std.specs.Str.{bytes_eq}
 use Rattle.vt_laws_trees.proofs.calls.effects.EffectsSearched.{IsSearched, MaySearch, searched_file_walk, searched_new_leaf_walk, searched_new_walk, searched_old_leaf_walk, searched_old_walk, searched_rename_walk}
 use Rattle.vt_laws_trees.proofs.calls.inodes.InodesEntries.{other_entries_stay}
 use Rattle.vt_laws_trees.proofs.calls.inodes.InodesOwn.{calls_change_their_own}
@@ -62,20 +62,13 @@ module _ (fresh : Fresh ℕ) (world : World ℕ) (task : Task ℕ) where
   HasRights permit = NamedRights (change_of fresh world permit)
 
   abbrev MayAt : Location ℕ → Type 0
-  MayAt location =
-      (node_allows task.credentials write_right (node_at nat_eq world location) ≡ true)
+  MayAt location = (node_allows task.credentials write_right (node_at nat_eq world location) ≡ true)
       × (node_allows task.credentials execute_right (node_at nat_eq world location) ≡ true)
 
   one : (location : Location ℕ) (entry : List ℕ) → MayAt location → (directory : ℕ) (name : List ℕ)
       → is_among same_entry (directory, name) ((location.node, entry) ∷ []) ≡ true
       → MayEnter (mount_at nat_eq world location).filesystem directory
-  one location entry may directory name e =
-      subst (MayEnter (mount_at nat_eq world location).filesystem) (sym (eqb-true directory location.node (head
-      (nat_eq directory location.node) (bytes_eq name entry) e))) may
-    where
-      head : (a b : Bool) → ((a && b) || false) ≡ true → a ≡ true
-      head true b h = refl
-      head false b h = absurd (true≢false (sym h))
+  one location entry may directory name e = grind (arith, common_steps, may, eqb-true, true≢false)
 
   abbrev Granted : Call → Permit ℕ → Type 0
   Granted = IsGranted nat_eq looks (overfills nat_eq fresh world task) task
@@ -110,8 +103,7 @@ module _ (fresh : Fresh ℕ) (world : World ℕ) (task : Task ℕ) where
       → Ends (IsSearched world task) walk → is_special place.last ≡ false → MaySearch world task place.parent
   searched walk place end ends = at_end (IsSearched world task) walk place ends end
 
-  names_granted : (call : Call) (permit : Permit ℕ) → Granted call permit → changes_names call ≡ true
-      → HasRights permit
+  names_granted : (call : Call) (permit : Permit ℕ) → Granted call permit → changes_names call ≡ true → HasRights permit
   names_granted call permit (overwrites_file path bytes place file end named there passed) changes =
       λ directory name e. absurd (true≢false (sym e))
   names_granted call permit (writes_new_file path bytes place end named missing fits passed) changes =
@@ -129,26 +121,23 @@ module _ (fresh : Fresh ℕ) (world : World ℕ) (task : Task ℕ) where
         not_true _ passed.1.1.1.1.1.0,
         searched _ place end (searched_new_leaf_walk world task path) passed.0,
       )
-  names_granted call permit (makes_whiteout path place end passed) changes =
-      one place.parent (name_of place.last) (
-        not_true _ passed.1.1.1.1.1.0,
-        searched _ place end (searched_new_leaf_walk world task path) passed.0,
-      )
+  names_granted call permit (makes_whiteout path place end passed) changes = one place.parent (name_of place.last) (
+    not_true _ passed.1.1.1.1.1.0,
+    searched _ place end (searched_new_leaf_walk world task path) passed.0,
+  )
   names_granted call permit (makes_hard_link old new from place from_end end named passed) changes =
       one place.parent (name_of place.last) (
         not_true _ passed.1.1.1.1.1.1.0,
         searched _ place end (searched_new_leaf_walk world task new) named.0,
       )
-  names_granted call permit (unlinks path place end named passed) changes =
-      one place.parent (name_of place.last) (
-        not_true _ passed.1.1.1.1.0,
-        searched _ place end (searched_old_leaf_walk world task path) named.0,
-      )
+  names_granted call permit (unlinks path place end named passed) changes = one place.parent (name_of place.last) (
+    not_true _ passed.1.1.1.1.0,
+    searched _ place end (searched_old_leaf_walk world task path) named.0,
+  )
   names_granted call permit (removes_directory path place end word passed) changes =
       one place.parent (name_of place.last) (
         not_true _ passed.1.1.1.1.1.1.0,
-        searched _ place end (searched_old_walk world task path)
-            (special_word place.last word.0 word.1.0 word.1.1.0),
+        searched _ place end (searched_old_walk world task path) (special_word place.last word.0 word.1.0 word.1.1.0),
       )
   names_granted call permit (keeps_names old new from to names same passed) changes = tt
   names_granted call permit (renames old new from to names two passed) changes =
@@ -187,21 +176,12 @@ module _ (fresh : Fresh ℕ) (world : World ℕ) (task : Task ℕ) (filesystem n
       → P (mount_at nat_eq world location).filesystem location.node
       → (nat_eq filesystem (mount_at nat_eq world location).filesystem && (nat_eq number location.node || false)) ≡ true
       → P filesystem number
-  at_location P location is e =
-      let parts = head_two _ (nat_eq number location.node) false (by _ _ e) refl in
-      subst (λ f. P f number) (sym (eqb-true filesystem (mount_at nat_eq world location).filesystem parts.0))
-      (subst (P (mount_at nat_eq world location).filesystem) (sym (eqb-true number location.node parts.1)) is)
-    where
-      by : (a b : Bool) → (a && (b || false)) ≡ true → (a && (b || (false || false))) ≡ true
-      by true true h = refl
-      by true false h = h
-      by false b h = h
+  at_location P location is e = grind (arith, common_steps, head_two, eqb-true)
 
   at_directory : (P : ℕ → ℕ → Type 0) (location : Location ℕ)
       → P (mount_at nat_eq world location).filesystem location.node
       → (nat_eq filesystem (mount_at nat_eq world location).filesystem && (nat_eq number location.node || (nat_eq number
-      (fresh 0) || false))) ≡ true
-      → P filesystem number
+      (fresh 0) || false))) ≡ true → P filesystem number
   at_directory P location is e =
       let parts = head_two _ (nat_eq number location.node) (nat_eq number (fresh 0)) e (handed 0) in
       subst (λ f. P f number) (sym (eqb-true filesystem (mount_at nat_eq world location).filesystem parts.0))
@@ -262,10 +242,8 @@ module _ (fresh : Fresh ℕ) (world : World ℕ) (task : Task ℕ) (filesystem n
   some_of false false c d h = h
 
   owner_or : (old new : Attr) → may_chown task.credentials old new ≡ true → chowns old ≡ true
-  owner_or old new h =
-      some_of (has_all task.credentials.capabilities cap_chown) (task.credentials.uid == old.uid)
-      (new.uid == old.uid)
-      (new.gid == old.gid || is_member task.credentials new.gid) h
+  owner_or old new h = some_of (has_all task.credentials.capabilities cap_chown) (task.credentials.uid == old.uid)
+      (new.uid == old.uid) (new.gid == old.gid || is_member task.credentials new.gid) h
 
   owner_granted : (call : Call) (permit : Permit ℕ) → GrantedHere call permit → sets_owner call ≡ true
       → OwnedSo (λ was. chowns was.attr) permit
@@ -289,50 +267,38 @@ stays : {A : Type 0} (part : Node ℕ → A) (o p : Option (Node ℕ)) (was now 
     → StaysIfThere part o p → part now ≡ part was
 stays part None p was now e f h = cc
 stays part (Some a) None was now e f h = cc
-stays part (Some a) (Some b) was now e f h =
-    ap part (same_Some now b (sym f)) ∙ h ∙ ap part (same_Some a was e)
+stays part (Some a) (Some b) was now e f h = ap part (same_Some now b (sym f)) ∙ h ∙ ap part (same_Some a was e)
 
 unchanged : (o p : Option (Node ℕ)) (was now : Node ℕ) → o ≡ Some was → p ≡ Some now → (p ≡ o) ⊎ (p ≡ None) → was ≡ now
 unchanged o p was now e f (inl same) = same_Some was now (sym e ∙ sym same ∙ f)
-unchanged o p was now e f (inr gone) = none_now (sym gone ∙ f)
-  where
-    none_now : Path (Option (Node ℕ)) None (Some now) → was ≡ now
-    none_now e = cc
+unchanged o p was now e f (inr gone) = grind (arith, common_steps)
 
 pub changes_are_by_right : ChangesAreByRight
 changes_are_by_right fresh world name call task permit filesystem number was now plain other called judged handed before
-    after =
-    record {
-      bytes = by_own (λ r. (bytes_of r.content ≡ bytes_of was.content)
-          ⊎ (MayDo world task filesystem number write_right
+    after = record {
+      bytes = by_own (λ r. (bytes_of r.content ≡ bytes_of was.content) ⊎ (MayDo world task filesystem number write_right
           ⊎ HasOpenFor (λ descriptor. descriptor.writes) world task filesystem number))
           (inl refl) (λ own. either (writes_bytes call)
           (λ e. inl (stays (λ node. bytes_of node.content) (inode_in world filesystem number) (inode_in
-          (policy nat_eq fresh world name call).world filesystem number)
-          was now before after
+          (policy nat_eq fresh world name call).world filesystem number) was now before after
           (only_writes_change_bytes fresh world name call filesystem number plain other e handed)))
           (λ e. inr (bytes_granted fresh world task filesystem number handed call permit granted e own)));
       mode = by_own (λ r. (r.attr.mode ≡ was.attr.mode) ⊎ (owns task.credentials was.attr ≡ true)) (inl refl)
-          (λ own. either
-          (sets_mode call)
+          (λ own. either (sets_mode call)
           (λ e. inl (stays (λ node. node.attr.mode) (inode_in world filesystem number) (inode_in
-          (policy nat_eq fresh world name call).world filesystem number)
-          was now before after
+          (policy nat_eq fresh world name call).world filesystem number) was now before after
           (only_chmod_changes_modes fresh world name call filesystem number plain other e handed)))
           (λ e. inr (mode_granted fresh world task filesystem number handed call permit granted e own was before)));
       owner = by_own (λ r. (owner_of r ≡ owner_of was)
           ⊎ (chowns fresh world task filesystem number handed was.attr ≡ true)) (inl refl)
-          (λ own. either (sets_owner call)
-          (λ e. inl (stays owner_of (inode_in world filesystem number) (inode_in
-          (policy nat_eq fresh world name call).world filesystem number)
-          was now before after
+          (λ own. either (sets_owner call) (λ e. inl (stays owner_of (inode_in world filesystem number) (inode_in
+          (policy nat_eq fresh world name call).world filesystem number) was now before after
           (only_chown_changes_owners fresh world name call filesystem number plain other e handed)))
           (λ e. inr (owner_granted fresh world task filesystem number handed call permit granted e own was before)));
       entries = λ entry. entry_by entry (is_own_entry fresh world permit filesystem number entry) refl;
       mark = either (sets_mark call)
           (λ e. inl (stays (λ node. opaque_of node.content) (inode_in world filesystem number) (inode_in
-          (policy nat_eq fresh world name call).world filesystem number)
-          was now before after
+          (policy nat_eq fresh world name call).world filesystem number) was now before after
           (only_opaque_changes_marks fresh world name call filesystem number plain other e handed)))
           (λ e. inr (mark_granted fresh world task filesystem number handed call permit granted e));
     }
@@ -354,21 +320,16 @@ changes_are_by_right fresh world name call task permit filesystem number was now
         ⊎ (MayDo world task filesystem number write_right × MayDo world task filesystem number execute_right)
     entry_by entry false e =
         inl (stays (λ node. entry_named entry (entries_of node.content)) (inode_in world filesystem number) (inode_in
-        (policy nat_eq fresh world name call).world filesystem number)
-        was now before after
+        (policy nat_eq fresh world name call).world filesystem number) was now before after
         (other_entries_stay entry fresh world name call task permit filesystem number plain other called judged e
         handed))
-    entry_by entry true e = either (changes_names call)
-        (λ f. inl (ap (entry_named entry)
+    entry_by entry true e = either (changes_names call) (λ f. inl (ap (entry_named entry)
         (stays (λ node. entries_of node.content) (inode_in world filesystem number) (inode_in
-        (policy nat_eq fresh world name call).world filesystem number)
-        was now before after
+        (policy nat_eq fresh world name call).world filesystem number) was now before after
         (only_naming_changes_entries fresh world name call filesystem number plain other f handed))))
-        (λ f. inr (rights (change_of fresh world permit)
-        (names_granted fresh world task call permit granted f) e))
+        (λ f. inr (rights (change_of fresh world permit) (names_granted fresh world task call permit granted f) e))
       where
-        rights : (o : Option (Location ℕ × Change ℕ)) → NamedRights fresh world task o
-            → holds_of (λ made.
+        rights : (o : Option (Location ℕ × Change ℕ)) → NamedRights fresh world task o → holds_of (λ made.
             nat_eq filesystem (mount_at nat_eq world made.0).filesystem
             && is_among same_entry (number, entry) (entries_named_by made.1)) o ≡ true
             → MayDo world task filesystem number write_right × MayDo world task filesystem number execute_right

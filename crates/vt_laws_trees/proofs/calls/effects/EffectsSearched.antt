@@ -35,8 +35,7 @@ module _ (world : World ℕ) (task : Task ℕ) where
       (object_named nat_eq world task here.location (Named name)) _ (λ passed object e named. not_true _ passed.1.0)
 
   searched_place_walk : (path : List ℕ) → Ends IsSearched (place_walk nat_eq world task path)
-  searched_place_walk path =
-      ends_next IsSearched (path_text path) _ (λ text.
+  searched_place_walk path = ends_next IsSearched (path_text path) _ (λ text.
       ends_next IsSearched (prefix_walked nat_eq world task (followed nat_eq world task) (walk_start task text)
       (reverse (words text)))
       (λ here. placed nat_eq world task here (final_word (reverse (words text))) (ends_in_slash text))
@@ -68,13 +67,11 @@ module _ (world : World ℕ) (task : Task ℕ) where
   searched_old_leaf_walk path =
       ends_then IsSearched IsSearched (old_walk nat_eq world task path) _ (searched_old_walk path)
       (λ place is. ends_unless IsSearched place.steps
-      ((place.slash && not (is_directory_there nat_eq world place), W3) ∷ []) place
-      (λ passed. is))
+      ((place.slash && not (is_directory_there nat_eq world place), W3) ∷ []) place (λ passed. is))
 
   -- files
   searched_file_or_link : (place : Place ℕ) (text : Option (List ℕ)) (follow : List ℕ → Result (Place ℕ) (Stop ℕ))
-      → IsSearched place
-      → ((inner : List ℕ) → Ends IsSearched (follow inner))
+      → IsSearched place → ((inner : List ℕ) → Ends IsSearched (follow inner))
       → Ends IsSearched (file_or_symlink nat_eq world place text follow)
   searched_file_or_link place None follow is rest = is
   searched_file_or_link place (Some text) follow is rest = rest text
@@ -110,8 +107,7 @@ module _ (world : World ℕ) (task : Task ℕ) where
       (λ next. searched_file_walked depth next inner (slash || ends_in_slash text)))))
 
   pub searched_file_walk : (path : List ℕ) → Ends IsSearched (file_walk nat_eq world task path)
-  searched_file_walk path =
-      ends_next IsSearched (path_text path) _ (λ text.
+  searched_file_walk path = ends_next IsSearched (path_text path) _ (λ text.
       ends_then IsSearched IsSearched
       (file_walked nat_eq (most_symlinks + 1) world task (walk_start task text) text false) _
       (searched_file_walked (most_symlinks + 1) (walk_start task text) text false) (λ place is.

@@ -1,5 +1,6 @@
 -- In a directory that stays, a call changes no entry but those that its permit names.
-use Rattle.std.proofs.Common.{◌≡◌, refl, sym, ap, ◌∙◌, true≢false, ℕ, nat_eq, eq-eqb, Bool, true, false, cond, not, ◌&&◌, List, [], ◌∷◌, Option, Some, None}
+use Rattle.std.proofs.Common.{arith, ◌≡◌, refl, sym, ap, ◌∙◌, true≢false, ℕ, nat_eq, eq-eqb, Bool, true, false, cond, ◌&&◌, List, [], ◌∷◌, Option, Some, None}
+use Rattle.std.proofs.lemmas.Grind.{common_steps}
 use Rattle.std.specs.Cmp.Lexicographic.{bytes_decides}
 use Rattle.std.specs.Ordering.{eq_by_cmp}
 use Rattle.std.specs.Str.{bytes_eq}
@@ -20,7 +21,7 @@ use Rattle.vt_spec.specs.Machine.Looks.{looks_of}
 use Rattle.vt_spec.specs.Machine.Mounts.{Location}
 use Rattle.vt_spec.specs.Machine.Permits.{Permit}
 use Rattle.vt_spec.specs.Machine.Permits.Permit.{ToChange, ToMake, ToMountOverlay, ToMountPlain, ToOpenNew, ToWritePart}
-use Rattle.vt_spec.specs.Machine.World.{Task, World, files_at, mount_at}
+use Rattle.vt_spec.specs.Machine.World.{Task, World, mount_at}
 use Rattle.vt_spec.specs.Tree.{Content, Node, entries_of, entry_named, name_cmp, node_with_bytes, node_with_entry, with_bytes, with_entries, with_entry}
 use Rattle.vt_spec.specs.Tree.Content.{Directory, Regular, Symlink, Whiteout}
 use Rattle.vt_spec.proofs.Nodes.{entry_named-with_entry, entry_named-without_entry, same_name}
@@ -48,8 +49,7 @@ module _ (entry : List ℕ) where
   -- another name leads where it led
   entered : (content : Content ℕ) (name : List ℕ) (object : ℕ) → bytes_eq entry name ≡ false
       → led_of (with_entries content (with_entry name object (entries_of content))) ≡ led_of content
-  entered (Directory parent entries opaque) name object apart =
-      entry_named-with_entry entry name object entries
+  entered (Directory parent entries opaque) name object apart = entry_named-with_entry entry name object entries
       ∙ ap (λ b. cond b (Some object) (entry_named entry entries)) (other_tie name apart)
   entered (Regular bytes) name object apart = refl
   entered (Symlink text) name object apart = refl
@@ -57,8 +57,7 @@ module _ (entry : List ℕ) where
 
   taken : (content : Content ℕ) (name : List ℕ) → bytes_eq entry name ≡ false
       → led_of (with_entries content (without_entry name (entries_of content))) ≡ led_of content
-  taken (Directory parent entries opaque) name apart =
-      entry_named-without_entry entry name entries ∙ ap (λ b. cond (not b) (entry_named entry entries) None) apart
+  taken (Directory parent entries opaque) name apart = grind (arith, common_steps, entry_named-without_entry)
   taken (Regular bytes) name apart = refl
   taken (Symlink text) name apart = refl
   taken Whiteout name apart = refl
@@ -123,14 +122,12 @@ module _ (entry : List ℕ) where
 
     named : (directory : ℕ) (name : List ℕ) (object : ℕ) → Apart directory name → (files : FileTree ℕ)
         → Kept files (with_name nat_eq files directory name object)
-    named directory name object apart files =
-        at_node Led other files directory (node_with_entry name object) (λ same.
+    named directory name object apart files = at_node Led other files directory (node_with_entry name object) (λ same.
         node_entered name object (other_name directory name apart same) (files.tree.node directory))
 
     unnamed : (directory : ℕ) (name : List ℕ) → Apart directory name → (files : FileTree ℕ)
         → Kept files (without_name nat_eq files directory name)
-    unnamed directory name apart files =
-        at_node Led other files directory (node_without_entry name) (λ same.
+    unnamed directory name apart files = at_node Led other files directory (node_without_entry name) (λ same.
         node_taken name (other_name directory name apart same) (files.tree.node directory))
 
     -- a new inode is another one
@@ -147,13 +144,11 @@ module _ (entry : List ℕ) where
     kept : (files : FileTree ℕ) (change : Change ℕ) → NewApart change
         → is_among same_entry (other, entry) (entries_named_by change) ≡ false
         → Kept files (changed nat_eq files change)
-    kept files (Make directory name number node) new apart =
-        made_kept Led other files directory name number node new
+    kept files (Make directory name number node) new apart = made_kept Led other files directory name number node new
         (named directory name number (first directory name [] apart).0)
     kept files (AddName directory name object) new apart =
         named directory name object (first directory name [] apart).0 files
-    kept files (Remove directory name object) new apart =
-        removed_kept Led other parents files directory name object
+    kept files (Remove directory name object) new apart = removed_kept Led other parents files directory name object
         (unnamed directory name (first directory name [] apart).0 files)
     kept files (Move from old to later object) new apart =
         let both = first from old ((to, later) ∷ []) apart in
@@ -176,21 +171,14 @@ module _ (entry : List ℕ) where
       NewApartIn (Some made) = NewApart made.1
 
       abbrev IsOther : Option (Location ℕ × Change ℕ) → Type 0
-      IsOther made =
-          holds_of (λ made.
+      IsOther made = holds_of (λ made.
           nat_eq filesystem (mount_at nat_eq world made.0).filesystem
-          && is_among same_entry (other, entry) (entries_named_by made.1)) made
-          ≡ false
+          && is_among same_entry (other, entry) (entries_named_by made.1)) made ≡ false
 
       made_kept_by : (made : Option (Location ℕ × Change ℕ)) → NewApartIn made → IsOther made
           → MadeBy (Stays Led Was) filesystem other fresh world plain (itself Led Was) made
       made_kept_by None new apart = tt
-      made_kept_by (Some made) new apart =
-          λ same.
-          change_holds_if_kept Led other fresh world plain filesystem handed made.0 made.1
-          (kept (files_at nat_eq world made.0) made.1 new
-          (ap (λ b. b && is_among same_entry (other, entry) (entries_named_by made.1))
-          (sym (eq-eqb filesystem (mount_at nat_eq world made.0).filesystem same)) ∙ apart)) same
+      made_kept_by (Some made) new apart = grind (arith, common_steps, change_holds_if_kept, kept, eq-eqb)
 
       written_apart : (file : Location ℕ) (offset : ℕ) (bytes : List ℕ)
           → NewApartIn (change_of fresh world (ToWritePart file offset bytes))
@@ -221,11 +209,9 @@ other_entries_stay entry fresh world name call task permit filesystem other plai
     (λ one given is_one judged_one.
     inode_left (Stays (Led entry) was) filesystem other fresh world plain (itself (Led entry) was) one given
     (left_kept entry other fresh world plain filesystem handed one call no_overlay given
-    (permits_are_for_their_calls fresh world one call given judged_one)
-    (let same : one ≡ task = cc in
+    (permits_are_for_their_calls fresh world one call given judged_one) (let same : one ≡ task = cc in
     let same_permit : given ≡ permit =
-    let both = sym judged_one ∙ ap (λ t. judge_in nat_eq fresh world t call) same ∙ judged in cc
-    in
+    let both = sym judged_one ∙ ap (λ t. judge_in nat_eq fresh world t call) same ∙ judged in cc in
     ap (λ p. is_own_entry fresh world p filesystem other entry) same_permit ∙ apart)))
   where
     was : Option (Node ℕ)

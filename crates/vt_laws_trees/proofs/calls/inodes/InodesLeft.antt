@@ -1,5 +1,6 @@
 -- What each permit leaves of an inode, in worlds without overlays.
-use Rattle.std.proofs.Common.{◌≡◌, refl, sym, ap, subst, ◌∙◌, true≢false, ℕ, nat_eq, eqb-true, eq-eqb, Bool, true, false, cond, List, [], ◌∷◌, ◌++◌, map, find, Option, Some, None, is_some, unwrap_or}
+use Rattle.std.proofs.Common.{arith, ◌≡◌, refl, sym, ap, subst, ◌∙◌, true≢false, ℕ, nat_eq, eqb-true, eq-eqb, Bool, true, false, cond, List, [], ◌∷◌, ◌++◌, map, find, Option, Some, None, is_some, unwrap_or}
+use Rattle.std.proofs.lemmas.Grind.{common_steps}
 use Rattle.std.specs.List.{All}
 use Rattle.vt_laws_trees.specs.Calls.Inodes.{change_of}
 use Rattle.vt_spec.specs.Machine.Apply.{apply}
@@ -37,45 +38,17 @@ module _ (Q : Option (Node ℕ) → Type 0) (number inode : ℕ) where
   replaced_holds : (new : Filesystem ℕ) → (number ≡ new.number → Q (new.files.tree.node inode))
       → (list : List (Filesystem ℕ)) → Holds list → Holds (map (replaced_if_numbered nat_eq new) list)
   replaced_holds new here [] h = h
-  replaced_holds new here (first ∷ rest) h =
-      by (nat_eq new.number first.number) refl (nat_eq number first.number) refl h (replaced_holds new here rest)
-    where
-      others : List (Filesystem ℕ)
-      others = map (replaced_if_numbered nat_eq new) rest
-
-      by : (b : Bool) → nat_eq new.number first.number ≡ b → (c : Bool) → nat_eq number first.number ≡ c
-          → Q ((found c first rest).files.tree.node inode) → (Holds rest → Holds others)
-          → Holds (cond b new first ∷ others)
-      by true e true f h later =
-          let same : number ≡ new.number =
-          eqb-true number first.number f ∙ sym (eqb-true new.number first.number e)
-          in
-          subst (λ c. Q ((found c new others).files.tree.node inode)) (sym (eq-eqb number new.number same)) (here same)
-      by true e false f h later =
-          subst (λ c. Q ((found c new others).files.tree.node inode))
-          (sym (ap (nat_eq number) (eqb-true new.number first.number e) ∙ f)) (later h)
-      by false e true f h later = subst (λ c. Q ((found c first others).files.tree.node inode)) (sym f) h
-      by false e false f h later = subst (λ c. Q ((found c first others).files.tree.node inode)) (sym f) (later h)
+  replaced_holds new here (first ∷ rest) h = grind (arith, common_steps, eqb-true, eq-eqb, replaced_holds new here rest)
 
   -- one filesystem more
   added_holds : (new : Filesystem ℕ) → (number ≡ new.number → Q None → Q (new.files.tree.node inode))
       → (list : List (Filesystem ℕ)) → Holds list → Holds (list ++ (new ∷ []))
-  added_holds new here [] h = by (nat_eq number new.number) refl
-    where
-      by : (b : Bool) → nat_eq number new.number ≡ b → Q ((found b new []).files.tree.node inode)
-      by true e = here (eqb-true number new.number e) h
-      by false e = h
-  added_holds new here (first ∷ rest) h = by (nat_eq number first.number) h (added_holds new here rest)
-    where
-      by : (b : Bool) → Q ((found b first rest).files.tree.node inode) → (Holds rest → Holds (rest ++ (new ∷ [])))
-          → Q ((found b first (rest ++ (new ∷ []))).files.tree.node inode)
-      by true h later = h
-      by false h later = later h
+  added_holds new here [] h = grind (arith, common_steps, eqb-true)
+  added_holds new here (first ∷ rest) h = grind (arith, common_steps, added_holds new here rest)
 
   -- what a change makes of the inode, in the filesystem that it is made in
   abbrev pub ChangeHolds : World ℕ → Location ℕ → Change ℕ → Type 0
-  ChangeHolds world location change =
-      number ≡ (mount_at nat_eq world location).filesystem
+  ChangeHolds world location change = number ≡ (mount_at nat_eq world location).filesystem
       → Q ((changed nat_eq (files_at nat_eq world location) change).tree.node inode)
 
   change_left : (fresh : Fresh ℕ) (world : World ℕ) (location : Location ℕ) (change : Change ℕ) → IsPlain world
@@ -94,8 +67,7 @@ module _ (Q : Option (Node ℕ) → Type 0) (number inode : ℕ) where
 
       by : (o : Option (Overlay ℕ)) → is_some o ≡ false
           → Holds (filesystem_changed nat_eq fresh world at o change).filesystems
-      by None e =
-          replaced_holds (with_files at (changed nat_eq at.files change))
+      by None e = replaced_holds (with_files at (changed nat_eq at.files change))
           (λ same. here (same ∙ number_numbered shown world.filesystems)) world.filesystems h
       by (Some overlay) e = absurd (true≢false e)
 
@@ -106,8 +78,7 @@ module _ (Q : Option (Node ℕ) → Type 0) (number inode : ℕ) where
     MadeBy (Some made) = ChangeHolds world made.0 made.1
 
     abbrev pub LeftBy : Permit ℕ → Type 0
-    LeftBy (ToMountPlain place flags) =
-        number ≡ evens fresh 0 → inode ≡ evens fresh 1
+    LeftBy (ToMountPlain place flags) = number ≡ evens fresh 0 → inode ≡ evens fresh 1
         → Q (Some (record { attr = root_attr; content = new_directory (evens fresh 1) }))
     LeftBy (ToMountOverlay place overlay flags) = ⊥
     LeftBy permit = MadeBy (change_of fresh world permit)
@@ -118,8 +89,7 @@ module _ (Q : Option (Node ℕ) → Type 0) (number inode : ℕ) where
     -- a change, where mounts were taken away before
     replaced_left : (replaced : Option (Location ℕ)) (location : Location ℕ) (change : Change ℕ)
         → ChangeHolds world location change
-        → Holds (with_change nat_eq fresh (without_replaced nat_eq world replaced) location
-        change).filesystems
+        → Holds (with_change nat_eq fresh (without_replaced nat_eq world replaced) location change).filesystems
     replaced_left replaced location change here =
         change_left fresh (without_replaced nat_eq world replaced) location change
         (subst (All (λ filesystem. is_overlay filesystem ≡ false))
@@ -127,13 +97,10 @@ module _ (Q : Option (Node ℕ) → Type 0) (number inode : ℕ) where
         (same_list (without_replaced nat_eq world replaced).filesystems (filesystems-without_replaced world replaced))
         (λ same.
         subst (λ files. Q ((changed nat_eq files change).tree.node inode))
-        (sym (replaced_files world replaced location))
-        (here (same ∙ shown-without_replaced world replaced location)))
+        (sym (replaced_files world replaced location)) (here (same ∙ shown-without_replaced world replaced location)))
 
-    copied_left : (copies : Bool) (file : Location ℕ)
-        → Holds (with_copy nat_eq copies fresh world file).filesystems
-    copied_left true file =
-        change_left fresh world file (CopyUp file.node) plain h
+    copied_left : (copies : Bool) (file : Location ℕ) → Holds (with_copy nat_eq copies fresh world file).filesystems
+    copied_left true file = change_left fresh world file (CopyUp file.node) plain h
         (λ same. subst (λ n. Q ((numbered n world.filesystems).files.tree.node inode)) same h)
     copied_left false file = h
 
@@ -162,19 +129,11 @@ module _ (Q : Option (Node ℕ) → Type 0) (number inode : ℕ) where
       where
         root : number ≡ evens fresh 0 → Q None
             → Q ((new_plain nat_eq (evens fresh 0) (evens fresh 1)).files.tree.node inode)
-        root same none = by (nat_eq inode (evens fresh 1)) refl
-          where
-            by : (b : Bool) → nat_eq inode (evens fresh 1) ≡ b
-                → Q (cond b (Some (record { attr = root_attr; content = new_directory (evens fresh 1) })) None)
-            by true e = here same (eqb-true inode (evens fresh 1) e)
-            by false e = none
+        root same none = grind (arith, common_steps, eqb-true)
     inode_left task (ToMountOverlay place overlay flags) here = absurd here
     inode_left task (ToUnmount mount) here = same_list _ (filesystems-taken_away world _)
-    inode_left task (ToUnmountLazily mount) here =
-        same_list _
-        (lazily_filesystems (deepest_first nat_eq world
-        (mount_tree nat_eq world.mounts (mount_numbered nat_eq world mount)))
-        world)
+    inode_left task (ToUnmountLazily mount) here = same_list _ (lazily_filesystems (deepest_first nat_eq world
+        (mount_tree nat_eq world.mounts (mount_numbered nat_eq world mount))) world)
     inode_left task (ToSetType mount word recursive) here =
         same_list _ (typed_filesystems fresh world mount word recursive)
     inode_left task permit here = h

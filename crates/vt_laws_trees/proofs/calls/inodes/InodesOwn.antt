@@ -1,5 +1,6 @@
 -- A granted call changes no inode but those that its permit names.
-use Rattle.std.proofs.Common.{◌≡◌, refl, sym, ap, ◌∙◌, true≢false, inl, inr, ◌⊎◌, ℕ, nat_eq, eq-eqb, Bool, true, false, cond, ◌&&◌, ◌||◌, [], ◌∷◌, Option, Some, None}
+use Rattle.std.proofs.Common.{arith, ◌≡◌, refl, sym, ap, ◌∙◌, true≢false, inl, inr, ◌⊎◌, ℕ, nat_eq, eq-eqb, Bool, true, false, cond, ◌&&◌, ◌||◌, ◌∷◌, Option, Some, None}
+use Rattle.std.proofs.lemmas.Grind.{common_steps}
 use Rattle.std.specs.Prelude.{option_to_list}
 use Rattle.vt_laws_rules.proofs.given.GivenPermits.{permits_are_for_their_calls}
 use Rattle.vt_laws_trees.proofs.calls.inodes.InodesLeft.{LeftBy, MadeBy, inode_left}
@@ -7,17 +8,16 @@ use Rattle.vt_laws_trees.proofs.calls.inodes.InodesSettled.{inode_after_call}
 use Rattle.vt_laws_rules.specs.Given.{IsFor}
 use Rattle.vt_laws_trees.specs.Calls.Inodes.{CallsChangeTheirOwn, change_of, is_own, named_by, own_by}
 use Rattle.vt_spec.specs.Language.Calls.{Call}
-use Rattle.vt_spec.specs.Language.Changes.{Change, changed, with_name, without_name, without_parent}
-use Rattle.vt_spec.specs.Language.Changes.Change.{AddName, CopyUp, Make, Move, Remove, SetAttr, SetBytes, SetMark}
+use Rattle.vt_spec.specs.Language.Changes.{Change, changed, without_parent}
 use Rattle.vt_spec.specs.FileTree.{FileTree}
 use Rattle.vt_spec.specs.Machine.Judge.{judge_in}
-use Rattle.vt_spec.specs.Lists.{Fresh, evens, holds_of, is_among}
+use Rattle.vt_spec.specs.Lists.{Fresh, holds_of, is_among}
 use Rattle.vt_spec.specs.Machine.Looks.{looks_of}
 use Rattle.vt_spec.specs.Machine.Mounts.{Location}
 use Rattle.vt_spec.specs.Machine.Permits.{Permit}
 use Rattle.vt_spec.specs.Machine.Permits.Permit.{ToMountOverlay, ToMountPlain}
-use Rattle.vt_spec.specs.Machine.World.{Task, World, files_at, mount_at}
-use Rattle.vt_spec.specs.Tree.{Node, entries_in, entry_named}
+use Rattle.vt_spec.specs.Machine.World.{Task, World}
+use Rattle.vt_spec.specs.Tree.{Node}
 use Rattle.std.proofs.lemmas.Bool.{or_parts}
 use Rattle.vt_laws_trees.specs.Trees.Calls.{mounts_overlay}
 use Rattle.vt_laws_rules.specs.Plain.{IsPlain}
@@ -38,47 +38,7 @@ parent_stays files (Some object) other apart =
 changed_elsewhere : (files : FileTree ℕ) (change : Change ℕ) (other : ℕ)
     → is_among nat_eq other (named_by files change) ≡ false
     → (changed nat_eq files change).tree.node other ≡ files.tree.node other
-changed_elsewhere files (Make directory name number node) other apart =
-    let both = or_parts (nat_eq other directory) (is_among nat_eq other (number ∷ [])) apart in
-    let last = or_parts (nat_eq other number) false both.1 in
-    skip (nat_eq other directory) _ _ both.0 ∙ skip (nat_eq other number) _ _ last.0
-changed_elsewhere files (AddName directory name object) other apart =
-    skip (nat_eq other directory) _ _ (or_parts (nat_eq other directory) (is_among nat_eq other (object ∷ [])) apart).0
-changed_elsewhere files (Remove directory name object) other apart =
-    let both = or_parts (nat_eq other directory) (is_among nat_eq other (object ∷ [])) apart in
-    parent_stays (without_name nat_eq files directory name) (Some object) other both.1
-    ∙ skip (nat_eq other directory) _ _ both.0
-changed_elsewhere files (Move from old to new object) other apart =
-    skip (nat_eq other object) _ _ third.0 ∙ skip (nat_eq other to) _ _ second.0
-    ∙ skip (nat_eq other from) _ _ first.0 ∙ parent_stays files replaced other third.1
-  where
-    replaced : Option ℕ
-    replaced = entry_named new (entries_in (files.tree.node to))
-
-    alone : FileTree ℕ
-    alone = without_parent nat_eq files replaced
-
-    unnamed : FileTree ℕ
-    unnamed = without_name nat_eq alone from old
-
-    named : FileTree ℕ
-    named = with_name nat_eq unnamed to new object
-
-    first : (nat_eq other from ≡ false) × (is_among nat_eq other (to ∷ object ∷ option_to_list replaced) ≡ false)
-    first = or_parts (nat_eq other from) (is_among nat_eq other (to ∷ object ∷ option_to_list replaced)) apart
-
-    second : (nat_eq other to ≡ false) × (is_among nat_eq other (object ∷ option_to_list replaced) ≡ false)
-    second = or_parts (nat_eq other to) (is_among nat_eq other (object ∷ option_to_list replaced)) first.1
-
-    third : (nat_eq other object ≡ false) × (is_among nat_eq other (option_to_list replaced) ≡ false)
-    third = or_parts (nat_eq other object) (is_among nat_eq other (option_to_list replaced)) second.1
-changed_elsewhere files (SetBytes file bytes) other apart =
-    skip (nat_eq other file) _ _ (or_parts (nat_eq other file) false apart).0
-changed_elsewhere files (SetAttr object attr) other apart =
-    skip (nat_eq other object) _ _ (or_parts (nat_eq other object) false apart).0
-changed_elsewhere files (SetMark directory opaque) other apart =
-    skip (nat_eq other directory) _ _ (or_parts (nat_eq other directory) false apart).0
-changed_elsewhere files (CopyUp object) other apart = refl
+changed_elsewhere files change other apart = grind (arith, common_steps, or_parts, skip, parent_stays)
 
 -- an overlay is mounted by its own call
 module _ (fresh : Fresh ℕ) (world : World ℕ) (plain : IsPlain world) (filesystem number : ℕ) where
@@ -96,38 +56,24 @@ module _ (fresh : Fresh ℕ) (world : World ℕ) (plain : IsPlain world) (filesy
       → holds_of (λ own. nat_eq filesystem own.0 && is_among nat_eq number own.1) (own_by world made) ≡ false
       → MadeBy Kept filesystem number fresh world plain (inl refl) made
   made_elsewhere None apart = tt
-  made_elsewhere (Some made) apart =
-      λ same.
-      inl (changed_elsewhere (files_at nat_eq world made.0) made.1 number
-      (sym (ap (λ b. b && is_among nat_eq number (named_by (files_at nat_eq world made.0) made.1))
-      (eq-eqb filesystem (mount_at nat_eq world made.0).filesystem same)) ∙ apart)
-      ∙ ap (λ n. inode_in world n number) (sym same))
+  made_elsewhere (Some made) apart = grind (arith, common_steps, changed_elsewhere, eq-eqb)
 
   left_elsewhere : (task : Task ℕ) (call : Call) → mounts_overlay call ≡ false → (permit : Permit ℕ)
       → IsFor (looks_of nat_eq world) task call permit → is_own fresh world permit filesystem number ≡ false
       → Left permit
   left_elsewhere task call no_overlay (ToMountPlain place flags) for apart =
-      λ same is. absurd (true≢false (sym (own same is) ∙ apart))
-    where
-      own : filesystem ≡ evens fresh 0 → number ≡ evens fresh 1
-          → (nat_eq filesystem (evens fresh 0) && (nat_eq number (evens fresh 1) || false)) ≡ true
-      own same is =
-          ap (λ b. b && (nat_eq number (evens fresh 1) || false)) (eq-eqb filesystem (evens fresh 0) same)
-          ∙ ap (λ b. b || false) (eq-eqb number (evens fresh 1) is)
+      grind (arith, common_steps, true≢false, eq-eqb)
   left_elsewhere task call no_overlay (ToMountOverlay place overlay flags) for apart =
-      absurd (true≢false (sym (ap mounts_overlay for.2) ∙ no_overlay))
+      grind (arith, common_steps, true≢false)
   left_elsewhere task call no_overlay permit for apart = made_elsewhere (change_of fresh world permit) apart
 
 pub calls_change_their_own : CallsChangeTheirOwn
 calls_change_their_own fresh world name call task permit filesystem number plain no_overlay is judged apart =
     inode_after_call (Kept fresh world plain filesystem number) filesystem number (inr refl) fresh world name call
-    (inl refl)
-    (λ other given is_other judged_other.
-    inode_left (Kept fresh world plain filesystem number) filesystem number fresh world plain (inl refl) other
-    given
+    (inl refl) (λ other given is_other judged_other.
+    inode_left (Kept fresh world plain filesystem number) filesystem number fresh world plain (inl refl) other given
     (left_elsewhere fresh world plain filesystem number other call no_overlay given
-    (permits_are_for_their_calls fresh world other call given judged_other)
-    (let same : other ≡ task = cc in
+    (permits_are_for_their_calls fresh world other call given judged_other) (let same : other ≡ task = cc in
     let one : given ≡ permit =
     let both = sym judged_other ∙ ap (λ t. judge_in nat_eq fresh world t call) same ∙ judged in cc in
     ap (λ p. is_own fresh world p filesystem number) one ∙ apart)))

@@ -1,13 +1,14 @@
 -- Each part of an inode is changed by its own calls alone.
-use Rattle.std.proofs.Common.{◌≡◌, refl, sym, ◌∙◌, true≢false, ℕ, Bool, true, false, List, Option, Some, None}
-use Rattle.vt_laws_trees.proofs.calls.inodes.InodesParts.{KeptByBytes, KeptByMark, KeptByMode, KeptByNames, KeptByOwner, Stays, only_these}
+use Rattle.std.proofs.Common.{arith, ◌≡◌, refl, sym, ◌∙◌, true≢false, ℕ, Bool, true, false, List, Option, Some, None}
+use Rattle.std.proofs.lemmas.Grind.{common_steps}
+use Rattle.vt_laws_trees.proofs.calls.inodes.InodesParts.{KeptByBytes, KeptByMark, KeptByMode, KeptByNames, KeptByOwner, only_these}
 use Rattle.vt_laws_trees.specs.Calls.Inodes.{KindsStay, LinkTextsStay, OnlyChmodChangesModes, OnlyChownChangesOwners, OnlyNamingChangesEntries, OnlyOpaqueChangesMarks, OnlyTheseChange, OnlyWritesChangeBytes, owner_of}
 use Rattle.vt_spec.specs.declared.attributes.Attr.{Attr}
 use Rattle.vt_spec.specs.declared.attributes.Kind.TheVariants.{Symlink as SymlinkKind}
-use Rattle.vt_spec.specs.Language.Changes.{content_with_mark, content_with_parent, node_with_parent, node_without_entry}
+use Rattle.vt_spec.specs.Language.Changes.{content_with_mark, content_with_parent}
 use Rattle.vt_spec.specs.FileTree.{is_kind, opaque_of}
 use Rattle.vt_spec.specs.Lists.{when}
-use Rattle.vt_spec.specs.Tree.{Content, Entries, Node, bytes_of, entries_of, kind_of, node_with_entry, with_bytes, with_entries}
+use Rattle.vt_spec.specs.Tree.{Content, Entries, Node, bytes_of, entries_of, kind_of, with_bytes, with_entries}
 use Rattle.vt_spec.specs.Tree.Content.{Directory, Regular, Symlink, Whiteout}
 
 -- what cannot be so
@@ -32,19 +33,7 @@ module _ {A : Type 0} (part : Content ℕ → A) where
   MarksKeep = (content : Content ℕ) (mark : Bool) → part (content_with_mark mark content) ≡ part content
 
   names_kept : EntriesKeep → ParentsKeep → KeptByNames OfContent
-  names_kept entries parents = (entered, taken, below)
-    where
-      entered : (name : List ℕ) (object : ℕ) (o : Option (Node ℕ)) → Stays OfContent o (node_with_entry name object o)
-      entered name object None = tt
-      entered name object (Some node) = entries node.content _
-
-      taken : (name : List ℕ) (o : Option (Node ℕ)) → Stays OfContent o (node_without_entry name o)
-      taken name None = tt
-      taken name (Some node) = entries node.content _
-
-      below : (parent : ℕ) (o : Option (Node ℕ)) → Stays OfContent o (node_with_parent parent o)
-      below parent None = tt
-      below parent (Some node) = parents node.content parent
+  names_kept entries parents = grind (arith, common_steps)
 
   bytes_kept : BytesKeep → KeptByBytes OfContent
   bytes_kept same bytes None = tt
@@ -68,19 +57,7 @@ module _ {A : Type 0} (part : Attr → A) where
   OfAttr node = part node.attr
 
   attr_names_kept : KeptByNames OfAttr
-  attr_names_kept = (entered, taken, below)
-    where
-      entered : (name : List ℕ) (object : ℕ) (o : Option (Node ℕ)) → Stays OfAttr o (node_with_entry name object o)
-      entered name object None = tt
-      entered name object (Some node) = refl
-
-      taken : (name : List ℕ) (o : Option (Node ℕ)) → Stays OfAttr o (node_without_entry name o)
-      taken name None = tt
-      taken name (Some node) = refl
-
-      below : (parent : ℕ) (o : Option (Node ℕ)) → Stays OfAttr o (node_with_parent parent o)
-      below parent None = tt
-      below parent (Some node) = refl
+  attr_names_kept = grind (arith, common_steps)
 
   attr_bytes_kept : KeptByBytes OfAttr
   attr_bytes_kept bytes None = tt

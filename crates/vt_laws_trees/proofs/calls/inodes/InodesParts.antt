@@ -1,5 +1,6 @@
 -- What calls change of an inode, part by part.
-use Rattle.std.proofs.Common.{◌≡◌, refl, sym, ap, subst, ◌∙◌, true≢false, inl, inr, ℕ, nat_eq, eqb-true, eq-eqb, Bool, true, false, cond, List, [], ◌∷◌, Option, Some, None}
+use Rattle.std.proofs.Common.{arith, ◌≡◌, refl, sym, ap, subst, ◌∙◌, true≢false, ℕ, nat_eq, eqb-true, eq-eqb, Bool, true, false, cond, List, [], ◌∷◌, Option, Some, None}
+use Rattle.std.proofs.lemmas.Grind.{common_steps}
 use Rattle.vt_laws_rules.proofs.given.GivenPermits.{permits_are_for_their_calls}
 use Rattle.vt_laws_trees.proofs.calls.inodes.InodesLeft.{ChangeHolds, LeftBy, MadeBy, inode_left}
 use Rattle.vt_laws_trees.proofs.calls.inodes.InodesSettled.{inode_after_call}
@@ -55,8 +56,7 @@ module _ {A : Type 0} (part : Node ℕ → A) where
   KeptByParents = (parent : ℕ) → KeptBy (node_with_parent parent)
 
   abbrev pub KeptByNames : Type 0
-  KeptByNames =
-      ((entry : List ℕ) (object : ℕ) → KeptBy (node_with_entry entry object))
+  KeptByNames = ((entry : List ℕ) (object : ℕ) → KeptBy (node_with_entry entry object))
       × ((entry : List ℕ) → KeptBy (node_without_entry entry)) × KeptByParents
 
   abbrev pub KeptByBytes : Type 0
@@ -78,18 +78,7 @@ module _ {A : Type 0} (part : Node ℕ → A) where
     pub at_node : (files : FileTree ℕ) (number : ℕ) (new : Option (Node ℕ) → Option (Node ℕ))
         → (other ≡ number → Stays (files.tree.node number) (new (files.tree.node number)))
         → KeptIn files (changed_node nat_eq files number new)
-    at_node files number new here = by (nat_eq other number) refl
-      where
-        by : (b : Bool) → nat_eq other number ≡ b
-            → Stays (files.tree.node other)
-            (cond (nat_eq other number) (new (files.tree.node number)) (files.tree.node other))
-        by true e =
-            let same : other ≡ number = eqb-true other number e in
-            subst (λ b. Stays (files.tree.node other) (cond b (new (files.tree.node number)) (files.tree.node other)))
-            (sym e) (subst (λ n. Stays (files.tree.node n) (new (files.tree.node number))) (sym same) (here same))
-        by false e =
-            subst (λ b. Stays (files.tree.node other) (cond b (new (files.tree.node number)) (files.tree.node other)))
-            (sym e) (itself (files.tree.node other))
+    at_node files number new here = grind (arith, common_steps, eqb-true, itself)
 
     pub then_kept : (a b c : FileTree ℕ) → KeptIn a b → KeptIn b c → KeptIn a c
     then_kept a b c = next (a.tree.node other) (b.tree.node other) (c.tree.node other)
@@ -106,8 +95,7 @@ module _ {A : Type 0} (part : Node ℕ → A) where
     made_kept files directory name number node apart named =
         then_kept files (with_inode nat_eq files number node) (changed nat_eq files (Make directory name number node))
         (subst (λ b. Stays (files.tree.node other) (cond b (Some node) (files.tree.node other))) (sym apart)
-        (itself (files.tree.node other)))
-        (named (with_inode nat_eq files number node))
+        (itself (files.tree.node other))) (named (with_inode nat_eq files number node))
 
     parent_kept : KeptByParents → (files : FileTree ℕ) (object : Option ℕ)
         → KeptIn files (without_parent nat_eq files object)
@@ -126,8 +114,7 @@ module _ {A : Type 0} (part : Node ℕ → A) where
         → ((left : FileTree ℕ) → KeptIn left (with_name nat_eq left to new object))
         → KeptIn files (changed nat_eq files (Move from old to new object))
     moved_kept parents files from old to new object without named =
-        then_kept files alone moved (parent_kept parents files replaced)
-        (then_kept alone unnamed moved (without alone)
+        then_kept files alone moved (parent_kept parents files replaced) (then_kept alone unnamed moved (without alone)
         (then_kept unnamed renamed moved (named unnamed) (kept_at renamed object (node_with_parent to) (parents to))))
       where
         replaced : Option ℕ
@@ -166,10 +153,8 @@ module _ {A : Type 0} (part : Node ℕ → A) where
       pub change_holds_if_kept : (location : Location ℕ) (change : Change ℕ)
           → KeptIn (files_at nat_eq world location) (changed nat_eq (files_at nat_eq world location) change)
           → ChangeHolds (Stays Was) filesystem other world location change
-      change_holds_if_kept location change kept same =
-          subst (λ n. Stays (inode_in world n other)
-          ((changed nat_eq (files_at nat_eq world location) change).tree.node other))
-          (sym same) kept
+      change_holds_if_kept location change kept same = subst (λ n. Stays (inode_in world n other)
+          ((changed nat_eq (files_at nat_eq world location) change).tree.node other)) (sym same) kept
 
       module _ (task : Task ℕ) (call : Call) (no_overlay : mounts_overlay call ≡ false)
           (names : changes_names call ≡ true → KeptByNames) (bytes_kept : writes_bytes call ≡ true → KeptByBytes)
@@ -177,81 +162,44 @@ module _ {A : Type 0} (part : Node ℕ → A) where
           (marks : sets_mark call ≡ true → KeptByMark) where
         made : changes_names call ≡ true → (directory : Location ℕ) (name : List ℕ) (node : Node ℕ)
             → ChangeHolds (Stays Was) filesystem other world directory (Make directory.node name (evens fresh 0) node)
-        made is directory name node =
-            change_holds_if_kept directory (Make directory.node name (evens fresh 0) node)
+        made is directory name node = change_holds_if_kept directory (Make directory.node name (evens fresh 0) node)
             (made_kept (files_at nat_eq world directory) directory.node name (evens fresh 0) node (handed 0)
             (named_kept (names is) directory.node name (evens fresh 0)))
 
         set : (location : Location ℕ) (object : ℕ) (attr : Attr) → object ≡ location.node
             → IsForAttr (looks_of nat_eq world) call location attr
             → ChangeHolds (Stays Was) filesystem other world location (SetAttr object attr)
-        set location object attr at for =
-            change_holds_if_kept location (SetAttr object attr)
-            (at_node (files_at nat_eq world location) object (node_with_attr attr) (λ same. by for))
-          where
-            there : Option (Node ℕ)
-            there = (files_at nat_eq world location).tree.node object
-
-            seen : (files_at nat_eq world location).tree.node location.node ≡ there
-            seen = ap (files_at nat_eq world location).tree.node (sym at)
-
-            by : IsForAttr (looks_of nat_eq world) call location attr → Stays there (node_with_attr attr there)
-            by (inl chmod) =
-                subst (λ a. Stays there (node_with_attr a there))
-                (sym (chmod.3 ∙ ap (λ node. attr_with_mode (attr_in node) chmod.1) seen))
-                (modes (ap sets_mode chmod.2) chmod.1 there)
-            by (inr chown) =
-                subst (λ a. Stays there (node_with_attr a there))
-                (sym (chown.4 ∙ ap (λ node. attr_with_owner (attr_in node) chown.1 chown.2) seen))
-                (owners (ap sets_owner chown.3) chown.1 chown.2 there)
+        set location object attr at for = grind (arith, common_steps, change_holds_if_kept, at_node)
 
         part_written : (file : Location ℕ) (offset : ℕ) (bytes : List ℕ) → writes_bytes call ≡ true
             → MadeBy (Stays Was) filesystem other fresh world plain (itself Was)
             (change_of fresh world (ToWritePart file offset bytes))
         part_written file offset [] is = tt
-        part_written file offset (byte ∷ bytes) is =
-            change_holds_if_kept file (SetBytes file.node _)
+        part_written file offset (byte ∷ bytes) is = change_holds_if_kept file (SetBytes file.node _)
             (kept_at (files_at nat_eq world file) file.node (node_with_bytes _) (bytes_kept is _))
 
         left_kept : (permit : Permit ℕ) → IsFor (looks_of nat_eq world) task call permit → Left permit
         left_kept (ToChange location (Make directory name number node)) for = absurd for
         left_kept (ToChange location (AddName directory name object)) for =
-            change_holds_if_kept location (AddName directory name object)
-            (named_kept (names (ap changes_names for.2)) directory name object (files_at nat_eq world location))
+            grind (arith, common_steps, change_holds_if_kept, named_kept)
         left_kept (ToChange location (Remove directory name object)) for =
-            let kept = names (ap changes_names for.1) in
-            change_holds_if_kept location (Remove directory name object)
-            (removed_kept kept.2 (files_at nat_eq world location) directory name object
-            (unnamed_kept kept directory name (files_at nat_eq world location)))
+            grind (arith, common_steps, change_holds_if_kept, removed_kept, unnamed_kept)
         left_kept (ToChange location (Move from old to new object)) for = absurd for
         left_kept (ToChange location (SetBytes file bytes)) for =
-            change_holds_if_kept location (SetBytes file bytes)
-            (kept_at (files_at nat_eq world location) file (node_with_bytes bytes)
-            (bytes_kept (ap writes_bytes for.1) bytes))
+            grind (arith, common_steps, change_holds_if_kept, kept_at)
         left_kept (ToChange location (SetAttr object attr)) for = set location object attr for.0 for.1
         left_kept (ToChange location (SetMark directory opaque)) for =
-            change_holds_if_kept location (SetMark directory opaque)
-            (kept_at (files_at nat_eq world location) directory (node_with_mark opaque)
-            (marks (ap sets_mark for.1) opaque))
+            grind (arith, common_steps, change_holds_if_kept, kept_at)
         left_kept (ToChange location (CopyUp object)) for = absurd for
         left_kept (ToMake directory name node) for = made (makes_changes call for) directory name node
         left_kept (ToRemoveDirectory parent name directory) for =
-            let kept = names (ap changes_names for.1) in
-            change_holds_if_kept parent (Remove parent.node name directory.node)
-            (removed_kept kept.2 (files_at nat_eq world parent) parent.node name directory.node
-            (unnamed_kept kept parent.node name (files_at nat_eq world parent)))
+            grind (arith, common_steps, change_holds_if_kept, removed_kept, unnamed_kept)
         left_kept (ToRename from old to new object replaced) for =
-            let kept = names (ap changes_names for.2) in
-            change_holds_if_kept from (Move from.node old to.node new object.node)
-            (moved_kept kept.2 (files_at nat_eq world from) from.node old to.node new object.node
-            (unnamed_kept kept from.node old) (named_kept kept to.node new object.node))
-        left_kept (ToOpenNew directory name node access) for =
-            made (ap changes_names for.2 ∙ for.3) directory name node
+            grind (arith, common_steps, change_holds_if_kept, moved_kept, unnamed_kept, named_kept)
+        left_kept (ToOpenNew directory name node access) for = made (ap changes_names for.2 ∙ for.3) directory name node
         left_kept (ToWritePart file offset bytes) for = part_written file offset bytes (ap writes_bytes for.1)
-        left_kept (ToMountPlain place flags) for =
-            λ same is. absurd (true≢false (sym (eq-eqb other (evens fresh 1) is) ∙ handed 2))
-        left_kept (ToMountOverlay place overlay flags) for =
-            absurd (true≢false (sym (ap mounts_overlay for.2) ∙ no_overlay))
+        left_kept (ToMountPlain place flags) for = grind (arith, common_steps, true≢false, eq-eqb)
+        left_kept (ToMountOverlay place overlay flags) for = grind (arith, common_steps, true≢false)
         left_kept permit for = tt
 
   -- so for a call of which these do not hold
@@ -259,12 +207,10 @@ module _ {A : Type 0} (part : Node ℕ → A) where
       → IsPlain world → mounts_overlay call ≡ false → IsNotHanded fresh other
       → (changes_names call ≡ true → KeptByNames) → (writes_bytes call ≡ true → KeptByBytes)
       → (sets_mode call ≡ true → KeptByMode) → (sets_owner call ≡ true → KeptByOwner)
-      → (sets_mark call ≡ true → KeptByMark)
-      → Stays (inode_in world filesystem other)
+      → (sets_mark call ≡ true → KeptByMark) → Stays (inode_in world filesystem other)
       (inode_in (policy nat_eq fresh world name call).world filesystem other)
   only_these fresh world name call filesystem other plain no_overlay handed names bytes modes owners marks =
-      inode_after_call (Stays was) filesystem other tt fresh world name call (itself was)
-      (λ task permit is judged.
+      inode_after_call (Stays was) filesystem other tt fresh world name call (itself was) (λ task permit is judged.
       inode_left (Stays was) filesystem other fresh world plain (itself was) task permit
       (left_kept other fresh world plain filesystem handed task call no_overlay names bytes modes owners marks permit
       (permits_are_for_their_calls fresh world task call permit judged)))

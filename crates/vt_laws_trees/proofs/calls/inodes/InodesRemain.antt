@@ -1,5 +1,6 @@
 -- A granted call takes no inode away itself.
-use Rattle.std.proofs.Common.{◌≡◌, refl, sym, ap, ◌∙◌, true≢false, ℕ, nat_eq, eqb-true, Bool, true, false, cond, List, Option, Some, None, is_some}
+use Rattle.std.proofs.Common.{arith, ◌≡◌, refl, sym, ap, ◌∙◌, true≢false, ℕ, nat_eq, eqb-true, Bool, true, false, cond, List, Option, Some, None, is_some}
+use Rattle.std.proofs.lemmas.Grind.{common_steps}
 use Rattle.vt_laws_rules.proofs.given.GivenPermits.{permits_are_for_their_calls}
 use Rattle.vt_laws_trees.proofs.calls.inodes.InodesLeft.{LeftBy, MadeBy, inode_left}
 use Rattle.vt_laws_rules.specs.Given.{IsFor}
@@ -32,19 +33,7 @@ module _ (other : ℕ) where
 
   pub at_node : (files : FileTree ℕ) (number : ℕ) (new : Option (Node ℕ) → Option (Node ℕ)) → LeavesOne new
       → RemainsIn files (changed_node nat_eq files number new)
-  at_node files number new leaves there = by (nat_eq other number) refl
-    where
-      some : (o : Option (Node ℕ)) → is_some o ≡ true → is_some (new o) ≡ true
-      some None e = cc
-      some (Some node) e = leaves node
-
-      by : (b : Bool) → nat_eq other number ≡ b
-          → is_some (cond (nat_eq other number) (new (files.tree.node number)) (files.tree.node other)) ≡ true
-      by true e =
-          ap (λ b. is_some (cond b (new (files.tree.node number)) (files.tree.node other))) e
-          ∙ some (files.tree.node number)
-          (ap (λ n. is_some (files.tree.node n)) (sym (eqb-true other number e)) ∙ there)
-      by false e = ap (λ b. is_some (cond b (new (files.tree.node number)) (files.tree.node other))) e ∙ there
+  at_node files number new leaves there = grind (arith, common_steps, eqb-true)
 
   alone_remains : (files : FileTree ℕ) (object : Option ℕ) → RemainsIn files (without_parent nat_eq files object)
   alone_remains files None there = there
@@ -75,8 +64,7 @@ module _ (other : ℕ) where
       (unnamed_remains files directory name there)
   changed_remains files (Move from old to new object) there =
       at_node (with_name nat_eq unnamed to new object) object (node_with_parent to) (λ node. refl)
-      (named_remains unnamed to new object
-      (unnamed_remains alone from old (alone_remains files replaced there)))
+      (named_remains unnamed to new object (unnamed_remains alone from old (alone_remains files replaced there)))
     where
       replaced : Option ℕ
       replaced = entry_named new (entries_in (files.tree.node to))
@@ -99,9 +87,7 @@ module _ (other : ℕ) where
     made_left : (made : Option (Location ℕ × Change ℕ))
         → MadeBy (Remains Was) filesystem other fresh world plain (λ there. there) made
     made_left None = tt
-    made_left (Some made) =
-        λ same there.
-        changed_remains (files_at nat_eq world made.0) made.1
+    made_left (Some made) = λ same there. changed_remains (files_at nat_eq world made.0) made.1
         (ap (λ n. is_some (inode_in world n other)) (sym same) ∙ there)
 
     left : (task : Task ℕ) (call : Call) → mounts_overlay call ≡ false → (permit : Permit ℕ)
@@ -115,6 +101,5 @@ module _ (other : ℕ) where
 pub only_unused_inodes_end : OnlyUnusedInodesEnd
 only_unused_inodes_end fresh world call task permit filesystem number plain no_overlay judged =
     inode_left (Remains (inode_in world filesystem number)) filesystem number fresh world plain
-    (λ there. there) task permit
-    (left number fresh world plain filesystem task call no_overlay permit
+    (λ there. there) task permit (left number fresh world plain filesystem task call no_overlay permit
     (permits_are_for_their_calls fresh world task call permit judged))

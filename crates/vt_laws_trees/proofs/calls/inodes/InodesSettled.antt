@@ -1,13 +1,14 @@
 -- What settling and raising leave of inodes: each is as it was, or gone.
-use Rattle.std.proofs.Common.{◌≡◌, refl, sym, ap, subst, ◌∙◌, true≢false, ℕ, nat_eq, eqb-true, Bool, true, false, not, cond, ◌||◌, List, [], ◌∷◌, map, filter, find, Option, Some, None, unwrap_or, Ok, Err, ok_or}
+use Rattle.std.proofs.Common.{arith, ◌≡◌, refl, sym, ap, subst, ◌∙◌, true≢false, ℕ, nat_eq, eqb-true, Bool, true, false, not, cond, ◌||◌, List, [], ◌∷◌, map, filter, find, Option, Some, None, unwrap_or, Ok, Err, ok_or}
+use Rattle.std.proofs.lemmas.Grind.{common_steps}
 use Rattle.vt_laws_rules.proofs.judged.CallsJudged.{policy_judges_then_applies}
 use Rattle.vt_spec.specs.declared.errors.Rule.TheVariants.{S2}
 use Rattle.vt_spec.specs.Errors.{denial}
 use Rattle.vt_spec.specs.Machine.Apply.{apply}
 use Rattle.vt_spec.specs.Language.Calls.{Call, TaskName}
-use Rattle.vt_spec.specs.Machine.Filesystems.{filesystems_raised, raised, raised_if_changed}
+use Rattle.vt_spec.specs.Machine.Filesystems.{filesystems_raised, raised}
 use Rattle.vt_spec.specs.Machine.Judge.{Judgement, judge_in}
-use Rattle.vt_spec.specs.Lists.{Fresh, is_among}
+use Rattle.vt_spec.specs.Lists.{Fresh}
 use Rattle.vt_spec.specs.Machine.Outcomes.{after, denied}
 use Rattle.vt_spec.specs.Machine.Permits.{Permit}
 use Rattle.vt_spec.specs.Machine.Policy.{filesystems_changed_by, finished, finished_by, only_looks, policy}
@@ -32,44 +33,12 @@ module _ (Q : Inode → Type 0) (number inode : ℕ) where
       → Q ((change filesystem).files.tree.node inode))
       → (list : List (Filesystem ℕ)) → HoldsIn list → HoldsIn (map change list)
   mapped change keeps holds [] h = h
-  mapped change keeps holds (first ∷ rest) h =
-      subst (λ n. Q ((found (nat_eq number n) (change first) (map change rest)).files.tree.node inode))
-      (sym (keeps first)) (by (nat_eq number first.number) h (mapped change keeps holds rest))
-    where
-      found : (b : Bool) → Filesystem ℕ → List (Filesystem ℕ) → Filesystem ℕ
-      found b one others =
-          unwrap_or (cond b (Some one) (find (λ filesystem. nat_eq number filesystem.number) others))
-          (no_filesystem number)
-
-      by : (b : Bool) → Q ((found b first rest).files.tree.node inode) → (HoldsIn rest → HoldsIn (map change rest))
-          → Q ((found b (change first) (map change rest)).files.tree.node inode)
-      by true h later = holds first h
-      by false h later = later h
+  mapped change keeps holds (first ∷ rest) h = grind (arith, common_steps, mapped change keeps holds rest)
 
   -- raising
   pub raised_holds : (changed : List ℕ) (world : World ℕ) → HoldsIn world.filesystems
       → HoldsIn (filesystems_raised nat_eq changed world).filesystems
-  raised_holds changed world h =
-      mapped (raised_if_changed nat_eq changed) keeps holds world.filesystems h
-    where
-      by : (filesystem : Filesystem ℕ) → Bool → Filesystem ℕ
-      by filesystem b = cond b (record filesystem { change = raised filesystem.change }) filesystem
-
-      keeps_by : (filesystem : Filesystem ℕ) (b : Bool) → (by filesystem b).number ≡ filesystem.number
-      keeps_by filesystem true = refl
-      keeps_by filesystem false = refl
-
-      keeps : (filesystem : Filesystem ℕ) → (raised_if_changed nat_eq changed filesystem).number ≡ filesystem.number
-      keeps filesystem = keeps_by filesystem _
-
-      holds_by : (filesystem : Filesystem ℕ) (b : Bool) → Q (filesystem.files.tree.node inode)
-          → Q ((by filesystem b).files.tree.node inode)
-      holds_by filesystem true h = h
-      holds_by filesystem false h = h
-
-      holds : (filesystem : Filesystem ℕ) → Q (filesystem.files.tree.node inode)
-          → Q ((raised_if_changed nat_eq changed filesystem).files.tree.node inode)
-      holds filesystem = holds_by filesystem _
+  raised_holds changed world h = grind (arith, common_steps, mapped)
 
   -- what holds where it is gone
   module _ (gone : Q None) where
@@ -84,8 +53,7 @@ module _ (Q : Inode → Type 0) (number inode : ℕ) where
         stay = filter (λ filesystem. lives filesystem.number) rest
 
         found : (b : Bool) → Filesystem ℕ → List (Filesystem ℕ) → Filesystem ℕ
-        found b one others =
-            unwrap_or (cond b (Some one) (find (λ filesystem. nat_eq number filesystem.number) others))
+        found b one others = unwrap_or (cond b (Some one) (find (λ filesystem. nat_eq number filesystem.number) others))
             (no_filesystem number)
 
         by : (b : Bool) → lives first.number ≡ b → (c : Bool) → nat_eq number first.number ≡ c
@@ -101,28 +69,11 @@ module _ (Q : Inode → Type 0) (number inode : ℕ) where
 
             none : (list : List (Filesystem ℕ)) → HoldsIn (filter (λ filesystem. lives filesystem.number) list)
             none [] = gone
-            none (one ∷ others) = inside (lives one.number) refl (nat_eq number one.number) refl (none others)
-              where
-                inside : (b : Bool) → lives one.number ≡ b → (c : Bool) → nat_eq number one.number ≡ c
-                    → HoldsIn (filter (λ filesystem. lives filesystem.number) others)
-                    → HoldsIn (cond b (one ∷ filter (λ filesystem. lives filesystem.number) others)
-                    (filter (λ filesystem. lives filesystem.number) others))
-                inside true e' true f' later =
-                    absurd (true≢false (sym e' ∙ ap lives (sym (eqb-true number one.number f')) ∙ dead))
-                inside true e' false f' later =
-                    subst (λ c. Q ((found c one (filter
-                    (λ filesystem. lives filesystem.number) others)).files.tree.node inode))
-                    (sym f') later
-                inside false e' c f' later = later
+            none (one ∷ others) = grind (arith, common_steps, true≢false, eqb-true, dead, none others)
 
     used_by_holds : (whole : Bool) (used : List ℕ) (filesystem : Filesystem ℕ) → Q (filesystem.files.tree.node inode)
         → Q ((only_used_by nat_eq whole used filesystem).files.tree.node inode)
-    used_by_holds true used filesystem h = h
-    used_by_holds false used filesystem h = by (is_among nat_eq inode used)
-      where
-        by : (b : Bool) → Q (cond b (filesystem.files.tree.node inode) None)
-        by true = h
-        by false = gone
+    used_by_holds whole used filesystem h = grind (arith, common_steps)
 
     used_holds : (world : World ℕ) (chosen : Bool) (filesystem : Filesystem ℕ) → Q (filesystem.files.tree.node inode)
         → Q ((only_used nat_eq world chosen filesystem).files.tree.node inode)
@@ -131,8 +82,7 @@ module _ (Q : Inode → Type 0) (number inode : ℕ) where
 
     dead_in_holds : (chosen : Filesystem ℕ → Bool) (world : World ℕ) → HoldsIn world.filesystems
         → HoldsIn (without_dead_in nat_eq chosen world).filesystems
-    dead_in_holds chosen world h =
-        mapped (λ filesystem. only_used nat_eq world (chosen filesystem) filesystem)
+    dead_in_holds chosen world h = mapped (λ filesystem. only_used nat_eq world (chosen filesystem) filesystem)
         (λ filesystem. number-only_used world (chosen filesystem) filesystem)
         (λ filesystem. used_holds world (chosen filesystem) filesystem) world.filesystems h
 
@@ -170,12 +120,10 @@ module _ (Q : Inode → Type 0) (number inode : ℕ) where
               left : HoldsIn (apply nat_eq fresh world task permit).world.filesystems
               left = done task permit is judged
 
-              by_looks : (b : Bool)
-                  → HoldsIn (finished_by nat_eq b world name changed
+              by_looks : (b : Bool) → HoldsIn (finished_by nat_eq b world name changed
                   (apply nat_eq fresh world task permit)).world.filesystems
               by_looks true = left
-              by_looks false =
-                  raised_holds changed (settled nat_eq (apply nat_eq fresh world task permit).world)
+              by_looks false = raised_holds changed (settled nat_eq (apply nat_eq fresh world task permit).world)
                   (settled_holds (apply nat_eq fresh world task permit).world left)
           by_permit changed task is (Err deny) judged = by_looks (only_looks call)
             where

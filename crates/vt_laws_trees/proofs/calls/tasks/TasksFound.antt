@@ -1,12 +1,12 @@
 -- Tasks by their names, in lists that are changed.
-use Rattle.std.proofs.Common.{◌≡◌, refl, sym, ap, ◌∙◌, true≢false, ℕ, Bool, true, false, not, cond, List, [], ◌∷◌, ◌++◌, map, filter, find, Option, Some, None, option_map}
+use Rattle.std.proofs.Common.{arith, ◌≡◌, refl, sym, ap, ◌∙◌, true≢false, ℕ, Bool, true, false, not, cond, List, [], ◌∷◌, ◌++◌, map, filter, find, Option, Some, None, option_map, nat_eq}
+use Rattle.std.proofs.lemmas.Grind.{common_steps}
 use Rattle.vt_spec.specs.Machine.Filesystems.{raised}
 use Rattle.vt_spec.specs.Machine.Mounts.{Mount}
-use Rattle.vt_spec.specs.Machine.Namespaces.{pivoted_location, pivoted_task}
+use Rattle.vt_spec.specs.Machine.Namespaces.{pivoted_task}
 use Rattle.vt_spec.specs.Machine.Policy.{raised_task}
 use Rattle.vt_spec.specs.Machine.World.{Task}
 use Rattle.vt_spec.specs.Language.Calls.{TaskName, same_name}
-use Rattle.std.proofs.Common.{nat_eq}
 use Rattle.vt_spec.proofs.Worlds.{same_name_itself, same_task_name}
 
 abbrev pub Found : Type 0
@@ -19,65 +19,28 @@ called name tasks = find (λ task. same_name name task.name) tasks
 pub found_name : (name : TaskName) (tasks : List (Task ℕ)) (task : Task ℕ) → called name tasks ≡ Some task
     → name ≡ task.name
 found_name name [] task e = cc
-found_name name (first ∷ rest) task e = by (same_name name first.name) refl e (found_name name rest task)
-  where
-    by : (b : Bool) → same_name name first.name ≡ b → cond b (Some first) (called name rest) ≡ Some task
-        → (called name rest ≡ Some task → name ≡ task.name) → name ≡ task.name
-    by true is e later =
-        let same : first ≡ task = cc in same_task_name name first.name is ∙ ap (λ t. t.name) same
-    by false is e later = later e
+found_name name (first ∷ rest) task e = grind (arith, common_steps, same_task_name, found_name name rest task)
 
 -- a change that keeps names is found changed
 pub find_mapped : (change : Task ℕ → Task ℕ) → ((task : Task ℕ) → (change task).name ≡ task.name)
     → (name : TaskName) (tasks : List (Task ℕ)) → called name (map change tasks) ≡ option_map change (called name tasks)
 find_mapped change keeps name [] = refl
-find_mapped change keeps name (first ∷ rest) =
-    ap (λ n. cond (same_name name n) (Some (change first)) (called name (map change rest))) (keeps first)
-    ∙ by (same_name name first.name) (find_mapped change keeps name rest)
-  where
-    by : (b : Bool) → called name (map change rest) ≡ option_map change (called name rest)
-        → cond b (Some (change first)) (called name (map change rest))
-        ≡ option_map change (cond b (Some first) (called name rest))
-    by true later = refl
-    by false later = later
+find_mapped change keeps name (first ∷ rest) = grind (arith, common_steps, find_mapped change keeps name rest)
 
 -- raising changes the change number alone
 pub raised_is : (name : TaskName) (task : Task ℕ)
     → raised_task name task ≡ record task { change = (raised_task name task).change }
-raised_is name task = by (same_name name task.name)
-  where
-    by : (b : Bool)
-        → cond b (record task { change = raised task.change }) task
-        ≡ record task { change = (cond b (record task { change = raised task.change }) task).change }
-    by true = refl
-    by false = refl
+raised_is name task = grind (arith, common_steps)
 
 pub pivoted_keeps_name : (namespace : ℕ) (root new : Mount ℕ) (task : Task ℕ)
     → (pivoted_task nat_eq namespace root new task).name ≡ task.name
-pivoted_keeps_name namespace root new task = by (nat_eq namespace task.namespace)
-  where
-    by : (b : Bool)
-        → (cond b (record task {
-          root = pivoted_location nat_eq root new task.root;
-          directory = pivoted_location nat_eq root new task.directory;
-        }) task).name
-        ≡ task.name
-    by true = refl
-    by false = refl
+pivoted_keeps_name namespace root new task = grind (arith, common_steps)
 
 -- without those of a name nobody is found by it
 pub none_left : (name : TaskName) (tasks : List (Task ℕ))
     → called name (filter (λ task. not (same_name name task.name)) tasks) ≡ None
 none_left name [] = refl
-none_left name (first ∷ rest) = by (same_name name first.name) refl (none_left name rest)
-  where
-    stay : List (Task ℕ)
-    stay = filter (λ task. not (same_name name task.name)) rest
-
-    by : (b : Bool) → same_name name first.name ≡ b → called name stay ≡ None
-        → called name (cond (not b) (first ∷ stay) stay) ≡ None
-    by true e later = later
-    by false e later = ap (λ b. cond b (Some first) (called name stay)) e ∙ later
+none_left name (first ∷ rest) = grind (arith, common_steps, none_left name rest)
 
 -- and each other one as before
 pub others_left : (name other : TaskName) → same_name name other ≡ false → (tasks : List (Task ℕ))
@@ -101,8 +64,7 @@ others_left name other apart (first ∷ rest) =
 
 -- one more at the end is found where nobody was
 pub find_appended : (B : Found → Type 0) (name : TaskName) (new : Task ℕ) (tasks : List (Task ℕ))
-    → B (called name tasks)
-    → (called name tasks ≡ None → B (cond (same_name name new.name) (Some new) None))
+    → B (called name tasks) → (called name tasks ≡ None → B (cond (same_name name new.name) (Some new) None))
     → B (called name (tasks ++ (new ∷ [])))
 find_appended B name new [] before later = later refl
 find_appended B name new (first ∷ rest) before later =
@@ -111,7 +73,6 @@ find_appended B name new (first ∷ rest) before later =
     by : (b : Bool) → B (cond b (Some first) (called name rest))
         → (cond b (Some first) (called name rest) ≡ None → B (cond (same_name name new.name) (Some new) None))
         → (B (called name rest) → (called name rest ≡ None → B (cond (same_name name new.name) (Some new) None))
-        → B (called name (rest ++ (new ∷ []))))
-        → B (cond b (Some first) (called name (rest ++ (new ∷ []))))
+        → B (called name (rest ++ (new ∷ [])))) → B (cond b (Some first) (called name (rest ++ (new ∷ []))))
     by true before later next = before
     by false before later next = next before later

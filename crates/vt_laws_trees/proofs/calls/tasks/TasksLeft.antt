@@ -1,16 +1,17 @@
 -- The tasks that each permit leaves, and that settling and raising leave of them.
-use Rattle.std.proofs.Common.{◌≡◌, refl, sym, ap, subst, ◌∙◌, ℕ, ◌+◌, nat_eq, Bool, true, false, not, ◌||◌, List, [], ◌∷◌, ◌++◌, map, filter, Option, Some, None, unwrap_or, Ok, Err, ok_or}
+use Rattle.std.proofs.Common.{arith, ◌≡◌, refl, sym, ap, subst, ◌∙◌, ℕ, ◌+◌, nat_eq, Bool, true, false, not, ◌||◌, List, [], ◌∷◌, ◌++◌, map, filter, Option, Some, None, unwrap_or, Ok, Err, ok_or}
+use Rattle.std.proofs.lemmas.Grind.{common_steps}
 use Rattle.vt_laws_rules.proofs.judged.CallsJudged.{policy_judges_then_applies}
 use Rattle.vt_spec.specs.declared.errors.Rule.TheVariants.{S2}
 use Rattle.vt_spec.specs.Errors.{denial}
 use Rattle.vt_spec.specs.Machine.Apply.{apply}
 use Rattle.vt_spec.specs.Language.Calls.{Call, TaskName, same_name}
-use Rattle.vt_spec.specs.Machine.Detach.{deepest_first, without_mounts_on, without_replaced}
+use Rattle.vt_spec.specs.Machine.Detach.{without_replaced}
 use Rattle.vt_spec.specs.Machine.Judge.{Judgement, judge_in}
 use Rattle.vt_spec.specs.Lists.{Fresh, evens, odds}
-use Rattle.vt_spec.specs.Machine.Mounts.{mount_tree, numbers_by}
+use Rattle.vt_spec.specs.Machine.Mounts.{numbers_by}
 use Rattle.vt_spec.specs.Machine.Namespaces.{entered_at, namespace_entered, namespace_root, pivoted_task, unshared, unshared_task}
-use Rattle.vt_spec.specs.Machine.Descriptors.{is_copied_up, with_descriptor, without_descriptor}
+use Rattle.vt_spec.specs.Machine.Descriptors.{with_descriptor, without_descriptor}
 use Rattle.vt_spec.specs.Machine.Tasks.{child_of}
 use Rattle.vt_spec.specs.Machine.Outcomes.{after, denied}
 use Rattle.vt_spec.specs.Machine.Permits.{Permit}
@@ -31,8 +32,7 @@ with_new world new = map (replaced_if_called new) world.tasks
 module _ (fresh : Fresh ℕ) (world : World ℕ) (task : Task ℕ) where
   -- the caller as unshare(2) and setns(2) leave it
   abbrev pub alone : Task ℕ
-  alone =
-      unshared_task nat_eq (mounts_of nat_eq world task.namespace)
+  alone = unshared_task nat_eq (mounts_of nat_eq world task.namespace)
       (numbers_by nat_eq (odds fresh) (mounts_of nat_eq world task.namespace)) (evens fresh 0) task
 
   abbrev pub entered : ℕ → Task ℕ
@@ -62,33 +62,24 @@ module _ (fresh : Fresh ℕ) (world : World ℕ) (task : Task ℕ) where
   tasks_left (ToChange location change) = tasks-with_change fresh world location change
   tasks_left (ToMake directory name node) = tasks-with_change (odds fresh) world directory _
   tasks_left (ToRemoveDirectory parent name directory) =
-      tasks-with_change fresh (without_mounts_on nat_eq world directory) parent _ ∙ tasks-taken_away world _
+      grind (arith, common_steps, tasks-with_change, tasks-taken_away)
   tasks_left (ToRename from old to new object replaced) =
-      tasks-with_change fresh (without_replaced nat_eq world replaced) from _
-      ∙ tasks-without_replaced world replaced
-  tasks_left (ToOpen file access) =
-      ap (map (replaced_if_called (with_descriptor task file access)))
-      (tasks-with_copy fresh world (is_copied_up nat_eq world file access) file)
-  tasks_left (ToOpenNew directory name node access) =
-      ap (map (replaced_if_called
-      (with_descriptor task (record { mount = directory.mount; node = evens fresh 0 }) access)))
-      (tasks-with_change (odds fresh) world directory _)
+      grind (arith, common_steps, tasks-with_change, tasks-without_replaced)
+  tasks_left (ToOpen file access) = grind (arith, common_steps, tasks-with_copy)
+  tasks_left (ToOpenNew directory name node access) = grind (arith, common_steps, tasks-with_change)
   tasks_left (ToWritePart file offset bytes) = tasks-pwritten fresh world file offset bytes
   tasks_left ToExit = tasks-taken_away (without_task world task.name) _
   tasks_left ToUnshare = tasks-taken_away (unshared nat_eq world fresh task) _
   tasks_left (ToEnterNamespace namespace) = tasks-taken_away (namespace_entered nat_eq world task namespace) _
   tasks_left (ToUnmount mount) = tasks-taken_away world _
-  tasks_left (ToUnmountLazily mount) =
-      lazily_tasks (deepest_first nat_eq world
-      (mount_tree nat_eq world.mounts (mount_numbered nat_eq world mount))) world
+  tasks_left (ToUnmountLazily mount) = grind (arith, common_steps, lazily_tasks)
   tasks_left (ToSetType mount word recursive) = typed_tasks fresh world mount word recursive
   tasks_left permit = refl
 
 -- What holds of the tasks where nothing happens, and of those that each granted permit leaves, with the caller's change
 -- number raised or not, holds of those after the call.
 pub tasks_after_call : (P : Tasks → Type 0) (fresh : Fresh ℕ) (world : World ℕ) (name : TaskName) (call : Call)
-    → P world.tasks
-    → ((task : Task ℕ) (permit : Permit ℕ) → task_called world name ≡ Some task
+    → P world.tasks → ((task : Task ℕ) (permit : Permit ℕ) → task_called world name ≡ Some task
     → judge_in nat_eq fresh world task call ≡ Ok permit
     → P (left_tasks fresh world task permit) × P (map (raised_task name) (left_tasks fresh world task permit)))
     → P (policy nat_eq fresh world name call).world.tasks
@@ -97,8 +88,7 @@ tasks_after_call P fresh world name call same done =
     (by_task (task_called world name) refl)
   where
     by_permit : (changed : List ℕ) (task : Task ℕ) → task_called world name ≡ Some task → (judgement : Judgement ℕ)
-        → judge_in nat_eq fresh world task call ≡ judgement
-        → P (finished nat_eq world name call changed
+        → judge_in nat_eq fresh world task call ≡ judgement → P (finished nat_eq world name call changed
         (after world judgement (apply nat_eq fresh world task))).world.tasks
     by_permit changed task is (Ok permit) judged = by_looks _
       where
@@ -115,8 +105,7 @@ tasks_after_call P fresh world name call same done =
         by_looks true = same
         by_looks false = same
 
-    by_task : (o : Option (Task ℕ)) → task_called world name ≡ o
-        → P (after world (ok_or o (denial S2)) (λ task.
+    by_task : (o : Option (Task ℕ)) → task_called world name ≡ o → P (after world (ok_or o (denial S2)) (λ task.
         finished nat_eq world name call (filesystems_changed_by nat_eq world (judge_in nat_eq fresh world task call))
         (after world (judge_in nat_eq fresh world task call) (apply nat_eq fresh world task)))).world.tasks
     by_task None is = same

@@ -1,5 +1,6 @@
 -- What tasks are after a call.
-use Rattle.std.proofs.Common.{◌≡◌, refl, sym, ap, subst, ◌∙◌, inl, inr, ◌⊎◌, ⊎_elim, ℕ, ◌+◌, nat_eq, nat_lt, eqb-true, eq-eqb, Bool, true, false, cond, not, ◌&&◌, ◌==◌, bit_and, bytes_eq, List, [], ◌∷◌, ◌++◌, map, filter, Option, Some, None, option_map, Ok}
+use Rattle.std.proofs.Common.{arith, ◌≡◌, refl, sym, ap, subst, ◌∙◌, inl, inr, ◌⊎◌, ⊎_elim, ℕ, ◌+◌, nat_eq, eqb-true, eq-eqb, Bool, true, false, cond, not, ◌&&◌, ◌==◌, bit_and, bytes_eq, List, [], ◌∷◌, ◌++◌, map, filter, Option, Some, None, option_map, Ok}
+use Rattle.std.proofs.lemmas.Grind.{common_steps}
 use Rattle.vt_spec.specs.Errors.{NoneFails}
 use Rattle.std.proofs.lemmas.Nat.{and_assoc}
 use Rattle.std.proofs.lemmas.Bool.{and_parts, not-false}
@@ -10,7 +11,7 @@ use Rattle.vt_laws_trees.proofs.calls.tasks.TasksFound.{Found, called, find_appe
 use Rattle.vt_laws_trees.proofs.calls.tasks.TasksLeft.{alone, entered, left_tasks, tasks_after_call, with_new}
 use Rattle.vt_laws_rules.specs.Given.{IsFor}
 use Rattle.vt_laws_trees.specs.Calls.Tasks.{IsForked, IsNoMore, MayGive, Opens, Pivots, moves_directory, moves_namespace, moves_root, task_after}
-use Rattle.vt_spec.specs.Language.Calls.{Access, Call, CapabilityWord, Creation, ForkWords, TaskName, opens_for_reading, opens_for_writing, same_name}
+use Rattle.vt_spec.specs.Language.Calls.{Access, Call, CapabilityWord, Creation, ForkWords, TaskName, same_name}
 use Rattle.vt_spec.specs.Language.Calls.Call.{Drop, Exit, Fork, OpenFile, PivotRoot, Umask}
 use Rattle.vt_spec.specs.Machine.Filesystems.{raised}
 use Rattle.vt_spec.specs.Machine.Judge.{judge_in}
@@ -18,7 +19,7 @@ use Rattle.vt_spec.specs.Lists.{Fresh, evens}
 use Rattle.vt_spec.specs.Machine.Looks.{looks_of}
 use Rattle.vt_spec.specs.Machine.Mounts.{Location, Mount}
 use Rattle.vt_spec.specs.Machine.Namespaces.{pivoted_location, pivoted_task}
-use Rattle.vt_spec.specs.Machine.Descriptors.{free_number, inserted, with_descriptor, without_descriptor}
+use Rattle.vt_spec.specs.Machine.Descriptors.{inserted, with_descriptor, without_descriptor}
 use Rattle.vt_spec.specs.Machine.Tasks.{capabilities_of, child_credentials, child_name, child_of, with_dropped}
 use Rattle.vt_spec.specs.Machine.Permits.{Permit}
 use Rattle.vt_spec.specs.Machine.Permits.Permit.{ToClose, ToEnterNamespace, ToExit, ToFork, ToOpen, ToOpenNew, ToPivot, ToSetCredentials, ToSetDirectory, ToSetRoot, ToSetUmask, ToUnshare}
@@ -36,12 +37,10 @@ held_of_held : (set part wanted : ℕ) → has_all set part ≡ true → has_all
 held_of_held set part wanted e f =
     let p : bit_and set part ≡ part = eqb-true (bit_and set part) part e in
     let q : bit_and part wanted ≡ wanted = eqb-true (bit_and part wanted) wanted f in
-    eq-eqb (bit_and set wanted) wanted
-    (ap (bit_and set) (sym q) ∙ sym (and_assoc wanted set part) ∙ ap (λ h. bit_and h wanted) p ∙ q)
+    grind (arith, common_steps, eq-eqb, and_assoc)
 
 part_is_held : (set kept : ℕ) → has_all set (bit_and set kept) ≡ true
-part_is_held set kept =
-    eq-eqb (bit_and set (bit_and set kept)) (bit_and set kept)
+part_is_held set kept = eq-eqb (bit_and set (bit_and set kept)) (bit_and set kept)
     (sym (and_assoc kept set set) ∙ ap (λ h. bit_and h kept) (and_self set))
 
 -- a drop leaves no more
@@ -67,11 +66,9 @@ forked_may_give task child pass = (
       (not-false (has_all who.capabilities child.capabilities) pass.1.1.1.0) held,
   ⊎_elim (λ same. inl (eqb-true child.uid who.uid same)) inr
       (either_holds (child.uid == who.uid) (has_all who.capabilities cap_setuid) pass.1.0),
-  ⊎_elim
-      (λ same.
+  ⊎_elim (λ same.
       let both = and_parts (child.gid == who.gid) (bytes_eq child.groups who.groups) same in
-      inl (eqb-true child.gid who.gid both.0, (bytes_decides child.groups who.groups).0 both.1))
-      inr
+      inl (eqb-true child.gid who.gid both.0, (bytes_decides child.groups who.groups).0 both.1)) inr
       (either_holds (child.gid == who.gid && bytes_eq child.groups who.groups)
       (has_all who.capabilities cap_setgid) pass.1.1.0),
 )
@@ -88,23 +85,13 @@ HasOrOpens call was now =
 among_inserted : (new descriptor : Descriptor ℕ) (descriptors : List (Descriptor ℕ))
     → Among descriptor (inserted new descriptors) → (descriptor ≡ new) ⊎ Among descriptor descriptors
 among_inserted new descriptor [] among = among
-among_inserted new descriptor (first ∷ rest) among =
-    by (nat_lt new.number first.number) among (among_inserted new descriptor rest)
-  where
-    by : (b : Bool) → Among descriptor (cond b (new ∷ first ∷ rest) (first ∷ inserted new rest))
-        → (Among descriptor (inserted new rest) → (descriptor ≡ new) ⊎ Among descriptor rest)
-        → (descriptor ≡ new) ⊎ ((descriptor ≡ first) ⊎ Among descriptor rest)
-    by true among later = among
-    by false among later =
-        ⊎_elim (λ same. inr (inl same)) (λ below. ⊎_elim inl (λ there. inr (inr there)) (later below)) among
+among_inserted new descriptor (first ∷ rest) among = grind (arith, common_steps, among_inserted new descriptor rest)
 
 -- the caller afterwards, by its own call
 abbrev pub Changed : Call → Task ℕ → Task ℕ → Type 0
-Changed call was now =
-    ((now.credentials ≡ was.credentials)
+Changed call was now = ((now.credentials ≡ was.credentials)
     ⊎ ((which : CapabilityWord) × (call ≡ Drop which) × IsNoMore was.credentials now.credentials))
-    × ((now.umask ≡ was.umask) ⊎ ((mode : ℕ) × (call ≡ Umask mode)))
-    × HasOrOpens call was.descriptors now.descriptors
+    × ((now.umask ≡ was.umask) ⊎ ((mode : ℕ) × (call ≡ Umask mode))) × HasOrOpens call was.descriptors now.descriptors
     × ((moves_directory call ≡ true) ⊎ (now.directory ≡ was.directory))
     × ((moves_root call ≡ true) ⊎ (now.root ≡ was.root))
     × ((moves_namespace call ≡ true) ⊎ (now.namespace ≡ was.namespace))
@@ -112,9 +99,7 @@ Changed call was now =
 module _ (fresh : Fresh ℕ) (world : World ℕ) (name : TaskName) (call : Call) (other : TaskName) where
   -- each task afterwards: as it was, or changed by its own call, or pivoted
   abbrev pub BecomesTask : Task ℕ → Task ℕ → Type 0
-  BecomesTask was now =
-      (now ≡ was)
-      ⊎ (((other ≡ name) × Changed call was now)
+  BecomesTask was now = (now ≡ was) ⊎ (((other ≡ name) × Changed call was now)
       ⊎ ((moved : Location ℕ → Location ℕ) × Pivots fresh world name call was.namespace moved
       × (now ≡ record was { root = moved was.root; directory = moved was.directory })))
 
@@ -140,8 +125,7 @@ module _ (fresh : Fresh ℕ) (world : World ℕ) (name : TaskName) (call : Call)
 
     -- the caller is changed
     changed_becomes : (new : Task ℕ) → new.name ≡ task.name → Changed call task new → BecomesIn (with_new world new)
-    changed_becomes new keeps so =
-        subst (λ found. Becomes (task_called world other) found)
+    changed_becomes new keeps so = subst (λ found. Becomes (task_called world other) found)
         (sym (find_mapped (replaced_if_called new) (name-replaced_if_called new) other world.tasks))
         (by (task_called world other) refl)
       where
@@ -154,8 +138,7 @@ module _ (fresh : Fresh ℕ) (world : World ℕ) (name : TaskName) (call : Call)
             inside false c = inl refl
             inside true c =
                 let same : other ≡ name =
-                found_name other world.tasks entry e ∙ sym (same_task_name new.name entry.name c) ∙ keeps ∙ sym named
-                in
+                found_name other world.tasks entry e ∙ sym (same_task_name new.name entry.name c) ∙ keeps ∙ sym named in
                 let it : Some entry ≡ Some task = sym e ∙ ap (λ n. called n world.tasks) same ∙ is in
                 let was : task ≡ entry = cc in
                 inr (inl (same, subst (λ t. Changed call t new) was so))
@@ -174,10 +157,8 @@ module _ (fresh : Fresh ℕ) (world : World ℕ) (name : TaskName) (call : Call)
             let same : other ≡ task.name = sym (same_task_name task.name other e) in
             subst (λ found. Becomes (task_called world other) found)
             (sym (ap (λ n. called n (filter (λ one. not (same_name task.name one.name)) world.tasks)) same
-            ∙ none_left task.name world.tasks))
-            (gone (task_called world other) (same ∙ sym named))
-        by false e =
-            subst (λ found. Becomes (task_called world other) found)
+            ∙ none_left task.name world.tasks)) (gone (task_called world other) (same ∙ sym named))
+        by false e = subst (λ found. Becomes (task_called world other) found)
             (sym (others_left task.name other e world.tasks)) still
 
     -- a child is added
@@ -192,27 +173,15 @@ module _ (fresh : Fresh ℕ) (world : World ℕ) (name : TaskName) (call : Call)
       where
         added : (b : Bool) → same_name other (child_name task) ≡ b → (found : Found) → Becomes found None
             → Becomes found (cond b (Some (child_of task credentials)) None)
-        added false e found before = before
-        added true e None before = (
-          words,
-          task,
-          forks,
-          is,
-          same_task_name other (child_name task) e,
-          ap (child_of task) given,
-          gives,
-        )
-        added true e (Some was) before = let no : Exit ≡ Fork words = sym before.1 ∙ forks in cc
+        added b e found before = grind (arith, common_steps, same_task_name)
 
     -- all tasks of the namespace are pivoted
     pivoted_becomes : (new old : List ℕ) (mount : ℕ) (put : Location ℕ) → call ≡ PivotRoot new old
         → judge_in nat_eq fresh world task call ≡ Ok (ToPivot mount put)
         → BecomesIn (left_tasks fresh world task (ToPivot mount put))
-    pivoted_becomes new old mount put pivots judged =
-        subst (λ found. Becomes (task_called world other) found)
+    pivoted_becomes new old mount put pivots judged = subst (λ found. Becomes (task_called world other) found)
         (sym (find_mapped (pivoted_task nat_eq task.namespace root there)
-        (pivoted_keeps_name task.namespace root there) other world.tasks))
-        (by (task_called world other))
+        (pivoted_keeps_name task.namespace root there) other world.tasks)) (by (task_called world other))
       where
         root : Mount ℕ
         root = mount_at nat_eq world task.root
@@ -227,38 +196,26 @@ module _ (fresh : Fresh ℕ) (world : World ℕ) (name : TaskName) (call : Call)
             moved : Location ℕ → Location ℕ
             moved = pivoted_location nat_eq root there
 
-            inside : (b : Bool) → nat_eq task.namespace entry.namespace ≡ b
-                → BecomesTask entry (cond b (record entry {
-                  root =
-                      moved entry.root;
-                  directory = moved entry.directory;
-                }) entry)
+            inside : (b : Bool) → nat_eq task.namespace entry.namespace ≡ b → BecomesTask entry (cond b (record entry {
+              root = moved entry.root;
+              directory = moved entry.directory;
+            }) entry)
             inside false e = inl refl
-            inside true e =
-                inr (inr (
-                  moved,
-                  (new, old, task, mount, put, pivots, is, judged, eqb-true task.namespace entry.namespace e, refl),
-                  refl,
-                ))
+            inside true e = inr (inr (
+              moved,
+              (new, old, task, mount, put, pivots, is, judged, eqb-true task.namespace entry.namespace e, refl),
+              refl,
+            ))
 
     opened_has : (file : Location ℕ) (path : List ℕ) (access : Access) (creation : Creation)
         → call ≡ OpenFile path access creation
         → HasOrOpens call task.descriptors (with_descriptor task file access).descriptors
-    opened_has file path access creation opens held among =
-        ⊎_elim
-        (λ same. inr (path, access, creation, opens, ap (λ d. d.reads) same, ap (λ d. d.writes) same)) inl
-        (among_inserted (record {
-          number = free_number task;
-          location = file;
-          reads = opens_for_reading access;
-          writes = opens_for_writing access;
-        }) held task.descriptors among)
+    opened_has file path access creation opens held among = grind (arith, common_steps, among_inserted)
 
     -- what becomes of a task by each permit
     done : (permit : Permit ℕ) → judge_in nat_eq fresh world task call ≡ Ok permit
         → IsFor (looks_of nat_eq world) task call permit → BecomesIn (left_tasks fresh world task permit)
-    done (ToOpen file access) judged for =
-        changed_becomes (with_descriptor task file access) refl
+    done (ToOpen file access) judged for = changed_becomes (with_descriptor task file access) refl
         (inl refl, inl refl, opened_has file for.0 access for.1 for.2, inr refl, inr refl, inr refl)
     done (ToOpenNew directory entry node access) judged for =
         changed_becomes (with_descriptor task (record { mount = directory.mount; node = evens fresh 0 }) access) refl (
@@ -269,63 +226,55 @@ module _ (fresh : Fresh ℕ) (world : World ℕ) (name : TaskName) (call : Call)
           inr refl,
           inr refl,
         )
-    done (ToClose descriptor) judged for =
-        changed_becomes (without_descriptor task descriptor) refl (
-          inl refl,
-          inl refl,
-          λ held among. inl (among-from_filter
-              (λ found. not (descriptor == found.number)) task.descriptors held among).0,
-          inr refl,
-          inr refl,
-          inr refl,
-        )
-    done (ToSetDirectory directory) judged for =
-        changed_becomes (record task { directory = directory }) refl
+    done (ToClose descriptor) judged for = changed_becomes (without_descriptor task descriptor) refl (
+      inl refl,
+      inl refl,
+      λ held among. inl (among-from_filter (λ found. not (descriptor == found.number)) task.descriptors held among).0,
+      inr refl,
+      inr refl,
+      inr refl,
+    )
+    done (ToSetDirectory directory) judged for = changed_becomes (record task { directory = directory }) refl
         (inl refl, inl refl, λ held among. inl among, inl (ap moves_directory for.1), inr refl, inr refl)
-    done (ToSetRoot root) judged for =
-        changed_becomes (record task { root = root }) refl
+    done (ToSetRoot root) judged for = changed_becomes (record task { root = root }) refl
         (inl refl, inl refl, λ held among. inl among, inr refl, inl (ap moves_root for.1), inr refl)
-    done (ToSetUmask umask) judged for =
-        changed_becomes (record task { umask = umask }) refl
+    done (ToSetUmask umask) judged for = changed_becomes (record task { umask = umask }) refl
         (inl refl, inr (for.0, for.1), λ held among. inl among, inr refl, inr refl, inr refl)
-    done (ToSetCredentials credentials) judged for =
-        changed_becomes (record task { credentials = credentials }) refl (
-          inr (
-            for.0,
-            for.1,
-            subst (IsNoMore task.credentials) (sym for.2)
-                (dropped_is_no_more task.credentials (capabilities_of for.0 task.credentials)),
-          ),
-          inl refl,
-          λ held among. inl among,
-          inr refl,
-          inr refl,
-          inr refl,
-        )
+    done (ToSetCredentials credentials) judged for = changed_becomes (record task { credentials = credentials }) refl (
+      inr (
+        for.0,
+        for.1,
+        subst (IsNoMore task.credentials) (sym for.2)
+            (dropped_is_no_more task.credentials (capabilities_of for.0 task.credentials)),
+      ),
+      inl refl,
+      λ held among. inl among,
+      inr refl,
+      inr refl,
+      inr refl,
+    )
     done (ToFork credentials) judged for =
         forked_becomes for.0 credentials for.1 for.2 (forked_may_give task credentials for.3)
         (with_new world (record task { forks = task.forks + 1 }))
         (changed_becomes (record task { forks = task.forks + 1 }) refl
         (inl refl, inl refl, λ held among. inl among, inr refl, inr refl, inr refl))
     done ToExit judged for = without_becomes for
-    done ToUnshare judged for =
-        changed_becomes (alone fresh world task) refl (
-          inl refl,
-          inl refl,
-          λ held among. inl among,
-          inl (ap moves_directory for),
-          inl (ap moves_root for),
-          inl (ap moves_namespace for),
-        )
-    done (ToEnterNamespace namespace) judged for =
-        changed_becomes (entered fresh world task namespace) refl (
-          inl refl,
-          inl refl,
-          λ held among. inl among,
-          inl (ap moves_directory for.1),
-          inl (ap moves_root for.1),
-          inl (ap moves_namespace for.1),
-        )
+    done ToUnshare judged for = changed_becomes (alone fresh world task) refl (
+      inl refl,
+      inl refl,
+      λ held among. inl among,
+      inl (ap moves_directory for),
+      inl (ap moves_root for),
+      inl (ap moves_namespace for),
+    )
+    done (ToEnterNamespace namespace) judged for = changed_becomes (entered fresh world task namespace) refl (
+      inl refl,
+      inl refl,
+      λ held among. inl among,
+      inl (ap moves_directory for.1),
+      inl (ap moves_root for.1),
+      inl (ap moves_namespace for.1),
+    )
     done (ToPivot mount put) judged for = pivoted_becomes for.0 for.1 mount put for.2 judged
     done permit judged for = still
 
@@ -340,8 +289,7 @@ IsRaised name other (Some left) (Some now) =
 
 module _ (fresh : Fresh ℕ) (world : World ℕ) (name : TaskName) (call : Call) (other : TaskName) where
   abbrev pub BecomesAndIsRaised : List (Task ℕ) → Type 0
-  BecomesAndIsRaised tasks =
-      (left : Found) × Becomes fresh world name call other (task_called world other) left
+  BecomesAndIsRaised tasks = (left : Found) × Becomes fresh world name call other (task_called world other) left
       × IsRaised name other left (called other tasks)
 
   is_itself : (found : Found) → IsRaised name other found found
@@ -350,8 +298,7 @@ module _ (fresh : Fresh ℕ) (world : World ℕ) (name : TaskName) (call : Call)
 
   is_raised : (tasks : List (Task ℕ))
       → IsRaised name other (called other tasks) (called other (map (raised_task name) tasks))
-  is_raised tasks =
-      subst (IsRaised name other (called other tasks))
+  is_raised tasks = subst (IsRaised name other (called other tasks))
       (sym (find_mapped (raised_task name) (λ task. ap (λ t. t.name) (raised_is name task)) other tasks))
       (by (called other tasks) refl)
     where
@@ -366,14 +313,11 @@ module _ (fresh : Fresh ℕ) (world : World ℕ) (name : TaskName) (call : Call)
           inside false f = inl refl
 
   pub becomes : BecomesAndIsRaised (policy nat_eq fresh world name call).world.tasks
-  becomes =
-      tasks_after_call BecomesAndIsRaised fresh world name call
+  becomes = tasks_after_call BecomesAndIsRaised fresh world name call
       (task_called world other, still fresh world name call other, is_itself (task_called world other))
       (λ task permit is judged.
-      let so =
-      done fresh world name call other task is permit judged
-      (permits_are_for_their_calls fresh world task call permit judged)
-      in
+      let so = done fresh world name call other task is permit judged
+      (permits_are_for_their_calls fresh world task call permit judged) in
       let left = left_tasks fresh world task permit in
       ((called other left, so, is_itself (called other left)), (called other left, so, is_raised left)))
 
@@ -382,8 +326,7 @@ module _ (fresh : Fresh ℕ) (world : World ℕ) (name : TaskName) (call : Call)
       → task_after fresh world name call other ≡ Some now
       → (left : Task ℕ) × BecomesTask fresh world name call other was left × (now ≡ record left { change = now.change })
       × ((now ≡ left) ⊎ (other ≡ name))
-  stays_or_changed was now is then_is =
-      by becomes.0
+  stays_or_changed was now is then_is = by becomes.0
       (subst (λ found. Becomes fresh world name call other found becomes.0) is becomes.1)
       (subst (λ found. IsRaised name other becomes.0 found) then_is becomes.2)
     where

@@ -29,15 +29,13 @@ module _ (world : World ℕ) (task : Task ℕ) (path : List ℕ) where
       (λ passed. searched))
 
   source_searched : Ends IsSearchedEnd (source_walk nat_eq (looks_of nat_eq world) task path)
-  source_searched =
-      ends_then IsSearchedEnd IsSearchedEnd (directory_walk nat_eq world task path) _ directory_searched
+  source_searched = ends_then IsSearchedEnd IsSearchedEnd (directory_walk nat_eq world task path) _ directory_searched
       (λ here searched.
       ends_unless IsSearchedEnd here.steps ((is_removed_at nat_eq world here.location, W8) ∷ []) here
       (λ passed. searched))
 
   abbrev IsEntered : Here ℕ → Type 0
-  IsEntered here =
-      (directory : Location ℕ) × (here.location ≡ topmost (looks_of nat_eq world) directory)
+  IsEntered here = (directory : Location ℕ) × (here.location ≡ topmost (looks_of nat_eq world) directory)
       × IsSearchedTo world task path directory
 
   destination_searched : Ends IsEntered (destination_walk nat_eq (looks_of nat_eq world) task path)

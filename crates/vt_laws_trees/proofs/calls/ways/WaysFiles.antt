@@ -27,8 +27,7 @@ module _ (world : World ℕ) (task : Task ℕ) where
 
     pub ends_here : symlink_there nat_eq world place ≡ None → IsFileOf start text place
     ends_here plain =
-        subst (λ directory. IsSearchedWayToFile world task start (words text) directory) (sym named.parent)
-        (record {
+        subst (λ directory. IsSearchedWayToFile world task start (words text) directory) (sym named.parent) (record {
           passed = to_name.passed;
           way = file_in start here (words text)
               (final_word (reverse (words text))) place.object to_name.passed to_name.way named.object plain;
@@ -37,16 +36,13 @@ module _ (world : World ℕ) (task : Task ℕ) where
 
     pub goes_through : (inner : List ℕ) → symlink_there nat_eq world place ≡ Some inner → (end : Place ℕ)
         → IsFileOf (start_of task here inner) inner end → IsFileOf start text end
-    goes_through inner linked end further =
-        record {
-          passed = to_name.passed ++ further.passed;
-          way =
-              through_symlink start here end.parent (words text)
-              (final_word (reverse (words text))) place.object inner to_name.passed
-              further.passed to_name.way named.object linked further.way;
-          searched = All-append
-              (IsSearchable world task) to_name.passed further.passed to_name.searched further.searched;
-        }
+    goes_through inner linked end further = record {
+      passed = to_name.passed ++ further.passed;
+      way = through_symlink start here end.parent (words text)
+          (final_word (reverse (words text))) place.object inner to_name.passed
+          further.passed to_name.way named.object linked further.way;
+      searched = All-append (IsSearchable world task) to_name.passed further.passed to_name.searched further.searched;
+    }
 
   abbrev next_text : ℕ → List ℕ → Bool → Here ℕ → Place ℕ → List ℕ → Result (Place ℕ) (Stop ℕ)
   next_text depth text slash here place inner =
@@ -80,13 +76,11 @@ module _ (world : World ℕ) (task : Task ℕ) where
           (subst (λ from. IsFileOf from inner end) e found)
       further here before place named inner linked next e (Err stop) found = tt
 
-      by_symlink : ((next : Here ℕ) (inner : List ℕ)
-          → Ends (IsFileOf next.location inner)
+      by_symlink : ((next : Here ℕ) (inner : List ℕ) → Ends (IsFileOf next.location inner)
           (file_walked nat_eq depth world task next inner (slash || ends_in_slash text)))
           → (here : Here ℕ) → IsFront world task start.location (reverse (words text)) here.location → (place : Place ℕ)
           → IsNamedAt world task here.location (final_word (reverse (words text))) place → (o : Option (List ℕ))
-          → symlink_there nat_eq world place ≡ o
-          → Ends (IsFileOf start.location text)
+          → symlink_there nat_eq world place ≡ o → Ends (IsFileOf start.location text)
           (file_or_symlink nat_eq world place o (next_text depth text slash here place))
       by_symlink rest here before place named None plain =
           ends_here start.location here.location text place before named plain
@@ -96,19 +90,16 @@ module _ (world : World ℕ) (task : Task ℕ) where
           (symlink_start nat_eq world task here.location (symlink_of here place) inner)) _
           (ends_unless (λ (next : Here ℕ). next.location ≡ start_of task here.location inner) place.steps
           (follow_rules nat_eq world (symlink_of here place) inner)
-          (symlink_start nat_eq world task here.location (symlink_of here place) inner) (λ passed. refl))
-          (λ next e.
+          (symlink_start nat_eq world task here.location (symlink_of here place) inner) (λ passed. refl)) (λ next e.
           further here before place named inner linked next e
-          (file_walked nat_eq depth world task next inner (slash || ends_in_slash text))
-          (rest next inner))
+          (file_walked nat_eq depth world task next inner (slash || ends_in_slash text)) (rest next inner))
 
   module _ (path : List ℕ) where
     abbrev IsFilePlace : Place ℕ → Type 0
     IsFilePlace place = IsSearchedToFile world task path place.parent
 
     file_walk_searched : Ends IsFilePlace (file_walk nat_eq world task path)
-    file_walk_searched =
-        ends_then (λ text. text ≡ path) IsFilePlace (path_text path) _ (path_text_same path) (λ text e.
+    file_walk_searched = ends_then (λ text. text ≡ path) IsFilePlace (path_text path) _ (path_text_same path) (λ text e.
         ends_then (IsFileOf (walk_start task text).location text) IsFilePlace
         (file_walked nat_eq (most_symlinks + 1) world task (walk_start task text) text false) _
         (file_searched (most_symlinks + 1) (walk_start task text) text false) (λ place searched.

@@ -1,5 +1,6 @@
 -- Each directory on the way of a walk is searched: walks to names.
-use Rattle.std.proofs.Common.{◌≡◌, refl, sym, subst, true≢false, ℕ, nat_eq, Bool, true, false, not, ◌&&◌, List, [], ◌∷◌, ◌++◌, is_some, Ok, Err, Result, reverse}
+use Rattle.std.proofs.Common.{arith, ◌≡◌, refl, sym, subst, true≢false, ℕ, nat_eq, Bool, true, false, not, ◌&&◌, List, [], ◌∷◌, ◌++◌, is_some, Ok, Err, Result, reverse}
+use Rattle.std.proofs.lemmas.Grind.{common_steps}
 use mathlib.Core.List.{reverse-cons}
 use Rattle.std.proofs.lemmas.List.{reverse-reverse}
 use Rattle.std.proofs.lemmas.List.Elements.{All-append, All-cons, All-nil}
@@ -33,8 +34,7 @@ module _ (world : World ℕ) (task : Task ℕ) where
   IsFront start [] here = here ≡ start
   IsFront start (word ∷ front) here = IsSearchedWay world task start (reverse front) here
 
-  pub prefix_searched : (start : Here ℕ) (ws : List (List ℕ))
-      → Ends (λ here. IsFront start.location ws here.location)
+  pub prefix_searched : (start : Here ℕ) (ws : List (List ℕ)) → Ends (λ here. IsFront start.location ws here.location)
       (prefix_walked nat_eq world task (followed nat_eq world task) start ws)
   prefix_searched start [] = refl
   prefix_searched start (word ∷ front) =
@@ -44,8 +44,7 @@ module _ (world : World ℕ) (task : Task ℕ) where
   pub name_searched : (start here : Location ℕ) (ws : List (List ℕ)) → IsFront start ws here
       → (is_no_word (final_word ws) ≡ false → IsSearchable world task here)
       → IsSearchedWayToName world task start (reverse ws) here (final_word ws)
-  name_searched start here [] e searched =
-      subst (λ from. IsSearchedWayToName world task from [] here NoWord) e
+  name_searched start here [] e searched = subst (λ from. IsSearchedWayToName world task from [] here NoWord) e
       (record { passed = []; way = no_name here; searched = All-nil (IsSearchable world task) })
   name_searched start here (word ∷ front) before searched =
       subst (λ ws. IsSearchedWayToName world task start ws here (last_word word)) (sym (reverse-cons word front))
@@ -63,8 +62,7 @@ module _ (world : World ℕ) (task : Task ℕ) where
       → IsSearchedWayToName world task start (words text) here (final_word (reverse (words text)))
   text_name_searched start here text before searched =
       subst (λ ws. IsSearchedWayToName world task start ws here (final_word (reverse (words text))))
-      (reverse-reverse (words text))
-      (name_searched start here (reverse (words text)) before searched)
+      (reverse-reverse (words text)) (name_searched start here (reverse (words text)) before searched)
 
   -- where a name is looked up
   abbrev pub IsNameOf : Location ℕ → List ℕ → Place ℕ → Type 0
@@ -102,13 +100,11 @@ module _ (world : World ℕ) (task : Task ℕ) where
 
   module _ (path : List ℕ) where
     abbrev IsNamed : Here ℕ → Type 0
-    IsNamed next =
-        (directory : Location ℕ) × (last : LastWord) × IsSearchedToName world task path directory last
+    IsNamed next = (directory : Location ℕ) × (last : LastWord) × IsSearchedToName world task path directory last
         × (stepped nat_eq world task directory last ≡ Ok next.location)
 
     symlink_named : Ends IsNamed (symlink_walk_by nat_eq false world task path)
-    symlink_named =
-        ends_then (λ text. text ≡ path) IsNamed (path_text path) _ (path_text_same path) (λ text e.
+    symlink_named = ends_then (λ text. text ≡ path) IsNamed (path_text path) _ (path_text_same path) (λ text e.
         ends_then (λ here. IsFront (walk_start task text).location (reverse (words text)) here.location) IsNamed
         (prefix_walked nat_eq world task (followed nat_eq world task) (walk_start task text) (reverse (words text))) _
         (prefix_searched (walk_start task text) (reverse (words text))) (λ here before.
@@ -133,8 +129,7 @@ module _ (world : World ℕ) (task : Task ℕ) where
     IsNamePlace place = IsSearchedToName world task path place.parent place.last
 
     place_searched : Ends IsNamePlace (place_walk nat_eq world task path)
-    place_searched =
-        ends_then (λ text. text ≡ path) IsNamePlace (path_text path) _ (path_text_same path) (λ text e.
+    place_searched = ends_then (λ text. text ≡ path) IsNamePlace (path_text path) _ (path_text_same path) (λ text e.
         ends_then (λ here. IsFront (walk_start task text).location (reverse (words text)) here.location) IsNamePlace
         (prefix_walked nat_eq world task (followed nat_eq world task) (walk_start task text) (reverse (words text))) _
         (prefix_searched (walk_start task text) (reverse (words text))) (λ here before.
@@ -171,8 +166,7 @@ module _ (world : World ℕ) (task : Task ℕ) where
     old_leaf_searched =
         ends_then IsNamePlace IsNamePlace (old_walk nat_eq world task path) _ old_searched (λ place searched.
         ends_unless IsNamePlace place.steps
-        ((place.slash && not (is_directory_there nat_eq world place), W3) ∷ []) place
-        (λ passed. searched))
+        ((place.slash && not (is_directory_there nat_eq world place), W3) ∷ []) place (λ passed. searched))
 
     renamed_searched : (directory : Bool)
         → Ends IsNamePlace (rename_new_walk nat_eq (looks_of nat_eq world) task path directory)
@@ -181,16 +175,8 @@ module _ (world : World ℕ) (task : Task ℕ) where
         ends_unless IsNamePlace place.steps ((place.slash && not directory, W3) ∷ []) place (λ passed. searched))
 
 pub symlink_ways_are_searched : SymlinkWaysAreSearched
-symlink_ways_are_searched world task path here e = (
-  (λ slash.
-      at_end (λ (end : Here ℕ). IsSearchedTo world task path end.location)
-      (symlink_walk_by nat_eq true world task path) here
-      (object_searched world task path) (subst (λ b. symlink_walk_by nat_eq b world task path ≡ Ok here) slash e)),
-  (λ slash.
-      at_end (IsNamed world task path) (symlink_walk_by nat_eq false world task path) here
-      (symlink_named world task path)
-      (subst (λ b. symlink_walk_by nat_eq b world task path ≡ Ok here) slash e)),
-)
+symlink_ways_are_searched world task path here e =
+    grind (arith, common_steps, at_end, symlink_walk_by, object_searched, symlink_named)
 
 pub place_ways_are_searched : PlaceWaysAreSearched
 place_ways_are_searched world task path place e =

@@ -16,13 +16,11 @@ module _ (world : World ℕ) (task : Task ℕ) where
 
   -- the place where a word was looked up, and where it leads
   abbrev pub IsStep : Location ℕ → LastWord → Here ℕ → Type 0
-  IsStep here word next =
-      IsSearchable world task here × (stepped nat_eq world task here word ≡ Ok next.location)
+  IsStep here word next = IsSearchable world task here × (stepped nat_eq world task here word ≡ Ok next.location)
 
   pub word_step : (here : Here ℕ) (word : LastWord)
       → Ends (IsStep here.location word) (word_walked nat_eq world task here word)
-  word_step here word =
-      ends_step (IsStep here.location word) (steps_with nat_eq world task here word)
+  word_step here word = ends_step (IsStep here.location word) (steps_with nat_eq world task here word)
       (search_rules nat_eq world task here.location)
       (stepped nat_eq world task here.location word) _ (λ passed reached e. (searchable here.location passed, e))
 
@@ -37,13 +35,11 @@ module _ (world : World ℕ) (task : Task ℕ) where
       → Ends (IsNamedAt here.location word) (placed nat_eq world task here word slash)
   placed_step here NoWord slash =
       record { parent = refl; last = refl; searched = λ some. absurd (true≢false some); object = refl }
-  placed_step here Dot slash =
-      ends_step (IsNamedAt here.location Dot) (steps_at nat_eq world task here Dot)
+  placed_step here Dot slash = ends_step (IsNamedAt here.location Dot) (steps_at nat_eq world task here Dot)
       (search_rules nat_eq world task here.location)
       (object_named nat_eq world task here.location Dot) _ (λ passed object e.
       record { parent = refl; last = refl; searched = λ some. searchable here.location passed; object = e })
-  placed_step here DotDot slash =
-      ends_step (IsNamedAt here.location DotDot) (steps_at nat_eq world task here DotDot)
+  placed_step here DotDot slash = ends_step (IsNamedAt here.location DotDot) (steps_at nat_eq world task here DotDot)
       (search_rules nat_eq world task here.location) (object_named nat_eq world task here.location DotDot) _
       (λ passed object e.
       record { parent = refl; last = refl; searched = λ some. searchable here.location passed; object = e })

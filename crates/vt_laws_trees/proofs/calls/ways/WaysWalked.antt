@@ -1,5 +1,6 @@
 -- Each directory on the way of a walk is searched: words, and the texts of symlinks.
-use Rattle.std.proofs.Common.{◌≡◌, refl, sym, subst, ℕ, zero, suc, ◌+◌, nat_eq, List, [], ◌∷◌, ◌++◌, Option, Some, None, Ok, Err, Result, reverse}
+use Rattle.std.proofs.Common.{arith, ◌≡◌, refl, sym, subst, ℕ, zero, suc, ◌+◌, nat_eq, List, [], ◌∷◌, ◌++◌, Option, Some, None, Ok, Err, Result, reverse}
+use Rattle.std.proofs.lemmas.Grind.{common_steps}
 use mathlib.Core.List.{reverse-cons}
 use Rattle.std.proofs.lemmas.List.{append_assoc, reverse-reverse}
 use Rattle.std.proofs.lemmas.List.Elements.{All-append, All-cons, All-nil}
@@ -9,7 +10,7 @@ use Rattle.vt_laws_trees.specs.Calls.Searched.Way.{arrives, follows, goes_on}
 use Rattle.vt_spec.specs.FileTree.{symlink_text}
 use Rattle.vt_spec.specs.Language.Limits.{most_symlinks}
 use Rattle.vt_spec.specs.Machine.Mounts.{Location}
-use Rattle.vt_spec.specs.Machine.Walking.{Follow, Here, Stop, if_symlink, last_word, path_text, start_of, walk_start, walk_unless}
+use Rattle.vt_spec.specs.Machine.Walking.{Follow, Here, Stop, if_symlink, last_word, path_text, start_of, walk_unless}
 use Rattle.vt_spec.proofs.Walk.{follow_rules, followed, path_walked, slash_rules, symlink_start, symlink_walked, word_walked, words_walked}
 use Rattle.vt_spec.specs.Machine.World.{Task, World, node_at}
 use Rattle.vt_spec.specs.PathText.{path_rules, words}
@@ -37,47 +38,38 @@ module _ (world : World ℕ) (task : Task ℕ) where
 
   pub searched_append : (start middle end : Location ℕ) (front rest : List (List ℕ))
       → IsSearched start front middle → IsSearched middle rest end → IsSearched start (front ++ rest) end
-  searched_append start middle end front rest before after =
-      record {
-        passed = before.passed ++ after.passed;
-        way = way_append before.way after.way;
-        searched = All-append (IsSearchable world task) before.passed after.passed before.searched after.searched;
-      }
+  searched_append start middle end front rest before after = record {
+    passed = before.passed ++ after.passed;
+    way = way_append before.way after.way;
+    searched = All-append (IsSearchable world task) before.passed after.passed before.searched after.searched;
+  }
 
   -- how links are followed
   abbrev pub FollowsSearched : Follow ℕ → Type 0
-  FollowsSearched follow =
-      (directory : Location ℕ) (link : Here ℕ) (text : List ℕ)
+  FollowsSearched follow = (directory : Location ℕ) (link : Here ℕ) (text : List ℕ)
       → Ends (λ end. IsSearched (start_of task directory text) (words text) end.location) (follow directory link text)
 
   module _ (follow : Follow ℕ) (are : FollowsSearched follow) where
     link_searched : (here : Location ℕ) (word : List ℕ) (next : Here ℕ) (o : Option (List ℕ))
-        → symlink_text (node_at nat_eq world next.location) ≡ o
-        → IsStep world task here (last_word word) next
+        → symlink_text (node_at nat_eq world next.location) ≡ o → IsStep world task here (last_word word) next
         → Ends (λ end. IsSearched here (word ∷ []) end.location) (if_symlink next o (follow here next))
-    link_searched here word next None plain step =
-        record {
-          passed = here ∷ [];
-          way = goes_on here next.location next.location word [] [] step.1 plain (arrives next.location);
-          searched = All-cons (IsSearchable world task) here [] step.0 (All-nil (IsSearchable world task));
-        }
-    link_searched here word next (Some text) linked step =
-        further (follow here next text) (are here next text)
+    link_searched here word next None plain step = record {
+      passed = here ∷ [];
+      way = goes_on here next.location next.location word [] [] step.1 plain (arrives next.location);
+      searched = All-cons (IsSearchable world task) here [] step.0 (All-nil (IsSearchable world task));
+    }
+    link_searched here word next (Some text) linked step = further (follow here next text) (are here next text)
       where
         further : (r : Result (Here ℕ) (Stop ℕ))
             → Ends (λ end. IsSearched (start_of task here text) (words text) end.location) r
             → Ends (λ end. IsSearched here (word ∷ []) end.location) r
-        further (Ok end) inner =
-            record {
-              passed = here ∷ (inner.passed ++ []);
-              way =
-                  follows here next.location end.location end.location word text [] inner.passed [] step.1 linked
-                  inner.way
-                  (arrives end.location);
-              searched = All-cons (IsSearchable world task) here (inner.passed ++ []) step.0
-                  (All-append (IsSearchable world task) inner.passed [] inner.searched
-                  (All-nil (IsSearchable world task)));
-            }
+        further (Ok end) inner = record {
+          passed = here ∷ (inner.passed ++ []);
+          way = follows here next.location end.location end.location word text [] inner.passed [] step.1 linked
+              inner.way (arrives end.location);
+          searched = All-cons (IsSearchable world task) here (inner.passed ++ []) step.0
+              (All-append (IsSearchable world task) inner.passed [] inner.searched (All-nil (IsSearchable world task)));
+        }
         further (Err stop) inner = tt
 
     pub words_searched : (start : Here ℕ) (ws : List (List ℕ))
@@ -98,8 +90,7 @@ module _ (world : World ℕ) (task : Task ℕ) where
         (link_searched reached.location word next (symlink_text (node_at nat_eq world next.location)) refl step)))
       where
         joined : (reached : Location ℕ) → IsSearched start.location (reverse front) reached
-            → (r : Result (Here ℕ) (Stop ℕ))
-            → Ends (λ end. IsSearched reached (word ∷ []) end.location) r
+            → (r : Result (Here ℕ) (Stop ℕ)) → Ends (λ end. IsSearched reached (word ∷ []) end.location) r
             → Ends (λ end. IsSearched start.location (reverse (word ∷ front)) end.location) r
         joined reached before (Ok end) last =
             subst (λ ws. IsSearched start.location ws end.location) (sym (reverse-cons word front))
@@ -112,27 +103,22 @@ module _ (world : World ℕ) (task : Task ℕ) where
       (words_walked nat_eq world task follow start (reverse (words text)))
   text_searched follow are start text =
       subst (λ ws. Ends (λ end. IsSearched start.location ws end.location) (words_walked nat_eq world task follow start
-      (reverse (words text)))) (reverse-reverse (words text))
-      (words_searched follow are start (reverse (words text)))
+      (reverse (words text)))) (reverse-reverse (words text)) (words_searched follow are start (reverse (words text)))
 
   symlink_searched : (depth : ℕ) → FollowsSearched (symlink_walked nat_eq depth world task)
   symlink_searched zero directory link text = tt
-  symlink_searched (suc depth) directory link text =
-      ends_then (λ start. start.location ≡ start_of task directory text)
+  symlink_searched (suc depth) directory link text = ends_then (λ start. start.location ≡ start_of task directory text)
       (λ end. IsSearched (start_of task directory text) (words text) end.location)
       (walk_unless link.steps (follow_rules nat_eq world link text)
       (symlink_start nat_eq world task directory link text)) _
       (ends_unless (λ (start : Here ℕ). start.location ≡ start_of task directory text) link.steps
-      (follow_rules nat_eq world link text)
-      (symlink_start nat_eq world task directory link text) (λ passed. refl))
+      (follow_rules nat_eq world link text) (symlink_start nat_eq world task directory link text) (λ passed. refl))
       (λ start e.
       ends_then (λ reached. IsSearched start.location (words text) reached.location)
-      (λ end. IsSearched (start_of task directory text) (words text) end.location)
-      (words_walked nat_eq world task
+      (λ end. IsSearched (start_of task directory text) (words text) end.location) (words_walked nat_eq world task
       (λ inside next inner. symlink_walked nat_eq depth world task inside next inner) start (reverse (words text))) _
       (text_searched (λ inside next inner. symlink_walked nat_eq depth world task inside next inner)
-      (symlink_searched depth) start text)
-      (λ reached searched.
+      (symlink_searched depth) start text) (λ reached searched.
       ends_unless (λ (end : Here ℕ). IsSearched (start_of task directory text) (words text) end.location) reached.steps
       (slash_rules nat_eq world text reached.location) reached
       (λ passed. subst (λ from. IsSearched from (words text) reached.location) e searched)))
@@ -143,8 +129,4 @@ module _ (world : World ℕ) (task : Task ℕ) where
   pub path_searched : (path : List ℕ)
       → Ends (λ end. IsSearchedTo world task path end.location) (path_walked nat_eq world task path)
   path_searched path =
-      ends_then (λ text. text ≡ path) (λ end. IsSearchedTo world task path end.location) (path_text path) _
-      (path_text_same path) (λ text e.
-      subst (λ written. Ends (λ end. IsSearchedTo world task written end.location)
-      (words_walked nat_eq world task (followed nat_eq world task) (walk_start task text) (reverse (words text)))) e
-      (text_searched (followed nat_eq world task) followed_searched (walk_start task text) text))
+      grind (arith, common_steps, ends_then, path_text_same, words_walked, followed, text_searched, followed_searched)

@@ -1,17 +1,15 @@
 -- Upper and work directories still lie apart when an overlay is mounted that the rules on layers let be mounted.
-use Rattle.std.proofs.Common.{arith}
-use Rattle.std.proofs.lemmas.Grind.{common_steps}
-use Rattle.std.proofs.Common.{◌≡◌, ◌⊎◌, inl, inr, ⊎_elim, refl, sym, ap, subst, ◌∙◌, true≢false, ℕ, nat_eq, eqb-true, Bool, true, false, ◌||◌, List, [], ◌∷◌, ◌++◌, flat_map, map}
+use Rattle.std.proofs.Common.{arith, ◌≡◌, ◌⊎◌, inl, inr, ⊎_elim, refl, sym, ap, subst, ◌∙◌, true≢false, ℕ, nat_eq, eqb-true, Bool, true, false, ◌||◌, List, [], ◌∷◌, ◌++◌, flat_map, map}
+use Rattle.std.proofs.lemmas.Grind.{common_steps, flat_map-append}
 use Rattle.std.specs.List.{list_all, list_any}
 use Rattle.std.specs.Prelude.{option_to_list}
-use Rattle.std.proofs.lemmas.Grind.{flat_map-append}
 use Rattle.std.proofs.lemmas.List.Elements.{filter-append}
 use Rattle.vt_spec.specs.Lists.{Fresh, any_pair, evens, is_among}
 use Rattle.vt_spec.specs.Machine.Locked.{in_use, lies_or_counts_under, live_layers, live_upper_and_work, of_overlay, overlaps_one_of, overlays, upper_and_work}
 use Rattle.vt_spec.specs.declared.errors.Rule.TheVariants.{O2, O3, O5}
 use Rattle.vt_spec.specs.Machine.Rules.Mounting.{LayerLocations}
 use Rattle.vt_spec.proofs.Tables.{layer_rules}
-use Rattle.vt_spec.specs.Machine.World.{Layer, Overlay, World, filesystem_numbered, is_overlay, layers_of}
+use Rattle.vt_spec.specs.Machine.World.{Layer, Overlay, World, filesystem_numbered, layers_of}
 use Rattle.vt_spec.specs.Machine.Invariants.{IsWorld, is_plain_layer, live_lowers, overlap}
 use Rattle.vt_laws_trees.specs.Layers.Layers.Mounted.{AreLayers}
 use Rattle.vt_laws_trees.specs.Layers.Layers.NewOverlays.{ChangedStayApart, LowersStayApart, NoneRefuses}
@@ -42,15 +40,13 @@ module _ {A : Type 0} where
   no_pair test [] e = tt
   no_pair test (first ∷ list) e = (
     none_passes (test first) list (or_false_left _ _ e),
-    no_pair test list
-        (or_false_right (list_any (test first) list) _ e),
+    no_pair test list (or_false_right (list_any (test first) list) _ e),
   )
 
   pub from_no_pair : (test other : A → A → Bool) (list : List A) → Pairwise (λ a b. test a b ≡ false) list
       → ((a b : A) → Among list a → Among list b → other a b ≡ test a b) → any_pair other list ≡ false
   from_no_pair test other [] p same = refl
-  from_no_pair test other (first ∷ list) p same =
-      ap (λ b. b || any_pair other list)
+  from_no_pair test other (first ∷ list) p same = ap (λ b. b || any_pair other list)
       (none_pass (other first) list (λ a among. same first a (inl refl) (inr among) ∙ p.0 a among))
       ∙ from_no_pair test other list p.1 (λ a b l r. same a b (inr l) (inr r))
 
@@ -68,15 +64,13 @@ module _ (world : World ℕ) where
 
   apart_from : (others : List (Layer ℕ)) (layer other : Layer ℕ) → overlaps_one_of nat_eq world others layer ≡ false
       → Among others other → Apart layer other
-  apart_from others layer other e among =
-      grind (
-        arith,
-        common_steps,
-        none_pass,
-        none_passes _ (filesystem_numbered nat_eq world
-            layer.filesystem).files.numbers e,
-        none_passes,
-      )
+  apart_from others layer other e among = grind (
+    arith,
+    common_steps,
+    none_pass,
+    none_passes _ (filesystem_numbered nat_eq world layer.filesystem).files.numbers e,
+    none_passes,
+  )
 
   apart_of_all : (others : List (Layer ℕ)) (layer : Layer ℕ)
       → ((other : Layer ℕ) → Among others other → Apart layer other) → overlaps_one_of nat_eq world others layer ≡ false
@@ -106,30 +100,18 @@ live_of : (world : World ℕ) (some_layers : Overlay ℕ → List (Layer ℕ))
     → ((overlay : Overlay ℕ) (layer : Layer ℕ) → Among (some_layers overlay) layer → Among (layers_of overlay) layer)
     → (layer : Layer ℕ) → Among (flat_map (of_overlay [] some_layers) (overlays world)) layer
     → Among (live_layers world) layer
-live_of world some_layers of layer among =
-    let found = from_flat_map (of_overlay [] some_layers) (overlays world) layer among in grind (
-      arith,
-      common_steps,
-      among_flat_map,
-    )
+live_of world some_layers of layer among = grind (arith, common_steps, from_flat_map, among_flat_map)
 
 live_plain : (world : World ℕ) → IsWorld nat_eq world → (layer : Layer ℕ) → Among (live_layers world) layer
     → is_plain_layer nat_eq world layer ≡ true
-live_plain world conditions layer among =
-    let found = from_flat_map (of_overlay [] layers_of) (overlays world) layer among in grind (
-      arith,
-      common_steps,
-      each_passes,
-      among_filtered is_overlay world.filesystems found.0 found.1,
-    )
+live_plain world conditions layer among = grind (arith, common_steps, from_flat_map, each_passes, among_filtered)
 
 module _ (world : World ℕ) (conditions : IsWorld nat_eq world) (overlay : Overlay ℕ)
     (are_layers : AreLayers world overlay) (plain : list_all (is_plain_layer nat_eq world) (layers_of overlay) ≡ true)
     (fresh : Fresh ℕ) (distinct : (j k : ℕ) → fresh j ≡ fresh k → j ≡ k)
     (unused : is_among nat_eq (evens fresh 0) (map (λ filesystem. filesystem.number) world.filesystems) ≡ false)
     (work_apart : list_any (overlaps_one_of nat_eq world (option_to_list overlay.work)) (option_to_list overlay.upper)
-    ≡ false)
-    (not_in_use : (list_any (overlaps_one_of nat_eq world (live_layers world)) (upper_and_work overlay)
+    ≡ false) (not_in_use : (list_any (overlaps_one_of nat_eq world (live_layers world)) (upper_and_work overlay)
     || list_any (overlaps_one_of nat_eq world (live_upper_and_work world)) overlay.lowers) ≡ false)
     (lowers_apart : list_any (overlaps_one_of nat_eq world overlay.lowers) (upper_and_work overlay) ≡ false) where
   abbrev after : World ℕ
@@ -140,15 +122,7 @@ module _ (world : World ℕ) (conditions : IsWorld nat_eq world) (overlay : Over
       → of_overlay [] some_layers (new world conditions overlay are_layers fresh distinct unused) ≡ list
       → flat_map (of_overlay [] some_layers) (overlays after) ≡ flat_map (of_overlay [] some_layers) (overlays world)
       ++ list
-  live_after some_layers list e =
-      grind (
-        arith,
-        common_steps,
-        filter-append is_overlay world.filesystems (new world conditions overlay are_layers
-            fresh distinct unused ∷ []),
-        flat_map-append (of_overlay [] some_layers) (overlays world) (new world conditions
-            overlay are_layers fresh distinct unused ∷ []),
-      )
+  live_after some_layers list e = grind (arith, common_steps, filter-append, new, flat_map-append)
 
   changed : List (Layer ℕ)
   changed = live_upper_and_work world ++ upper_and_work overlay
@@ -188,8 +162,7 @@ module _ (world : World ℕ) (conditions : IsWorld nat_eq world) (overlay : Over
 
   -- a directory to which the new overlay's changes go is apart from each live layer
   new_apart : (a b : Layer ℕ) → Among (upper_and_work overlay) a → Among (live_layers world) b → Apart world a b
-  new_apart a b in_new in_live =
-      apart_from world (live_layers world) a b
+  new_apart a b in_new in_live = apart_from world (live_layers world) a b
       (none_passes (overlaps_one_of nat_eq world (live_layers world)) (upper_and_work overlay)
       (or_false_left _ _ not_in_use) a in_new) in_live
 
@@ -198,12 +171,10 @@ module _ (world : World ℕ) (conditions : IsWorld nat_eq world) (overlay : Over
 
   pub changed_after : any_pair (overlap nat_eq after) (live_upper_and_work after) ≡ false
   unfolding changed
-  changed_after =
-      ap (any_pair (overlap nat_eq after)) (live_after upper_and_work (upper_and_work overlay) refl)
+  changed_after = ap (any_pair (overlap nat_eq after)) (live_after upper_and_work (upper_and_work overlay) refl)
       ∙ from_no_pair (overlap nat_eq world) (overlap nat_eq after) changed
       (pairwise_append (Apart world) (live_upper_and_work world) (upper_and_work overlay)
-      (no_pair (overlap nat_eq world) (live_upper_and_work world) conditions.overlays.changed_apart)
-      own_pairs
+      (no_pair (overlap nat_eq world) (live_upper_and_work world) conditions.overlays.changed_apart) own_pairs
       (λ a b in_live in_new. apart_both world b a (new_apart b a in_new (live_changed a in_live))))
       (λ a b in_a in_b. overlaps_same world conditions overlay are_layers fresh distinct unused (b ∷ []) a
       (old_changed a in_a) (λ other among.
@@ -213,41 +184,26 @@ module _ (world : World ℕ) (conditions : IsWorld nat_eq world) (overlay : Over
   pub lowers_after : list_any (overlaps_one_of nat_eq after (live_lowers nat_eq after)) (live_upper_and_work after)
       ≡ false
   unfolding changed lowers
-  lowers_after =
-      ap (list_any (overlaps_one_of nat_eq after (live_lowers nat_eq after)))
+  lowers_after = ap (list_any (overlaps_one_of nat_eq after (live_lowers nat_eq after)))
       (live_after upper_and_work (upper_and_work overlay) refl)
       ∙ ap (λ l. list_any (overlaps_one_of nat_eq after l) changed) (live_after (λ ov. ov.lowers) overlay.lowers refl)
       ∙ none_pass (overlaps_one_of nat_eq after lowers) changed (λ a in_changed.
       overlaps_same world conditions overlay are_layers fresh distinct unused lowers a
-      (old_changed a in_changed) old_lower
-      ∙ apart_of_all world lowers a (λ b in_lowers.
+      (old_changed a in_changed) old_lower ∙ apart_of_all world lowers a (λ b in_lowers.
       both a b (from_append (live_upper_and_work world) (upper_and_work overlay) a in_changed)
       (from_append (live_lowers nat_eq world) overlay.lowers b in_lowers)))
     where
       both : (a b : Layer ℕ) → Among (live_upper_and_work world) a ⊎ Among (upper_and_work overlay) a
           → Among (live_lowers nat_eq world) b ⊎ Among overlay.lowers b → Apart world a b
-      both a b (inl old) (inl low) =
-          apart_from world (live_lowers nat_eq world) a b
-          (none_passes (overlaps_one_of nat_eq world (live_lowers nat_eq world))
-          (live_upper_and_work world) conditions.overlays.lowers_apart a old) low
-      both a b (inl old) (inr low) =
-          apart_both world b a (apart_from world (live_upper_and_work world) b a
-          (none_passes (overlaps_one_of nat_eq world (live_upper_and_work world)) overlay.lowers
-          (or_false_right (list_any (overlaps_one_of nat_eq world (live_layers world))
-          (upper_and_work overlay)) _ not_in_use) b low) old)
-      both a b (inr own) (inl low) = new_apart a b own (live_lower b low)
-      both a b (inr own) (inr low) =
-          apart_from world overlay.lowers a b
-          (none_passes (overlaps_one_of nat_eq world overlay.lowers)
-          (upper_and_work overlay) lowers_apart a own) low
+      both a b known known_2 =
+          grind (arith, common_steps, apart_from, none_passes, apart_both, or_false_right, new_apart, live_lower)
 
 -- The rules on layers
 module _ (world : World ℕ) (places : LayerLocations ℕ) (overlay : Overlay ℕ)
     (passed : NoneRefuses (layer_rules nat_eq world places overlay)) where
   work_lies_apart : list_any (overlaps_one_of nat_eq world (option_to_list overlay.work))
       (option_to_list overlay.upper) ≡ false
-  work_lies_apart =
-      none_passes (λ row. row.0) (layer_rules nat_eq world places overlay) passed
+  work_lies_apart = none_passes (λ row. row.0) (layer_rules nat_eq world places overlay) passed
       (list_any (overlaps_one_of nat_eq world (option_to_list overlay.work)) (option_to_list overlay.upper), O2)
       (inr (inr (inr (inr (inr (inr (inl refl)))))))
 
@@ -257,8 +213,7 @@ module _ (world : World ℕ) (places : LayerLocations ℕ) (overlay : Overlay �
       (inr (inr (inr (inr (inr (inr (inr (inr (inl refl)))))))))
 
   lowers_lie_apart : list_any (overlaps_one_of nat_eq world overlay.lowers) (upper_and_work overlay) ≡ false
-  lowers_lie_apart =
-      none_passes (λ row. row.0) (layer_rules nat_eq world places overlay) passed
+  lowers_lie_apart = none_passes (λ row. row.0) (layer_rules nat_eq world places overlay) passed
       (list_any (overlaps_one_of nat_eq world overlay.lowers) (upper_and_work overlay), O5)
       (inr (inr (inr (inr (inr (inr (inr (inr (inr (inr (inl refl)))))))))))
 

@@ -1,7 +1,6 @@
 -- A newly mounted overlay is a tree, within the limits of its layers.
-use Rattle.std.proofs.Common.{arith}
+use Rattle.std.proofs.Common.{arith, ◌≡◌, ◌≤◌, refl, sym, ap, ◌∙◌, true≢false, ℕ, nat_eq, eqb-true, Bool, true, false, cond, not, ◌&&◌, ◌||◌, List, [], ◌∷◌, ◌++◌, length, map, Option, Some, None, is_some, option_and_then, inl, inr, slice_get}
 use Rattle.std.proofs.lemmas.Grind.{common_steps}
-use Rattle.std.proofs.Common.{◌≡◌, ◌≤◌, refl, sym, ap, ◌∙◌, true≢false, ℕ, nat_eq, eqb-true, Bool, true, false, cond, not, ◌&&◌, ◌||◌, List, [], ◌∷◌, ◌++◌, length, map, Option, Some, None, is_some, option_and_then, inl, inr, slice_get}
 use Rattle.std.specs.List.{filter_map, find, list_all}
 use Rattle.std.specs.Ordering.{eq_by_cmp}
 use Rattle.std.specs.Prelude.{nat_le, option_map, option_to_list}
@@ -16,7 +15,7 @@ use Rattle.vt_spec.specs.Machine.NewMounts.{inode_count, overlay_filesystem}
 use Rattle.vt_spec.specs.Machine.World.{Overlay, World, open_layer, shown_layers}
 use Rattle.vt_spec.specs.Machine.Invariants.{IsWorld, ListsNumbers, is_fit_filesystem}
 use Rattle.vt_spec.specs.PathText.{is_empty}
-use Rattle.vt_spec.specs.Tree.{Content, Entries, Node, bytes_in, entries_in, entry_named, name_cmp, names_in}
+use Rattle.vt_spec.specs.Tree.{Content, Entries, Node, bytes_in, entry_named, name_cmp, names_in}
 use Rattle.vt_spec.specs.Tree.Content.{Directory, Regular, Symlink, Whiteout}
 use Rattle.vt_spec.specs.TreeInvariant.{entry_at, led}
 use Rattle.vt_spec.proofs.Nodes.{same_name}
@@ -72,8 +71,7 @@ all_pass_map p f (first ∷ list) h =
 named_fits : (name : List ℕ) (entries : Entries ℕ) (n : ℕ) → list_all is_fit_name (map (λ e. e.0) entries) ≡ true
     → entry_named name entries ≡ Some n → is_fit_name name ≡ true
 named_fits name [] n all e = none_is_some n e
-named_fits name (entry ∷ entries) n all e =
-    by (eq_by_cmp name_cmp name entry.0) refl e
+named_fits name (entry ∷ entries) n all e = by (eq_by_cmp name_cmp name entry.0) refl e
     (named_fits name entries n (and_true_right (is_fit_name entry.0) _ all))
   where
     by : (b : Bool) → eq_by_cmp name_cmp name entry.0 ≡ b → cond b (Some entry.1) (entry_named name entries) ≡ Some n
@@ -102,11 +100,7 @@ module _ (layers : List (OpenLayer ℕ)) (are_open : AreOpen layers) (longest : 
           → option_and_then (λ directory. entry_at layer.tree directory name) o ≡ Some object.seen.object
           → is_fit_name name ≡ true
       by layer fit None e = none_is_some object.seen.object e
-      by layer fit (Some directory) e =
-          named_fits name (entries_in (layer.tree.node directory)) object.seen.object
-          (and_true_right (no_larger (layer.tree.node directory)) _
-          (and_true_left (no_larger (layer.tree.node directory)
-          && list_all is_fit_name (names_in (layer.tree.node directory))) _ (fit directory))) e
+      by layer fit (Some directory) e = grind (arith, common_steps, named_fits, and_true_right, and_true_left)
 
   merged_names_fit : (path : List (List ℕ))
       → list_all is_fit_name (map (λ e. e.0) (filter_map (entry_in_directory nat_eq fresh has_upper all path) all))
@@ -137,29 +131,25 @@ module _ (layers : List (OpenLayer ℕ)) (are_open : AreOpen layers) (longest : 
       by (Some inode) e =
           let is = is_of_object layers are_open longest bounded fresh distinct has_upper n inode e in
           ap (λ node. fit_node (Some node)) is.node
-          ∙ merged_fits is.object.path is.layer.node.attr is.layer.node.content
-          (ap fit_node (sym is.layer.is)
+          ∙ merged_fits is.object.path is.layer.node.attr is.layer.node.content (ap fit_node (sym is.layer.is)
           ∙ fits is.object.seen.layer is.layer.layer is.layer.there is.object.seen.object)
 
 pub new_overlay_is_tree : NewOverlayIsTree
 new_overlay_is_tree fresh world overlay conditions are_layers distinct =
     merged_is_tree (map (open_layer nat_eq world) (shown_layers overlay))
     (are_open world conditions overlay are_layers) (inode_count world)
-    (bounded world conditions overlay are_layers) (odds fresh)
-    (odds-distinct fresh distinct) (is_some overlay.upper)
+    (bounded world conditions overlay are_layers) (odds fresh) (odds-distinct fresh distinct) (is_some overlay.upper)
     (root_shown world conditions overlay are_layers).0 (root_shown world conditions overlay are_layers).1
 
 pub new_overlay_has_own_parents : NewOverlayHasOwnParents
 new_overlay_has_own_parents fresh world overlay conditions are_layers distinct =
     merged_own_parents (map (open_layer nat_eq world) (shown_layers overlay))
     (are_open world conditions overlay are_layers) (inode_count world)
-    (bounded world conditions overlay are_layers) (odds fresh)
-    (odds-distinct fresh distinct) (is_some overlay.upper)
+    (bounded world conditions overlay are_layers) (odds fresh) (odds-distinct fresh distinct) (is_some overlay.upper)
     (root_shown world conditions overlay are_layers).0 (root_shown world conditions overlay are_layers).1
 
 pub new_overlay_lists_numbers : NewOverlayListsNumbers
-new_overlay_lists_numbers fresh world overlay conditions are_layers distinct =
-    merged_lists_numbers (odds fresh 0)
+new_overlay_lists_numbers fresh world overlay conditions are_layers distinct = merged_lists_numbers (odds fresh 0)
     (inodes (map (open_layer nat_eq world) (shown_layers overlay)) (are_open world conditions overlay are_layers)
     (inode_count world) (bounded world conditions overlay are_layers) (odds fresh)
     (odds-distinct fresh distinct) (is_some overlay.upper))

@@ -1,16 +1,14 @@
 -- The layers of a newly mounted overlay lie apart from those of live ones, and what lies under a layer is as it was.
-use Rattle.std.proofs.Common.{arith}
+use Rattle.std.proofs.Common.{arith, ◌≡◌, inl, inr, refl, sym, ap, ◌∙◌, true≢false, ℕ, nat_eq, eqb-true, Bool, true, false, cond, not, ◌&&◌, ◌||◌, List, [], ◌∷◌, ◌++◌, map, Option, Some, None, is_some, unwrap_or}
 use Rattle.std.proofs.lemmas.Grind.{common_steps}
-use Rattle.std.proofs.Common.{◌≡◌, inl, inr, refl, sym, ap, ◌∙◌, true≢false, ℕ, zero, suc, nat_eq, eqb-true, Bool, true, false, cond, not, ◌&&◌, ◌||◌, List, [], ◌∷◌, ◌++◌, map, Option, Some, None, is_some, slice_get, unwrap_or}
 use Rattle.std.specs.List.{find, list_all, list_any}
 use Rattle.std.specs.Prelude.{option_to_list}
 use Rattle.std.proofs.lemmas.List.Elements.{filter-append}
 use Rattle.std.proofs.lemmas.List.Folds.{list_any-append}
 use Rattle.vt_spec.specs.FileTree.{is_directory_under, is_file_under, is_under}
-use Rattle.vt_spec.specs.Machine.Layers.{at_path}
 use Rattle.vt_spec.specs.Lists.{Fresh, evens, holds_of, is_among, odds}
 use Rattle.vt_spec.specs.Machine.Locked.{counts_in_layer, is_real_upper, lies_in_layer, lies_or_counts_under, overlaps_one_of, overlays}
-use Rattle.vt_spec.specs.Machine.Merging.{Merged, real_object, real_of}
+use Rattle.vt_spec.specs.Machine.Merging.{real_of}
 use Rattle.vt_spec.specs.Machine.NewMounts.{inode_count, overlay_filesystem, with_new_filesystem}
 use Rattle.vt_spec.specs.Machine.World.{Filesystem, Layer, Overlay, Real, World, filesystem_numbered, is_overlay, no_filesystem, open_layer, shown_layers}
 use Rattle.vt_spec.specs.Machine.World.Real.{Lower, Upper}
@@ -19,7 +17,7 @@ use Rattle.vt_spec.specs.Tree.{is_directory_node}
 use Rattle.vt_spec.specs.TreeInvariant.{IsTree, led}
 use Rattle.vt_laws_trees.specs.Layers.Layers.Mounted.{AreLayers}
 use Rattle.vt_laws_trees.proofs.layers.directories.Lower.{led_below}
-use Rattle.vt_laws_trees.proofs.layers.layers.ShownMerged.{InLayer, inodes}
+use Rattle.vt_laws_trees.proofs.layers.layers.ShownMerged.{inodes}
 use Rattle.vt_laws_trees.proofs.layers.layers.ShownMounted.{are_open, bounded}
 use Rattle.vt_laws_trees.proofs.layers.layers.ShownObjects.{Among}
 use Rattle.vt_laws_trees.proofs.layers.layers.ShownWhole.{has_real}
@@ -47,8 +45,7 @@ any_found test (first ∷ list) e = grind (arith, common_steps, any_found test l
 pub any_same : {A : Type 0} (test other : A → Bool) (list : List A) → ((a : A) → Among list a → test a ≡ other a)
     → list_any test list ≡ list_any other list
 any_same test other [] same = refl
-any_same test other (first ∷ list) same =
-    ap (λ b. b || list_any test list) (same first (inl refl))
+any_same test other (first ∷ list) same = ap (λ b. b || list_any test list) (same first (inl refl))
     ∙ ap (λ b. other first || b) (any_same test other list (λ a among. same a (inr among)))
 
 absorbed : (l c n : Bool) → (n ≡ true → l ≡ true) → (l || (c || (n || false))) ≡ (l || c)
@@ -58,8 +55,7 @@ absorbed false false false h = refl
 absorbed false false true h = sym (h refl)
 
 module _ (world : World ℕ) (conditions : IsWorld nat_eq world) (overlay : Overlay ℕ)
-    (are_layers : AreLayers world overlay)
-    (fresh : Fresh ℕ) (distinct : (j k : ℕ) → fresh j ≡ fresh k → j ≡ k)
+    (are_layers : AreLayers world overlay) (fresh : Fresh ℕ) (distinct : (j k : ℕ) → fresh j ≡ fresh k → j ≡ k)
     (unused : is_among nat_eq (evens fresh 0) (map (λ filesystem. filesystem.number) world.filesystems) ≡ false) where
   abbrev pub new : Filesystem ℕ
   new = overlay_filesystem nat_eq fresh world overlay
@@ -93,8 +89,7 @@ module _ (world : World ℕ) (conditions : IsWorld nat_eq world) (overlay : Over
       by true e = none_is_some (filesystem_numbered nat_eq world layer.filesystem)
           (sym (not_found layer.filesystem world.filesystems
           (ap (λ n. list_any (nat_eq n) (map (λ f. f.number) world.filesystems))
-          (eqb-true layer.filesystem new.number e) ∙ unused))
-          ∙ plain_found layer plain)
+          (eqb-true layer.filesystem new.number e) ∙ unused)) ∙ plain_found layer plain)
 
   lies_same : (fs object : ℕ) (layer : Layer ℕ) → IsOld layer
       → lies_in_layer nat_eq later fs object layer ≡ lies_in_layer nat_eq world fs object layer
@@ -118,38 +113,15 @@ module _ (world : World ℕ) (conditions : IsWorld nat_eq world) (overlay : Over
   upper_in (Lower layer path) = None
 
   upper_led : (upper : Layer ℕ) → overlay.upper ≡ Some upper → (number object : ℕ)
-      → made.real number ≡ Some (Upper object)
-      → (path : List (List ℕ)) × (led
+      → made.real number ≡ Some (Upper object) → (path : List (List ℕ)) × (led
       (filesystem_numbered nat_eq world upper.filesystem).files.tree upper.directory path ≡ Some object)
   unfolding upper_in
   upper_led upper is number object e =
       let real = has_real (map (open_layer nat_eq world) (shown_layers overlay))
       (are_open world conditions overlay are_layers) (inode_count world)
       (bounded world conditions overlay are_layers) (odds fresh)
-      (odds-distinct fresh distinct) (is_some overlay.upper) number
-      (Upper object) e in
-      by real.object real.layer real.object.seen.layer refl
-      (real.is ∙ ap (λ o. real_object (is_some o) real.object.seen.layer real.object) is)
-    where
-      by : (m : Merged ℕ) → InLayer (map (open_layer nat_eq world) (shown_layers overlay))
-          (are_open world conditions overlay are_layers) (inode_count world)
-          (bounded world conditions overlay are_layers) (odds fresh)
-          (odds-distinct fresh distinct) (is_some overlay.upper) m → (l : ℕ)
-          → m.seen.layer ≡ l → Upper object ≡ real_object true l m
-          → (path : List (List ℕ)) × (led
-          (filesystem_numbered nat_eq world upper.filesystem).files.tree upper.directory path ≡ Some object)
-      by m found zero lm r =
-          let top : slice_get (map (open_layer nat_eq world) (shown_layers overlay)) 0
-          ≡ Some (open_layer nat_eq world upper) =
-          ap (λ o. slice_get (map (open_layer nat_eq world) (option_to_list o ++ overlay.lowers)) 0) is in
-          let same = same_Some (open_layer nat_eq world upper) found.layer
-          (sym top ∙ ap (slice_get (map (open_layer nat_eq world) (shown_layers overlay))) (sym lm)
-          ∙ found.there) in (
-            m.path,
-            ap (λ layer. at_path layer m.path) same ∙ found.at
-                ∙ ap Some (sym (same_Some object m.seen.object (ap upper_in r))),
-          )
-      by m found (suc l) lm r = none_is_some object (sym (ap upper_in r))
+      (odds-distinct fresh distinct) (is_some overlay.upper) number (Upper object) e in
+      grind (arith, common_steps, are_open, bounded, odds-distinct, same_Some, none_is_some)
 
   new_counts : (fs object : ℕ) (layer : Layer ℕ) → IsOld layer
       → counts_in_layer nat_eq later fs object layer new ≡ true → lies_in_layer nat_eq world fs object layer ≡ true
@@ -158,8 +130,7 @@ module _ (world : World ℕ) (conditions : IsWorld nat_eq world) (overlay : Over
       (and_true_right _ _ (and_true_right _ _ e))
     where
       up_plain : (upper : Layer ℕ) → overlay.upper ≡ Some upper → is_plain_layer nat_eq world upper ≡ true
-      up_plain upper is =
-          and_true_left (is_plain_layer nat_eq world upper) _
+      up_plain upper is = and_true_left (is_plain_layer nat_eq world upper) _
           (ap (λ o. list_all (is_plain_layer nat_eq world) (option_to_list o ++ overlay.lowers)) (sym is)
           ∙ are_layers.1)
 
@@ -199,8 +170,7 @@ module _ (world : World ℕ) (conditions : IsWorld nat_eq world) (overlay : Over
       → lies_or_counts_under nat_eq later fs object layer ≡ lies_or_counts_under nat_eq world fs object layer
   under_same fs object layer old =
       ap (λ b. b || list_any (counts_in_layer nat_eq later fs object layer) (overlays later))
-      (lies_same fs object layer old)
-      ∙ ap (λ b. lies_in_layer nat_eq world fs object layer || b)
+      (lies_same fs object layer old) ∙ ap (λ b. lies_in_layer nat_eq world fs object layer || b)
       (ap (list_any (counts_in_layer nat_eq later fs object layer)) overlays_later
       ∙ list_any-append (counts_in_layer nat_eq later fs object layer) (overlays world) (new ∷ [])
       ∙ ap (λ b. b || (counts_in_layer nat_eq later fs object layer new || false))
@@ -208,8 +178,7 @@ module _ (world : World ℕ) (conditions : IsWorld nat_eq world) (overlay : Over
       (overlays world) (λ merged among. counts_same fs object layer old merged)))
       ∙ absorbed (lies_in_layer nat_eq world fs object layer)
       (list_any (counts_in_layer nat_eq world fs object layer) (overlays world))
-      (counts_in_layer nat_eq later fs object layer new)
-      (new_counts fs object layer old)
+      (counts_in_layer nat_eq later fs object layer new) (new_counts fs object layer old)
 
   pub overlaps_same : (others : List (Layer ℕ)) (layer : Layer ℕ) → IsOld layer
       → ((other : Layer ℕ) → Among others other → IsOld other)

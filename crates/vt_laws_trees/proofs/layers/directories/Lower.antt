@@ -30,8 +30,7 @@ module _ (files : FileTree ℕ) (tree : IsTree files.tree) (listed : ListsNumber
       → chain most (named_parent nat_eq files.tree) directory ≡ chain steps (named_parent nat_eq files.tree) directory
   enough zero directory r most h = up_at_root files tree most directory r
   enough (suc steps) directory r zero h = absurd (let no : ⊥ = omega arith in no)
-  enough (suc steps) directory r (suc most) h =
-      up_from files tree most steps directory r
+  enough (suc steps) directory r (suc most) h = up_from files tree most steps directory r
       ∙ ap (λ l. directory ∷ l) (enough steps r.0 r.2 most (omega arith))
       ∙ sym (up_from files tree steps steps directory r)
 

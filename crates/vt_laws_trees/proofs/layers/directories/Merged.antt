@@ -1,7 +1,6 @@
 -- The merged tree of layers is a tree.
-use Rattle.std.proofs.Common.{arith}
+use Rattle.std.proofs.Common.{arith, ◌≡◌, ◌≢◌, ◌≤◌, ◌⊎◌, inl, inr, refl, sym, ap, subst, ◌∙◌, true≢false, ℕ, ◌+◌, nat_eq, eqb-true, Bool, true, false, cond, not, ◌||◌, List, [], ◌∷◌, ◌++◌, filter, length, map, Option, Some, None, is_some, option_and_then, slice_get, unwrap_or}
 use Rattle.std.proofs.lemmas.Grind.{common_steps}
-use Rattle.std.proofs.Common.{◌≡◌, ◌≢◌, ◌≤◌, ◌⊎◌, inl, inr, refl, sym, ap, subst, ◌∙◌, true≢false, ℕ, ◌+◌, nat_eq, eqb-true, Bool, true, false, cond, not, ◌||◌, List, [], ◌∷◌, ◌++◌, filter, length, map, Option, Some, None, is_some, option_and_then, slice_get, unwrap_or}
 use Rattle.std.specs.List.{filter_map, find, list_any}
 use Rattle.std.specs.FinMap.Entries.{is_sorted}
 use Rattle.std.specs.Prelude.{option_map}
@@ -45,15 +44,7 @@ still_among number (first ∷ list) = by (nat_eq number first) refl (still_among
     kept : nat_eq number first ≡ false → (rest : List ℕ)
         → list_any (nat_eq number) (filter (λ b. not (nat_eq first b)) rest) ≡ list_any (nat_eq number) rest
     kept n [] = refl
-    kept n (other ∷ rest) = choose (nat_eq first other) refl (kept n rest)
-      where
-        choose : (b : Bool) → nat_eq first other ≡ b
-            → list_any (nat_eq number) (filter (λ b. not (nat_eq first b)) rest) ≡ list_any (nat_eq number) rest
-            → list_any (nat_eq number) (cond (not b) (other ∷ filter (λ b. not (nat_eq first b)) rest)
-            (filter (λ b. not (nat_eq first b)) rest)) ≡ (nat_eq number other || list_any (nat_eq number) rest)
-        choose true e on = on ∙ ap (λ b. b || list_any (nat_eq number) rest)
-            (sym (ap (nat_eq number) (sym (eqb-true first other e)) ∙ n))
-        choose false e on = ap (λ b. nat_eq number other || b) on
+    kept n (other ∷ rest) = grind (arith, common_steps, number, eqb-true, kept n rest)
 
     by : (b : Bool) → nat_eq number first ≡ b
         → list_any (nat_eq number) (each_once nat_eq list) ≡ list_any (nat_eq number) list
@@ -102,8 +93,7 @@ module _ (layers : List (OpenLayer ℕ)) (are_open : AreOpen layers) (longest : 
       let layer = same_Some other.layer found.layer
       (sym other.there ∙ ap (λ seen. slice_get layers seen.layer) (sym same) ∙ found.there) in
       one_path found.layer.tree
-      (are_open a.seen.layer found.layer found.there).0 found.layer.directory a.path b.path a.seen.object
-      found.at
+      (are_open a.seen.layer found.layer found.there).0 found.layer.directory a.path b.path a.seen.object found.at
       (ap (λ l. at_path l b.path) (sym layer) ∙ other.at ∙ ap (λ seen. Some seen.object) (sym same))
       (ap is_directory_node found.is ∙ d)
 
@@ -116,23 +106,19 @@ module _ (layers : List (OpenLayer ℕ)) (are_open : AreOpen layers) (longest : 
   -- the number of a directory is that of its path
   path_number : (path : List (List ℕ)) (seen : Shown ℕ) → shown layers path ≡ Some seen → (found : Lies (at path seen))
       → is_directory (kind_of found.node.content) ≡ true → number_at fresh has_upper all path ≡ num (at path seen)
-  path_number path seen s found d =
-      ap (λ o. fresh (unwrap_or o 0))
+  path_number path seen s found d = ap (λ o. fresh (unwrap_or o 0))
       (same_place (λ object. same_path path object.path) (is_one_inode nat_eq has_upper (at path seen)) 0 all
       (λ other among. agree other (object_is layers are_open longest bounded other among)))
     where
       agree : (other : Merged ℕ) → shown layers other.path ≡ Some other.seen
           → same_path path other.path ≡ is_one_inode nat_eq has_upper (at path seen) other
-      agree other t = same_truth _ _
-          (λ e.
+      agree other t = same_truth _ _ (λ e.
           let paths = path_same path other.path e in
           let seens = same_Some seen other.seen (sym s ∙ ap (shown layers) paths ∙ t) in
           let whole : at path seen ≡ other = λ i. record { path = paths i; seen = seens i } in
-          ap (is_one_inode nat_eq has_upper (at path seen)) (sym whole) ∙ one_itself has_upper (at path seen))
-          (λ e.
+          ap (is_one_inode nat_eq has_upper (at path seen)) (sym whole) ∙ one_itself has_upper (at path seen)) (λ e.
           ap (same_path path) (sym (one_place (at path seen) other s t
-          (is_one layers has_upper (at path seen) other s t e).seen found d))
-          ∙ path_itself path)
+          (is_one layers has_upper (at path seen) other s t e).seen found d)) ∙ path_itself path)
 
   -- what the merged tree has of a directory
   merged_entries : (path : List (List ℕ)) (content : Content ℕ) → is_directory (kind_of content) ≡ true
@@ -201,10 +187,8 @@ module _ (layers : List (OpenLayer ℕ)) (are_open : AreOpen layers) (longest : 
   shown_directory path seen s found d =
       let inode = inode_at layers are_open longest bounded fresh distinct has_upper top is_top path seen s in
       let node = same_Some inode.node found.node
-      (sym inode.seen ∙ layer_node_of layers are_open longest bounded fresh distinct has_upper
-      (at path seen) found) in
-      ap is_directory_node inode.is ∙ merged_kind inode.other.path inode.node.content
-      ∙ ap (λ m. is_directory (kind_of m.content)) node ∙ d
+      (sym inode.seen ∙ layer_node_of layers are_open longest bounded fresh distinct has_upper (at path seen) found) in
+      grind (arith, common_steps, merged_kind)
 
   -- an entry of the tree leads to what is shown under its name
   record IsEntry (directory : ℕ) (name : List ℕ) (n : ℕ) : Type 0 where
@@ -231,11 +215,8 @@ module _ (layers : List (OpenLayer ℕ)) (are_open : AreOpen layers) (longest : 
 
   -- The root
   root_found : (found : Lies (at [] top)) → is_directory (kind_of found.node.content) ≡ true
-  root_found found =
-      ap is_directory_node (sym found.is)
-      ∙ ap (λ o. is_directory_node (found.layer.tree.node o))
-      (sym (same_Some found.layer.directory top.object found.at))
-      ∙ (are_open top.layer found.layer found.there).1
+  root_found found = ap is_directory_node (sym found.is) ∙ ap (λ o. is_directory_node (found.layer.tree.node o))
+      (sym (same_Some found.layer.directory top.object found.at)) ∙ (are_open top.layer found.layer found.there).1
 
   root_lies : Lies (at [] top)
   root_lies = in_layer layers are_open longest bounded fresh distinct has_upper (at [] top) is_top

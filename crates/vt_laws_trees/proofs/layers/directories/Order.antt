@@ -1,13 +1,12 @@
 -- The names of a merged directory stand in their order.
-use Rattle.std.proofs.Common.{arith}
+use Rattle.std.proofs.Common.{arith, ◌≡◌, ◌≤◌, ◌⊎◌, inl, inr, ⊎_elim, refl, sym, ap, subst, ◌∙◌, ℕ, zero, suc, nat_eq, Bool, true, T, List, [], ◌∷◌, ◌++◌, filter, flat_map, length, map, Option, Some}
 use Rattle.std.proofs.lemmas.Grind.{common_steps}
-use Rattle.std.proofs.Common.{◌≡◌, ◌≤◌, ◌⊎◌, inl, inr, ⊎_elim, refl, sym, ap, subst, ◌∙◌, ℕ, zero, suc, nat_eq, Bool, true, T, List, [], ◌∷◌, ◌++◌, filter, flat_map, length, map, Option, Some, None}
 use Rattle.std.specs.List.{filter_map}
 use Rattle.std.specs.Cmp.{tied_itself}
 use Rattle.std.specs.Cmp.Lexicographic.{nat_list_cmp_total}
 use Rattle.std.specs.FinMap.Entries.{below_all, is_sorted, is_sorted-put}
 use Rattle.std.specs.Ordering.{is_lt}
-use Rattle.std.specs.Prelude.{option_map, ⊤}
+use Rattle.std.specs.Prelude.{⊤}
 use Rattle.vt_spec.specs.Machine.Layers.{OpenLayer, shown, view_of}
 use Rattle.vt_spec.specs.Lists.{Fresh, folded}
 use Rattle.vt_spec.specs.Machine.Merging.{Merged, entry_in_directory, merged_at, merged_objects}
@@ -37,10 +36,8 @@ module _ {A : Type 0} where
   pub pairwise_append : (R : A → A → Type 0) (list other : List A) → Pairwise R list → Pairwise R other
       → ((a b : A) → Among list a → Among other b → R a b) → Pairwise R (list ++ other)
   pairwise_append R [] other p q across = q
-  pairwise_append R (first ∷ list) other p q across = (
-    λ b among. ⊎_elim (λ l. p.0 b l) (λ r. across first b (inl refl) r) (from_append list other b among),
-    pairwise_append R list other p.1 q (λ a b l r. across a b (inr l) r),
-  )
+  pairwise_append R (first ∷ list) other p q across =
+      grind (arith, common_steps, from_append, pairwise_append R list other p.1 q)
 
   pub among_filtered : (test : A → Bool) (list : List A) (a : A) → Among (filter test list) a → Among list a
   among_filtered test [] a among = absurd among
@@ -55,8 +52,7 @@ module _ {A B : Type 0} where
   pub from_flat_map : (f : A → List B) (list : List A) (b : B) → Among (flat_map f list) b
       → (a : A) × Among list a × Among (f a) b
   from_flat_map f [] b among = absurd among
-  from_flat_map f (first ∷ list) b among =
-      ⊎_elim (λ l. (first, inl refl, l))
+  from_flat_map f (first ∷ list) b among = ⊎_elim (λ l. (first, inl refl, l))
       (λ r. let found = from_flat_map f list b r in (found.0, inr found.1, found.2))
       (from_append (f first) (flat_map f list) b among)
 
@@ -84,17 +80,13 @@ module _ {X : Type 0} where
 
   pub names_rise : (entries : Entries X) → T (is_sorted name_cmp entries) → Pairwise NameBelow (map (λ e. e.0) entries)
   names_rise [] h = tt
-  names_rise (entry ∷ entries) h = (
-    all_below entry.0 entries (T_and_left _ _ h),
-    names_rise entries
-        (T_and_right (below_all name_cmp entry.0 entries) _ h),
-  )
+  names_rise (entry ∷ entries) h =
+      grind (arith, common_steps, all_below, names_rise entries (T_and_right (below_all name_cmp entry.0 entries) _ h))
 
   below_each : (name : List ℕ) (entries : Entries X)
       → ((entry : List ℕ × X) → Among entries entry → NameBelow name entry.0) → T (below_all name_cmp name entries)
   below_each name [] h = tt
-  below_each name (entry ∷ entries) h =
-      T_and _ _ (h entry (inl refl)) (below_each name entries (λ e a. h e (inr a)))
+  below_each name (entry ∷ entries) h = T_and _ _ (h entry (inl refl)) (below_each name entries (λ e a. h e (inr a)))
 
   pub rising_sorted : (entries : Entries X) → Pairwise (λ a b. NameBelow a.0 b.0) entries
       → T (is_sorted name_cmp entries)
@@ -173,16 +165,7 @@ module _ (views : List (View ℕ)) where
           → Pairwise PathBelow (flat_map (λ name. paths_from depth views (base ++ name ∷ [])) names)
       each rise [] p = tt
       each rise (name ∷ names) p =
-          pairwise_append PathBelow (paths_from depth views (base ++ name ∷ []))
-          (flat_map (λ name. paths_from depth views (base ++ name ∷ [])) names)
-          (rise name) (each rise names p.1)
-          (λ path other a b.
-          let one = under_name depth base name path a in
-          let found = from_flat_map (λ name. paths_from depth views (base ++ name ∷ [])) names other b in
-          let two = under_name depth base found.0 other found.2 in
-          subst (λ q. PathBelow q other) one.1
-          (subst (PathBelow (base ++ name ∷ one.0)) two.1
-          (below_beside base name found.0 one.0 two.0 (p.0 found.0 found.1))))
+          grind (arith, common_steps, pairwise_append, under_name, from_flat_map, below_beside, each rise names p.1)
 
 -- so do the entries of a merged directory
 module _ (layers : List (OpenLayer ℕ)) (are_open : AreOpen layers) (longest : ℕ)
@@ -191,28 +174,17 @@ module _ (layers : List (OpenLayer ℕ)) (are_open : AreOpen layers) (longest : 
   pub entries_in_order : (path : List (List ℕ))
       → is_sorted name_cmp (filter_map (entry_in_directory nat_eq fresh has_upper (merged_objects layers longest) path)
       (merged_objects layers longest)) ≡ true
-  entries_in_order path =
-      passes _ (rising_sorted (filter_map (entry_in_directory nat_eq fresh has_upper
-      (merged_objects layers longest) path)
-      (merged_objects layers longest))
+  entries_in_order path = passes _ (rising_sorted (filter_map (entry_in_directory nat_eq fresh has_upper
+      (merged_objects layers longest) path) (merged_objects layers longest))
       (pairwise_filter_map (λ a b. PathBelow a.path b.path) (λ a b. NameBelow a.0 b.0)
-      (entry_in_directory nat_eq fresh has_upper (merged_objects layers longest) path)
-      (λ a b x y e f h.
-      last_parent path x.0 y.0
-      (subst (PathBelow (path ++ x.0 ∷ []))
+      (entry_in_directory nat_eq fresh has_upper (merged_objects layers longest) path) (λ a b x y e f h.
+      last_parent path x.0 y.0 (subst (PathBelow (path ++ x.0 ∷ []))
       (entry_is_here layers are_open longest bounded fresh distinct has_upper path y.0 b y f).0
       (subst (λ p. PathBelow p b.path)
       (entry_is_here layers are_open longest bounded fresh distinct has_upper path x.0 a x e).0 h)))
-      (merged_objects layers longest)
-      (pairwise_filter_map PathBelow (λ a b. PathBelow a.path b.path) (merged_at layers)
+      (merged_objects layers longest) (pairwise_filter_map PathBelow (λ a b. PathBelow a.path b.path) (merged_at layers)
       (λ a b x y e f h. subst (λ p. PathBelow x.path p) (path_of b y f) (subst (λ p. PathBelow p b) (path_of a x e) h))
-      (paths_from longest (map view_of layers) [])
-      (paths_rise (map view_of layers) longest []))))
+      (paths_from longest (map view_of layers) []) (paths_rise (map view_of layers) longest []))))
     where
       path_of : (path : List (List ℕ)) (object : Merged ℕ) → merged_at layers path ≡ Some object → path ≡ object.path
-      path_of path object e = by (shown layers path) e
-        where
-          by : (o : Option (Shown ℕ)) → option_map (λ seen. record { path = path; seen = seen }) o ≡ Some object
-              → path ≡ object.path
-          by None e = none_is_some object e
-          by (Some seen) e = ap (λ m. m.path) (same_Some (record { path = path; seen = seen }) object e)
+      path_of path object e = grind (arith, common_steps, none_is_some, same_Some)

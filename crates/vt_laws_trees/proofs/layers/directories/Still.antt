@@ -1,16 +1,13 @@
 -- Each overlay is what its layers show when another one is mounted.
-use Rattle.std.proofs.Common.{arith}
+use Rattle.std.proofs.Common.{arith, ◌≡◌, ◌∙◌, refl, sym, ap, subst, inl, inr, ℕ, zero, suc, nat_eq, eqb-true, Bool, true, false, cond, List, [], ◌∷◌, ◌++◌, map, Some, None, is_some, slice_get, unwrap_or, Option}
 use Rattle.std.proofs.lemmas.Grind.{common_steps}
-use Rattle.std.proofs.Common.{◌≡◌, ◌∙◌, refl, sym, ap, subst, inl, inr, ℕ, zero, suc, nat_eq, eqb-true, Bool, true, false, cond, List, [], ◌∷◌, ◌++◌, map, Option, Some, None, is_some, slice_get, unwrap_or}
 use Rattle.std.specs.List.{find, list_any}
-use Rattle.std.specs.Prelude.{option_map, option_to_list}
+use Rattle.std.specs.Prelude.{option_to_list, option_map}
 use Rattle.vt_spec.specs.Machine.Layers.{shown}
-use Rattle.vt_spec.specs.Lists.{Fresh, evens, holds_of, is_among, then_some}
-use Rattle.vt_spec.specs.Machine.Merging.{layer_node, merged_at, real_object}
+use Rattle.vt_spec.specs.Lists.{Fresh, evens, is_among, holds_of, then_some}
 use Rattle.vt_spec.specs.Machine.NewMounts.{overlay_filesystem}
 use Rattle.vt_spec.specs.Machine.World.{Filesystem, Layer, Overlay, Real, World, filesystem_numbered, no_filesystem, open_layer, shown_layers}
-use Rattle.vt_spec.specs.Machine.World.Real.{Lower, Upper}
-use Rattle.vt_spec.specs.Machine.Invariants.{IsMerged, IsWorld, SameObject, is_plain_layer, is_there, number_at_path, real_node}
+use Rattle.vt_spec.specs.Machine.Invariants.{IsMerged, IsWorld, is_plain_layer, real_node, SameObject, is_there, number_at_path}
 use Rattle.vt_laws_trees.specs.Layers.Layers.Mounted.{AreLayers}
 use Rattle.vt_laws_trees.specs.Layers.Layers.NewOverlays.{OverlaysStillMerge}
 use Rattle.vt_laws_trees.proofs.layers.directories.Apart.{each_passes}
@@ -20,6 +17,7 @@ use Rattle.vt_laws_trees.proofs.layers.layers.ShownObjects.{Among, among_append_
 use Rattle.vt_laws_trees.proofs.layers.layers.UpperWorld.{overlay_layers}
 use Rattle.std.proofs.lemmas.Option.{same_Some}
 use Rattle.vt_spec.proofs.Options.{none_is_some}
+use Rattle.vt_spec.specs.Machine.Merging.{layer_node, merged_at, real_object}
 
 pub among_slice : (list : List (Layer ℕ)) (k : ℕ) (layer : Layer ℕ) → slice_get list k ≡ Some layer → Among list layer
 among_slice [] k layer e = none_is_some layer e
@@ -32,8 +30,7 @@ find_new test [] last f e = ap (λ b. cond b (Some last) None) e
 find_new test (first ∷ list) last f e = grind (arith, common_steps, find_new test list last, none_is_some)
 
 module _ (world : World ℕ) (conditions : IsWorld nat_eq world) (overlay : Overlay ℕ)
-    (are_layers : AreLayers world overlay)
-    (fresh : Fresh ℕ) (distinct : (j k : ℕ) → fresh j ≡ fresh k → j ≡ k)
+    (are_layers : AreLayers world overlay) (fresh : Fresh ℕ) (distinct : (j k : ℕ) → fresh j ≡ fresh k → j ≡ k)
     (unused : is_among nat_eq (evens fresh 0) (map (λ filesystem. filesystem.number) world.filesystems) ≡ false) where
   abbrev after : World ℕ
   after = later world conditions overlay are_layers fresh distinct unused
@@ -42,8 +39,7 @@ module _ (world : World ℕ) (conditions : IsWorld nat_eq world) (overlay : Over
   Old layer = IsOld world conditions overlay are_layers fresh distinct unused layer
 
   open_same : (layer : Layer ℕ) → Old layer → open_layer nat_eq after layer ≡ open_layer nat_eq world layer
-  open_same layer old =
-      ap (λ f. record { tree = f.files.tree; directory = layer.directory })
+  open_same layer old = ap (λ f. record { tree = f.files.tree; directory = layer.directory })
       (same_filesystem world conditions overlay are_layers fresh distinct unused layer.filesystem old)
 
   layers_same : (list : List (Layer ℕ)) → ((layer : Layer ℕ) → Among list layer → Old layer)
@@ -61,32 +57,18 @@ module _ (world : World ℕ) (conditions : IsWorld nat_eq world) (overlay : Over
     same_layers = layers_same (shown_layers some_overlay) old
 
     old_upper : (layer : Layer ℕ) → some_overlay.upper ≡ Some layer → Old layer
-    old_upper layer e =
-        old layer (among_append_left (option_to_list some_overlay.upper) some_overlay.lowers layer
+    old_upper layer e = old layer (among_append_left (option_to_list some_overlay.upper) some_overlay.lowers layer
         (subst (λ o. Among (option_to_list o) layer) (sym e) (inl refl)))
 
     real_same : (real : Real ℕ) → real_node nat_eq after some_overlay real ≡ real_node nat_eq world some_overlay real
-    real_same (Upper object) = by some_overlay.upper old_upper
-      where
-        by : (o : Option (Layer ℕ)) → ((layer : Layer ℕ) → o ≡ Some layer → Old layer)
-            → then_some o (λ layer. (filesystem_numbered nat_eq after layer.filesystem).files.tree.node object)
-            ≡ then_some o (λ layer. (filesystem_numbered nat_eq world layer.filesystem).files.tree.node object)
-        by None olds = refl
-        by (Some layer) olds =
-            ap (λ f. f.files.tree.node object)
-            (same_filesystem world conditions overlay are_layers fresh distinct unused layer.filesystem
-            (olds layer refl))
-    real_same (Lower k path) =
-        grind (arith, common_steps, among_append_right, among_slice some_overlay.lowers k, open_same)
+    real_same real = grind (arith, common_steps, old_upper, same_filesystem, among_append_right, among_slice, open_same)
 
     still_merged : IsMerged nat_eq after filesystem some_overlay
     still_merged = record {
       shows = λ path.
           subst (λ layers. SameObject (then_some (number_at_path filesystem.files path) filesystem.files.tree.node)
-          (then_some (shown layers path) (layer_node layers)))
-          (sym same_layers) (is.shows path);
-      names = λ path number e.
-          is.names path number e
+          (then_some (shown layers path) (layer_node layers))) (sym same_layers) (is.shows path);
+      names = λ path number e. is.names path number e
           ∙ ap (λ layers. option_map (λ object. real_object (is_some some_overlay.upper) object.seen.layer object)
           (merged_at layers path)) (sym same_layers);
       real_objects = λ number.
@@ -108,15 +90,13 @@ module _ (world : World ℕ) (conditions : IsWorld nat_eq world) (overlay : Over
             → holds_of (λ layer. is_there nat_eq after layer.filesystem object) o
             ≡ holds_of (λ layer. is_there nat_eq world layer.filesystem object) o
         by_upper object None olds = refl
-        by_upper object (Some layer) olds =
-            ap (λ f. is_some (f.files.tree.node object))
+        by_upper object (Some layer) olds = ap (λ f. is_some (f.files.tree.node object))
             (same_filesystem world conditions overlay are_layers fresh distinct unused layer.filesystem
             (olds layer refl))
 
   old_layers : (some_overlay : Overlay ℕ) → AreLayers world some_overlay → (layer : Layer ℕ)
       → Among (shown_layers some_overlay) layer → Old layer
-  old_layers some_overlay are layer among =
-      plain_is_old world conditions overlay are_layers fresh distinct unused layer
+  old_layers some_overlay are layer among = plain_is_old world conditions overlay are_layers fresh distinct unused layer
       (each_passes (is_plain_layer nat_eq world) (shown_layers some_overlay) are.1 layer among)
 
   merge_after : (number : ℕ) (some_overlay : Overlay ℕ)
@@ -143,12 +123,10 @@ module _ (world : World ℕ) (conditions : IsWorld nat_eq world) (overlay : Over
           subst (λ f. IsMerged nat_eq after f some_overlay) (sym same)
           (subst (IsMerged nat_eq after (overlay_filesystem nat_eq fresh world overlay))
           (same_Some (made world conditions overlay are_layers fresh distinct) some_overlay
-          (sym (ap (λ f. f.overlay) same) ∙ e))
-          (still_merged (overlay_filesystem nat_eq fresh world overlay)
+          (sym (ap (λ f. f.overlay) same) ∙ e)) (still_merged (overlay_filesystem nat_eq fresh world overlay)
           (made world conditions overlay are_layers fresh distinct) (old_layers overlay are_layers)
           (made_merged world conditions overlay are_layers fresh distinct)))
 
 pub overlays_still_merge : OverlaysStillMerge
 overlays_still_merge fresh world overlay places conditions are_layers plain distinct unused passed number some_overlay
-    e =
-    merge_after world conditions overlay are_layers fresh distinct unused number some_overlay e
+    e = merge_after world conditions overlay are_layers fresh distinct unused number some_overlay e

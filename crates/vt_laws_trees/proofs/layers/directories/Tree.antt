@@ -54,11 +54,7 @@ module _ (views : List (View ℕ)) where
       own : PlacedView ℕ
       own = record {
         layer = top.layer;
-        view = record {
-          leads = λ rest.
-              top.view.leads (name ∷ rest);
-          node = top.view.node;
-        };
+        view = record { leads = λ rest. top.view.leads (name ∷ rest); node = top.view.node };
       }
 
       by : (d h : Bool) → All IsOfPlace (merged_under lower name)
@@ -73,18 +69,13 @@ module _ (views : List (View ℕ)) where
       → All IsOfPlace some_views
       → is_directory_node (node_shown_by views some_views (name ∷ [])) ≡ false → merged_under some_views name ≡ []
   nothing_merged [] name are of d = refl
-  nothing_merged (top ∷ lower) name are of d =
-      by (top.view.leads (name ∷ [])) refl d
+  nothing_merged (top ∷ lower) name are of d = by (top.view.leads (name ∷ [])) refl d
       (nothing_merged lower name (All-tail HasView top lower are) (All-tail IsOfPlace top lower of))
     where
       own : PlacedView ℕ
       own = record {
         layer = top.layer;
-        view = record {
-          leads = λ rest.
-              top.view.leads (name ∷ rest);
-          node = top.view.node;
-        };
+        view = record { leads = λ rest. top.view.leads (name ∷ rest); node = top.view.node };
       }
 
       seen_by : Option ℕ → Option (Shown ℕ)
@@ -98,8 +89,7 @@ module _ (views : List (View ℕ)) where
           → top.view.node object ≡ node → is_some node ≡ true
           → is_directory_node (then_some (seen_by (Some object)) (shown_node views)) ≡ false → merged_by node ≡ []
       hidden object b t None e h d = absurd (true≢false (sym h))
-      hidden object true t (Some node) e h d =
-          absurd (true≢false (sym (
+      hidden object true t (Some node) e h d = absurd (true≢false (sym (
           ap (λ w. is_directory_node (then_some (when (not w) (record { layer = top.layer; object = object }))
           (shown_node views))) (directory_no_whiteout (top.view.node object) t)
           ∙ ap is_directory_node (All-head IsOfPlace top lower of object) ∙ t) ∙ d))
@@ -127,8 +117,7 @@ module _ (views : List (View ℕ)) where
       by (view ∷ lower) depth is =
           All-cons IsOfPlace (record { layer = depth; view = view }) (placed_from (depth + 1) lower)
           (λ object. ap (λ d. shown_node views (record { layer = d; object = object }))
-          (let h : depth ≡ depth + 0 = omega arith in h) ∙ is 0 object)
-          (by lower (depth + 1) (λ k object.
+          (let h : depth ≡ depth + 0 = omega arith in h) ∙ is 0 object) (by lower (depth + 1) (λ k object.
           ap (λ d. shown_node views (record { layer = d; object = object }))
           (let h : (depth + 1) + k ≡ depth + suc k = omega arith in h) ∙ is (suc k) object))
 
@@ -142,12 +131,7 @@ module _ (views : List (View ℕ)) where
       same : (rest : List (List ℕ)) → rest ≢ [] → shown_in (views_of directory) rest ≡ shown views (front ++ rest)
 
     from_root : ShowsFrom [] tree.root
-    from_root = record {
-      is_led = refl;
-      are_views = subst AreViews (sym is.root_views) are;
-      of_place = subst (All IsOfPlace) (sym is.root_views) placed_of_place;
-      same = λ rest n. ap (λ v. shown_in v rest) is.root_views ∙ sym (placed_show_the_same views rest);
-    }
+    from_root = grind (arith, common_steps, placed_of_place, placed_show_the_same)
 
     goes_on : (front : List (List ℕ)) (directory : ℕ) (name : List ℕ) (number : ℕ) → ShowsFrom front directory
         → IsDirectory tree directory → entry_at tree directory name ≡ Some number → IsDirectory tree number
@@ -159,8 +143,7 @@ module _ (views : List (View ℕ)) where
               ∙ e;
           are_views = subst AreViews (sym merged) (merged_are_views (views_of directory) name from.are_views);
           of_place = subst (All IsOfPlace) (sym merged) (merged_of_place (views_of directory) name from.of_place);
-          same = λ rest n.
-              ap (λ v. shown_in v rest) merged
+          same = λ rest n. ap (λ v. shown_in v rest) merged
               ∙ sym (shown_under_name (views_of directory) name rest from.are_views n)
               ∙ from.same (name ∷ rest) (not_empty name rest)
               ∙ ap (shown views) (sym (append_assoc front (name ∷ []) rest));
@@ -179,12 +162,9 @@ module _ (views : List (View ℕ)) where
             → Said (front ++ name ∷ rest) (led tree directory (name ∷ rest)) (shown views (front ++ name ∷ rest))
         said_below front directory from d name [] =
             subst (λ o. Said (front ++ name ∷ []) o (shown views (front ++ name ∷ [])))
-            (sym (last_name tree directory [] name))
-            (subst (Said (front ++ name ∷ []) (entry_at tree directory name))
-            (from.same (name ∷ []) (not_empty name []))
-            (entry front directory name from.is_led d))
-        said_below front directory from d name (other ∷ rest) =
-            by (entry_at tree directory name) refl
+            (sym (last_name tree directory [] name)) (subst (Said (front ++ name ∷ []) (entry_at tree directory name))
+            (from.same (name ∷ []) (not_empty name [])) (entry front directory name from.is_led d))
+        said_below front directory from d name (other ∷ rest) = by (entry_at tree directory name) refl
             (is_directory_node (then_some (entry_at tree directory name) tree.node)) refl
             (λ number e f. said_below (front ++ name ∷ []) number
             (goes_on front directory name number from d e f) f other rest)
@@ -197,12 +177,7 @@ module _ (views : List (View ℕ)) where
             ends f =
                 let none_shown = nothing_merged (views_of directory) name from.are_views from.of_place
                 (sym (same_directory _ _ ((is.directories front directory from.is_led d).entries name)) ∙ f) in
-                subst (λ o. Said path o (shown views path)) (sym (nothing_led tree directory name other rest f))
-                (subst (Said path None)
-                (sym (ap (λ v. shown_in v (other ∷ rest)) none_shown)
-                ∙ sym (shown_under_name (views_of directory) name (other ∷ rest) from.are_views (not_empty other rest))
-                ∙ from.same (name ∷ other ∷ rest) (not_empty name (other ∷ rest)))
-                (nothing path))
+                grind (arith, common_steps, nothing_led, shown_under_name, not_empty)
 
             by : (o : Option ℕ) → entry_at tree directory name ≡ o → (b : Bool)
                 → is_directory_node (then_some (entry_at tree directory name) tree.node) ≡ b
@@ -210,14 +185,7 @@ module _ (views : List (View ℕ)) where
                 → Said ((front ++ name ∷ []) ++ other ∷ rest) (led tree number (other ∷ rest))
                 (shown views ((front ++ name ∷ []) ++ other ∷ rest)))
                 → Said path (led tree directory (name ∷ other ∷ rest)) (shown views path)
-            by o e false f on = ends f
-            by None e true f on = absurd (true≢false (sym f ∙ ap (λ o. is_directory_node (then_some o tree.node)) e))
-            by (Some number) e true f on =
-                subst (λ o. Said path o (shown views path))
-                (ap (option_and_then (λ n. led tree n (other ∷ rest))) (sym e))
-                (subst (λ p. Said p (led tree number (other ∷ rest)) (shown views p))
-                (append_assoc front (name ∷ []) (other ∷ rest))
-                (on number e (sym (ap (λ o. is_directory_node (then_some o tree.node)) e) ∙ f)))
+            by o e b f on = grind (arith, common_steps, ends, true≢false, append_assoc)
 
         said_everywhere : Said [] (Some tree.root) (shown views []) → (path : List (List ℕ))
             → Said path (led tree tree.root path) (shown views path)
@@ -228,23 +196,18 @@ module _ (views : List (View ℕ)) where
         → SameObject (then_some (led tree tree.root path) tree.node) (then_some (shown views path) (shown_node views))
     one_directory path =
         said_everywhere (λ path found seen. SameObject (then_some found tree.node) (then_some seen (shown_node views)))
-        (λ path. tt)
-        (λ front directory name l d. (is.directories front directory l d).entries name)
+        (λ path. tt) (λ front directory name l d. (is.directories front directory l d).entries name)
         (subst (λ o. SameObject (tree.node tree.root) (then_some o (shown_node views)))
-        (sym (placed_show_the_same views [])) is.root)
-        path
+        (sym (placed_show_the_same views [])) is.root) path
 
     module _ {A : Type 0} (of : List (List ℕ) → Shown ℕ → A) (said : ℕ → Option A)
         (is_said : IsSaidByDirectory views tree views_of of said) where
       said_of_shown : (path : List (List ℕ)) (number : ℕ) → led tree tree.root path ≡ Some number
           → said number ≡ option_map (of path) (shown views path)
-      said_of_shown path =
-          said_everywhere (λ path found seen. (number : ℕ) → found ≡ Some number
-          → said number ≡ option_map (of path) seen)
-          (λ path number e. none_is_some number e)
+      said_of_shown path = said_everywhere (λ path found seen. (number : ℕ) → found ≡ Some number
+          → said number ≡ option_map (of path) seen) (λ path number e. none_is_some number e)
           (λ front directory name l d number e. is_said.entries front directory name number l e)
-          (λ number e. ap said (sym (same_Some tree.root number e)) ∙ is_said.root)
-          path
+          (λ number e. ap said (sym (same_Some tree.root number e)) ∙ is_said.root) path
 
 pub one_directory_is_enough : OneDirectoryIsEnough
 one_directory_is_enough views tree views_of path are is = one_directory views tree views_of are is path
@@ -265,26 +228,16 @@ views_of_layers [] depth are = All-nil HasView
 views_of_layers (layer ∷ lower) depth are =
     let first = are 0 layer refl in
     All-cons HasView (record { layer = depth; view = view_of layer }) (placed_from (depth + 1) (map view_of lower))
-    (layers_are_views layer first.0 first.1)
-    (views_of_layers lower (depth + 1) (λ k l h. are (suc k) l h))
+    (layers_are_views layer first.0 first.1) (views_of_layers lower (depth + 1) (λ k l h. are (suc k) l h))
 
 nodes_of_layers : (layers : List (OpenLayer ℕ)) (seen : Shown ℕ)
     → shown_node (map view_of layers) seen ≡ layer_node layers seen
-nodes_of_layers layers seen =
-    ap (λ o. then_some o (λ view. view.node seen.object)) (slice_get-map view_of layers seen.layer)
-    ∙ by (slice_get layers seen.layer)
-  where
-    by : (o : Option (OpenLayer ℕ))
-        → then_some (option_map view_of o) (λ view. view.node seen.object)
-        ≡ then_some o (λ layer. layer.tree.node seen.object)
-    by None = refl
-    by (Some layer) = refl
+nodes_of_layers layers seen = grind (arith, common_steps, slice_get-map)
 
 pub overlays_are_merged_by_directory : OverlaysAreMergedByDirectory
 overlays_are_merged_by_directory world overlay tree views_of path conditions are_layers is =
     subst (SameObject (then_some (led tree tree.root path) tree.node))
-    (by (shown (views_of_overlay world overlay) path))
-    (one_directory (views_of_overlay world overlay) tree views_of
+    (by (shown (views_of_overlay world overlay) path)) (one_directory (views_of_overlay world overlay) tree views_of
     (views_of_layers (map (open_layer nat_eq world) (shown_layers overlay)) 0
     (are_open world conditions overlay are_layers)) is path)
   where
@@ -297,8 +250,7 @@ pub real_objects_are_those_shown : RealObjectsAreThoseShown
 real_objects_are_those_shown world overlay tree views_of path number conditions are_layers is is_said e =
     said_of_shown (views_of_overlay world overlay) tree views_of
     (views_of_layers (map (open_layer nat_eq world) (shown_layers overlay)) 0
-    (are_open world conditions overlay are_layers)) is
-    (λ path seen. real_object (is_some overlay.upper) seen.layer
+    (are_open world conditions overlay are_layers)) is (λ path seen. real_object (is_some overlay.upper) seen.layer
     (record { path = path; seen = seen })) overlay.real is_said path number e
     ∙ by (shown (views_of_overlay world overlay) path)
   where

@@ -53,20 +53,11 @@ module _ (top : PlacedView ℕ) (is : IsView top.view) (name : List ℕ) where
       (below : shown_in lower (name ∷ rest) ≡ shown_in merged rest) where
     merged_shows : (d : Bool) → is_directory_node node ≡ d → (h : Bool) → hides node ≡ h
         → shown_over top.view top.layer (top.view.leads (name ∷ rest)) (h || cuts own.view rest)
-        (shown_in lower (name ∷ rest))
-        ≡ shown_in (cond d (own ∷ []) [] ++ cond h [] merged) rest
-    merged_shows true d true h = opaque_shows (top.view.leads (name ∷ rest)) (cuts own.view rest)
-        (shown_in lower (name ∷ rest))
-    merged_shows true d false h = ap
-        (shown_over top.view top.layer (top.view.leads (name ∷ rest)) (cuts own.view rest)) below
-    merged_shows false d true h =
-        ap (λ o. shown_over top.view top.layer o true (shown_in lower (name ∷ rest))) (nothing_under d rest n)
-    merged_shows false d false h =
-        ap (λ o. shown_over top.view top.layer o (cuts own.view rest) (shown_in lower (name ∷ rest)))
-        (nothing_under d rest n)
-        ∙ ap (λ b. shown_over top.view top.layer None b (shown_in lower (name ∷ rest)))
-        (never_cuts own.view rest (λ front m. nothing_under d front m))
-        ∙ below
+        (shown_in lower (name ∷ rest)) ≡ shown_in (cond d (own ∷ []) [] ++ cond h [] merged) rest
+    merged_shows true d true h = grind (arith, common_steps, opaque_shows)
+    merged_shows true d false h = grind (arith, common_steps)
+    merged_shows false d true h = grind (arith, common_steps, nothing_under)
+    merged_shows false d false h = grind (arith, common_steps, nothing_under, never_cuts)
 
 pub shown_under_name : ShownUnderName
 shown_under_name [] name rest are n = refl

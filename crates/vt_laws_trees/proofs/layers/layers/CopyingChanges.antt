@@ -1,12 +1,11 @@
 -- A change of an overlay does to its upper layer what it is asked, clause by clause.
 use Rattle.std.proofs.lemmas.Grind.{common_steps}
-use Rattle.std.proofs.Common.{◌≡◌, ◌≢◌, refl, sym, ap, ◌∙◌, true≢false, arith, ℕ, suc, nat_eq, eq-eqb, ne_eqb, true, cond, ◌||◌, List, [], ◌∷◌, ◌++◌, Option, Some, is_some, unwrap_or}
-use Rattle.vt_spec.specs.Language.Changes.{content_with_parent, node_with_parent, node_without_entry, with_inode, with_moved, with_name, without_name, without_parent}
+use Rattle.std.proofs.Common.{◌≡◌, ◌≢◌, sym, ap, ◌∙◌, true≢false, arith, ℕ, suc, nat_eq, eq-eqb, ne_eqb, true, ◌||◌, List, [], ◌∷◌, ◌++◌, Option, Some, is_some, unwrap_or}
+use Rattle.vt_spec.specs.Language.Changes.{node_with_parent, node_without_entry, with_moved, with_name, without_name, without_parent}
 use Rattle.vt_spec.specs.Machine.CopyUp.{Merge, Stack, hides_directory, merge_with_moved, merge_with_new, merge_without_name, name_left_by, shown_in_lowers_at, upper_directory_named, upper_of, with_mark, without_contents}
 use Rattle.vt_spec.specs.FileTree.{FileTree, is_opaque_in}
 use Rattle.vt_spec.specs.Lists.{Fresh}
 use Rattle.vt_spec.specs.Machine.World.{Real, upper_object}
-use Rattle.vt_spec.specs.Machine.World.Real.{Upper}
 use Rattle.vt_spec.specs.Tree.{Node, entries_in, entry_named, is_directory_node, new_directory, node_with_entry}
 use Rattle.vt_spec.specs.TreeInvariant.{IsDirectory, IsTree, entry_at}
 use Rattle.vt_spec.specs.Machine.Invariants.{number_at_path}
@@ -102,8 +101,7 @@ module _ (files : FileTree ℕ) (tree : IsTree files.tree) (first : ℕ → Opti
   pub removed_empty : (directory : ℕ) (name : List ℕ) (object replaced : ℕ)
       → upper_directory_named here directory name ≡ Some replaced
       → entries_in ((merge_without_name nat_eq fresh stack here directory name object).upper.tree.node replaced) ≡ []
-  removed_empty directory name object replaced e =
-      emptied_is_empty (name_left_by nat_eq (is_some
+  removed_empty directory name object replaced e = emptied_is_empty (name_left_by nat_eq (is_some
       (shown_in_lowers_at nat_eq stack here directory name)) fresh stack upper
       (upper_of here directory) name) (upper_directory_named here directory name) replaced e
 
@@ -112,31 +110,18 @@ module _ (files : FileTree ℕ) (tree : IsTree files.tree) (first : ℕ → Opti
       → is_opaque_in ((merge_with_new nat_eq fresh stack here directory name number node).upper.tree.node
       (upper_of (merge_with_new nat_eq fresh stack here directory name number node) number))
       ≡ hides_directory nat_eq stack here directory name
-  made_marked directory name number node seen has parent e =
-      let object : Node ℕ = record {
-        attr = node.attr;
-        content = content_with_parent
-            (upper_of here directory) node.content;
-      } in
-      let added = with_inode nat_eq upper (fresh 0) object in
-      let named = with_name nat_eq added (upper_of here directory) name (fresh 0) in
-      let there : named.tree.node (fresh 0) ≡ Some object =
-      kept_elsewhere added (upper_of here directory) (node_with_entry name (fresh 0)) (fresh 0)
-      (ne_eqb (fresh 0) (upper_of here directory)
-      (λ same. old_differs directory seen has (sym (upper_of_is here directory seen has) ∙ sym same)))
-      ∙ node_set upper.tree (fresh 0) (Some object) in
-      let made_directory = ap (content_with_parent (upper_of here directory)) e in
-      ap (λ n. is_opaque_in ((with_mark nat_eq (hides_directory nat_eq stack here directory name) named
-      (fresh 0)).tree.node n))
-      (ap (λ b. unwrap_or (upper_object (cond b (Some (Upper (fresh 0))) (real number))) number)
-      (eq-eqb number number refl))
-      ∙ marked_itself (hides_directory nat_eq stack here directory name) named (fresh 0)
-      (ap is_directory_node there ∙ ap
-      (λ c. Rattle.vt_spec.specs.Rights.is_directory (Rattle.vt_spec.specs.Tree.kind_of c)) made_directory)
-      ∙ ap (λ o. hides_directory nat_eq stack here directory name || is_opaque_in o) there
-      ∙ ap (λ c. hides_directory nat_eq stack here directory name
-      || Rattle.vt_spec.specs.FileTree.opaque_of c) made_directory
-      ∙ or-false (hides_directory nat_eq stack here directory name)
+  made_marked directory name number node seen has parent e = grind (
+    arith,
+    common_steps,
+    kept_elsewhere,
+    ne_eqb,
+    old_differs,
+    upper_of_is,
+    node_set,
+    eq-eqb,
+    marked_itself,
+    or-false,
+  )
 
   module _ (from : ℕ) (old : List ℕ) (to : ℕ) (name : List ℕ) (object : ℕ) (seen_from seen : ℕ)
       (e : entry_at files.tree from old ≡ Some object) (has_from : upper_object (real from) ≡ Some seen_from)
@@ -152,8 +137,7 @@ module _ (files : FileTree ℕ) (tree : IsTree files.tree) (first : ℕ → Opti
         (upper_of here from) old
 
     kind_away : (inode : ℕ) → is_directory_node (away.tree.node inode) ≡ is_directory_node (upper.tree.node inode)
-    kind_away inode =
-        moved_part is_directory_node (λ change keeps. keeps.directory) freed (upper_of here from) old
+    kind_away inode = moved_part is_directory_node (λ change keeps. keeps.directory) freed (upper_of here from) old
         (upper_of here to) name (upper_of here object) inode
         ∙ emptied_part is_directory_node (λ change keeps. keeps.directory) upper
         (upper_directory_named here to name) inode
@@ -172,8 +156,7 @@ module _ (files : FileTree ℕ) (tree : IsTree files.tree) (first : ℕ → Opti
 
     pub moved_with : LeftWith (fresh 0) (shown_in_lowers_at nat_eq stack here from old) stack
         (merge_with_moved nat_eq fresh stack here from old to name object).upper (upper_of here from) old
-    moved_with =
-        left_stays (fresh 0) (shown_in_lowers_at nat_eq stack here from old) stack left
+    moved_with = left_stays (fresh 0) (shown_in_lowers_at nat_eq stack here from old) stack left
         (with_mark nat_eq (hides_directory nat_eq stack here to name) left (upper_of here object))
         (upper_of here from) old
         (marked_entries (hides_directory nat_eq stack here to name) left (upper_of here object) (upper_of here from))
@@ -183,33 +166,27 @@ module _ (files : FileTree ℕ) (tree : IsTree files.tree) (first : ℕ → Opti
         (kind_away (upper_of here from)
         ∙ ap (λ n. is_directory_node (upper.tree.node n)) (upper_of_is here from seen_from has_from)
         ∙ sound.kinds (path_to files tree from old object e).0 from seen_from
-        (path_to files tree from old object e).1 has_from ∙ has_entries files.tree from old object e)
-        from_new)
+        (path_to files tree from old object e).1 has_from ∙ has_entries files.tree from old object e) from_new)
 
     pub moved_left : IsLeft stack here (merge_with_moved nat_eq fresh stack here from old to name object) from old
-    moved_left =
-        is_left_by (fresh 0) (shown_in_lowers_at nat_eq stack here from old) stack
+    moved_left = is_left_by (fresh 0) (shown_in_lowers_at nat_eq stack here from old) stack
         (merge_with_moved nat_eq fresh stack here from old to name object).upper (upper_of here from) old moved_with
 
     pub moved_marked : IsDirectory files.tree object
         → is_opaque_in ((merge_with_moved nat_eq fresh stack here from old to name object).upper.tree.node
         (upper_of here object))
         ≡ (hides_directory nat_eq stack here to name || is_opaque_in (upper.tree.node (upper_of here object)))
-    moved_marked d =
-        marked_itself (hides_directory nat_eq stack here to name) left (upper_of here object)
+    moved_marked d = marked_itself (hides_directory nat_eq stack here to name) left (upper_of here object)
         (left_part is_directory_node (λ change keeps. keeps.directory)
         (is_some (shown_in_lowers_at nat_eq stack here from old)) fresh stack away (upper_of here from) old
-        (upper_of here object) object_new
-        ∙ kind_away (upper_of here object)
+        (upper_of here object) object_new ∙ kind_away (upper_of here object)
         ∙ ap (λ n. is_directory_node (upper.tree.node n)) (upper_of_is here object seen has)
         ∙ sound.kinds ((path_to files tree from old object e).0 ++ old ∷ []) object seen
         (led-append files.tree files.tree.root (path_to files tree from old object e).0 old from object
-        (path_to files tree from old object e).1 e) has ∙ d)
-        ∙ ap (λ b. hides_directory nat_eq stack here to name || b)
+        (path_to files tree from old object e).1 e) has ∙ d) ∙ ap (λ b. hides_directory nat_eq stack here to name || b)
         (left_part is_opaque_in (λ change keeps. keeps.mark)
         (is_some (shown_in_lowers_at nat_eq stack here from old)) fresh stack away (upper_of here from) old
-        (upper_of here object) object_new
-        ∙ mark_away (upper_of here object))
+        (upper_of here object) object_new ∙ mark_away (upper_of here object))
 
     -- what is replaced keeps no whiteout
     pub moved_empty : (replaced number : ℕ) → entry_at files.tree to name ≡ Some number
@@ -219,14 +196,11 @@ module _ (files : FileTree ℕ) (tree : IsTree files.tree) (first : ℕ → Opti
     moved_empty replaced number named empty is seen_to has_to =
         let found = directory_named here to name replaced is in
         let same_number : number ≡ found.0 = same_Some number found.0 (sym named ∙ found.1) in
-        let not_from : replaced ≢ upper_of here from =
-        λ same. none_is_some object
+        let not_from : replaced ≢ upper_of here from = λ same. none_is_some object
         (sym (ap (entry_named old) (ap (λ n. entries_in (files.tree.node n)) (sym same_number) ∙ empty))
-        ∙ ap (λ n. entry_at files.tree n old)
-        (sound.one found.0 from seen_from
+        ∙ ap (λ n. entry_at files.tree n old) (sound.one found.0 from seen_from
         (found.2 ∙ ap Some (same ∙ upper_of_is here from seen_from has_from)) has_from) ∙ e) in
-        let not_to : replaced ≢ upper_of here to =
-        λ same. no_loop files tree to name
+        let not_to : replaced ≢ upper_of here to = λ same. no_loop files tree to name
         (found.1 ∙ ap Some (sound.one found.0 to seen_to
         (found.2 ∙ ap Some (same ∙ upper_of_is here to seen_to has_to)) has_to)) in
         let base = without_name nat_eq
@@ -239,8 +213,7 @@ module _ (files : FileTree ℕ) (tree : IsTree files.tree) (first : ℕ → Opti
         (upper_of here object) (node_with_parent (upper_of here to))
         (entries-node_with_parent (upper_of here to)) replaced
         ∙ ap entries_in (kept_elsewhere base (upper_of here to) (node_with_entry name (upper_of here object)) replaced
-        (ne_eqb replaced (upper_of here to) not_to))
-        ∙ ap entries_in (kept_elsewhere
+        (ne_eqb replaced (upper_of here to) not_to)) ∙ ap entries_in (kept_elsewhere
         (without_parent nat_eq freed (entry_named name (entries_in (freed.tree.node (upper_of here to)))))
         (upper_of here from) (node_without_entry old) replaced (ne_eqb replaced (upper_of here from) not_from))
         ∙ entries-without_parent freed (entry_named name (entries_in (freed.tree.node (upper_of here to)))) replaced

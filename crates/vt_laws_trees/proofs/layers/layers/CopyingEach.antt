@@ -48,11 +48,9 @@ module _ (files : FileTree ℕ) (first : ℕ → Option (Real ℕ)) (spare : ℕ
           (copies.soundly.told number seen e);
     };
     all = λ number among there. by number (nat_eq number object) refl among there;
-    bound = λ number seen e.
-        ⊎_elim
+    bound = λ number seen e. ⊎_elim
         (λ t. ⊎_elim (λ old. inl old) (λ new. inr (k, omega arith, new)) (told number seen t))
-        (λ t. inr (t.0, (let h = t.1 in omega arith), t.2))
-        (copies.bound number seen e);
+        (λ t. inr (t.0, (let h = t.1 in omega arith), t.2)) (copies.bound number seen e);
     others = λ number out.
         copies.others number (or_false_right (nat_eq number object) (is_among nat_eq number rest) out)
         ∙ apart_from number (or_false_left (nat_eq number object) (is_among nat_eq number rest) out);
@@ -60,8 +58,7 @@ module _ (files : FileTree ℕ) (first : ℕ → Option (Real ℕ)) (spare : ℕ
     where
       by : (number : ℕ) (b : Bool) → nat_eq number object ≡ b → (b || is_among nat_eq number rest) ≡ true
           → is_some (files.tree.node number) ≡ true → is_some (upper_object (copies.soundly.real number)) ≡ true
-      by number true e among there =
-          stands_still real copies.soundly.real copies.soundly.grows number
+      by number true e among there = stands_still real copies.soundly.real copies.soundly.grows number
           (subst (λ n. is_some (upper_object (real n)) ≡ true) (sym (eqb-true number object e))
           (stands (ap (λ n. is_some (files.tree.node n)) (sym (eqb-true number object e)) ∙ there)))
       by number false e among there = copies.all number among there
@@ -75,8 +72,7 @@ module _ (files : FileTree ℕ) (first : ℕ → Option (Real ℕ)) (spare : ℕ
       upper = upper;
       is = refl;
       sound = sound;
-      grows = λ number seen e.
-          e;
+      grows = λ number seen e. e;
       told = λ number seen e. inl e;
     };
     all = λ number among there. absurd (true≢false (sym among));
@@ -104,13 +100,9 @@ module _ (files : FileTree ℕ) (first : ℕ → Option (Real ℕ)) (spare : ℕ
           (λ number. unused k number (omega arith)) (apart k) node e none in
           let step = one.soundly in
           subst (λ m. CopiesAll k real (object ∷ rest) (copied_each nat_eq fresh (k + 1) m rest)) (sym step.is)
-          (one_more k real step.real object rest _ step.grows step.told one.others
-          (λ there. one.copied)
-          (later step.real step.upper step.sound
-          (λ j number h s. ⊎_elim
-          (λ t. unused j number (omega arith) t)
-          (λ t. let bad = distinct j k t in let no : ⊥ = omega arith in no)
-          (step.told number (fresh j) s))))
+          (one_more k real step.real object rest _ step.grows step.told one.others (λ there. one.copied)
+          (later step.real step.upper step.sound (λ j number h s. ⊎_elim (λ t. unused j number (omega arith) t)
+          (λ t. let bad = distinct j k t in let no : ⊥ = omega arith in no) (step.told number (fresh j) s))))
 
       by : (o : Option (Node ℕ)) → files.tree.node object ≡ o → (p : Option ℕ) → upper_object (real object) ≡ p
           → ((r : ℕ → Option (Real ℕ)) (u : FileTree ℕ) → Sound r u

@@ -22,8 +22,7 @@ module _ (fresh : Fresh ℕ) (stack : Stack ℕ) (before : Merge ℕ) (fit : IsF
   rest_stays : (change : Change ℕ) → SpeaksOfWhatIsThere before.files change → (inode : ℕ)
       → ((k : ℕ) → inode ≢ fresh k) → ((number : ℕ) → upper_object (before.real number) ≢ Some inode)
       → IsKept (before.upper.tree.node inode) ((merge_changed nat_eq fresh stack before change).upper.tree.node inode)
-  rest_stays change there inode new apart =
-      changes_keep before.files fit.tree fit.numbers inode
+  rest_stays change there inode new apart = changes_keep before.files fit.tree fit.numbers inode
       (before.upper.tree.node inode) fresh new stack before.real before.upper
       (record { here = refl; apart = apart; root = fit.root }) change there
       (λ from old object e later grows copied parent.
@@ -35,8 +34,7 @@ module _ (fresh : Fresh ℕ) (stack : Stack ℕ) (before : Merge ℕ) (fit : IsF
   -- copies by one supply, with the other spared
   pub by_evens : (object : ℕ) → IsReady fresh before fit (IsNewBy (odds fresh)) (line_to nat_eq before.files object)
       (copied_up nat_eq (evens fresh) before object)
-  by_evens object =
-      one_line fresh before fit (IsNewBy (odds fresh)) (λ number s. (2 * s.0 + 1, s.1)) (evens fresh)
+  by_evens object = one_line fresh before fit (IsNewBy (odds fresh)) (λ number s. (2 * s.0 + 1, s.1)) (evens fresh)
       (λ j k e. let same = fit.distinct (2 * j) (2 * k) e in omega arith)
       (λ k s. let same = fit.distinct (2 * k) (2 * s.0 + 1) s.1 in let no : ⊥ = omega arith in no)
       (λ k. (2 * k, refl)) object
@@ -47,18 +45,15 @@ module _ (fresh : Fresh ℕ) (stack : Stack ℕ) (before : Merge ℕ) (fit : IsF
       (λ k. (k, refl)) object
 
   -- another line, by a part of what was spared
-  pub then_odds : (object other : ℕ)
-      → IsReady fresh before fit nothing_spared
+  pub then_odds : (object other : ℕ) → IsReady fresh before fit nothing_spared
       (line_to nat_eq before.files object ++ line_to nat_eq before.files other)
       (copied_up nat_eq (odds fresh) (copied_up nat_eq (evens fresh) before object) other)
-  then_odds object other =
-      next_line fresh before fit (IsNewBy (odds fresh)) nothing_spared (λ number s. absurd s)
+  then_odds object other = next_line fresh before fit (IsNewBy (odds fresh)) nothing_spared (λ number s. absurd s)
       (line_to nat_eq before.files object) _ (by_evens object) (odds fresh)
       (λ j k e. let same = fit.distinct (2 * j + 1) (2 * k + 1) e in omega arith)
       (λ k s. s) (λ k. (k, refl)) (λ k. (2 * k + 1, refl)) other
 
-  pub then_odd_evens : (object other : ℕ)
-      → IsReady fresh before fit (IsNewBy (odds (odds fresh)))
+  pub then_odd_evens : (object other : ℕ) → IsReady fresh before fit (IsNewBy (odds (odds fresh)))
       (line_to nat_eq before.files object ++ line_to nat_eq before.files other)
       (copied_up nat_eq (evens (odds fresh)) (copied_up nat_eq (evens fresh) before object) other)
   then_odd_evens object other =
@@ -92,8 +87,7 @@ module _ (fresh : Fresh ℕ) (stack : Stack ℕ) (before : Merge ℕ) (fit : IsF
       record {
         tree = ap (λ m. (merge_with_new nat_eq (odds fresh) stack m directory name number node).files) ready.soundly.is;
         reaches = subst (λ m. ReachesUpper m (merge_with_new nat_eq (odds fresh) stack m directory name number node)
-            (Make directory name number node)) (sym ready.soundly.is)
-            (λ reached. (
+            (Make directory name number node)) (sym ready.soundly.is) (λ reached. (
               odds fresh 0,
               made_real before.files before.real
                   (odds fresh) stack ready.soundly.real ready.soundly.upper ready.soundly.sound directory name number
@@ -109,8 +103,7 @@ module _ (fresh : Fresh ℕ) (stack : Stack ℕ) (before : Merge ℕ) (fit : IsF
         names_left = tt;
         removed_empty = tt;
         marks = subst (λ m. MarksAreRight stack m (merge_with_new nat_eq
-            (odds fresh) stack m directory name number node)
-            (Make directory name number node)) (sym ready.soundly.is)
+            (odds fresh) stack m directory name number node) (Make directory name number node)) (sym ready.soundly.is)
             (made_marked before.files fit.tree before.real
             (odds fresh) stack ready.soundly.real ready.soundly.upper ready.soundly.sound directory name number node
             seen.0 seen.1);
@@ -123,8 +116,7 @@ module _ (fresh : Fresh ℕ) (stack : Stack ℕ) (before : Merge ℕ) (fit : IsF
       record {
         tree = ap (λ m. (merge_with_link nat_eq m directory name object).files) ready.soundly.is;
         reaches = subst (λ m. ReachesUpper m (merge_with_link nat_eq m directory name object)
-            (AddName directory name object))
-            (sym ready.soundly.is)
+            (AddName directory name object)) (sym ready.soundly.is)
             (λ reached. linked_named before.files before.real nothing_spared ready.soundly.real ready.soundly.upper
             ready.soundly.sound directory seen.0 seen.1 reached name object);
         stands = stands_now fresh before fit nothing_spared
@@ -142,14 +134,12 @@ module _ (fresh : Fresh ℕ) (stack : Stack ℕ) (before : Merge ℕ) (fit : IsF
         reaches = tt;
         stands = stands_now fresh before fit (IsNewBy (odds fresh)) (line_to nat_eq before.files directory) _ ready;
         names_left = subst (λ m. NamesLeft stack m (merge_without_name nat_eq
-            (odds fresh) stack m directory name object)
-            (Remove directory name object)) (sym ready.soundly.is)
+            (odds fresh) stack m directory name object) (Remove directory name object)) (sym ready.soundly.is)
             (λ e. removed_left before.files fit.tree before.real
             (odds fresh) stack ready.soundly.real ready.soundly.upper ready.soundly.sound directory name object seen.0 e
             seen.1);
         removed_empty = subst (λ m. RemovedIsEmpty m (merge_without_name nat_eq
-            (odds fresh) stack m directory name object)
-            (Remove directory name object)) (sym ready.soundly.is)
+            (odds fresh) stack m directory name object) (Remove directory name object)) (sym ready.soundly.is)
             (removed_empty before.files fit.tree before.real
             (odds fresh) stack ready.soundly.real ready.soundly.upper ready.soundly.sound directory name object);
         marks = tt;
@@ -172,8 +162,7 @@ module _ (fresh : Fresh ℕ) (stack : Stack ℕ) (before : Merge ℕ) (fit : IsF
       record {
         tree = ap (λ m. (merge_with_moved nat_eq (odds (odds fresh)) stack m from old to name object).files) ready.soundly.is;
         reaches = subst (λ m. ReachesUpper m (merge_with_moved nat_eq
-            (odds (odds fresh)) stack m from old to name object)
-            (Move from old to name object)) (sym ready.soundly.is)
+            (odds (odds fresh)) stack m from old to name object) (Move from old to name object)) (sym ready.soundly.is)
             (λ reached another. moved_named before.files before.real
             (odds (odds fresh)) stack ready.soundly.real ready.soundly.upper ready.soundly.sound from old to name object
             seen_from.0 seen_to.0 there.0 seen_from.1 seen_to.1 reached another);
@@ -181,20 +170,17 @@ module _ (fresh : Fresh ℕ) (stack : Stack ℕ) (before : Merge ℕ) (fit : IsF
             (line_to nat_eq before.files object ++ line_to nat_eq before.files to) _ ready;
         names_left = subst (λ m. IsLeft stack m
             (merge_with_moved nat_eq (odds (odds fresh)) stack m from old to name object) from old)
-            (sym ready.soundly.is)
-            (moved_left before.files fit.tree before.real
+            (sym ready.soundly.is) (moved_left before.files fit.tree before.real
             (odds (odds fresh)) stack ready.soundly.real ready.soundly.upper ready.soundly.sound from old to name object
             seen_from.0 seen.0 there.0 seen_from.1 seen.1);
         removed_empty = subst (λ m. RemovedIsEmpty m (merge_with_moved nat_eq
-            (odds (odds fresh)) stack m from old to name object)
-            (Move from old to name object)) (sym ready.soundly.is)
+            (odds (odds fresh)) stack m from old to name object) (Move from old to name object)) (sym ready.soundly.is)
             (λ replaced number named empty is.
             moved_empty before.files fit.tree before.real
             (odds (odds fresh)) stack ready.soundly.real ready.soundly.upper ready.soundly.sound from old to name object
             seen_from.0 seen.0 there.0 seen_from.1 seen.1 replaced number named empty is seen_to.0 seen_to.1);
         marks = subst (λ m. MarksAreRight stack m (merge_with_moved nat_eq
-            (odds (odds fresh)) stack m from old to name object)
-            (Move from old to name object)) (sym ready.soundly.is)
+            (odds (odds fresh)) stack m from old to name object) (Move from old to name object)) (sym ready.soundly.is)
             (moved_marked before.files fit.tree before.real
             (odds (odds fresh)) stack ready.soundly.real ready.soundly.upper ready.soundly.sound from old to name object
             seen_from.0 seen.0 there.0 seen_from.1 seen.1);

@@ -30,8 +30,7 @@ chain_enough : (files : FileTree ℕ) (tree : IsTree files.tree) (steps most dir
     → chain most (named_parent nat_eq files.tree) directory ≡ chain steps (named_parent nat_eq files.tree) directory
 chain_enough files tree zero most directory r h = up_at_root files tree most directory r
 chain_enough files tree (suc steps) zero directory r h = let no : ⊥ = omega arith in absurd no
-chain_enough files tree (suc steps) (suc most) directory r h =
-    up_from files tree most steps directory r
+chain_enough files tree (suc steps) (suc most) directory r h = up_from files tree most steps directory r
     ∙ ap (λ l. directory ∷ l) (chain_enough files tree steps most r.0 r.2 (omega arith))
     ∙ sym (up_from files tree steps steps directory r)
 
@@ -48,14 +47,11 @@ not_in_line files tree numbers directory name object e =
 
     above : is_among nat_eq object (directories_to nat_eq files directory) ≡ true
         → (fewer : ℕ) × (fewer ≤ reached.0) × ReachedIn files.tree fewer object
-    above t =
-        all_above files tree reached.0 directory reached.1 object
+    above t = all_above files tree reached.0 directory reached.1 object
         (sym (sym (list_any-IsPermutation (nat_eq object) (ancestors nat_eq files directory)
         (directories_to nat_eq files directory) (IsPermutation-reverse (ancestors nat_eq files directory)))
-        ∙ ap (list_any (nat_eq object))
-        (chain_enough files tree reached.0 (length files.numbers) directory reached.1
-        (depth_bound files tree numbers reached.0 directory reached.1)))
-        ∙ t)
+        ∙ ap (list_any (nat_eq object)) (chain_enough files tree reached.0 (length files.numbers) directory reached.1
+        (depth_bound files tree numbers reached.0 directory reached.1))) ∙ t)
 
     by : (b : Bool) → is_among nat_eq object (directories_to nat_eq files directory) ≡ b
         → is_among nat_eq object (directories_to nat_eq files directory) ≡ false
@@ -103,8 +99,7 @@ module _ (fresh : Fresh ℕ) (before : Merge ℕ) (fit : IsFitToChange fresh bef
   unnamed_stands e =
       let copied : Node ℕ = record {
         attr = node.attr;
-        content = copied_content
-            (copy_parent before (fresh 0) (a_name nat_eq files object)) node.content;
+        content = copied_content (copy_parent before (fresh 0) (a_name nat_eq files object)) node.content;
       } in
       let there : (copy_of nat_eq before object (fresh 0) (Some node) false).upper.tree.node (fresh 0) ≡ Some copied =
       ap (λ o. (Rattle.vt_spec.specs.Machine.CopyUp.copy_named nat_eq before (fresh 0) o
@@ -133,8 +128,7 @@ module _ (fresh : Fresh ℕ) (before : Merge ℕ) (fit : IsFitToChange fresh bef
     abbrev copied : Node ℕ
     copied = record {
       attr = node.attr;
-      content = copied_content
-          (copy_parent state copy (a_name nat_eq files object)) node.content;
+      content = copied_content (copy_parent state copy (a_name nat_eq files object)) node.content;
     }
 
     abbrev added : FileTree ℕ
@@ -144,34 +138,27 @@ module _ (fresh : Fresh ℕ) (before : Merge ℕ) (fit : IsFitToChange fresh bef
     later = copy_of nat_eq state object copy (Some node) false
 
     upper_is : later.upper ≡ with_name nat_eq added parent name.1 copy
-    upper_is =
-        ap (λ o. Rattle.vt_spec.specs.Machine.CopyUp.copy_named nat_eq state copy o added) e
+    upper_is = ap (λ o. Rattle.vt_spec.specs.Machine.CopyUp.copy_named nat_eq state copy o added) e
         ∙ ap (λ n. with_name nat_eq added n name.1 copy) (ap (λ o. unwrap_or o name.0) u)
 
     there : later.upper.tree.node copy ≡ Some copied
-    there =
-        ap (λ t. t.tree.node copy) upper_is
-        ∙ kept_elsewhere added parent (node_with_entry name.1 copy) copy
-        (ne_eqb copy parent (λ same. differ (sym same)))
-        ∙ node_set upper.tree copy (Some copied)
+    there = ap (λ t. t.tree.node copy) upper_is ∙ kept_elsewhere added parent (node_with_entry name.1 copy) copy
+        (ne_eqb copy parent (λ same. differ (sym same))) ∙ node_set upper.tree copy (Some copied)
 
     parent_stays : upper_of later name.0 ≡ parent
-    parent_stays =
-        ap (λ b. unwrap_or (upper_object (cond b (Some (Upper copy)) (real name.0))) name.0)
+    parent_stays = ap (λ b. unwrap_or (upper_object (cond b (Some (Upper copy)) (real name.0))) name.0)
         (ne_eqb name.0 object (λ same. no_loop files fit.tree name.0 name.1 (entry ∙ ap Some (sym same))))
         ∙ ap (λ o. unwrap_or o name.0) u
 
     has_name : entry_at later.upper.tree (upper_of later name.0) name.1 ≡ Some copy
-    has_name =
-        ap (λ n. entry_at later.upper.tree n name.1) parent_stays
+    has_name = ap (λ n. entry_at later.upper.tree n name.1) parent_stays
         ∙ ap (λ t. entry_at t.tree parent name.1) upper_is
         ∙ ap (λ o. Rattle.vt_spec.specs.Tree.entry_named name.1 (entries_in o))
         (node_set added.tree parent (node_with_entry name.1 copy (added.tree.node parent)))
         ∙ name_put name.1 copy (added.tree.node parent)
         (ap is_directory_node (ap (λ b. cond b (Some copied) (upper.tree.node parent)) (ne_eqb parent copy differ))
         ∙ sound.kinds (path_to files fit.tree name.0 name.1 object entry).0 name.0 parent
-        (path_to files fit.tree name.0 name.1 object entry).1 u
-        ∙ has_entries files.tree name.0 name.1 object entry)
+        (path_to files fit.tree name.0 name.1 object entry).1 u ∙ has_entries files.tree name.0 name.1 object entry)
 
     under_name : CopyStands later
     under_name = record {
@@ -179,11 +166,9 @@ module _ (fresh : Fresh ℕ) (before : Merge ℕ) (fit : IsFitToChange fresh bef
       real = ap (λ b. upper_object (cond b (Some (Upper copy)) (real object))) (eq-eqb object object refl);
       is = subst (IsCopyOf (files.tree.node object)) (sym there)
           (is_copy_of (copy_parent state copy (a_name nat_eq files object)) (files.tree.node object) node is_node);
-      empty =
-          ap entries_in there ∙ entries_of-copied_content
+      empty = ap entries_in there ∙ entries_of-copied_content
           (copy_parent state copy (a_name nat_eq files object)) node.content;
-      named = λ other is.
-          subst (λ n. entry_at later.upper.tree (upper_of later n.0) n.1 ≡ Some copy)
+      named = λ other is. subst (λ n. entry_at later.upper.tree (upper_of later n.0) n.1 ≡ Some copy)
           (same_Some name other (sym e ∙ is)) has_name;
     }
 
@@ -194,10 +179,8 @@ module _ (fresh : Fresh ℕ) (before : Merge ℕ) (fit : IsFitToChange fresh bef
       (subst (λ m. CopyStands (copy_of nat_eq m object (fresh (0 + length line)) (m.files.tree.node object)
       (is_in_upper m object))) (sym front.soundly.is)
       (subst (λ o. CopyStands (copy_of nat_eq state object (fresh (0 + length line)) o (is_in_upper state object)))
-      (sym is_node)
-      (subst (λ b. CopyStands (copy_of nat_eq state object (fresh (0 + length line)) (Some node) b))
-      (sym (ap is_some still_below))
-      (by (upper_object (front.soundly.real name.0)) refl
+      (sym is_node) (subst (λ b. CopyStands (copy_of nat_eq state object (fresh (0 + length line)) (Some node) b))
+      (sym (ap is_some still_below)) (by (upper_object (front.soundly.real name.0)) refl
       (front.all name.0 (in_its_line files name.0)
       (directory_used files.tree name.0 (has_entries files.tree name.0 name.1 object entry)))))))
     where
@@ -209,8 +192,7 @@ module _ (fresh : Fresh ℕ) (before : Merge ℕ) (fit : IsFitToChange fresh bef
 
       front : CopiesAll files before.real unspared fresh fit.distinct (λ k s. s) 0 before.real line
           (copied_each nat_eq fresh 0 before line)
-      front =
-          each_copied files before.real unspared fresh fit.distinct (λ k s. s) line 0 before.real before.upper
+      front = each_copied files before.real unspared fresh fit.distinct (λ k s. s) line 0 before.real before.upper
           (start fresh before fit unspared (λ number s. absurd s)) (λ j number h. fit.unused j number)
 
       state : Merge ℕ
@@ -223,14 +205,11 @@ module _ (fresh : Fresh ℕ) (before : Merge ℕ) (fit : IsFitToChange fresh bef
       by : (o : Option ℕ) → upper_object (front.soundly.real name.0) ≡ o → is_some o ≡ true
           → CopyStands (copy_of nat_eq state object (fresh (0 + length line)) (Some node) false)
       by None u h = absurd (true≢false (sym h))
-      by (Some parent) u h =
-          under_name front.soundly.real front.soundly.upper front.soundly.sound
-          (fresh (0 + length line)) name e entry parent u
-          (λ same. ⊎_elim
+      by (Some parent) u h = under_name front.soundly.real front.soundly.upper front.soundly.sound
+          (fresh (0 + length line)) name e entry parent u (λ same. ⊎_elim
           (λ old. fit.unused (0 + length line) name.0 (old ∙ ap Some same))
           (λ new. let counted = fit.distinct new.0 (0 + length line)
-          (sym new.2 ∙ same) in let l = new.1 in let no : ⊥ = omega arith in no)
-          (front.bound name.0 parent u))
+          (sym new.2 ∙ same) in let l = new.1 in let no : ⊥ = omega arith in no) (front.bound name.0 parent u))
 
   pub copy_stands : CopyStands (copied_up nat_eq fresh before object)
   copy_stands = grind (arith, common_steps, unnamed_stands, named_stands)

@@ -1,7 +1,6 @@
 -- What stands in the upper layer where a name was, and what a mark changes.
-use Rattle.std.proofs.Common.{arith}
+use Rattle.std.proofs.Common.{arith, ◌≡◌, ◌≢◌, refl, sym, ap, ◌∙◌, true≢false, ℕ, nat_eq, ne_eqb, Bool, true, false, cond, not, ◌||◌, List, [], ◌∷◌, Option, Some, None, is_some}
 use Rattle.std.proofs.lemmas.Grind.{common_steps}
-use Rattle.std.proofs.Common.{◌≡◌, ◌≢◌, refl, sym, ap, subst, ◌∙◌, true≢false, ℕ, nat_eq, ne_eqb, Bool, true, false, cond, not, ◌||◌, List, [], ◌∷◌, Option, Some, None, is_some}
 use Rattle.std.specs.Cmp.{tied_itself}
 use Rattle.std.specs.Cmp.Lexicographic.{bytes_decides, nat_list_cmp_total, texts_ties}
 use Rattle.std.specs.Ordering.{eq_by_cmp, is_eq}
@@ -29,8 +28,7 @@ name_gone name (entry ∷ entries) = by (bytes_eq entry.0 name) refl (name_gone 
         → cond tied (Some entry.1) (entry_named name (without_entry name entries))
         ≡ entry_named name (without_entry name entries)
     other e false t = refl
-    other e true t =
-        absurd (true≢false (sym (texts_ties entry.0 name
+    other e true t = absurd (true≢false (sym (texts_ties entry.0 name
         ∙ ap (λ n. eq_by_cmp name_cmp n name) (sym (same_name name entry.0 t))
         ∙ ap is_eq (tied_itself nat_list_cmp_total name)) ∙ e))
 
@@ -47,8 +45,7 @@ no_name_left name (Some node) = grind (arith, common_steps, name_gone)
 -- a name that was put in is there
 pub name_put : (name : List ℕ) (number : ℕ) (inode : Option (Node ℕ)) → is_directory_node inode ≡ true
     → entry_named name (entries_in (node_with_entry name number inode)) ≡ Some number
-name_put name number inode d =
-    ap (entry_named name) (entries-node_with_entry name number inode d)
+name_put name number inode d = ap (entry_named name) (entries-node_with_entry name number inode d)
     ∙ entry_named-with_entry name name number (entries_in inode)
     ∙ ap (λ b. cond b (Some number) (entry_named name (entries_in inode)))
     (ap is_eq (tied_itself nat_list_cmp_total name))
@@ -74,8 +71,7 @@ name_stays_without name other (Some node) differ = by node.content
     by : (content : Content ℕ) → entry_named name
         (entries_of (with_entries content (without_entry other (entries_of content))))
         ≡ entry_named name (entries_of content)
-    by (Directory parent entries opaque) =
-        entry_named-without_entry name other entries
+    by (Directory parent entries opaque) = entry_named-without_entry name other entries
         ∙ ap (λ b. cond (not b) (entry_named name entries) None) (apart (bytes_eq name other) refl)
     by (Regular bytes) = refl
     by (Symlink text) = refl
@@ -96,26 +92,12 @@ pub left_where : (fresh : Fresh ℕ) (below : Option (Shown ℕ)) (stack : Stack
     (name : List ℕ) → is_directory_node (upper.tree.node directory) ≡ true → directory ≢ fresh 0
     → LeftWith (fresh 0) below stack
     (name_left_by nat_eq (is_some below) fresh stack upper directory name) directory name
-left_where fresh None stack upper directory name d differ =
-    ap (λ o. entry_named name (entries_in o))
-    (node_set upper.tree directory (node_without_entry name (upper.tree.node directory)))
-    ∙ no_name_left name (upper.tree.node directory)
-left_where fresh (Some seen) stack upper directory name d differ =
-    let whited = with_inode nat_eq upper (fresh 0) (whiteout_of stack.mounter) in
-    let same = ap (λ b. cond b (Some (whiteout_of stack.mounter)) (upper.tree.node directory))
-    (ne_eqb directory (fresh 0) differ) in (
-      ap (λ o. entry_named name (entries_in o))
-          (node_set whited.tree directory (node_with_entry name (fresh 0) (whited.tree.node directory)))
-          ∙ name_put name (fresh 0) (whited.tree.node directory) (ap is_directory_node same ∙ d),
-      kept_elsewhere whited directory (node_with_entry name (fresh 0)) (fresh 0)
-          (ne_eqb (fresh 0) directory (λ e. differ (sym e)))
-          ∙ node_set upper.tree (fresh 0) (Some (whiteout_of stack.mounter)),
-    )
+left_where fresh below stack upper directory name d differ =
+    grind (arith, common_steps, node_set, no_name_left, ne_eqb, name_put, kept_elsewhere)
 
 -- it stays, where the directory's entries and the whiteout do
 pub left_stays : (number : ℕ) (below : Option (Shown ℕ)) (stack : Stack ℕ) (upper later : FileTree ℕ) (directory : ℕ)
-    (name : List ℕ)
-    → entries_in (later.tree.node directory) ≡ entries_in (upper.tree.node directory)
+    (name : List ℕ) → entries_in (later.tree.node directory) ≡ entries_in (upper.tree.node directory)
     → later.tree.node number ≡ upper.tree.node number
     → LeftWith number below stack upper directory name → LeftWith number below stack later directory name
 left_stays number None stack upper later directory name e f left = ap (entry_named name) e ∙ left
@@ -123,25 +105,15 @@ left_stays number (Some seen) stack upper later directory name e f left = (ap (e
 
 -- where a name is left, every other inode is as it was
 pub left_elsewhere : (hidden : Bool) (fresh : Fresh ℕ) (stack : Stack ℕ) (upper : FileTree ℕ) (directory : ℕ)
-    (name : List ℕ) (inode : ℕ)
-    → inode ≢ directory → inode ≢ fresh 0
+    (name : List ℕ) (inode : ℕ) → inode ≢ directory → inode ≢ fresh 0
     → (name_left_by nat_eq hidden fresh stack upper directory name).tree.node inode ≡ upper.tree.node inode
-left_elsewhere true fresh stack upper directory name inode differ new =
-    kept_elsewhere (with_inode nat_eq upper (fresh 0) (whiteout_of stack.mounter)) directory
-    (node_with_entry name (fresh 0)) inode (ne_eqb inode directory differ)
-    ∙ ap (λ b. cond b (Some (whiteout_of stack.mounter)) (upper.tree.node inode)) (ne_eqb inode (fresh 0) new)
-left_elsewhere false fresh stack upper directory name inode differ new =
-    kept_elsewhere upper directory (node_without_entry name) inode (ne_eqb inode directory differ)
+left_elsewhere hidden fresh stack upper directory name inode differ new =
+    grind (arith, common_steps, kept_elsewhere, ne_eqb)
 
 pub emptied_is_empty : (upper : FileTree ℕ) (replaced : Option ℕ) (object : ℕ) → replaced ≡ Some object
     → entries_in ((without_contents nat_eq upper replaced).tree.node object) ≡ []
 emptied_is_empty upper replaced object e =
-    subst (λ o. entries_in ((without_contents nat_eq upper o).tree.node object) ≡ []) (sym e)
-    (part-changed_node entries_in (changed_node nat_eq upper object node_without_entries) object
-    (node_with_parent object)
-    (entries-node_with_parent object) object
-    ∙ ap entries_in (node_set upper.tree object (node_without_entries (upper.tree.node object)))
-    ∙ entries-node_without_entries (upper.tree.node object))
+    grind (arith, common_steps, part-changed_node, entries-node_with_parent, node_set, entries-node_without_entries)
 
 pub emptied_other : (upper : FileTree ℕ) (replaced : Option ℕ) (inode : ℕ) → replaced ≢ Some inode
     → (without_contents nat_eq upper replaced).tree.node inode ≡ upper.tree.node inode
@@ -192,8 +164,7 @@ module _ {A : Type 0} (part : Option (Node ℕ) → A)
   pub freed_part : (upper : FileTree ℕ) (object : Option ℕ) (inode : ℕ)
       → part ((without_parent nat_eq upper object).tree.node inode) ≡ part (upper.tree.node inode)
   freed_part upper None inode = refl
-  freed_part upper (Some object) inode =
-      part-changed_node part upper object (node_with_parent object)
+  freed_part upper (Some object) inode = part-changed_node part upper object (node_with_parent object)
       (keeps (node_with_parent object) (parent_keeps object)) inode
 
   pub moved_part : (upper : FileTree ℕ) (from : ℕ) (old : List ℕ) (to : ℕ) (name : List ℕ) (object inode : ℕ)

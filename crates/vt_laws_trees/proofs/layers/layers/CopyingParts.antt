@@ -1,9 +1,10 @@
 -- What an inode keeps when its names or its parent change.
-use Rattle.std.proofs.Common.{◌≡◌, refl, ap, ◌∙◌, ℕ, nat_eq, List, [], Option, Some, None, is_some}
+use Rattle.std.proofs.Common.{arith, ◌≡◌, refl, ◌∙◌, ℕ, nat_eq, List, Option, is_some}
+use Rattle.std.proofs.lemmas.Grind.{common_steps}
 use Rattle.vt_spec.specs.Language.Changes.{changed_node, content_with_parent, node_with_parent, node_without_entries, node_without_entry, without_entry}
 use Rattle.vt_spec.specs.FileTree.{FileTree, attr_in, is_opaque_in, kind_in, opaque_of}
 use Rattle.vt_spec.specs.Rights.{is_directory}
-use Rattle.vt_spec.specs.Tree.{Content, Entries, Node, bytes_in, bytes_of, entries_of, is_directory_node, kind_of, node_with_entry, with_entries, with_entry}
+use Rattle.vt_spec.specs.Tree.{Content, Entries, Node, bytes_in, bytes_of, is_directory_node, kind_of, node_with_entry, with_entries, with_entry}
 use Rattle.vt_spec.specs.Tree.Content.{Directory, Regular, Symlink, Whiteout}
 use Rattle.vt_laws_trees.specs.Layers.Layers.ChangesUpper.{IsCopyOf}
 use Rattle.vt_spec.proofs.NodeChanges.{kind_of-content_with_parent, part-changed_node}
@@ -39,78 +40,13 @@ module _ (change : Entries ℕ → Entries ℕ) where
   other_mark Whiteout entries = refl
 
 pub entry_keeps : (name : List ℕ) (number : ℕ) → KeepsButNames (node_with_entry name number)
-entry_keeps name number = record {
-  there = λ o. elim o as (λ o. is_some (node_with_entry name number o) ≡ is_some o) [ None ↦ refl | Some node ↦ refl ];
-  kind = λ o. elim o as (λ o. kind_in (node_with_entry name number o)
-      ≡ kind_in o) [
-        | None ↦ refl
-        | Some node ↦ other_kind (λ e. e) node.content
-            (with_entry name number (entries_of node.content))
-      ];
-  directory = λ o. elim o as (λ o. is_directory_node (node_with_entry name number o)
-      ≡ is_directory_node o) [
-        | None ↦ refl
-        | Some node ↦ ap is_directory
-            (other_kind (λ e. e) node.content (with_entry name number (entries_of node.content)))
-      ];
-  attr = λ o. elim o as (λ o. attr_in (node_with_entry name number o) ≡ attr_in o) [ None ↦ refl | Some node ↦ refl ];
-  bytes = λ o. elim o as (λ o. bytes_in (node_with_entry name number o)
-      ≡ bytes_in o) [
-        | None ↦ refl
-        | Some node ↦ other_bytes (λ e. e) node.content
-            (with_entry name number (entries_of node.content))
-      ];
-  mark = λ o. elim o as (λ o. is_opaque_in (node_with_entry name number o)
-      ≡ is_opaque_in o) [
-        | None ↦ refl
-        | Some node ↦ other_mark (λ e. e) node.content
-            (with_entry name number (entries_of node.content))
-      ];
-}
+entry_keeps name number = grind (arith, common_steps, other_kind, other_bytes, other_mark)
 
 pub without_entry_keeps : (name : List ℕ) → KeepsButNames (node_without_entry name)
-without_entry_keeps name = record {
-  there = λ o. elim o as (λ o. is_some (node_without_entry name o) ≡ is_some o) [ None ↦ refl | Some node ↦ refl ];
-  kind = λ o. elim o as (λ o. kind_in (node_without_entry name o)
-      ≡ kind_in o) [
-        | None ↦ refl
-        | Some node ↦ other_kind (λ e. e) node.content
-            (without_entry name (entries_of node.content))
-      ];
-  directory = λ o. elim o as (λ o. is_directory_node (node_without_entry name o)
-      ≡ is_directory_node o) [
-        | None ↦ refl
-        | Some node ↦ ap is_directory
-            (other_kind (λ e. e) node.content (without_entry name (entries_of node.content)))
-      ];
-  attr = λ o. elim o as (λ o. attr_in (node_without_entry name o) ≡ attr_in o) [ None ↦ refl | Some node ↦ refl ];
-  bytes = λ o. elim o as (λ o. bytes_in (node_without_entry name o)
-      ≡ bytes_in o) [
-        | None ↦ refl
-        | Some node ↦ other_bytes (λ e. e) node.content
-            (without_entry name (entries_of node.content))
-      ];
-  mark = λ o. elim o as (λ o. is_opaque_in (node_without_entry name o)
-      ≡ is_opaque_in o) [
-        | None ↦ refl
-        | Some node ↦ other_mark (λ e. e) node.content
-            (without_entry name (entries_of node.content))
-      ];
-}
+without_entry_keeps name = grind (arith, common_steps, other_kind, other_bytes, other_mark)
 
 pub without_entries_keeps : KeepsButNames node_without_entries
-without_entries_keeps = record {
-  there = λ o. elim o as (λ o. is_some (node_without_entries o) ≡ is_some o) [ None ↦ refl | Some node ↦ refl ];
-  kind = λ o. elim o as (λ o. kind_in (node_without_entries o)
-      ≡ kind_in o) [ None ↦ refl | Some node ↦ other_kind (λ e. e) node.content [] ];
-  directory = λ o. elim o as (λ o. is_directory_node (node_without_entries o)
-      ≡ is_directory_node o) [ None ↦ refl | Some node ↦ ap is_directory (other_kind (λ e. e) node.content []) ];
-  attr = λ o. elim o as (λ o. attr_in (node_without_entries o) ≡ attr_in o) [ None ↦ refl | Some node ↦ refl ];
-  bytes = λ o. elim o as (λ o. bytes_in (node_without_entries o)
-      ≡ bytes_in o) [ None ↦ refl | Some node ↦ other_bytes (λ e. e) node.content [] ];
-  mark = λ o. elim o as (λ o. is_opaque_in (node_without_entries o)
-      ≡ is_opaque_in o) [ None ↦ refl | Some node ↦ other_mark (λ e. e) node.content [] ];
-}
+without_entries_keeps = grind (arith, common_steps, other_kind, other_bytes, other_mark)
 
 -- another parent
 module _ (parent : ℕ) where
@@ -127,19 +63,7 @@ module _ (parent : ℕ) where
   parent_mark Whiteout = refl
 
   pub parent_keeps : KeepsButNames (node_with_parent parent)
-  parent_keeps = record {
-    there = λ o. elim o as (λ o. is_some (node_with_parent parent o) ≡ is_some o) [ None ↦ refl | Some node ↦ refl ];
-    kind = λ o. elim o as (λ o. kind_in (node_with_parent parent o)
-        ≡ kind_in o) [ None ↦ refl | Some node ↦ (kind_of-content_with_parent parent) node.content ];
-    directory = λ o. elim o as (λ o. is_directory_node (node_with_parent parent o)
-        ≡ is_directory_node o)
-        [ None ↦ refl | Some node ↦ ap is_directory (kind_of-content_with_parent parent node.content) ];
-    attr = λ o. elim o as (λ o. attr_in (node_with_parent parent o) ≡ attr_in o) [ None ↦ refl | Some node ↦ refl ];
-    bytes = λ o. elim o as (λ o. bytes_in (node_with_parent parent o)
-        ≡ bytes_in o) [ None ↦ refl | Some node ↦ parent_bytes node.content ];
-    mark = λ o. elim o as (λ o. is_opaque_in (node_with_parent parent o)
-        ≡ is_opaque_in o) [ None ↦ refl | Some node ↦ parent_mark node.content ];
-  }
+  parent_keeps = grind (arith, common_steps, kind_of-content_with_parent, parent_bytes, parent_mark)
 
 pub kept_copy : (seen : Option (Node ℕ)) (files : FileTree ℕ) (number : ℕ) (change : Option (Node ℕ) → Option (Node ℕ))
     → KeepsButNames change → (inode : ℕ) → IsCopyOf seen (files.tree.node inode)

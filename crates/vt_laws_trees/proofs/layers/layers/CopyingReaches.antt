@@ -1,8 +1,9 @@
 -- What a change of an overlay asks for stands in the upper layer after it.
-use Rattle.std.proofs.Common.{◌≡◌, ◌≢◌, refl, sym, ap, subst, ◌∙◌, ℕ, nat_eq, eq-eqb, ne_eqb, Bool, true, false, cond, List, Option, Some, None, is_some, unwrap_or, ⊎_elim}
+use Rattle.std.proofs.Common.{arith, ◌≡◌, ◌≢◌, refl, sym, ap, subst, ◌∙◌, ℕ, nat_eq, eq-eqb, ne_eqb, Bool, true, false, cond, List, Option, Some, is_some, unwrap_or}
+use Rattle.std.proofs.lemmas.Grind.{common_steps}
 use Rattle.std.proofs.lemmas.Bool.Decides.{eqb_tells}
 use Rattle.vt_spec.specs.Language.Changes.{content_with_mark, content_with_parent, node_with_mark, node_with_parent, node_without_entry, with_inode, with_moved, with_name, without_name, without_parent}
-use Rattle.vt_spec.specs.Machine.CopyUp.{Merge, Stack, hides_directory, merge_with_link, merge_with_moved, merge_with_new, name_left_by, shown_in_lowers_at, upper_directory_named, upper_of, whiteout_of, with_mark, without_contents}
+use Rattle.vt_spec.specs.Machine.CopyUp.{Merge, Stack, hides_directory, merge_with_link, merge_with_moved, merge_with_new, name_left_by, shown_in_lowers_at, upper_directory_named, upper_of, with_mark, without_contents}
 use Rattle.vt_spec.specs.FileTree.{FileTree}
 use Rattle.vt_spec.specs.Lists.{Fresh}
 use Rattle.vt_spec.specs.Machine.World.{Real, upper_object}
@@ -32,14 +33,7 @@ mark_bytes (Symlink text) = refl
 mark_bytes Whiteout = refl
 
 mark_made : (node : Node ℕ) (inode : Option (Node ℕ)) → IsMadeAs node inode → IsMadeAs node (node_with_mark true inode)
-mark_made node None is = is
-mark_made node (Some inode) is = record {
-  there = is.there;
-  kind = mark_kind inode.content ∙ is.kind;
-  attr = is.attr;
-  names = entries-node_with_mark true (Some inode) ∙ is.names;
-  bytes = mark_bytes inode.content ∙ is.bytes;
-}
+mark_made node inode is = grind (arith, common_steps, mark_kind, entries-node_with_mark, mark_bytes)
 
 marked_made : (mark : Bool) (upper : FileTree ℕ) (object : ℕ) (node : Node ℕ) → IsMadeAs node (upper.tree.node object)
     → IsMadeAs node ((with_mark nat_eq mark upper object).tree.node object)
@@ -51,43 +45,15 @@ marked_made false upper object node is = is
 -- a new object gets its parent in the upper layer
 made_with_parent : (node : Node ℕ) (parent : ℕ)
     → IsMadeAs node (Some (record { attr = node.attr; content = content_with_parent parent node.content }))
-made_with_parent node parent = record {
-  there = refl;
-  kind = (parent_keeps parent).kind (Some node);
-  attr = refl;
-  names = entries-node_with_parent parent (Some node);
-  bytes = (parent_keeps parent).bytes (Some node);
-}
+made_with_parent node parent = grind (arith, common_steps, parent_keeps, entries-node_with_parent)
 
 -- where a name is left, every other one stays
 other_name_stays : (hidden : Bool) (fresh : Fresh ℕ) (stack : Stack ℕ) (upper : FileTree ℕ) (directory other : ℕ)
-    (old name : List ℕ)
-    → (other ≡ directory → name ≢ old) → other ≢ fresh 0
+    (old name : List ℕ) → (other ≡ directory → name ≢ old) → other ≢ fresh 0
     → entry_at (name_left_by nat_eq hidden fresh stack upper directory old).tree other name
     ≡ entry_at upper.tree other name
-other_name_stays true fresh stack upper directory other old name apart new =
-    let whited = with_inode nat_eq upper (fresh 0) (whiteout_of stack.mounter) in
-    let same = ap (λ b. cond b (Some (whiteout_of stack.mounter)) (upper.tree.node other))
-    (ne_eqb other (fresh 0) new) in
-    ⊎_elim
-    (λ t. ap (λ n. entry_at (with_name nat_eq whited directory old (fresh 0)).tree n name) t.1
-    ∙ ap (λ o. entry_named name (entries_in o))
-    (node_set whited.tree directory (node_with_entry old (fresh 0) (whited.tree.node directory)))
-    ∙ name_stays_put name old (fresh 0) (whited.tree.node directory) (apart t.1)
-    ∙ ap (λ n. entry_at whited.tree n name) (sym t.1))
-    (λ t. ap (λ o. entry_named name (entries_in o))
-    (kept_elsewhere whited directory (node_with_entry old (fresh 0)) other t.0))
-    (eqb_tells other directory)
-    ∙ ap (λ o. entry_named name (entries_in o)) same
-other_name_stays false fresh stack upper directory other old name apart new =
-    ⊎_elim
-    (λ t. ap (λ n. entry_at (without_name nat_eq upper directory old).tree n name) t.1
-    ∙ ap (λ o. entry_named name (entries_in o))
-    (node_set upper.tree directory (node_without_entry old (upper.tree.node directory)))
-    ∙ name_stays_without name old (upper.tree.node directory) (apart t.1)
-    ∙ ap (λ n. entry_at upper.tree n name) (sym t.1))
-    (λ t. ap (λ o. entry_named name (entries_in o)) (kept_elsewhere upper directory (node_without_entry old) other t.0))
-    (eqb_tells other directory)
+other_name_stays hidden fresh stack upper directory other old name apart new =
+    grind (arith, common_steps, apart, ne_eqb, node_set, name_stays_put, kept_elsewhere, eqb_tells, name_stays_without)
 
 -- Changes of an overlay where what they ask is copied
 module _ (files : FileTree ℕ) (first : ℕ → Option (Real ℕ)) (spare : ℕ → Type 0) (real : ℕ → Option (Real ℕ))
@@ -109,8 +75,7 @@ module _ (files : FileTree ℕ) (first : ℕ → Option (Real ℕ)) (spare : ℕ
       → IsReachedDirectory files directory → (name : List ℕ) (object : ℕ)
       → entry_at (merge_with_link nat_eq here directory name object).upper.tree (upper_of here directory) name
       ≡ Some (upper_of here object)
-  linked_named directory seen has reached name object =
-      ap (λ o. entry_named name (entries_in o))
+  linked_named directory seen has reached name object = ap (λ o. entry_named name (entries_in o))
       (node_set upper.tree (upper_of here directory)
       (node_with_entry name (upper_of here object) (upper.tree.node (upper_of here directory))))
       ∙ name_put name (upper_of here object) (upper.tree.node (upper_of here directory))
@@ -122,12 +87,10 @@ module _ (files : FileTree ℕ) (first : ℕ → Option (Real ℕ)) (fresh : Fre
   there = State files first (IsNewBy fresh) real upper
 
   is_old : (number seen : ℕ) → upper_object (real number) ≡ Some seen → upper_of there number ≢ fresh 0
-  is_old number seen has same =
-      sound.spared number seen has (
-        0,
-        sym (upper_is files first (IsNewBy fresh) real upper sound number seen has)
-            ∙ same,
-      )
+  is_old number seen has same = sound.spared number seen has (
+    0,
+    sym (upper_is files first (IsNewBy fresh) real upper sound number seen has) ∙ same,
+  )
 
   module _ (directory : ℕ) (name : List ℕ) (number : ℕ) (node : Node ℕ) (seen : ℕ)
       (has : upper_object (real directory) ≡ Some seen) (reached : IsReachedDirectory files directory) where
@@ -146,26 +109,15 @@ module _ (files : FileTree ℕ) (first : ℕ → Option (Real ℕ)) (fresh : Fre
 
     pub made_named : entry_at (merge_with_new nat_eq fresh stack there directory name number node).upper.tree
         (upper_of there directory) name ≡ Some (fresh 0)
-    made_named =
-        ap (entry_named name) (marked_entries (hides_directory nat_eq stack there directory name) named (fresh 0)
-        (upper_of there directory))
-        ∙ ap (λ o. entry_named name (entries_in o))
-        (node_set added.tree (upper_of there directory)
-        (node_with_entry name (fresh 0) (added.tree.node (upper_of there directory))))
-        ∙ name_put name (fresh 0) (added.tree.node (upper_of there directory))
-        (ap is_directory_node (ap (λ b. cond b (Some object) (upper.tree.node (upper_of there directory)))
-        (ne_eqb (upper_of there directory) (fresh 0) (is_old directory seen has)))
-        ∙ directory_there files first (IsNewBy fresh) real upper sound directory seen has reached)
+    made_named = grind (arith, common_steps, marked_entries, node_set, name_put, ne_eqb, is_old, directory_there)
 
     pub made_as : IsMadeAs node ((merge_with_new nat_eq fresh stack there directory name number node).upper.tree.node
         (fresh 0))
-    made_as =
-        marked_made (hides_directory nat_eq stack there directory name) named (fresh 0) node
+    made_as = marked_made (hides_directory nat_eq stack there directory name) named (fresh 0) node
         (subst (IsMadeAs node)
         (sym (kept_elsewhere added (upper_of there directory) (node_with_entry name (fresh 0)) (fresh 0)
         (ne_eqb (fresh 0) (upper_of there directory) (λ same. is_old directory seen has (sym same)))
-        ∙ node_set upper.tree (fresh 0) (Some object)))
-        (made_with_parent node (upper_of there directory)))
+        ∙ node_set upper.tree (fresh 0) (Some object))) (made_with_parent node (upper_of there directory)))
 
   module _ (from : ℕ) (old : List ℕ) (to : ℕ) (name : List ℕ) (object : ℕ) (seen_from seen_to : ℕ)
       (e : entry_at files.tree from old ≡ Some object)
@@ -184,42 +136,24 @@ module _ (files : FileTree ℕ) (first : ℕ → Option (Real ℕ)) (fresh : Fre
     away = with_moved nat_eq freed (upper_of there from) old (upper_of there to) name (upper_of there object)
 
     base_directory : is_directory_node (base.tree.node (upper_of there to)) ≡ true
-    base_directory =
-        part-changed_node is_directory_node (without_parent nat_eq freed replaced) (upper_of there from)
+    base_directory = part-changed_node is_directory_node (without_parent nat_eq freed replaced) (upper_of there from)
         (node_without_entry old) (without_entry_keeps old).directory (upper_of there to)
         ∙ freed_part is_directory_node (λ change keeps. keeps.directory) freed replaced (upper_of there to)
         ∙ emptied_part is_directory_node (λ change keeps. keeps.directory) upper (upper_directory_named there to name)
-        (upper_of there to)
-        ∙ directory_there files first (IsNewBy fresh) real upper sound to seen_to has_to reached
+        (upper_of there to) ∙ directory_there files first (IsNewBy fresh) real upper sound to seen_to has_to reached
 
     away_named : entry_at away.tree (upper_of there to) name ≡ Some (upper_of there object)
     away_named =
-        ap (entry_named name)
-        (part-changed_node entries_in (with_name nat_eq base (upper_of there to) name (upper_of there object))
-        (upper_of there object) (node_with_parent (upper_of there to)) (entries-node_with_parent (upper_of there to))
-        (upper_of there to))
-        ∙ ap (λ o. entry_named name (entries_in o))
-        (node_set base.tree (upper_of there to)
-        (node_with_entry name (upper_of there object) (base.tree.node (upper_of there to))))
-        ∙ name_put name (upper_of there object) (base.tree.node (upper_of there to)) base_directory
+        grind (arith, common_steps, part-changed_node, entries-node_with_parent, node_set, name_put, base_directory)
 
     -- in one directory the names are two
     apart : upper_of there to ≡ upper_of there from → name ≢ old
-    apart same name_same =
-        let to_is = upper_is files first (IsNewBy fresh) real upper sound to seen_to has_to in
-        let from_is = upper_is files first (IsNewBy fresh) real upper sound from seen_from has_from in
-        let one : to ≡ from = sound.one to from seen_to has_to
-        (has_from ∙ ap Some (sym (sym to_is ∙ same ∙ from_is))) in
-        another ((λ i. entry_at files.tree (one i) (name_same i)) ∙ e)
+    apart same name_same = grind (arith, common_steps, upper_is)
 
     pub moved_named : entry_at (merge_with_moved nat_eq fresh stack there from old to name object).upper.tree
         (upper_of there to) name ≡ Some (upper_of there object)
-    moved_named =
-        ap (entry_named name)
-        (marked_entries (hides_directory nat_eq stack there to name)
+    moved_named = ap (entry_named name) (marked_entries (hides_directory nat_eq stack there to name)
         (name_left_by nat_eq (is_some (shown_in_lowers_at nat_eq stack there from old)) fresh stack away
         (upper_of there from) old) (upper_of there object) (upper_of there to))
         ∙ other_name_stays (is_some (shown_in_lowers_at nat_eq stack there from old)) fresh stack away
-        (upper_of there from)
-        (upper_of there to) old name apart (is_old to seen_to has_to)
-        ∙ away_named
+        (upper_of there from) (upper_of there to) old name apart (is_old to seen_to has_to) ∙ away_named

@@ -1,7 +1,6 @@
 -- What a change of an overlay finds when what it asks to be copied is copied.
-use Rattle.std.proofs.Common.{arith}
+use Rattle.std.proofs.Common.{arith, ◌≡◌, inl, inr, refl, sym, ap, subst, ◌∙◌, true≢false, ℕ, nat_eq, eq-eqb, Bool, true, false, List, [], ◌∷◌, ◌++◌, Option, Some, None, is_some, ⊎_elim}
 use Rattle.std.proofs.lemmas.Grind.{common_steps}
-use Rattle.std.proofs.Common.{◌≡◌, inl, inr, refl, sym, ap, subst, ◌∙◌, true≢false, ℕ, nat_eq, eq-eqb, Bool, true, false, List, [], ◌∷◌, ◌++◌, Option, Some, None, is_some, ⊎_elim}
 use Rattle.std.specs.List.{list_any}
 use Rattle.std.proofs.lemmas.List.Folds.{list_any-append}
 use Rattle.vt_spec.specs.Machine.CopyUp.{Merge, copied_up, directories_to, line_by, line_to}
@@ -24,8 +23,7 @@ in_its_line files directory = grind (arith, common_steps, list_any-append, eq-eq
 
 pub parent_in_line : (files : FileTree ℕ) (object : ℕ) (name : ℕ × List ℕ) → a_name nat_eq files object ≡ Some name
     → is_among nat_eq name.0 (line_to nat_eq files object) ≡ true
-parent_in_line files object name e =
-    ap (λ o. is_among nat_eq name.0 (line_by nat_eq files object o)) e
+parent_in_line files object name e = ap (λ o. is_among nat_eq name.0 (line_by nat_eq files object o)) e
     ∙ list_any-append (nat_eq name.0) (directories_to nat_eq files name.0) (object ∷ [])
     ∙ or_left (list_any (nat_eq name.0) (directories_to nat_eq files name.0)) _ (in_its_line files name.0)
 
@@ -38,12 +36,7 @@ module _ (fresh : Fresh ℕ) (before : Merge ℕ) (fit : IsFitToChange fresh bef
   Spares spare = (number : ℕ) → spare number → IsNewBy fresh number
 
   pub start : (spare : ℕ → Type 0) → Spares spare → IsSound files before.real spare before.real before.upper
-  start spare new = record {
-    one = fit.one_to_one;
-    kinds = fit.kinds;
-    stands = λ number object e. inl e;
-    spared = λ number object e s. let found = new object s in fit.unused found.0 number (e ∙ ap Some found.1);
-  }
+  start spare new = grind (arith, common_steps)
 
   -- what is asked is copied, with some numbers spared
   pub record IsReady (spare : ℕ → Type 0) (list : List ℕ) (merge : Merge ℕ) : Type 0 where
@@ -56,8 +49,7 @@ module _ (fresh : Fresh ℕ) (before : Merge ℕ) (fit : IsFitToChange fresh bef
       → (object : ℕ) → IsReady spare (line_to nat_eq files object) (copied_up nat_eq supply before object)
   one_line spare new supply distinct apart own object =
       let copies = line_copied files before.real spare supply distinct apart object before.real before.upper
-      (start spare new)
-      (λ j number e. let found = own j in fit.unused found.0 number (e ∙ ap Some found.1)) in
+      (start spare new) (λ j number e. let found = own j in fit.unused found.0 number (e ∙ ap Some found.1)) in
       record {
         soundly = record {
           real = copies.soundly.real;
@@ -79,17 +71,14 @@ module _ (fresh : Fresh ℕ) (before : Merge ℕ) (fit : IsFitToChange fresh bef
   next_line wide spare narrower list merge ready supply distinct apart spared own object =
       let sound = ready.soundly.sound in
       let copies =
-      line_copied files before.real spare supply distinct apart object ready.soundly.real ready.soundly.upper
-      (record {
+      line_copied files before.real spare supply distinct apart object ready.soundly.real ready.soundly.upper (record {
         one = sound.one;
         kinds = sound.kinds;
         stands = sound.stands;
         spared = λ number seen e s. sound.spared number seen e (narrower seen s);
-      })
-      (λ j number e. sound.spared number (supply j) e (spared j)) in
+      }) (λ j number e. sound.spared number (supply j) e (spared j)) in
       subst (λ m. IsReady spare (list ++ line_to nat_eq files object) (copied_up nat_eq supply m object))
-      (sym ready.soundly.is)
-      (record {
+      (sym ready.soundly.is) (record {
         soundly = record {
           real = copies.soundly.real;
           upper = copies.soundly.upper;
@@ -100,20 +89,16 @@ module _ (fresh : Fresh ℕ) (before : Merge ℕ) (fit : IsFitToChange fresh bef
               ⊎_elim (λ t. ready.soundly.told number seen t) (λ t. let found = own t.0 in inr (found.0, t.1 ∙ found.1))
               (copies.soundly.told number seen e);
         };
-        all = λ number among there.
-            ⊎_elim
+        all = λ number among there. ⊎_elim
             (λ t. stands_still ready.soundly.real copies.soundly.real copies.soundly.grows number
-            (ready.all number t there))
-            (λ t. copies.all number t there)
-            (or_cases (list_any (nat_eq number) list) _
+            (ready.all number t there)) (λ t. copies.all number t there) (or_cases (list_any (nat_eq number) list) _
             (sym (list_any-append (nat_eq number) list (line_to nat_eq files object)) ∙ among));
       })
 
   -- what is asked stands now
   pub stands_now : (spare : ℕ → Type 0) (list : List ℕ) (merge : Merge ℕ) → IsReady spare list merge → (number : ℕ)
       → is_among nat_eq number list ≡ true → is_some (files.tree.node number) ≡ true → StandsNow before merge number
-  stands_now spare list merge ready number among there =
-      subst (λ m. StandsNow before m number) (sym ready.soundly.is)
+  stands_now spare list merge ready number among there = subst (λ m. StandsNow before m number) (sym ready.soundly.is)
       (by (upper_object (ready.soundly.real number)) refl (ready.all number among there))
     where
       by : (o : Option ℕ) → upper_object (ready.soundly.real number) ≡ o → is_some o ≡ true
@@ -122,8 +107,7 @@ module _ (fresh : Fresh ℕ) (before : Merge ℕ) (fit : IsFitToChange fresh bef
       by (Some object) e h = (object, e, ready.soundly.sound.stands number object e)
 
   -- the directory that an object leaves stands in the upper layer where the object does
-  pub leaves_upper : (later : ℕ → Option (Real ℕ))
-      → ((number : ℕ) → is_some (upper_object (before.real number)) ≡ true
+  pub leaves_upper : (later : ℕ → Option (Real ℕ)) → ((number : ℕ) → is_some (upper_object (before.real number)) ≡ true
       → is_some (upper_object (later number)) ≡ true)
       → (from : ℕ) (old : List ℕ) (object : ℕ) → entry_at files.tree from old ≡ Some object
       → ((name : ℕ × List ℕ) → a_name nat_eq files object ≡ Some name → is_some (upper_object (later name.0)) ≡ true)
@@ -133,8 +117,7 @@ module _ (fresh : Fresh ℕ) (before : Merge ℕ) (fit : IsFitToChange fresh bef
       named : is_some (upper_object (before.real object)) ≡ false → (o : Option (ℕ × List ℕ))
           → a_name nat_eq files object ≡ o → is_some o ≡ true → is_some (upper_object (later from)) ≡ true
       named low None a h = absurd (true≢false (sym h))
-      named low (Some name) a h =
-          subst (λ n. is_some (upper_object (later n)) ≡ true)
+      named low (Some name) a h = subst (λ n. is_some (upper_object (later n)) ≡ true)
           (fit.one_name name.0 from name.1 old object (named_so files fit.tree object name a) e low) (parent name a)
 
       by : (b : Bool) → is_some (upper_object (before.real object)) ≡ b → is_some (upper_object (later from)) ≡ true

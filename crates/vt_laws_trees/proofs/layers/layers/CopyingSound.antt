@@ -1,6 +1,7 @@
 -- What is copied up stands in the upper layer: each inode has its own object there, of its kind, and a copy is what is
 -- shown.
-use Rattle.std.proofs.Common.{◌≡◌, ◌≢◌, ◌⊎◌, inl, inr, refl, sym, ap, subst, ◌∙◌, ℕ, nat_eq, eq-eqb, ne_eqb, true, false, cond, List, Option, Some, None, is_some, ⊎_elim}
+use Rattle.std.proofs.Common.{arith, ◌≡◌, ◌≢◌, ◌⊎◌, inl, inr, refl, sym, ap, subst, ◌∙◌, ℕ, nat_eq, eq-eqb, ne_eqb, true, false, cond, List, Option, Some, None, is_some, ⊎_elim}
+use Rattle.std.proofs.lemmas.Grind.{common_steps}
 use Rattle.std.proofs.lemmas.Bool.Decides.{eqb_tells}
 use Rattle.vt_spec.specs.Language.Changes.{with_inode}
 use Rattle.vt_spec.specs.Machine.CopyUp.{Merge, copied_content, copy_named, copy_of_node, copy_parent, upper_of, with_real}
@@ -32,15 +33,7 @@ copy_mark parent Whiteout = refl
 -- a copied inode is a copy of what is shown
 pub is_copy_of : (parent : ℕ) (seen : Option (Node ℕ)) (node : Node ℕ) → seen ≡ Some node
     → IsCopyOf seen (Some (record { attr = node.attr; content = copied_content parent node.content }))
-is_copy_of parent seen node e =
-    subst (λ o. IsCopyOf o (Some (record { attr = node.attr; content = copied_content parent node.content }))) (sym e)
-    (record {
-      there = refl;
-      kind = kind_of-copied_content parent node.content;
-      attr = refl;
-      bytes = copy_bytes parent node.content;
-      mark = copy_mark parent node.content;
-    })
+is_copy_of parent seen node e = grind (arith, common_steps, kind_of-copied_content, copy_bytes, copy_mark)
 
 module _ (files : FileTree ℕ) (first : ℕ → Option (Real ℕ)) (spare : ℕ → Type 0) where
   abbrev pub State : (ℕ → Option (Real ℕ)) → FileTree ℕ → Merge ℕ
@@ -74,8 +67,7 @@ module _ (files : FileTree ℕ) (first : ℕ → Option (Real ℕ)) (spare : ℕ
     abbrev copied_node : Node ℕ
     copied_node = record {
       attr = node.attr;
-      content = copied_content
-          (copy_parent (State real upper) copy (a_name nat_eq files object)) node.content;
+      content = copied_content (copy_parent (State real upper) copy (a_name nat_eq files object)) node.content;
     }
 
     abbrev with_copy : FileTree ℕ
@@ -90,14 +82,10 @@ module _ (files : FileTree ℕ) (first : ℕ → Option (Real ℕ)) (spare : ℕ
     -- the object of an inode is the copy, or the one that it was
     told_later : (number seen : ℕ) → upper_object (real_later number) ≡ Some seen
         → ((number ≡ object) × (seen ≡ copy)) ⊎ (upper_object (real number) ≡ Some seen)
-    told_later number seen e =
-        ⊎_elim
-        (λ t. inl (
-          t.1,
-          sym (same_Some copy seen
-              (ap (λ b. upper_object (cond b (Some (Upper copy)) (real number))) (sym t.0) ∙ e)),
-        ))
-        (λ t. inr (ap (λ b. upper_object (cond b (Some (Upper copy)) (real number))) (sym t.0) ∙ e))
+    told_later number seen e = ⊎_elim (λ t. inl (
+      t.1,
+      sym (same_Some copy seen (ap (λ b. upper_object (cond b (Some (Upper copy)) (real number))) (sym t.0) ∙ e)),
+    )) (λ t. inr (ap (λ b. upper_object (cond b (Some (Upper copy)) (real number))) (sym t.0) ∙ e))
         (eqb_tells number object)
 
     directory_named : (named : Option (ℕ × List ℕ)) (inode : ℕ)
@@ -123,8 +111,7 @@ module _ (files : FileTree ℕ) (first : ℕ → Option (Real ℕ)) (spare : ℕ
     at_other inode differ = ap (λ b. cond b (Some copied_node) (upper.tree.node inode)) (ne_eqb inode copy differ)
 
     is_copy : IsCopyOf (files.tree.node object) (with_copy.tree.node copy)
-    is_copy =
-        subst (IsCopyOf (files.tree.node object)) (sym at_copy)
+    is_copy = subst (IsCopyOf (files.tree.node object)) (sym at_copy)
         (is_copy_of (copy_parent (State real upper) copy (a_name nat_eq files object))
         (files.tree.node object) node is_node)
 
@@ -133,14 +120,11 @@ module _ (files : FileTree ℕ) (first : ℕ → Option (Real ℕ)) (spare : ℕ
 
     later_sound : IsSound real_later later
     later_sound = record {
-      one = λ a b seen e f.
-          ⊎_elim
+      one = λ a b seen e f. ⊎_elim
           (λ s. ⊎_elim (λ t. s.0 ∙ sym t.0) (λ t. absurd (other_object b seen t s.1)) (told_later b seen f))
           (λ s. ⊎_elim (λ t. absurd (other_object a seen s t.1)) (λ t. sound.one a b seen s t) (told_later b seen f))
           (told_later a seen e);
-      kinds = λ path number seen way e.
-          ⊎_elim
-          (λ t. directory_named (a_name nat_eq files object) seen
+      kinds = λ path number seen way e. ⊎_elim (λ t. directory_named (a_name nat_eq files object) seen
           ∙ ap (λ n. is_directory_node (with_copy.tree.node n)) t.1 ∙ ap is_directory_node at_copy
           ∙ ap is_directory (kind_of-copied_content
           (copy_parent (State real upper) copy (a_name nat_eq files object)) node.content)
@@ -148,22 +132,15 @@ module _ (files : FileTree ℕ) (first : ℕ → Option (Real ℕ)) (spare : ℕ
           (λ t. directory_named (a_name nat_eq files object) seen
           ∙ ap is_directory_node (at_other seen (other_object number seen t)) ∙ sound.kinds path number seen way t)
           (told_later number seen e);
-      stands = λ number seen e.
-          ⊎_elim
+      stands = λ number seen e. ⊎_elim
           (λ t. inr (copy_named_so (files.tree.node number) (a_name nat_eq files object) seen
           (subst (λ n. IsCopyOf (files.tree.node n) (with_copy.tree.node seen)) (sym t.0)
-          (subst (λ n. IsCopyOf (files.tree.node object) (with_copy.tree.node n)) (sym t.1) is_copy))))
-          (λ t. ⊎_elim
-          (λ old. inl old)
-          (λ copied. inr (copy_named_so (files.tree.node number) (a_name nat_eq files object) seen
+          (subst (λ n. IsCopyOf (files.tree.node object) (with_copy.tree.node n)) (sym t.1) is_copy)))) (λ t. ⊎_elim
+          (λ old. inl old) (λ copied. inr (copy_named_so (files.tree.node number) (a_name nat_eq files object) seen
           (subst (IsCopyOf (files.tree.node number)) (sym (at_other seen (other_object number seen t))) copied)))
-          (sound.stands number seen t))
-          (told_later number seen e);
-      spared = λ number seen e.
-          ⊎_elim
-          (λ t. subst (λ n. ¬ (spare n)) (sym t.1) not_spare)
-          (λ t. sound.spared number seen t)
-          (told_later number seen e);
+          (sound.stands number seen t)) (told_later number seen e);
+      spared = λ number seen e. ⊎_elim (λ t. subst (λ n. ¬ (spare n)) (sym t.1) not_spare)
+          (λ t. sound.spared number seen t) (told_later number seen e);
     }
 
     pub record CopiesOne (merge : Merge ℕ) : Type 0 where
@@ -179,16 +156,4 @@ module _ (files : FileTree ℕ) (first : ℕ → Option (Real ℕ)) (spare : ℕ
     }
       where
         soundly : Soundly real (λ seen. seen ≡ copy) (copy_of_node nat_eq (State real upper) object copy node)
-        soundly = record {
-          real = real_later;
-          upper = later;
-          is = refl;
-          sound = later_sound;
-          grows = λ number seen e.
-              ⊎_elim
-              (λ t. none_is_some seen (sym below ∙ ap (λ n. upper_object (real n)) (sym t.1) ∙ e))
-              (λ t. ap (λ b. upper_object (cond b (Some (Upper copy)) (real number))) t.0 ∙ e)
-              (eqb_tells number object);
-          told = λ number seen e.
-              ⊎_elim (λ t. inr t.1) (λ t. inl t) (told_later number seen e);
-        }
+        soundly = grind (arith, common_steps, later_sound, none_is_some, eqb_tells, told_later)

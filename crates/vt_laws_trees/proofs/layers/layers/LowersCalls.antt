@@ -1,7 +1,6 @@
 -- Calls leave what is locked as it was, in a filesystem that no overlay writes to.
-use Rattle.std.proofs.Common.{arith}
+use Rattle.std.proofs.Common.{arith, ◌≡◌, ◌≢◌, sym, ap, subst, ◌∙◌, true≢false, eqb-true, ℕ, nat_eq, true, false, ⊎_elim, None, unwrap_or}
 use Rattle.std.proofs.lemmas.Grind.{common_steps}
-use Rattle.std.proofs.Common.{◌≡◌, ◌≢◌, sym, ap, subst, ◌∙◌, true≢false, eqb-true, ℕ, nat_eq, true, false, ⊎_elim, None, unwrap_or}
 use Rattle.std.proofs.lemmas.Bool.Decides.{eqb_tells}
 use Rattle.std.specs.List.{find}
 use Rattle.vt_spec.specs.Language.Changes.{Change, changed}
@@ -29,8 +28,7 @@ module _ (world : World ℕ) (filesystem inode : ℕ) where
   stays_itself = kept_itself (inode_in world filesystem inode)
 
   pub stays_where_same : (later : World ℕ) → later.filesystems ≡ world.filesystems → Stays later
-  stays_where_same later e =
-      kept_same (inode_in world filesystem inode) (inode_in later filesystem inode)
+  stays_where_same later e = kept_same (inode_in world filesystem inode) (inode_in later filesystem inode)
       (ap (λ f. f.files.tree.node inode) (same_filesystem world later filesystem e))
 
   -- a change that is not of the inode, in a world with the same filesystems
@@ -48,8 +46,7 @@ module _ (world : World ℕ) (filesystem inode : ℕ) where
         (filesystem_there (λ f. IsKept (inode_in world filesystem inode) (f.files.tree.node inode)) before
         (with_files (filesystem_at nat_eq before location)
         (changed nat_eq (filesystem_at nat_eq before location).files change)) filesystem
-        (at ∙ sym (number_of_filesystem before mounted))
-        (subst (λ f. IsKept (f.files.tree.node inode)
+        (at ∙ sym (number_of_filesystem before mounted)) (subst (λ f. IsKept (f.files.tree.node inode)
         ((changed nat_eq (filesystem_at nat_eq before location).files change).tree.node inode))
         (ap (filesystem_numbered nat_eq before) (sym at) ∙ same_filesystem world before filesystem same)
         (others_stay (filesystem_at nat_eq before location).files change inode other))
@@ -57,9 +54,7 @@ module _ (world : World ℕ) (filesystem inode : ℕ) where
         (sym (ap (λ f. f.files.tree.node inode) (sym (same_filesystem world before filesystem same) ∙ none)))))
 
     elsewhere_stays : filesystem ≢ mounted → Stays (with_change nat_eq fresh before location change)
-    elsewhere_stays away =
-        kept_same (inode_in world filesystem inode) _
-        (ap (λ f. f.files.tree.node inode)
+    elsewhere_stays away = kept_same (inode_in world filesystem inode) _ (ap (λ f. f.files.tree.node inode)
         (others_elsewhere fresh before location change filesystem away
         (λ overlay upper is has. own.no_upper mounted overlay upper
         (ap (λ f. f.overlay) (sym (same_filesystem world before mounted same)) ∙ is) has)
@@ -67,10 +62,7 @@ module _ (world : World ℕ) (filesystem inode : ℕ) where
 
     pub change_stays : (filesystem ≡ mounted → is_among nat_eq inode (inodes_changed change) ≡ false)
         → Stays (with_change nat_eq fresh before location change)
-    change_stays other =
-        ⊎_elim
-        (λ t. plain_stays t.1 (other t.1))
-        (λ t. elsewhere_stays t.1)
+    change_stays other = ⊎_elim (λ t. plain_stays t.1 (other t.1)) (λ t. elsewhere_stays t.1)
         (eqb_tells filesystem mounted)
 
   -- what is not locked is not the inode

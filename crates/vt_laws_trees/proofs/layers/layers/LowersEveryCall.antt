@@ -48,8 +48,7 @@ module _ (world : World ℕ) (filesystem inode : ℕ) (own : HasNoUpperLayer wor
   -- a change of one inode that is not locked
   one_stays : (location : Location ℕ) (change : Change ℕ) → inodes_changed change ≡ location.node ∷ []
       → is_locked_at nat_eq world location ≡ false → Kept (with_change nat_eq fresh world location change)
-  one_stays location change is unlocked =
-      change_stays world filesystem inode own fresh world refl location change
+  one_stays location change is unlocked = change_stays world filesystem inode own fresh world refl location change
       (λ at. ap (is_among nat_eq inode) is
       ∙ or_from (nat_eq inode location.node) false (differs location unlocked at) refl)
 

@@ -1,13 +1,12 @@
 -- What each change of a tree leaves as it was.
-use Rattle.std.proofs.Common.{arith}
+use Rattle.std.proofs.Common.{arith, ◌≡◌, refl, sym, ap, subst, ◌∙◌, ℕ, nat_eq, false, cond, List, ⊎_elim, Option, Some, None}
 use Rattle.std.proofs.lemmas.Grind.{common_steps}
-use Rattle.std.proofs.Common.{◌≡◌, refl, sym, ap, subst, ◌∙◌, ℕ, nat_eq, false, cond, List, ⊎_elim, Option, Some, None, is_some}
 use Rattle.std.proofs.lemmas.Bool.Decides.{eqb_tells}
 use Rattle.vt_spec.specs.Language.Changes.{Change, changed, changed_node, node_with_attr, node_with_mark, node_with_parent, node_without_entry, with_inode, with_moved, with_name, without_name, without_parent}
 use Rattle.vt_spec.specs.Language.Changes.Change.{AddName, CopyUp, Make, Move, Remove, SetAttr, SetBytes, SetMark}
-use Rattle.vt_spec.specs.FileTree.{FileTree, attr_in, is_opaque_in, kind_in}
+use Rattle.vt_spec.specs.FileTree.{FileTree}
 use Rattle.vt_spec.specs.Lists.{is_among}
-use Rattle.vt_spec.specs.Tree.{Node, bytes_in, entries_in, entry_named, node_with_bytes, node_with_entry}
+use Rattle.vt_spec.specs.Tree.{Node, entries_in, entry_named, node_with_bytes, node_with_entry}
 use Rattle.vt_laws_trees.specs.Layers.Layers.Untouched.{IsKept, inodes_changed}
 use Rattle.vt_spec.proofs.Truths.{or_false_left, or_false_right}
 
@@ -15,24 +14,10 @@ pub kept_itself : (inode : Option (Node ℕ)) → IsKept inode inode
 kept_itself inode = record { there = refl; kind = refl; attr = refl; names = refl; bytes = refl; mark = refl }
 
 pub kept_same : (old new : Option (Node ℕ)) → new ≡ old → IsKept old new
-kept_same old new e = record {
-  there = ap is_some e;
-  kind = ap kind_in e;
-  attr = ap attr_in e;
-  names = ap entries_in e;
-  bytes = ap bytes_in e;
-  mark = ap is_opaque_in e;
-}
+kept_same old new e = grind (arith, common_steps)
 
 pub kept_both : (old middle new : Option (Node ℕ)) → IsKept old middle → IsKept middle new → IsKept old new
-kept_both old middle new a b = record {
-  there = b.there ∙ a.there;
-  kind = b.kind ∙ a.kind;
-  attr = b.attr ∙ a.attr;
-  names = b.names ∙ a.names;
-  bytes = b.bytes ∙ a.bytes;
-  mark = b.mark ∙ a.mark;
-}
+kept_both old middle new a b = grind (arith, common_steps)
 
 -- another parent leaves an inode as it was
 kept_parent : (parent : ℕ) (node : Option (Node ℕ)) → IsKept node (node_with_parent parent node)
@@ -49,14 +34,11 @@ kept_elsewhere files number change inode e =
 pub kept_everywhere : (files : FileTree ℕ) (number : ℕ) (change : Option (Node ℕ) → Option (Node ℕ))
     → ((node : Option (Node ℕ)) → IsKept node (change node)) → (inode : ℕ)
     → IsKept (files.tree.node inode) ((changed_node nat_eq files number change).tree.node inode)
-kept_everywhere files number change keeps inode =
-    ⊎_elim
-    (λ t. subst (λ b. IsKept (files.tree.node inode)
+kept_everywhere files number change keeps inode = ⊎_elim (λ t. subst (λ b. IsKept (files.tree.node inode)
     (cond b (change (files.tree.node number)) (files.tree.node inode))) (sym t.0)
     (subst (λ n. IsKept (files.tree.node n) (change (files.tree.node number))) (sym t.1)
     (keeps (files.tree.node number))))
-    (λ t. kept_same (files.tree.node inode) _ (kept_elsewhere files number change inode t.0))
-    (eqb_tells inode number)
+    (λ t. kept_same (files.tree.node inode) _ (kept_elsewhere files number change inode t.0)) (eqb_tells inode number)
 
 pub kept_by_parent : (files : FileTree ℕ) (number parent inode : ℕ)
     → IsKept (files.tree.node inode) ((changed_node nat_eq files number (node_with_parent parent)).tree.node inode)
@@ -77,21 +59,17 @@ kept_moved files from old to new object inode f t =
     let named = with_name nat_eq left to new object in
     kept_both (files.tree.node inode) (named.tree.node inode) _
     (kept_both (files.tree.node inode) (freed.tree.node inode) _ (kept_without_parent files _ inode)
-    (kept_same (freed.tree.node inode) _
-    (kept_elsewhere left to (node_with_entry new object) inode t
-    ∙ kept_elsewhere freed from (node_without_entry old) inode f)))
-    (kept_by_parent named object to inode)
+    (kept_same (freed.tree.node inode) _ (kept_elsewhere left to (node_with_entry new object) inode t
+    ∙ kept_elsewhere freed from (node_without_entry old) inode f))) (kept_by_parent named object to inode)
 
 pub others_stay : (files : FileTree ℕ) (change : Change ℕ) (inode : ℕ)
     → is_among nat_eq inode (inodes_changed change) ≡ false
     → IsKept (files.tree.node inode) ((changed nat_eq files change).tree.node inode)
-others_stay files (Make directory name number node) inode e =
-    kept_same (files.tree.node inode) _
+others_stay files (Make directory name number node) inode e = kept_same (files.tree.node inode) _
     (kept_elsewhere (with_inode nat_eq files number node) directory (node_with_entry name number) inode
     (or_false_left _ false (or_false_right (nat_eq inode number) _ e))
     ∙ ap (λ b. cond b (Some node) (files.tree.node inode)) (or_false_left (nat_eq inode number) _ e))
-others_stay files (AddName directory name object) inode e =
-    kept_same (files.tree.node inode) _
+others_stay files (AddName directory name object) inode e = kept_same (files.tree.node inode) _
     (kept_elsewhere files directory (node_with_entry name object) inode (or_false_left _ false e))
 others_stay files (Remove directory name object) inode e =
     kept_both (files.tree.node inode) ((without_name nat_eq files directory name).tree.node inode) _
@@ -101,13 +79,10 @@ others_stay files (Remove directory name object) inode e =
 others_stay files (Move from old to new object) inode e =
     kept_moved files from old to new object inode (or_false_left (nat_eq inode from) _ e)
     (or_false_left _ false (or_false_right (nat_eq inode from) _ e))
-others_stay files (SetBytes file bytes) inode e =
-    kept_same (files.tree.node inode) _
+others_stay files (SetBytes file bytes) inode e = kept_same (files.tree.node inode) _
     (kept_elsewhere files file (node_with_bytes bytes) inode (or_false_left _ false e))
-others_stay files (SetAttr object attr) inode e =
-    kept_same (files.tree.node inode) _
+others_stay files (SetAttr object attr) inode e = kept_same (files.tree.node inode) _
     (kept_elsewhere files object (node_with_attr attr) inode (or_false_left _ false e))
-others_stay files (SetMark directory opaque) inode e =
-    kept_same (files.tree.node inode) _
+others_stay files (SetMark directory opaque) inode e = kept_same (files.tree.node inode) _
     (kept_elsewhere files directory (node_with_mark opaque) inode (or_false_left _ false e))
 others_stay files (CopyUp object) inode e = kept_itself (files.tree.node inode)

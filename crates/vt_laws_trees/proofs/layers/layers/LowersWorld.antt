@@ -1,7 +1,6 @@
 -- Which filesystems a change of the world leaves as they were.
-use Rattle.std.proofs.Common.{arith}
+use Rattle.std.proofs.Common.{arith, ◌≡◌, ◌≢◌, refl, sym, ap, ◌∙◌, true≢false, ℕ, nat_eq, ne_eqb, true, false, List, [], ◌∷◌, map, Option, Some, None, unwrap_or}
 use Rattle.std.proofs.lemmas.Grind.{common_steps}
-use Rattle.std.proofs.Common.{◌≡◌, ◌≢◌, refl, sym, ap, subst, ◌∙◌, true≢false, ℕ, nat_eq, ne_eqb, true, false, cond, List, [], ◌∷◌, map, ⊎_elim, Option, Some, None, unwrap_or}
 use Rattle.std.specs.List.{find}
 use Rattle.std.proofs.lemmas.Bool.Decides.{eqb_tells}
 use Rattle.vt_spec.proofs.Truths.{nat_eq_itself}
@@ -16,13 +15,7 @@ use Rattle.vt_spec.specs.Machine.World.{Filesystem, Layer, Overlay, World, files
 pub number_of_found : (number : ℕ) (list : List (Filesystem ℕ))
     → (unwrap_or (find (λ filesystem. nat_eq number filesystem.number) list) (no_filesystem number)).number ≡ number
 number_of_found number [] = refl
-number_of_found number (filesystem ∷ list) =
-    ⊎_elim
-    (λ t. ap (λ b. (unwrap_or (cond b (Some filesystem) (find (λ f. nat_eq number f.number) list))
-    (no_filesystem number)).number) t.0 ∙ sym t.1)
-    (λ t. ap (λ b. (unwrap_or (cond b (Some filesystem) (find (λ f. nat_eq number f.number) list))
-    (no_filesystem number)).number) t.0 ∙ number_of_found number list)
-    (eqb_tells number filesystem.number)
+number_of_found number (filesystem ∷ list) = grind (arith, common_steps, eqb_tells, number_of_found number list)
 
 pub number_of_filesystem : (world : World ℕ) (number : ℕ) → (filesystem_numbered nat_eq world number).number ≡ number
 number_of_filesystem world number = number_of_found number world.filesystems
@@ -33,16 +26,7 @@ found_elsewhere : (new : Filesystem ℕ) (number : ℕ) → number ≢ new.numbe
     ≡ find (λ filesystem. nat_eq number filesystem.number) list
 found_elsewhere new number differ [] = refl
 found_elsewhere new number differ (old ∷ list) =
-    ⊎_elim
-    (λ t. ap (λ b. find (λ f. nat_eq number f.number) (cond b new old ∷ map (replaced_if_numbered nat_eq new) list)) t.0
-    ∙ ap (λ b. cond b (Some new) (find (λ f. nat_eq number f.number) (map (replaced_if_numbered nat_eq new) list)))
-    (ne_eqb number new.number differ)
-    ∙ found_elsewhere new number differ list
-    ∙ sym (ap (λ b. cond b (Some old) (find (λ f. nat_eq number f.number) list))
-    (ne_eqb number old.number (λ e. differ (e ∙ sym t.1)))))
-    (λ t. ap (λ b. find (λ f. nat_eq number f.number) (cond b new old ∷ map (replaced_if_numbered nat_eq new) list)) t.0
-    ∙ ap (cond (nat_eq number old.number) (Some old)) (found_elsewhere new number differ list))
-    (eqb_tells new.number old.number)
+    grind (arith, common_steps, ne_eqb, eqb_tells, found_elsewhere new number differ list)
 
 pub filesystem_elsewhere : (world : World ℕ) (new : Filesystem ℕ) (number : ℕ) → number ≢ new.number
     → filesystem_numbered nat_eq (with_filesystem nat_eq world new) number ≡ filesystem_numbered nat_eq world number
@@ -82,13 +66,8 @@ filesystem_there P world new number same is none =
 
     by : (o : Option (Filesystem ℕ)) → find (λ filesystem. nat_eq new.number filesystem.number) world.filesystems ≡ o
         → P (filesystem_numbered nat_eq (with_filesystem nat_eq world new) number)
-    by None e =
-        subst P (sym (ap (λ o. unwrap_or o (no_filesystem number))
-        (searched_new ∙ found_nowhere new world.filesystems e)))
-        (none (ap (λ o. unwrap_or o (no_filesystem number)) (searched ∙ e)))
-    by (Some old) e =
-        subst P (sym (ap (λ o. unwrap_or o (no_filesystem number))
-        (searched_new ∙ found_there new world.filesystems old e))) is
+    by None e = grind (arith, common_steps, searched_new, found_nowhere, searched)
+    by (Some old) e = grind (arith, common_steps, searched_new, found_there)
 
 -- A change through a mount
 abbrev UpperIsElsewhere : Option (Overlay ℕ) → ℕ → Type 0
@@ -104,13 +83,11 @@ changed_elsewhere fresh world filesystem change number differ upper = by filesys
     merged : (overlay : Overlay ℕ) (upper : Layer ℕ) (merge : Merge ℕ) → number ≢ upper.filesystem
         → filesystem_numbered nat_eq (with_merge nat_eq world filesystem overlay upper merge) number
         ≡ filesystem_numbered nat_eq world number
-    merged overlay upper merge away =
-        filesystem_elsewhere (with_filesystem nat_eq world (record filesystem {
-          files = merge.files;
-          overlay = Some (record overlay { real = merge.real });
-        })) (with_files (filesystem_numbered nat_eq world upper.filesystem) merge.upper) number
-        (λ e. away (e ∙ number_of_filesystem world upper.filesystem))
-        ∙ filesystem_elsewhere world (record filesystem {
+    merged overlay upper merge away = filesystem_elsewhere (with_filesystem nat_eq world (record filesystem {
+      files = merge.files;
+      overlay = Some (record overlay { real = merge.real });
+    })) (with_files (filesystem_numbered nat_eq world upper.filesystem) merge.upper) number
+        (λ e. away (e ∙ number_of_filesystem world upper.filesystem)) ∙ filesystem_elsewhere world (record filesystem {
           files = merge.files;
           overlay = Some (record overlay { real = merge.real });
         }) number differ

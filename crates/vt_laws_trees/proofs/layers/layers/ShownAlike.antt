@@ -35,8 +35,7 @@ white_alike (Some here) None is = absurd (true≢false (sym is.there))
 white_alike (Some here) (Some there) is = ap (is_kind White) is.kind
 
 contents_alike : (one other : Content ℕ) → kind_of other ≡ kind_of one → bytes_of other ≡ bytes_of one
-    → is_kind White (kind_of one) ≡ false
-    → same_content one other ≡ true
+    → is_kind White (kind_of one) ≡ false → same_content one other ≡ true
 contents_alike (Directory p q r) (Directory s t u) kind bytes seen = refl
 contents_alike (Directory p q r) (Regular y) kind bytes seen = absurd cc
 contents_alike (Directory p q r) (Symlink y) kind bytes seen = absurd cc
@@ -55,21 +54,18 @@ same_object : (one other : Option (Node ℕ)) → IsAlike one other → is_kind_
 same_object None None is seen = tt
 same_object None (Some there) is seen = absurd (true≢false is.there)
 same_object (Some here) None is seen = absurd (true≢false (sym is.there))
-same_object (Some here) (Some there) is seen =
-    (sym is.attr, contents_alike here.content there.content is.kind is.bytes seen)
+same_object (Some here) (Some there) is seen = grind (arith, common_steps, contents_alike)
 
 -- What names lead to in a tree is there.
 led_alive : (tree : Tree ℕ) → IsTree tree → (path : List (List ℕ)) (start object : ℕ)
-    → is_some (tree.node start) ≡ true → led tree start path ≡ Some object
-    → is_some (tree.node object) ≡ true
+    → is_some (tree.node start) ≡ true → led tree start path ≡ Some object → is_some (tree.node object) ≡ true
 led_alive tree is [] start object there e = subst (λ n. is_some (tree.node n) ≡ true) (same_Some start object e) there
 led_alive tree is (name ∷ path) start object there e =
     by (entry_at tree start name) refl e (λ next. led_alive tree is path next object)
   where
     by : (o : Option ℕ) → entry_at tree start name ≡ o → option_and_then (λ next. led tree next path) o ≡ Some object
         → ((next : ℕ) → is_some (tree.node next) ≡ true → led tree next path ≡ Some object
-        → is_some (tree.node object) ≡ true)
-        → is_some (tree.node object) ≡ true
+        → is_some (tree.node object) ≡ true) → is_some (tree.node object) ≡ true
     by None f e later = none_is_some object e
     by (Some next) f e later = later next (is.alive start name next f) e
 
@@ -132,8 +128,7 @@ show_alike (layer ∷ layers) (other ∷ others) as_others are_open others_open 
 
     alive : (one : OpenLayer ℕ) → IsTree one.tree × (Rattle.vt_spec.specs.TreeInvariant.IsDirectory one.tree one.directory)
         → (object : ℕ) → at_path one path ≡ Some object → is_some (node_at_path one path) ≡ true
-    alive one is object e =
-        ap (λ o. is_some (then_some o one.tree.node)) e
+    alive one is object e = ap (λ o. is_some (then_some o one.tree.node)) e
         ∙ led_alive one.tree is.0 path one.directory object (directory_used one.tree one.directory is.1) e
 
     unled : (one : OpenLayer ℕ) → at_path one path ≡ None → is_some (node_at_path one path) ≡ false
@@ -166,9 +161,7 @@ show_alike (layer ∷ layers) (other ∷ others) as_others are_open others_open 
     under lower true true same = tt
     under lower true false same = absurd (true≢false (sym same))
     under lower false true same = absurd (true≢false same)
-    under lower false false same =
-        shown_deeper depth layer other layers others (shown_from (depth + 1) layers path)
-        (shown_from (depth + 1) others path) lower
+    under lower false false same = grind (arith, common_steps, shown_deeper, shown_from)
 
     by : (led_to : Option ℕ) → at_path layer path ≡ led_to → (others_led_to : Option ℕ)
         → at_path other path ≡ others_led_to → LowerAlike depth layers others path

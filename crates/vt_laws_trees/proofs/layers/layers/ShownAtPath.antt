@@ -27,18 +27,7 @@ module _ (layer : OpenLayer ℕ) (lower : List (OpenLayer ℕ)) (path : List (Li
 
   -- a lower layer is cut where the top one cuts, or where it is cut among the lower ones
   cut_by_top : (depth : ℕ) → cuts layer path ≡ true → IsCut (layer ∷ lower) (suc depth) path
-  cut_by_top depth e =
-      let found = prefix_found (λ prefix. hides (node_at_path layer prefix)) path e in
-      let inode = hides_inode (node_at_path layer found.0) found.2 in
-      record {
-        higher = 0;
-        is_higher = omega arith;
-        prefix = found.0;
-        is_prefix = found.1;
-        inode = inode.0;
-        stands = (layer, refl, inode.1);
-        hides = inode.2;
-      }
+  cut_by_top depth e = grind (arith, common_steps, prefix_found, hides_inode)
 
   cut_by_lower : (depth : ℕ) → IsCut lower depth path → IsCut (layer ∷ lower) (suc depth) path
   cut_by_lower depth cut = record {
@@ -56,32 +45,22 @@ module _ (layer : OpenLayer ℕ) (lower : List (OpenLayer ℕ)) (path : List (Li
   lower_uncut depth e uncut cut = by cut.higher cut.is_higher cut.stands
     where
       by : (higher : ℕ) → higher < suc depth → HasInodeAt (layer ∷ lower) higher cut.prefix cut.inode → ⊥
-      by zero h stands =
-          true≢false (sym (cuts_by layer path cut.prefix cut.inode cut.is_prefix
+      by zero h stands = true≢false (sym (cuts_by layer path cut.prefix cut.inode cut.is_prefix
           (ap (λ l. node_at_path l cut.prefix) (same_Some layer stands.0 stands.1) ∙ stands.2) cut.hides) ∙ e)
-      by (suc higher) h stands =
-          uncut (record {
-            higher = higher;
-            is_higher = omega arith;
-            prefix = cut.prefix;
-            is_prefix = cut.is_prefix;
-            inode = cut.inode;
-            stands = stands;
-            hides = cut.hides;
-          })
+      by (suc higher) h stands = uncut (record {
+        higher = higher;
+        is_higher = omega arith;
+        prefix = cut.prefix;
+        is_prefix = cut.is_prefix;
+        inode = cut.inode;
+        stands = stands;
+        hides = cut.hides;
+      })
 
   -- shown in the top layer is what it has there, unless that is a whiteout
   shown_on_top : (object : ℕ) → at_path layer path ≡ Some object → is_kind_in White (layer.tree.node object) ≡ false
       → IsShown (layer ∷ lower) path (record { layer = 0; object = object })
-  shown_on_top object e white = record {
-    has_uncut = ((layer, refl, e), top_uncut);
-    highest = λ higher other h. absurd (omega arith);
-    no_whiteout = λ inode has is.
-        true≢false (sym (ap (is_kind_in White)
-        (ap (λ o. then_some o layer.tree.node) (sym e) ∙ ap (λ l. node_at_path l path) (same_Some layer has.0 has.1)
-        ∙ has.2)
-        ∙ ap (λ c. is_kind White (kind_of c)) is) ∙ white);
-  }
+  shown_on_top object e white = grind (arith, common_steps, top_uncut, true≢false, same_Some)
 
   -- shown below is what the lower layers show, where the top one has nothing and does not cut
   shown_under : (seen : Shown ℕ) → at_path layer path ≡ None → cuts layer path ≡ false → IsShown lower path seen
@@ -170,8 +149,7 @@ computed_is_shown depth (layer ∷ lower) path seen e =
           record { layer = suc under.0.layer; object = under.0.object },
           shown_under layer lower path under.0 a c under.1,
           (λ i. record {
-            layer = (let h : depth + suc under.0.layer
-                ≡ (depth + 1) + under.0.layer = omega arith in h) i;
+            layer = (let h : depth + suc under.0.layer ≡ (depth + 1) + under.0.layer = omega arith in h) i;
             object = under.0.object;
           }) ∙ under.2,
         )

@@ -3,7 +3,7 @@ use Rattle.std.proofs.lemmas.Grind.{common_steps}
 use Rattle.std.proofs.Common.{◌≡◌, ◌≢◌, refl, sym, ap, subst, ◌∙◌, true≢false, arith, ℕ, suc, ◌+◌, Bool, true, false, not, List, [], ◌∷◌, ◌++◌, Option, Some, None, is_some, option_and_then, slice_get}
 use Rattle.vt_spec.proofs.Layers.{cuts, shown_from, shown_over}
 use Rattle.vt_spec.specs.Machine.Layers.{OpenLayer, Shown, at_path, hides, node_at_path}
-use Rattle.vt_spec.specs.Lists.{then_some, when}
+use Rattle.vt_spec.specs.Lists.{then_some}
 use Rattle.vt_spec.specs.Tree.{Node, is_directory_node}
 use Rattle.vt_spec.specs.TreeInvariant.{IsDirectory, IsTree, entry_at}
 use Rattle.vt_laws_trees.proofs.layers.layers.ShownFronts.{prefix_found, prefix_passes}
@@ -72,18 +72,8 @@ pub record ShowsDirectory (depth : ℕ) (layers : List (OpenLayer ℕ)) (path : 
 
 own_directory : (depth : ℕ) (layer : OpenLayer ℕ) (lower : List (OpenLayer ℕ)) (path : List (List ℕ)) (object : ℕ)
     → at_path layer path ≡ Some object → IsDirectory layer.tree object → ShowsDirectory depth (layer ∷ lower) path
-own_directory depth layer lower path object e d = record {
-  place = 0;
-  layer = layer;
-  object = object;
-  there = refl;
-  is = ap (λ o. shown_over layer depth o (cuts layer path) (shown_from (depth + 1) lower path)) e
-      ∙ ap (λ b. when (not b) (record { layer = depth; object = object }))
-      (directory_no_whiteout (layer.tree.node object) d)
-      ∙ ap (λ l. Some (record { layer = l; object = object })) (omega arith);
-  at = e;
-  directory = d;
-}
+own_directory depth layer lower path object e d =
+    grind (arith, common_steps, shown_over, cuts, shown_from, directory_no_whiteout)
 
 pub shown_in_directory : (layers : List (OpenLayer ℕ)) → AreOpen layers
     → (depth : ℕ) (path : List (List ℕ)) (name : List ℕ) (seen : Shown ℕ)
@@ -112,8 +102,7 @@ shown_in_directory (layer ∷ lower) are_open depth path name seen e =
       there = below.there;
       is = ap (λ o. shown_over layer depth o (cuts layer path) (shown_from (depth + 1) lower path)) p
           ∙ ap (λ b. shown_over layer depth None b (shown_from (depth + 1) lower path))
-          (cuts_not_before layer path name c)
-          ∙ below.is
+          (cuts_not_before layer path name c) ∙ below.is
           ∙ ap (λ l. Some (record { layer = l; object = below.object })) (omega arith);
       at = below.at;
       directory = below.directory;
@@ -123,11 +112,9 @@ shown_in_directory (layer ∷ lower) are_open depth path name seen e =
         is_open : (path : List (List ℕ)) (object : ℕ) → at_path layer path ≡ Some object
             → cuts layer (path ++ name ∷ []) ≡ false → IsDirectory layer.tree object
         is_open [] object p c = subst (IsDirectory layer.tree) (same_Some layer.directory object p) open_layer.1
-        is_open (first ∷ rest) object p c =
-            open_directory (layer.tree.node object)
+        is_open (first ∷ rest) object p c = open_directory (layer.tree.node object)
             (led_is_there layer open_layer.0 open_layer.1 (first ∷ rest) object p)
-            (ap (λ o. hides (then_some o layer.tree.node)) (sym p)
-            ∙ hides_not_at layer (first ∷ rest) name
+            (ap (λ o. hides (then_some o layer.tree.node)) (sym p) ∙ hides_not_at layer (first ∷ rest) name
             (λ h. true≢false (ap (λ l. elim l as (λ _. Bool) [ [] ↦ false | a ∷ b ↦ true ]) h)) c)
 
     by : (o : Option ℕ) → at_path layer (path ++ name ∷ []) ≡ o → (cut : Bool) → cuts layer (path ++ name ∷ []) ≡ cut

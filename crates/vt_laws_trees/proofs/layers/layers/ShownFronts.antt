@@ -25,11 +25,9 @@ cons_is_not_empty a list e = absurd (true≢false (ap (λ l. elim l [ [] ↦ fal
 pub prefix_passes : (test : List (List ℕ) → Bool) (path front rest : List (List ℕ)) → front ++ rest ≡ path → front ≢ []
     → test front ≡ true → list_any test (prefixes path) ≡ true
 prefix_passes test path [] rest e nonempty t = absurd (nonempty refl)
-prefix_passes test path (name ∷ []) rest e nonempty t =
-    ap (λ p. list_any test (prefixes p)) (sym e)
+prefix_passes test path (name ∷ []) rest e nonempty t = ap (λ p. list_any test (prefixes p)) (sym e)
     ∙ ap (λ b. b || list_any test (map (λ front. name ∷ front) (prefixes rest))) t
-prefix_passes test path (name ∷ other ∷ front) rest e nonempty t =
-    ap (λ p. list_any test (prefixes p)) (sym e)
+prefix_passes test path (name ∷ other ∷ front) rest e nonempty t = ap (λ p. list_any test (prefixes p)) (sym e)
     ∙ or_right (test (name ∷ [])) (list_any test (map (λ front. name ∷ front) (prefixes (other ∷ front ++ rest))))
     (list_any_of_map test (λ front. name ∷ front) (prefixes (other ∷ front ++ rest))
     ∙ prefix_passes (λ front. test (name ∷ front)) (other ∷ front ++ rest) (other ∷ front) rest refl

@@ -10,7 +10,7 @@ use Rattle.vt_spec.specs.Machine.Layers.{OpenLayer, Shown, at_path, shown}
 use Rattle.vt_spec.specs.Lists.{Fresh, without_last, last_or, then_some, when}
 use Rattle.vt_spec.specs.Machine.Merging.{Merged, MergedInode, entry_in_directory, inode_of, is_one_inode, is_root_path, layer_node, merged_content, merged_inode, merged_inodes, merged_number, merged_objects, real_object, real_of, same_path}
 use Rattle.vt_spec.specs.Rights.{is_directory}
-use Rattle.vt_spec.specs.Tree.{Node, entry_named, is_directory_node, kind_of, name_cmp}
+use Rattle.vt_spec.specs.Tree.{Node, entry_named, kind_of, name_cmp}
 use Rattle.vt_spec.proofs.Nodes.{same_name}
 use Rattle.vt_laws_trees.proofs.layers.layers.ShownAtPath.{computed}
 use Rattle.vt_laws_trees.proofs.layers.layers.ShownDirectories.{AreOpen, last_of, led_is_there}
@@ -52,8 +52,7 @@ module _ (layers : List (OpenLayer ℕ)) (are_open : AreOpen layers) (longest : 
       are_open object.seen.layer has.0 has.1 in grind (
         arith,
         common_steps,
-        led_is_there has.0 open_layer.0
-            open_layer.1 object.path object.seen.object has.2,
+        led_is_there has.0 open_layer.0 open_layer.1 object.path object.seen.object has.2,
         true≢false,
       )
 
@@ -75,10 +74,7 @@ module _ (layers : List (OpenLayer ℕ)) (are_open : AreOpen layers) (longest : 
       (is_shown first.element first.among) first.passes in
       let two = is_one layers has_upper b second.element (is_shown b in_b)
       (is_shown second.element second.among) second.passes in
-      record {
-        seen = one.seen ∙ ap (λ m. m.seen) same ∙ sym two.seen;
-        real = one.real ∙ ap (λ m. real_object has_upper m.seen.layer m) same ∙ sym two.real;
-      }
+      grind (arith, common_steps)
 
   -- the inode of an object
   pub record HasInode (object : Merged ℕ) : Type 0 where
@@ -87,12 +83,10 @@ module _ (layers : List (OpenLayer ℕ)) (are_open : AreOpen layers) (longest : 
     pub one : IsOne has_upper object other
     pub node : Node ℕ
     pub seen : layer_node layers object.seen ≡ Some node
-    pub is : node_of (number object)
-        ≡ Some (record {
-          attr = node.attr;
-          content = merged_content nat_eq fresh has_upper objects other.path
-              node.content;
-        })
+    pub is : node_of (number object) ≡ Some (record {
+      attr = node.attr;
+      content = merged_content nat_eq fresh has_upper objects other.path node.content;
+    })
     pub real : real_of nat_eq inodes (number object) ≡ Some (real_object has_upper other.seen.layer other)
 
   inode_made : Merged ℕ → Node ℕ → MergedInode ℕ
@@ -109,8 +103,7 @@ module _ (layers : List (OpenLayer ℕ)) (are_open : AreOpen layers) (longest : 
       let own = in_layer object (is_shown object among) in
       let own_node = layer_node_of object own in
       let made = among_filter_map (merged_inode nat_eq fresh has_upper layers objects) objects object
-      (inode_made object own.node) among
-      (ap (option_map (inode_made object)) own_node) in
+      (inode_made object own.node) among (ap (option_map (inode_made object)) own_node) in
       let found = found_among (λ inode. nat_eq (number object) inode.number) inodes (inode_made object own.node) made
       (eq-eqb (number object) (number object) refl) in
       let from = from_filter_map
@@ -129,21 +122,7 @@ module _ (layers : List (OpenLayer ℕ)) (are_open : AreOpen layers) (longest : 
           (eqb-true (number object) found.element.number found.passes ∙ ap (λ inode. inode.number) (sym element)) in
           let same_node = same_Some there.node own.node
           (sym (layer_node_of other there) ∙ ap (layer_node layers) (sym one.seen) ∙ own_node) in
-          record {
-            other = other;
-            among = among_other;
-            one = one;
-            node = own.node;
-            seen = own_node;
-            is = ap (λ o. option_map (λ inode. inode.node) o) found.is ∙ ap (λ inode. Some inode.node) (sym element)
-                ∙ ap (λ n. Some
-                (record {
-                  attr = n.attr;
-                  content = merged_content nat_eq fresh has_upper objects other.path
-                      n.content;
-                })) same_node;
-            real = ap (λ o. option_map (λ inode. inode.real) o) found.is ∙ ap (λ inode. Some inode.real) (sym element);
-          }
+          grind (arith, common_steps)
 
   -- an inode of a directory is that of one path
   pub one_directory : (object : Merged ℕ) → Among objects object → (inode : HasInode object)
@@ -155,11 +134,7 @@ module _ (layers : List (OpenLayer ℕ)) (are_open : AreOpen layers) (longest : 
       (sym there.there ∙ ap (λ seen. slice_get layers seen.layer) (sym inode.one.seen) ∙ here.there) in
       let open_here = are_open object.seen.layer here.layer here.there in
       let node = same_Some here.node inode.node (sym (layer_node_of object here) ∙ inode.seen) in
-      one_path here.layer.tree open_here.0 here.layer.directory inode.other.path object.path object.seen.object
-      (ap (λ l. at_path l inode.other.path) (sym same_layer) ∙ there.at
-      ∙ ap (λ seen. Some seen.object) (sym inode.one.seen))
-      here.at
-      (ap is_directory_node here.is ∙ ap (λ n. is_directory (kind_of n.content)) node ∙ d)
+      grind (arith, common_steps, one_path)
 
   -- The entries of a merged directory lead to what is shown under their names.
   module _ (path : List (List ℕ)) (name : List ℕ) where
@@ -168,15 +143,7 @@ module _ (layers : List (OpenLayer ℕ)) (are_open : AreOpen layers) (longest : 
 
     entry_here : (object : Merged ℕ) → object.path ≡ path ++ name ∷ [] → entry object ≡ Some (name, number object)
     entry_here object e =
-        grind (
-          arith,
-          common_steps,
-          number object,
-          last_of_longer path name [],
-          root_of_longer,
-          without_last_of_longer,
-          path_itself,
-        )
+        grind (arith, common_steps, last_of_longer, root_of_longer, without_last_of_longer, path_itself)
 
     pub entry_is_here : (object : Merged ℕ) (found : List ℕ × ℕ) → entry object ≡ Some found
         → (object.path ≡ path ++ found.0 ∷ []) × (found.1 ≡ number object)
@@ -189,10 +156,8 @@ module _ (layers : List (OpenLayer ℕ)) (are_open : AreOpen layers) (longest : 
         parted (first ∷ rest) e =
             let last = last_of (first ∷ rest) (not_empty first rest) in
             let front = path_same path (without_last (first ∷ rest)) e in
-            sym last.2
-            ∙ ap (λ l. l ++ last.1 ∷ []) (sym (without_last_of_longer last.0 last.1) ∙ ap without_last last.2
-            ∙ sym front)
-            ∙ ap (λ n. path ++ n ∷ []) (sym (last_of_longer last.0 last.1 []) ∙ ap (last_or []) last.2)
+            sym last.2 ∙ ap (λ l. l ++ last.1 ∷ []) (sym (without_last_of_longer last.0 last.1) ∙ ap without_last last.2
+            ∙ sym front) ∙ ap (λ n. path ++ n ∷ []) (sym (last_of_longer last.0 last.1 []) ∙ ap (last_or []) last.2)
 
         by : (p : List (List ℕ)) → object.path ≡ p → (b : Bool)
             → (not (is_root_path object.path) && same_path path (without_last object.path)) ≡ b
@@ -217,13 +182,7 @@ module _ (layers : List (OpenLayer ℕ)) (are_open : AreOpen layers) (longest : 
         is_first same = ap entry same ∙ entry_here target e
 
         same_as : (found : List ℕ × ℕ) → entry first ≡ Some found → found.0 ≡ name → found.1 ≡ number target
-        same_as found f n =
-            let here = entry_is_here first found f in
-            let paths = here.0 ∙ ap (λ m. path ++ m ∷ []) n ∙ sym e in
-            let seen = same_Some first.seen target.seen
-            (sym (all first (inl refl)) ∙ ap (shown layers) paths ∙ all target among) in
-            let whole : first ≡ target = λ i. record { path = paths i; seen = seen i } in
-            here.1 ∙ ap number whole
+        same_as found f n = grind (arith, common_steps, entry_is_here, same_Some)
 
         choose : (found : List ℕ × ℕ) → entry first ≡ Some found → (b : Bool) → is_name name found.0 ≡ b
             → (first ≡ target) ⊎ Among list target
@@ -250,8 +209,7 @@ module _ (layers : List (OpenLayer ℕ)) (are_open : AreOpen layers) (longest : 
         choose : (found : List ℕ × ℕ) → entry first ≡ Some found → (b : Bool) → is_name name found.0 ≡ b
             → entry_named name (filter_map entry list) ≡ None
             → cond b (Some found.1) (entry_named name (filter_map entry list)) ≡ None
-        choose found f true t rest =
-            absurd (none first (inl refl) ((entry_is_here first found f).0
+        choose found f true t rest = absurd (none first (inl refl) ((entry_is_here first found f).0
             ∙ ap (λ n. path ++ n ∷ []) (sym (same_name name found.0 t))))
         choose found f false t rest = rest
 

@@ -15,7 +15,7 @@ use Rattle.vt_spec.specs.Machine.NewMounts.{inode_count, overlay_filesystem}
 use Rattle.vt_spec.specs.Machine.World.{Filesystem, Layer, Overlay, Real, World, filesystem_numbered, is_overlay, no_filesystem, open_layer, shown_layers}
 use Rattle.vt_spec.specs.Machine.Invariants.{IsMerged, IsWorld, ListsNumbers, SameObject, is_plain_layer, is_there, node_shown, real_node, same_content}
 use Rattle.vt_spec.specs.Tree.{Content, Node, is_directory_node}
-use Rattle.vt_spec.specs.Tree.Content.{Directory, Regular, Symlink, Whiteout}
+use Rattle.vt_spec.specs.Tree.Content.{Directory}
 use Rattle.vt_spec.specs.TreeInvariant.{IsDirectory, IsTree, entry_at, led}
 use Rattle.vt_laws_trees.specs.Layers.Layers.Mounted.{AreLayers, RemountShowsTheSame}
 use Rattle.vt_laws_trees.proofs.layers.layers.ShownAlike.{shown_alike}
@@ -72,8 +72,7 @@ module _ (world : World ℕ) (conditions : IsWorld nat_eq world) (overlay : Over
           (λ filesystem. nat_eq plain.filesystem filesystem.number) world.filesystems ≡ o
           → find (λ filesystem. nat_eq plain.filesystem filesystem.number) world.filesystems
           ≡ Some (filesystem_numbered nat_eq world plain.filesystem)
-      there plain d None f = absurd (true≢false
-          (sym (sym (ap (λ o. is_directory_node
+      there plain d None f = absurd (true≢false (sym (sym (ap (λ o. is_directory_node
           ((unwrap_or o (no_filesystem plain.filesystem)).files.tree.node plain.directory)) f) ∙ d)))
       there plain d (Some filesystem) f = f ∙ ap Some (sym (ap (λ o. unwrap_or o (no_filesystem plain.filesystem)) f))
 
@@ -96,8 +95,7 @@ module _ (world : World ℕ) (conditions : IsWorld nat_eq world) (overlay : Over
   pub are_open : AreOpen layers
   are_open depth layer e =
       let open_one = is_open depth layer e in (
-        subst IsTree (sym open_one.is)
-            (all_found (λ filesystem.
+        subst IsTree (sym open_one.is) (all_found (λ filesystem.
             IsTree filesystem.files.tree) open_one.test world.filesystems conditions.files.trees open_one.filesystem
             open_one.found),
         open_one.directory,
@@ -161,8 +159,7 @@ module _ (world : World ℕ) (conditions : IsWorld nat_eq world) (overlay : Over
           let directory = and_true_right (not (is_overlay (filesystem_numbered nat_eq world layer.filesystem))) _
           (and_true_left (is_plain_layer nat_eq world layer) _ all) in (
             record { layer = 0; object = layer.directory },
-            ap (λ b. when (not b) (record { layer = 0; object = layer.directory }))
-                (directory_no_whiteout
+            ap (λ b. when (not b) (record { layer = 0; object = layer.directory })) (directory_no_whiteout
                 ((filesystem_numbered nat_eq world layer.filesystem).files.tree.node layer.directory) directory),
           )
 
@@ -180,8 +177,7 @@ module _ (world : World ℕ) (conditions : IsWorld nat_eq world) (overlay : Over
   module _ (fresh : Fresh ℕ) (distinct : (j k : ℕ) → fresh j ≡ fresh k → j ≡ k) where
     abbrev pub made : Overlay ℕ
     made = record overlay {
-      real = real_of nat_eq
-          (merged_inodes nat_eq (odds fresh) (is_some overlay.upper) layers
+      real = real_of nat_eq (merged_inodes nat_eq (odds fresh) (is_some overlay.upper) layers
           (merged_objects layers (inode_count world)));
     }
 
@@ -199,8 +195,7 @@ module _ (world : World ℕ) (conditions : IsWorld nat_eq world) (overlay : Over
       real_there = λ number none. merged_real_there layers are_open (inode_count world) bounded
           (odds fresh) (odds-distinct fresh distinct) (is_some overlay.upper) number none;
       no_whiteout = merged_no_whiteout layers are_open (inode_count world) bounded (odds fresh)
-          (odds-distinct fresh distinct)
-          (is_some overlay.upper);
+          (odds-distinct fresh distinct) (is_some overlay.upper);
       no_mark = merged_no_mark layers are_open (inode_count world) bounded (odds fresh) (odds-distinct fresh distinct)
           (is_some overlay.upper);
       upper_there = λ number object e.
@@ -208,8 +203,7 @@ module _ (world : World ℕ) (conditions : IsWorld nat_eq world) (overlay : Over
           (is_some overlay.upper) number object e in
           by object overlay.upper up.0 (λ layer f. up.1 layer f);
       one_to_one = merged_one_to_one layers are_open (inode_count world) bounded (odds fresh)
-          (odds-distinct fresh distinct)
-          (is_some overlay.upper);
+          (odds-distinct fresh distinct) (is_some overlay.upper);
     }
       where
         by : (object : ℕ) (o : Option (Layer ℕ)) → is_some o ≡ true
@@ -232,43 +226,7 @@ bytes_alike : (a b c : List ℕ) → bytes_eq a c ≡ true → bytes_eq b c ≡ 
 bytes_alike a b c e f = (bytes_decides a b).1 ((bytes_decides a c).0 e ∙ sym ((bytes_decides b c).0 f))
 
 content_alike : (a b c : Content ℕ) → same_content a c ≡ true → same_content b c ≡ true → same_content a b ≡ true
-content_alike (Directory p q r) (Directory s t u) c e f = refl
-content_alike (Directory p q r) (Regular y) (Directory s t u) e f = absurd (true≢false (sym f))
-content_alike (Directory p q r) (Regular y) (Regular z) e f = absurd (true≢false (sym e))
-content_alike (Directory p q r) (Regular y) (Symlink z) e f = absurd (true≢false (sym e))
-content_alike (Directory p q r) (Regular y) Whiteout e f = absurd (true≢false (sym e))
-content_alike (Directory p q r) (Symlink y) (Directory s t u) e f = absurd (true≢false (sym f))
-content_alike (Directory p q r) (Symlink y) (Regular z) e f = absurd (true≢false (sym e))
-content_alike (Directory p q r) (Symlink y) (Symlink z) e f = absurd (true≢false (sym e))
-content_alike (Directory p q r) (Symlink y) Whiteout e f = absurd (true≢false (sym e))
-content_alike (Directory p q r) Whiteout c e f = absurd (true≢false (sym f))
-content_alike (Regular x) (Directory s t u) (Directory v w o) e f = absurd (true≢false (sym e))
-content_alike (Regular x) (Directory s t u) (Regular z) e f = absurd (true≢false (sym f))
-content_alike (Regular x) (Directory s t u) (Symlink z) e f = absurd (true≢false (sym e))
-content_alike (Regular x) (Directory s t u) Whiteout e f = absurd (true≢false (sym e))
-content_alike (Regular x) (Regular y) (Directory s t u) e f = absurd (true≢false (sym e))
-content_alike (Regular x) (Regular y) (Regular z) e f = bytes_alike x y z e f
-content_alike (Regular x) (Regular y) (Symlink z) e f = absurd (true≢false (sym e))
-content_alike (Regular x) (Regular y) Whiteout e f = absurd (true≢false (sym e))
-content_alike (Regular x) (Symlink y) (Directory s t u) e f = absurd (true≢false (sym e))
-content_alike (Regular x) (Symlink y) (Regular z) e f = absurd (true≢false (sym f))
-content_alike (Regular x) (Symlink y) (Symlink z) e f = absurd (true≢false (sym e))
-content_alike (Regular x) (Symlink y) Whiteout e f = absurd (true≢false (sym e))
-content_alike (Regular x) Whiteout c e f = absurd (true≢false (sym f))
-content_alike (Symlink x) (Directory s t u) (Directory v w o) e f = absurd (true≢false (sym e))
-content_alike (Symlink x) (Directory s t u) (Regular z) e f = absurd (true≢false (sym e))
-content_alike (Symlink x) (Directory s t u) (Symlink z) e f = absurd (true≢false (sym f))
-content_alike (Symlink x) (Directory s t u) Whiteout e f = absurd (true≢false (sym e))
-content_alike (Symlink x) (Regular y) (Directory s t u) e f = absurd (true≢false (sym e))
-content_alike (Symlink x) (Regular y) (Regular z) e f = absurd (true≢false (sym e))
-content_alike (Symlink x) (Regular y) (Symlink z) e f = absurd (true≢false (sym f))
-content_alike (Symlink x) (Regular y) Whiteout e f = absurd (true≢false (sym e))
-content_alike (Symlink x) (Symlink y) (Directory s t u) e f = absurd (true≢false (sym e))
-content_alike (Symlink x) (Symlink y) (Regular z) e f = absurd (true≢false (sym e))
-content_alike (Symlink x) (Symlink y) (Symlink z) e f = bytes_alike x y z e f
-content_alike (Symlink x) (Symlink y) Whiteout e f = absurd (true≢false (sym e))
-content_alike (Symlink x) Whiteout c e f = absurd (true≢false (sym f))
-content_alike Whiteout b c e f = absurd (true≢false (sym e))
+content_alike a b c e f = grind (arith, common_steps, true≢false, bytes_alike)
 
 objects_alike : (a b c : Option (Node ℕ)) → SameObject a c → SameObject b c → SameObject a b
 objects_alike None None c e f = tt

@@ -42,11 +42,9 @@ contains_name name (other ∷ names) e = by (is_name name other) refl (contains_
 pub name_found : (name : List ℕ) (names : List (List ℕ)) (k : ℕ) → k < length names → get_or names k name ≡ name
     → list_any (is_name name) names ≡ true
 name_found name [] k h e = absurd (let l : k < 0 = h in omega arith)
-name_found name (other ∷ names) zero h e =
-    ap (λ n. is_name name n || list_any (is_name name) names) e
-    ∙ ap (λ b. b || list_any (is_name name) names) (is_itself name)
+name_found name (other ∷ names) zero h e = grind (arith, common_steps, is_itself)
 name_found name (other ∷ names) (suc k) h e =
-    or_right (is_name name other) (list_any (is_name name) names) (name_found name names k (omega arith) e)
+    grind (arith, common_steps, or_right, name_found name names k (omega arith) e)
 
 -- of the names that pass a test, those that are there
 filtered : (test : List ℕ → Bool) (name : List ℕ) (names : List (List ℕ))
@@ -58,27 +56,16 @@ filtered test name (other ∷ names) = by (is_name name other) refl (test other)
         → list_any (is_name name) (filter test names) ≡ (list_any (is_name name) names && test name)
         → list_any (is_name name) (cond t (other ∷ filter test names) (filter test names))
         ≡ ((b || list_any (is_name name) names) && test name)
-    by true s true t rest = ap (λ b. b || list_any (is_name name) (filter test names)) s ∙ sym t
-        ∙ ap test (sym (same_name name other s))
-    by true s false t rest = rest ∙ fails (list_any (is_name name) names) (test name)
-        (ap test (same_name name other s) ∙ t)
-      where
-        fails : (a b : Bool) → b ≡ false → (a && b) ≡ b
-        fails true b e = refl
-        fails false b e = sym e
-    by false s true t rest = ap (λ b. b || list_any (is_name name) (filter test names)) s ∙ rest
-    by false s false t rest = rest
+    by b s t known rest = grind (arith, common_steps, same_name)
 
 -- entries put one by one into others
 all_put : (name : List ℕ) (entries : Entries ℕ) (names : Entries (Unit {0}))
     → is_some (entry_named name (folded (λ names entry. with_entry entry.0 tt names) names entries))
     ≡ (is_some (entry_named name entries) || is_some (entry_named name names))
 all_put name [] names = refl
-all_put name (entry ∷ entries) names =
-    all_put name entries (with_entry entry.0 tt names)
+all_put name (entry ∷ entries) names = all_put name entries (with_entry entry.0 tt names)
     ∙ ap (λ o. is_some (entry_named name entries) || is_some o)
-    (find-put name_cmp nat_list_cmp_total name entry.0 tt names)
-    ∙ by (is_name name entry.0)
+    (find-put name_cmp nat_list_cmp_total name entry.0 tt names) ∙ by (is_name name entry.0)
   where
     by : (b : Bool) → (is_some (entry_named name entries) || is_some (cond b (Some tt) (entry_named name names)))
         ≡ (is_some (cond b (Some entry.1) (entry_named name entries)) || is_some (entry_named name names))
@@ -97,18 +84,15 @@ name_of_layer (top ∷ lower) path name zero layer e h =
 name_of_layer (top ∷ lower) path name (suc depth) layer e h =
     all_put name (entries_in (node_at_path top path)) (names_at lower path)
     ∙ or_right (is_some (entry_named name (entries_in (node_at_path top path))))
-    (is_some (entry_named name (names_at lower path)))
-    (name_of_layer lower path name depth layer e h)
+    (is_some (entry_named name (names_at lower path))) (name_of_layer lower path name depth layer e h)
 
 -- names lead through the place that all but the last lead to
-pub last_name : (tree : Tree ℕ) (from : ℕ) (path : List (List ℕ)) (name : List ℕ)
-    → led tree from (path ++ name ∷ [])
+pub last_name : (tree : Tree ℕ) (from : ℕ) (path : List (List ℕ)) (name : List ℕ) → led tree from (path ++ name ∷ [])
     ≡ option_and_then (λ directory. entry_at tree directory name) (led tree from path)
 last_name tree from [] name = option_and_then-Some (entry_at tree from name)
 last_name tree from (first ∷ path) name = by (entry_at tree from first) (λ next. last_name tree next path name)
   where
-    by : (o : Option ℕ) → ((next : ℕ)
-        → led tree next (path ++ name ∷ [])
+    by : (o : Option ℕ) → ((next : ℕ) → led tree next (path ++ name ∷ [])
         ≡ option_and_then (λ directory. entry_at tree directory name) (led tree next path))
         → option_and_then (λ next. led tree next (path ++ name ∷ [])) o
         ≡ option_and_then (λ directory. entry_at tree directory name) (option_and_then (λ next. led tree next path) o)
@@ -125,8 +109,7 @@ name_in_layer layer path name object e =
 shown_is_named : (layers : List (OpenLayer ℕ)) (path : List (List ℕ)) (name : List ℕ) (seen : Shown ℕ)
     → IsShown layers (path ++ name ∷ []) seen
     → list_any (is_name name) (map (λ entry. entry.0) (names_at layers path)) ≡ true
-shown_is_named layers path name seen is =
-    sym (is_some-find name_cmp name (names_at layers path))
+shown_is_named layers path name seen is = sym (is_some-find name_cmp name (names_at layers path))
     ∙ name_of_layer layers path name seen.layer is.has_uncut.0.0 is.has_uncut.0.1
     (name_in_layer is.has_uncut.0.0 path name seen.object is.has_uncut.0.2)
 
@@ -143,8 +126,7 @@ names_are_those_shown layers path name = (
       (and_true_right (list_any (is_name name) (all_names layers path)) (is_some (shown layers (path ++ name ∷ [])))
       (sym (filtered (shows_name layers path) name (all_names layers path))
       ∙ name_found name (names_shown layers path) has.0 has.1 has.2)),
-  λ is. contains_name name (names_shown layers path)
-      (filtered (shows_name layers path) name (all_names layers path)
+  λ is. contains_name name (names_shown layers path) (filtered (shows_name layers path) name (all_names layers path)
       ∙ ap (λ b. b && shows_name layers path name) (shown_is_named layers path name is.0 is.1)
       ∙ ap is_some ((computed layers (path ++ name ∷ []) is.0).1 is.1)),
 )

@@ -8,7 +8,6 @@ use Rattle.std.specs.Cmp.Lexicographic.{bytes_decides}
 use Rattle.vt_spec.specs.Machine.Layers.{OpenLayer, Shown, names_shown, paths_from, shown}
 use Rattle.vt_spec.specs.Lists.{index_from}
 use Rattle.vt_spec.specs.Machine.Merging.{Merged, is_one_inode, merged_at, merged_objects, real_object, same_path, same_real}
-use Rattle.vt_spec.specs.Machine.World.Real.{Upper}
 use Rattle.vt_laws_trees.proofs.layers.layers.ShownAtPath.{computed}
 use Rattle.vt_laws_trees.proofs.layers.layers.ShownDirectories.{AreOpen, append_assoc, shown_in_directory}
 use Rattle.vt_laws_trees.proofs.layers.layers.ShownNames.{names_are_those_shown}
@@ -47,27 +46,23 @@ module _ {A B : Type 0} where
   pub among_filter_map : (f : A → Option B) (list : List A) (a : A) (b : B) → Among list a → f a ≡ Some b
       → Among (filter_map f list) b
   among_filter_map f [] a b among e = absurd among
-  among_filter_map f (first ∷ list) a b (inl same) e =
-      among_cons_option (f first) (filter_map f list) b (inl (ap f same ∙ e))
+  among_filter_map f (first ∷ list) a b (inl same) e = grind (arith, common_steps, among_cons_option)
   among_filter_map f (first ∷ list) a b (inr among) e =
-      among_cons_option (f first) (filter_map f list) b (inr (among_filter_map f list a b among e))
+      grind (arith, common_steps, among_cons_option, among_filter_map f list a b among e)
 
   pub from_filter_map : (f : A → Option B) (list : List A) (b : B) → Among (filter_map f list) b
       → (a : A) × Among list a × (f a ≡ Some b)
   from_filter_map f [] b among = absurd among
-  from_filter_map f (first ∷ list) b among =
-      ⊎_elim
-      (λ e. (first, inl refl, e))
+  from_filter_map f (first ∷ list) b among = ⊎_elim (λ e. (first, inl refl, e))
       (λ later. let found = from_filter_map f list b later in (found.0, inr found.1, found.2))
       (from_cons_option (f first) (filter_map f list) b among)
 
   pub among_flat_map : (f : A → List B) (list : List A) (a : A) (b : B) → Among list a → Among (f a) b
       → Among (flat_map f list) b
   among_flat_map f [] a b among inside = absurd among
-  among_flat_map f (first ∷ list) a b (inl e) inside =
-      among_append_left (f first) (flat_map f list) b (subst (λ x. Among (f x) b) (sym e) inside)
+  among_flat_map f (first ∷ list) a b (inl e) inside = grind (arith, common_steps, among_append_left)
   among_flat_map f (first ∷ list) a b (inr among) inside =
-      among_append_right (f first) (flat_map f list) b (among_flat_map f list a b among inside)
+      grind (arith, common_steps, among_append_right, among_flat_map f list a b among inside)
 
 module _ {A : Type 0} where
   -- the first that passes
@@ -83,21 +78,9 @@ module _ {A : Type 0} where
     where
       by : (b : Bool) → test first ≡ b → (first ≡ a) ⊎ Among list a → (Among list a → Found test list)
           → Found test (first ∷ list)
-      by true t among rest = record {
-        element = first;
-        is = ap (λ b. cond b (Some first) (find test list)) t;
-        among = inl refl;
-        passes = t;
-      }
+      by true t among rest = grind (arith, common_steps)
       by false t (inl same) rest = absurd (true≢false (sym e ∙ ap test (sym same) ∙ t))
-      by false t (inr later) rest =
-          let found = rest later in
-          record {
-            element = found.element;
-            is = ap (λ b. cond b (Some first) (find test list)) t ∙ found.is;
-            among = inr found.among;
-            passes = found.passes;
-          }
+      by false t (inr later) rest = grind (arith, common_steps)
 
   pub record Placed (test : A → Bool) (k : ℕ) (list : List A) : Type 0 where
     pub place : ℕ
@@ -161,15 +144,13 @@ module _ (layers : List (OpenLayer ℕ)) (are_open : AreOpen layers) where
   pub shown_before : (path rest : List (List ℕ)) (seen : Shown ℕ) → shown layers (path ++ rest) ≡ Some seen
       → is_some (shown layers path) ≡ true
   shown_before path [] seen e = ap is_some (ap (shown layers) (sym (append-nil path)) ∙ e)
-  shown_before path (name ∷ rest) seen e =
-      grind (
-        arith,
-        common_steps,
-        shown_before (path ++ name ∷ []) rest seen (ap (shown layers) (append_assoc path
-            (name ∷ []) rest) ∙ e),
-        true≢false,
-        shown_in_directory,
-      )
+  shown_before path (name ∷ rest) seen e = grind (
+    arith,
+    common_steps,
+    shown_before (path ++ name ∷ []) rest seen (ap (shown layers) (append_assoc path (name ∷ []) rest) ∙ e),
+    true≢false,
+    shown_in_directory,
+  )
 
   -- each such path is gone through
   pub paths_complete : (depth : ℕ) (base rest : List (List ℕ)) (seen : Shown ℕ) → length rest ≤ depth
@@ -179,8 +160,7 @@ module _ (layers : List (OpenLayer ℕ)) (are_open : AreOpen layers) where
   paths_complete zero base (name ∷ rest) seen h e = let no : ⊥ = omega arith in absurd no
   paths_complete (suc depth) base (name ∷ rest) seen h e =
       inr (among_flat_map (λ n. paths_from depth layers (base ++ n ∷ [])) (names_shown layers base) name
-      (base ++ name ∷ rest)
-      (by (shown layers (base ++ name ∷ [])) refl
+      (base ++ name ∷ rest) (by (shown layers (base ++ name ∷ [])) refl
       (shown_before (base ++ name ∷ []) rest seen (ap (shown layers) (append_assoc base (name ∷ []) rest) ∙ e)))
       (subst (Among (paths_from depth layers (base ++ name ∷ []))) (append_assoc base (name ∷ []) rest)
       (paths_complete depth (base ++ name ∷ []) rest seen (omega arith)
@@ -205,12 +185,7 @@ module _ (layers : List (OpenLayer ℕ)) (are_open : AreOpen layers) where
 
     pub object_is : (object : Merged ℕ) → Among (merged_objects layers longest) object
         → shown layers object.path ≡ Some object.seen
-    object_is object among =
-        let found = from_filter_map (merged_at layers) (paths_from longest layers []) object among in grind (
-          arith,
-          common_steps,
-          none_is_some,
-        )
+    object_is object among = grind (arith, common_steps, from_filter_map, none_is_some)
 
 -- two objects that are one inode are the same in their layer, and have one real object
 pub record IsOne (has_upper : Bool) (a b : Merged ℕ) : Type 0 where
@@ -229,18 +204,7 @@ is_one layers has_upper a b s t e = by has_upper refl a.seen.layer refl b.seen.l
 
     by : (u : Bool) → has_upper ≡ u → (l : ℕ) → a.seen.layer ≡ l → (k : ℕ) → b.seen.layer ≡ k
         → same_real nat_eq (real_object u l a) (real_object u k b) ≡ true → IsOne has_upper a b
-    by false hu l la k lb e = by_path (path_same a.path b.path e)
-    by true hu zero la zero lb e =
-        let objects = eqb-true a.seen.object b.seen.object e in
-        record {
-          seen = λ i. record { layer = (la ∙ sym lb) i; object = objects i };
-          real = ap (λ u. real_object u a.seen.layer a) hu ∙ ap (λ l. real_object true l a) la
-              ∙ ap (λ o. Upper o) objects
-              ∙ sym (ap (λ u. real_object u b.seen.layer b) hu ∙ ap (λ l. real_object true l b) lb);
-        }
-    by true hu zero la (suc k) lb e = absurd (true≢false (sym e))
-    by true hu (suc l) la zero lb e = absurd (true≢false (sym e))
-    by true hu (suc l) la (suc k) lb e = by_path (path_same a.path b.path e)
+    by u hu l la k lb e = grind (arith, common_steps, by_path, path_same, eqb-true, true≢false)
 
 -- an object is one inode with itself
 pub one_itself : (has_upper : Bool) (a : Merged ℕ) → is_one_inode nat_eq has_upper a a ≡ true

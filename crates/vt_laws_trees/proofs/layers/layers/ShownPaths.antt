@@ -36,8 +36,7 @@ module _ (tree : Tree ℕ) (conditions : IsTree tree) (start : ℕ) where
       → IsDirectory tree to → ReachedIn tree (steps + length names) to
   reached_by [] steps from to r e d =
       subst (λ n. ReachedIn tree n to) (omega arith) (subst (ReachedIn tree steps) (same_Some from to e) r)
-  reached_by (name ∷ names) steps from to r e d =
-      subst (λ n. ReachedIn tree n to) (omega arith)
+  reached_by (name ∷ names) steps from to r e d = subst (λ n. ReachedIn tree n to) (omega arith)
       (by (entry_at tree from name) refl e (λ next. reached_by names (suc steps) next to))
     where
       is_there : (names : List (List ℕ)) (next : ℕ) → led tree next names ≡ Some to → IsDirectory tree next
@@ -102,13 +101,11 @@ module _ (tree : Tree ℕ) (conditions : IsTree tree) (start : ℕ) where
       let lb_front = ap length last_other.2 in
       let one = length_longer last.0 last.1 in
       let two = length_longer last_other.0 last_other.1 in
-      sym last.2
-      ∙ by last.0 last.1 last_other.0 last_other.1 (omega arith) (omega arith)
+      sym last.2 ∙ by last.0 last.1 last_other.0 last_other.1 (omega arith) (omega arith)
       (led tree start last.0) refl (sym (last_name tree start last.0 last.1) ∙ ap (led tree start) last.2 ∙ e)
       (led tree start last_other.0) refl
       (sym (last_name tree start last_other.0 last_other.1) ∙ ap (led tree start) last_other.2 ∙ f)
-      (λ p q directory h k i j is. one_path_of many p q directory h k i j is)
-      ∙ last_other.2
+      (λ p q directory h k i j is. one_path_of many p q directory h k i j is) ∙ last_other.2
     where
       by : (p : List (List ℕ)) (x : List ℕ) (q : List (List ℕ)) (y : List ℕ) → length p ≡ many → length q ≡ many
           → (o : Option ℕ) → led tree start p ≡ o → option_and_then (λ directory. entry_at tree directory x) o ≡ Some to

@@ -1,11 +1,11 @@
 -- A merged tree that is made of its layers has at each path what they show, with its real object.
 use Rattle.std.proofs.lemmas.Grind.{common_steps}
-use Rattle.std.proofs.Common.{◌≡◌, ◌≢◌, ◌≤◌, refl, sym, ap, subst, ◌∙◌, true≢false, arith, ℕ, zero, suc, ◌+◌, nat_eq, Bool, true, cond, List, [], ◌∷◌, ◌++◌, length, Option, Some, None, option_and_then, unwrap_or}
-use Rattle.std.specs.List.{cons_option, filter_map}
+use Rattle.std.proofs.Common.{◌≡◌, ◌≢◌, ◌≤◌, refl, sym, ap, subst, ◌∙◌, true≢false, arith, ℕ, zero, suc, ◌+◌, nat_eq, Bool, true, List, [], ◌∷◌, ◌++◌, length, Option, Some, None, option_and_then}
+use Rattle.std.specs.List.{filter_map}
 use Rattle.std.specs.Prelude.{option_map}
 use Rattle.vt_spec.specs.Machine.Layers.{OpenLayer, Shown, paths_from, shown}
-use Rattle.vt_spec.specs.Lists.{Fresh, index_from, then_some}
-use Rattle.vt_spec.specs.Machine.Merging.{Merged, MergedInode, entry_in_directory, is_one_inode, layer_node, merged_at, merged_content, real_object, real_of, tree_of}
+use Rattle.vt_spec.specs.Lists.{Fresh, then_some}
+use Rattle.vt_spec.specs.Machine.Merging.{Merged, MergedInode, entry_in_directory, layer_node, merged_at, merged_content, real_object, real_of, tree_of}
 use Rattle.vt_spec.specs.Machine.Invariants.{SameObject}
 use Rattle.vt_spec.specs.Rights.{is_directory}
 use Rattle.vt_spec.specs.Tree.{Content, Node, Tree, entries_in, entries_of, entry_named, kind_of}
@@ -49,19 +49,11 @@ module _ (layers : List (OpenLayer ℕ)) (are_open : AreOpen layers) (longest : 
   first_path (suc most) = (_, refl)
 
   pub root_number : num (object_at [] top) ≡ fresh 0
-  root_number =
-      let paths = first_path longest in
-      ap (λ l. fresh (unwrap_or (index_from (is_one_inode nat_eq has_upper (object_at [] top)) 0 l) 0))
-      (ap (filter_map (merged_at layers)) paths.1
-      ∙ ap (λ o. cons_option (option_map (λ seen. object_at [] seen) o) (filter_map (merged_at layers) paths.0)) is_top)
-      ∙ ap (λ b. fresh (unwrap_or (cond b (Some 0)
-      (index_from (is_one_inode nat_eq has_upper (object_at [] top)) (0 + 1)
-      (filter_map (merged_at layers) paths.0))) 0)) (one_itself has_upper (object_at [] top))
+  root_number = grind (arith, common_steps, first_path, one_itself)
 
   pub inode_at : (path : List (List ℕ)) (seen : Shown ℕ) → shown layers path ≡ Some seen
       → HasInode layers are_open longest bounded fresh distinct has_upper (object_at path seen)
-  inode_at path seen s =
-      has_inode layers are_open longest bounded fresh distinct has_upper (object_at path seen)
+  inode_at path seen s = has_inode layers are_open longest bounded fresh distinct has_upper (object_at path seen)
       (is_object layers are_open longest bounded path seen s)
 
   -- names lead to what is shown
@@ -81,18 +73,14 @@ module _ (layers : List (OpenLayer ℕ)) (are_open : AreOpen layers) (longest : 
       → is_directory (kind_of inode.node.content) ≡ true
   directory_above path name seen s inode below t =
       let shows = shown_in_directory layers are_open 0 path name below t in let same = same_Some seen (record {
-        layer
-            = 0 + shows.place;
+        layer = 0 + shows.place;
         object = shows.object;
-      }) (sym s ∙ shows.is) in let place : 0 + shows.place ≡ shows.place =
-      omega arith in grind (arith, common_steps)
+      }) (sym s ∙ shows.is) in let place : 0 + shows.place ≡ shows.place = omega arith in grind (arith, common_steps)
 
   step : (path : List (List ℕ)) (name : List ℕ) → Arrives (shown layers path) path (led merged_tree (fresh 0) path)
       → Arrives (shown layers (path ++ name ∷ [])) (path ++ name ∷ []) (led merged_tree (fresh 0) (path ++ name ∷ []))
-  step path name before =
-      subst (Arrives (shown layers (path ++ name ∷ [])) (path ++ name ∷ []))
-      (sym (last_name merged_tree (fresh 0) path name))
-      (by (shown layers path) refl before)
+  step path name before = subst (Arrives (shown layers (path ++ name ∷ [])) (path ++ name ∷ []))
+      (sym (last_name merged_tree (fresh 0) path name)) (by (shown layers path) refl before)
     where
       from_directory : (seen : Shown ℕ) (s : shown layers path ≡ Some seen)
           (inode : HasInode layers are_open longest bounded fresh distinct has_upper (object_at path seen))
@@ -112,16 +100,13 @@ module _ (layers : List (OpenLayer ℕ)) (are_open : AreOpen layers) (longest : 
               → Arrives o (path ++ name ∷ []) found
           as_arrives None found leads = leads
           as_arrives (Some below) found leads = leads
-      from_directory seen s inode (Regular bytes) e =
-          no_entry path name None refl (λ below t.
+      from_directory seen s inode (Regular bytes) e = no_entry path name None refl (λ below t.
           true≢false (sym (sym (ap (λ c. is_directory (kind_of c)) e)
           ∙ directory_above path name seen s inode below t)))
-      from_directory seen s inode (Symlink text) e =
-          no_entry path name None refl (λ below t.
+      from_directory seen s inode (Symlink text) e = no_entry path name None refl (λ below t.
           true≢false (sym (sym (ap (λ c. is_directory (kind_of c)) e)
           ∙ directory_above path name seen s inode below t)))
-      from_directory seen s inode Whiteout e =
-          no_entry path name None refl (λ below t.
+      from_directory seen s inode Whiteout e = no_entry path name None refl (λ below t.
           true≢false (sym (sym (ap (λ c. is_directory (kind_of c)) e)
           ∙ directory_above path name seen s inode below t)))
 
@@ -131,18 +116,14 @@ module _ (layers : List (OpenLayer ℕ)) (are_open : AreOpen layers) (longest : 
       by None s arrives =
           no_entry path name _ (ap (option_and_then (λ directory. entry_at merged_tree directory name)) arrives)
           (λ seen t. none_is_some (record {
-            layer = 0 +
-                (shown_in_directory layers are_open 0 path name seen t).place;
-            object =
-                (shown_in_directory layers are_open 0 path name seen t).object;
-          })
-          (sym s ∙ (shown_in_directory layers are_open 0 path name seen t).is))
+            layer = 0 + (shown_in_directory layers are_open 0 path name seen t).place;
+            object = (shown_in_directory layers are_open 0 path name seen t).object;
+          }) (sym s ∙ (shown_in_directory layers are_open 0 path name seen t).is))
       by (Some seen) s arrives =
           let inode = inode_at path seen s in
           subst (Arrives (shown layers (path ++ name ∷ [])) (path ++ name ∷ []))
           (sym (ap (option_and_then (λ directory. entry_at merged_tree directory name)) arrives
-          ∙ ap (λ o. entry_named name (entries_in o)) inode.is))
-          (from_directory seen s inode inode.node.content refl)
+          ∙ ap (λ o. entry_named name (entries_in o)) inode.is)) (from_directory seen s inode inode.node.content refl)
 
   arrives_in : (many : ℕ) (path : List (List ℕ)) → length path ≤ many
       → Arrives (shown layers path) path (led merged_tree (fresh 0) path)
@@ -170,12 +151,10 @@ module _ (layers : List (OpenLayer ℕ)) (are_open : AreOpen layers) (longest : 
       shows.no_whiteout inode.node (
         here.layer,
         here.there,
-        ap (λ o. then_some o here.layer.tree.node) here.at
-            ∙ here.is ∙ ap Some node,
+        ap (λ o. then_some o here.layer.tree.node) here.at ∙ here.is ∙ ap Some node,
       )
 
-  pub shows_layers : (path : List (List ℕ))
-      → SameObject (then_some (led merged_tree (fresh 0) path) merged_tree.node)
+  pub shows_layers : (path : List (List ℕ)) → SameObject (then_some (led merged_tree (fresh 0) path) merged_tree.node)
       (then_some (shown layers path) (layer_node layers))
   shows_layers path = by (shown layers path) refl (arrives path)
     where
@@ -185,12 +164,9 @@ module _ (layers : List (OpenLayer ℕ)) (are_open : AreOpen layers) (longest : 
       by (Some seen) s found =
           let inode = inode_at path seen s in
           subst (λ o. SameObject (then_some o merged_tree.node) (layer_node layers seen)) (sym found)
-          (subst (λ o. SameObject o (layer_node layers seen)) (sym inode.is)
-          (subst (SameObject (Some
-          (record {
+          (subst (λ o. SameObject o (layer_node layers seen)) (sym inode.is) (subst (SameObject (Some (record {
             attr = inode.node.attr;
-            content = merged_content nat_eq fresh has_upper all inode.other.path
-                inode.node.content;
+            content = merged_content nat_eq fresh has_upper all inode.other.path inode.node.content;
           }))) (sym inode.seen) (
             refl,
             same_merged layers are_open longest bounded fresh distinct has_upper inode.other.path

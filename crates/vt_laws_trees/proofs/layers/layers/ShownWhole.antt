@@ -1,7 +1,6 @@
 -- A merged tree has no whiteout and no mark, and two inodes of it have two real objects, which are there.
-use Rattle.std.proofs.Common.{arith}
+use Rattle.std.proofs.Common.{arith, ◌≡◌, ◌≢◌, ◌≤◌, refl, sym, ap, subst, ◌∙◌, true≢false, ℕ, suc, nat_eq, eqb-true, Bool, true, false, List, [], ◌∷◌, length, Option, Some, None, is_some, slice_get, unwrap_or}
 use Rattle.std.proofs.lemmas.Grind.{common_steps}
-use Rattle.std.proofs.Common.{◌≡◌, ◌≢◌, ◌≤◌, refl, sym, ap, subst, ◌∙◌, true≢false, ℕ, zero, suc, nat_eq, eqb-true, Bool, true, false, List, [], ◌∷◌, length, Option, Some, None, is_some, slice_get, unwrap_or}
 use Rattle.std.specs.List.{find}
 use Rattle.std.specs.Prelude.{option_map}
 use Rattle.vt_spec.specs.declared.attributes.Kind.TheVariants.{White}
@@ -56,12 +55,10 @@ module _ (layers : List (OpenLayer ℕ)) (are_open : AreOpen layers) (longest : 
     pub among : Among all object
     pub layer : InLayer layers are_open longest bounded fresh distinct has_upper object
     pub numbered : n ≡ num object
-    pub node : inode.node
-        ≡ record {
-          attr = layer.node.attr;
-          content = merged_content nat_eq fresh has_upper all object.path
-              layer.node.content;
-        }
+    pub node : inode.node ≡ record {
+      attr = layer.node.attr;
+      content = merged_content nat_eq fresh has_upper all object.path layer.node.content;
+    }
     pub real : inode.real ≡ real_object has_upper object.seen.layer object
 
   pub is_of_object : (n : ℕ) (inode : MergedInode ℕ) → inode_of made n nat_eq ≡ Some inode → IsOfObject n inode
@@ -83,8 +80,7 @@ module _ (layers : List (OpenLayer ℕ)) (are_open : AreOpen layers) (longest : 
           → InLayer layers are_open longest bounded fresh distinct has_upper object → nat_eq n inode.number ≡ true
           → IsOfObject n inode
       by object among m layer passes =
-          let same = same_Some (of object layer.node) inode
-          (sym (ap (option_map (of object))
+          let same = same_Some (of object layer.node) inode (sym (ap (option_map (of object))
           (layer_node_of layers are_open longest bounded fresh distinct has_upper object layer)) ∙ m) in
           record {
             object = object;
@@ -105,8 +101,7 @@ module _ (layers : List (OpenLayer ℕ)) (are_open : AreOpen layers) (longest : 
       shows.no_whiteout layer.node (
         layer.layer,
         layer.there,
-        ap (λ o. then_some o layer.layer.tree.node) layer.at
-            ∙ layer.is,
+        ap (λ o. then_some o layer.layer.tree.node) layer.at ∙ layer.is,
       )
 
   white_merged : (path : List (List ℕ)) (content : Content ℕ) → content ≢ Whiteout
@@ -170,35 +165,24 @@ module _ (layers : List (OpenLayer ℕ)) (are_open : AreOpen layers) (longest : 
             object = is.object;
             layer = is.layer;
             numbered = is.numbered;
-            is = same_Some real inode.real
-                (sym e) ∙ is.real;
+            is = same_Some real inode.real (sym e) ∙ is.real;
           }
 
   -- it is what the merged one shows
   behind_object : (object : Merged ℕ) (found : InLayer layers are_open longest bounded fresh distinct has_upper object)
       (upper : Bool) (layer : ℕ) → object.seen.layer ≡ layer
       → behind layers upper (real_object upper layer object) ≡ Some found.node
-  behind_object object found true zero e =
-      ap (λ o. then_some o (λ layer. layer.tree.node object.seen.object)) (ap (slice_get layers) (sym e) ∙ found.there)
-      ∙ found.is
-  behind_object object found true (suc layer) e =
-      ap (λ o. then_some o (λ lower. node_at_path lower object.path)) (ap (slice_get layers) (sym e) ∙ found.there)
-      ∙ ap (λ o. then_some o found.layer.tree.node) found.at ∙ found.is
-  behind_object object found false layer e =
-      ap (λ o. then_some o (λ lower. node_at_path lower object.path)) (ap (slice_get layers) (sym e) ∙ found.there)
-      ∙ ap (λ o. then_some o found.layer.tree.node) found.at ∙ found.is
+  behind_object object found upper layer e = grind (arith, common_steps)
 
   pub merged_is_real : (n : ℕ) → SameObject (nodes n) (then_some (real_of nat_eq made n) (behind layers has_upper))
   merged_is_real n = by (inode_of made n nat_eq) refl
     where
-      by : (o : Option (MergedInode ℕ)) → inode_of made n nat_eq ≡ o
-          → SameObject (option_map (λ inode. inode.node) o)
+      by : (o : Option (MergedInode ℕ)) → inode_of made n nat_eq ≡ o → SameObject (option_map (λ inode. inode.node) o)
           (then_some (option_map (λ inode. inode.real) o) (behind layers has_upper))
       by None e = tt
       by (Some inode) e =
           let is = is_of_object n inode e in
-          subst (SameObject (Some inode.node))
-          (sym (ap (behind layers has_upper) is.real
+          subst (SameObject (Some inode.node)) (sym (ap (behind layers has_upper) is.real
           ∙ behind_object is.object is.layer has_upper is.object.seen.layer refl)) (
             ap (λ node. node.attr) is.node,
             ap (λ node. same_content node.content is.layer.node.content) is.node
@@ -218,11 +202,9 @@ module _ (layers : List (OpenLayer ℕ)) (are_open : AreOpen layers) (longest : 
       by (Some real) r h =
           let one = has_real a real r in
           let two = has_real b real (sym e ∙ r) in
-          one.numbered
-          ∙ ap (λ real. fresh (unwrap_or
+          one.numbered ∙ ap (λ real. fresh (unwrap_or
           (index_from (λ x. same_real nat_eq real (real_object has_upper x.seen.layer x)) 0 all) 0))
-          (sym one.is ∙ two.is)
-          ∙ sym two.numbered
+          (sym one.is ∙ two.is) ∙ sym two.numbered
 
   -- an upper object is there, in the top layer
   pub merged_upper : (n object : ℕ) → real_of nat_eq made n ≡ Some (Upper object)

@@ -24,53 +24,27 @@ length_without_first : (n : ℕ) (list : List ℕ) → list_any (nat_eq n) list 
     → length list ≡ suc (length (without_first n list))
 unfolding without_first
 length_without_first n [] e = absurd (true≢false (sym e))
-length_without_first n (m ∷ rest) e = by (nat_eq n m) e (length_without_first n rest)
-  where
-    by : (b : Bool) → (b || list_any (nat_eq n) rest) ≡ true
-        → (list_any (nat_eq n) rest ≡ true → length rest ≡ suc (length (without_first n rest)))
-        → suc (length rest) ≡ suc (length (cond b rest (m ∷ without_first n rest)))
-    by true e later = refl
-    by false e later = ap (λ l. suc l) (later e)
+length_without_first n (m ∷ rest) e = grind (arith, common_steps, length_without_first n rest)
 
 still_among : (q n : ℕ) (list : List ℕ) → nat_eq q n ≡ false → list_any (nat_eq q) list ≡ true
     → list_any (nat_eq q) (without_first n list) ≡ true
 unfolding without_first
 still_among q n [] differ e = e
-still_among q n (m ∷ rest) differ e = by (nat_eq n m) refl e (still_among q n rest differ)
-  where
-    other : nat_eq n m ≡ true → (b : Bool) → nat_eq q m ≡ b → (b || list_any (nat_eq q) rest) ≡ true
-        → list_any (nat_eq q) rest ≡ true
-    other t true s e = absurd (true≢false (sym s ∙ ap (nat_eq q) (sym (eqb-true n m t)) ∙ differ))
-    other t false s e = e
-
-    kept : (b : Bool) → (b || list_any (nat_eq q) rest) ≡ true
-        → (list_any (nat_eq q) rest ≡ true → list_any (nat_eq q) (without_first n rest) ≡ true)
-        → (b || list_any (nat_eq q) (without_first n rest)) ≡ true
-    kept true e later = refl
-    kept false e later = later e
-
-    by : (b : Bool) → nat_eq n m ≡ b → (nat_eq q m || list_any (nat_eq q) rest) ≡ true
-        → (list_any (nat_eq q) rest ≡ true → list_any (nat_eq q) (without_first n rest) ≡ true)
-        → list_any (nat_eq q) (cond b rest (m ∷ without_first n rest)) ≡ true
-    by true t e later = other t (nat_eq q m) refl e
-    by false t e later = kept (nat_eq q m) e later
+still_among q n (m ∷ rest) differ e = grind (arith, common_steps, true≢false, eqb-true, still_among q n rest differ)
 
 no_longer : (list all : List ℕ) → Distinct list
     → ((q : ℕ) → list_any (nat_eq q) list ≡ true → list_any (nat_eq q) all ≡ true) → length list ≤ length all
 no_longer [] all distinct among = omega arith
-no_longer (n ∷ rest) all distinct among =
-    let shorter = no_longer rest (without_first n all) distinct.1
-    (λ q e. still_among q n all (apart q e (nat_eq q n) refl) (among q (or_later (nat_eq q n) e))) in
-    let one = length_without_first n all (among n (ap (λ b. b || list_any (nat_eq n) rest) (eq-eqb n n refl))) in
-    omega arith
-  where
-    or_later : {a : Bool} (b : Bool) → a ≡ true → (b || a) ≡ true
-    or_later true e = refl
-    or_later false e = e
-
-    apart : (q : ℕ) → list_any (nat_eq q) rest ≡ true → (b : Bool) → nat_eq q n ≡ b → nat_eq q n ≡ false
-    apart q e false t = t
-    apart q e true t = absurd (true≢false (sym e ∙ ap (λ m. list_any (nat_eq m) rest) (eqb-true q n t) ∙ distinct.0))
+no_longer (n ∷ rest) all distinct among = grind (
+  arith,
+  common_steps,
+  still_among,
+  length_without_first,
+  eq-eqb,
+  true≢false,
+  eqb-true,
+  no_longer rest (without_first n all) distinct.1,
+)
 
 module _ (files : FileTree ℕ) (tree : IsTree files.tree) where
   -- a directory is reached in one number of steps
@@ -79,49 +53,37 @@ module _ (files : FileTree ℕ) (tree : IsTree files.tree) where
   one_depth zero zero directory r s = refl
   one_depth zero (suc other) directory r s = absurd (tree.root_unnamed s.0 s.1 (s.3 ∙ ap Some r))
   one_depth (suc steps) zero directory r s = absurd (tree.root_unnamed r.0 r.1 (r.3 ∙ ap Some s))
-  one_depth (suc steps) (suc other) directory r s =
-      ap (λ n. suc n) (one_depth steps other r.0 r.2
+  one_depth (suc steps) (suc other) directory r s = ap (λ n. suc n) (one_depth steps other r.0 r.2
       (subst (ReachedIn files.tree other)
       (sym (tree.one_parent s.0 s.1 directory s.3 s.4) ∙ tree.one_parent r.0 r.1 directory r.3 r.4) s.2))
 
   -- its parent is the step before
   pub parent_of_reached : (steps directory : ℕ) (r : ReachedIn files.tree (suc steps) directory)
       → named_parent nat_eq files.tree directory ≡ Some r.0
-  parent_of_reached steps directory r =
-      ap (λ b. cond b None (when (has_entry_to nat_eq files.tree
-      (parent_in directory (files.tree.node directory)) directory)
-      (parent_in directory (files.tree.node directory))))
+  parent_of_reached steps directory r = ap (λ b. cond b None (when (has_entry_to nat_eq files.tree
+      (parent_in directory (files.tree.node directory)) directory) (parent_in directory (files.tree.node directory))))
       (ne_eqb directory files.tree.root (λ e. tree.root_unnamed r.0 r.1 (r.3 ∙ ap Some e)))
       ∙ ap (λ p. when (has_entry_to nat_eq files.tree p directory) p) (tree.one_parent r.0 r.1 directory r.3 r.4)
       ∙ ap (λ b. when b r.0) (entry_to files.tree r.0 r.1 directory r.3)
 
   root_has_no_parent : (directory : ℕ) → directory ≡ files.tree.root → named_parent nat_eq files.tree directory ≡ None
-  root_has_no_parent directory e =
-      ap (λ b. cond b None (when (has_entry_to nat_eq files.tree
-      (parent_in directory (files.tree.node directory)) directory)
-      (parent_in directory (files.tree.node directory))))
+  root_has_no_parent directory e = ap (λ b. cond b None (when (has_entry_to nat_eq files.tree
+      (parent_in directory (files.tree.node directory)) directory) (parent_in directory (files.tree.node directory))))
       (eq-eqb directory files.tree.root e)
 
   -- Up to the root, what is above is reached in fewer steps, and all differ.
   pub up_at_root : (most directory : ℕ) → directory ≡ files.tree.root
       → chain most (named_parent nat_eq files.tree) directory ≡ directory ∷ []
   up_at_root zero directory e = refl
-  up_at_root (suc most) directory e =
-      ap (λ o. elim o as (λ _. List ℕ) [
-        | None ↦ directory ∷ []
-        | Some b ↦ directory
-            ∷ chain most (named_parent nat_eq files.tree) b
-      ]) (root_has_no_parent directory e)
+  up_at_root (suc most) directory e = grind (arith, common_steps, root_has_no_parent)
 
   pub up_from : (most steps directory : ℕ) (r : ReachedIn files.tree (suc steps) directory)
       → chain (suc most) (named_parent nat_eq files.tree) directory
       ≡ directory ∷ chain most (named_parent nat_eq files.tree) r.0
-  up_from most steps directory r =
-      ap (λ o. elim o as (λ _. List ℕ) [
-        | None ↦ directory ∷ []
-        | Some b ↦ directory
-            ∷ chain most (named_parent nat_eq files.tree) b
-      ]) (parent_of_reached steps directory r)
+  up_from most steps directory r = ap (λ o. elim o as (λ _. List ℕ) [
+    | None ↦ directory ∷ []
+    | Some b ↦ directory ∷ chain most (named_parent nat_eq files.tree) b
+  ]) (parent_of_reached steps directory r)
 
   abbrev pub IsAbove : ℕ → ℕ → Type 0
   IsAbove steps q = (fewer : ℕ) × (fewer ≤ steps) × ReachedIn files.tree fewer q
@@ -143,20 +105,17 @@ module _ (files : FileTree ℕ) (tree : IsTree files.tree) where
       by true t e later = (
         suc steps,
         omega arith,
-        subst (ReachedIn files.tree (suc steps))
-            (sym (eqb-true q directory t)) r,
+        subst (ReachedIn files.tree (suc steps)) (sym (eqb-true q directory t)) r,
       )
       by false t e later = more (later e)
 
   distinct_up : (steps directory : ℕ) → ReachedIn files.tree steps directory
       → Distinct (chain steps (named_parent nat_eq files.tree) directory)
   distinct_up zero directory r = (refl, tt)
-  distinct_up (suc steps) directory r =
-      subst Distinct (sym (up_from steps steps directory r)) (
-        not_above (list_any (nat_eq directory)
-            (chain steps (named_parent nat_eq files.tree) r.0)) refl,
-        distinct_up steps r.0 r.2,
-      )
+  distinct_up (suc steps) directory r = subst Distinct (sym (up_from steps steps directory r)) (
+    not_above (list_any (nat_eq directory) (chain steps (named_parent nat_eq files.tree) r.0)) refl,
+    distinct_up steps r.0 r.2,
+  )
     where
       not_above : (b : Bool) → list_any (nat_eq directory) (chain steps (named_parent nat_eq files.tree) r.0) ≡ b
           → list_any (nat_eq directory) (chain steps (named_parent nat_eq files.tree) r.0) ≡ false
@@ -182,8 +141,7 @@ module _ (files : FileTree ℕ) (tree : IsTree files.tree) where
   depth_below numbers steps directory r =
       let counted = length_up steps directory r in
       let bounded = no_longer (chain steps (named_parent nat_eq files.tree) directory) files.numbers
-      (distinct_up steps directory r)
-      (λ q e. is_listed q (all_above steps directory r q e)) in
+      (distinct_up steps directory r) (λ q e. is_listed q (all_above steps directory r q e)) in
       omega arith
     where
       is_listed : (q : ℕ) → IsAbove steps q → list_any (nat_eq q) files.numbers ≡ true

@@ -1,10 +1,9 @@
 -- A change of an overlay writes to new inodes and to objects of the upper layer alone.
-use Rattle.std.proofs.Common.{arith}
+use Rattle.std.proofs.Common.{arith, ◌≡◌, ◌≢◌, refl, sym, ap, subst, ◌∙◌, true≢false, ℕ, ◌+◌, ◌*◌, nat_eq, ne_eqb, Bool, true, false, cond, List, Option, Some, None, is_some}
 use Rattle.std.proofs.lemmas.Grind.{common_steps}
-use Rattle.std.proofs.Common.{◌≡◌, ◌≢◌, refl, sym, ap, subst, ◌∙◌, true≢false, ℕ, ◌+◌, ◌*◌, nat_eq, ne_eqb, Bool, true, false, cond, List, Option, Some, None, is_some}
-use Rattle.vt_spec.specs.Language.Changes.{Change, changed_node, node_with_attr, node_with_mark, node_with_parent, node_without_entries, node_without_entry, with_inode, with_moved, with_name, without_name, without_parent}
+use Rattle.vt_spec.specs.Language.Changes.{Change, changed_node, node_with_attr, node_with_mark, node_with_parent, node_without_entries, with_inode, with_moved, without_name}
 use Rattle.vt_spec.specs.Language.Changes.Change.{AddName, CopyUp, Make, Move, Remove, SetAttr, SetBytes, SetMark}
-use Rattle.vt_spec.specs.Machine.CopyUp.{Merge, Stack, changed_both, copied_up, hides_directory, merge_changed, merge_with_link, merge_with_moved, merge_with_new, merge_without_name, name_left_by, shown_in_lowers_at, upper_directory_named, upper_of, whiteout_of, with_mark, without_contents}
+use Rattle.vt_spec.specs.Machine.CopyUp.{Merge, Stack, changed_both, copied_up, hides_directory, merge_changed, merge_with_link, merge_with_moved, merge_with_new, merge_without_name, name_left_by, shown_in_lowers_at, upper_directory_named, upper_of, with_mark, without_contents}
 use Rattle.vt_spec.specs.FileTree.{FileTree, a_name}
 use Rattle.vt_spec.specs.Lists.{Fresh, evens, odds}
 use Rattle.vt_spec.specs.Machine.World.{Real}
@@ -31,11 +30,8 @@ module _ (inode : ℕ) where
       (name : List ℕ) → nat_eq inode (fresh 0) ≡ false → nat_eq inode directory ≡ false
       → (name_left_by nat_eq hidden fresh stack upper directory name).tree.node inode ≡ upper.tree.node inode
   left_elsewhere true fresh stack upper directory name new e =
-      kept_elsewhere (with_inode nat_eq upper (fresh 0) (whiteout_of stack.mounter)) directory
-      (node_with_entry name (fresh 0)) inode e
-      ∙ inode_elsewhere upper (fresh 0) (whiteout_of stack.mounter) new
-  left_elsewhere false fresh stack upper directory name new e =
-      kept_elsewhere upper directory (node_without_entry name) inode e
+      grind (arith, common_steps, kept_elsewhere, inode_elsewhere)
+  left_elsewhere false fresh stack upper directory name new e = grind (arith, common_steps, kept_elsewhere)
 
   emptied_elsewhere : (upper : FileTree ℕ) (object : Option ℕ)
       → ((number : ℕ) → object ≡ Some number → nat_eq inode number ≡ false)
@@ -43,26 +39,14 @@ module _ (inode : ℕ) where
   emptied_elsewhere upper None e = refl
   emptied_elsewhere upper (Some object) e =
       kept_elsewhere (changed_node nat_eq upper object node_without_entries) object (node_with_parent object) inode
-      (e object refl)
-      ∙ kept_elsewhere upper object node_without_entries inode (e object refl)
+      (e object refl) ∙ kept_elsewhere upper object node_without_entries inode (e object refl)
 
   -- a move of another object between other directories, not over the inode
   moved_elsewhere : (files : FileTree ℕ) (from : ℕ) (old : List ℕ) (to : ℕ) (name : List ℕ) (object : ℕ)
-      → nat_eq inode from ≡ false
-      → nat_eq inode to ≡ false → nat_eq inode object ≡ false
+      → nat_eq inode from ≡ false → nat_eq inode to ≡ false → nat_eq inode object ≡ false
       → entry_named name (entries_in (files.tree.node to)) ≢ Some inode
       → (with_moved nat_eq files from old to name object).tree.node inode ≡ files.tree.node inode
-  moved_elsewhere files from old to name object f t o spared =
-      let freed = without_parent nat_eq files (entry_named name (entries_in (files.tree.node to))) in let left =
-      without_name nat_eq freed from old in grind (
-        arith,
-        common_steps,
-        kept_elsewhere (with_name nat_eq left to name
-            object) object (node_with_parent to) inode o,
-        kept_elsewhere left to (node_with_entry name object) inode t,
-        kept_elsewhere freed from (node_without_entry old) inode f,
-        kept_elsewhere,
-      )
+  moved_elsewhere files from old to name object f t o spared = grind (arith, common_steps, kept_elsewhere)
 
 module _ (files : FileTree ℕ) (tree : IsTree files.tree) (numbers : ListsNumbers nat_eq files) (inode : ℕ)
     (node : Option (Node ℕ)) where
@@ -84,21 +68,13 @@ module _ (files : FileTree ℕ) (tree : IsTree files.tree) (numbers : ListsNumbe
         → (merge_with_new nat_eq fresh stack (With real upper) directory name number object).upper.tree.node inode
         ≡ node
     made_keeps directory name number object has =
-        marked_elsewhere inode (hides_directory nat_eq stack (With real upper) directory name) _ (fresh 0)
-        (ne_eqb inode (fresh 0) (new 0))
-        ∙ kept_elsewhere (with_inode nat_eq upper (fresh 0) _) (upper_of (With real upper) directory)
-        (node_with_entry name (fresh 0)) inode
-        (upper_differs files tree numbers inode node real upper fine directory has)
-        ∙ inode_elsewhere inode upper (fresh 0) _ (ne_eqb inode (fresh 0) (new 0))
-        ∙ fine.here
+        grind (arith, common_steps, marked_elsewhere, ne_eqb, kept_elsewhere, upper_differs, inode_elsewhere)
 
     linked_keeps : (directory : ℕ) (name : List ℕ) (object : ℕ) → HasUpper real directory
         → (merge_with_link nat_eq (With real upper) directory name object).upper.tree.node inode ≡ node
-    linked_keeps directory name object has =
-        kept_elsewhere upper (upper_of (With real upper) directory)
+    linked_keeps directory name object has = kept_elsewhere upper (upper_of (With real upper) directory)
         (node_with_entry name (upper_of (With real upper) object)) inode
-        (upper_differs files tree numbers inode node real upper fine directory has)
-        ∙ fine.here
+        (upper_differs files tree numbers inode node real upper fine directory has) ∙ fine.here
 
     removed_keeps : (directory : ℕ) (name : List ℕ) (object : ℕ) → HasUpper real directory
         → (merge_without_name nat_eq fresh stack (With real upper) directory name object).upper.tree.node inode ≡ node
@@ -106,8 +82,7 @@ module _ (files : FileTree ℕ) (tree : IsTree files.tree) (numbers : ListsNumbe
         emptied_elsewhere inode _ (upper_directory_named (With real upper) directory name)
         (replaced_differs real upper fine directory name)
         ∙ left_elsewhere inode (is_some (shown_in_lowers_at nat_eq stack
-        (With real upper) directory name)) fresh stack upper
-        (upper_of (With real upper) directory) name
+        (With real upper) directory name)) fresh stack upper (upper_of (With real upper) directory) name
         (ne_eqb inode (fresh 0) (new 0)) (upper_differs files tree numbers inode node real upper fine directory has)
         ∙ fine.here
 
@@ -119,8 +94,7 @@ module _ (files : FileTree ℕ) (tree : IsTree files.tree) (numbers : ListsNumbe
         let from_differs = upper_differs files tree numbers inode node real upper fine from f in
         let away = with_moved nat_eq freed (upper_of (With real upper) from) old (upper_of (With real upper) to) name
         (upper_of (With real upper) object) in
-        kept_both node (freed.tree.node inode) _
-        (kept_same node (freed.tree.node inode)
+        kept_both node (freed.tree.node inode) _ (kept_same node (freed.tree.node inode)
         (emptied_elsewhere inode upper (upper_directory_named (With real upper) to name)
         (replaced_differs real upper fine to name) ∙ fine.here))
         (kept_both (freed.tree.node inode) (away.tree.node inode) _
@@ -129,16 +103,13 @@ module _ (files : FileTree ℕ) (tree : IsTree files.tree) (numbers : ListsNumbe
         from_differs (upper_differs files tree numbers inode node real upper fine to t))
         (kept_same (away.tree.node inode) _
         (marked_elsewhere inode (hides_directory nat_eq stack (With real upper) to name) _
-        (upper_of (With real upper) object)
-        (upper_differs files tree numbers inode node real upper fine object o)
+        (upper_of (With real upper) object) (upper_differs files tree numbers inode node real upper fine object o)
         ∙ left_elsewhere inode (is_some (shown_in_lowers_at nat_eq stack (With real upper) from old)) fresh stack away
-        (upper_of (With real upper) from) old
-        (ne_eqb inode (fresh 0) (new 0)) from_differs)))
+        (upper_of (With real upper) from) old (ne_eqb inode (fresh 0) (new 0)) from_differs)))
 
     -- nothing of it changes, its parent neither, where it is not what the new name had
     pub moved_leaves : (from : ℕ) (old : List ℕ) (to : ℕ) (name : List ℕ) (object : ℕ) → HasUpper real from
-        → HasUpper real to → HasUpper real object
-        → entry_named name (entries_in
+        → HasUpper real to → HasUpper real object → entry_named name (entries_in
         ((without_contents nat_eq upper (upper_directory_named (With real upper) to name)).tree.node
         (upper_of (With real upper) to))) ≢ Some inode
         → (merge_with_moved nat_eq fresh stack (With real upper) from old to name object).upper.tree.node inode ≡ node
@@ -151,19 +122,16 @@ module _ (files : FileTree ℕ) (tree : IsTree files.tree) (numbers : ListsNumbe
         marked_elsewhere inode (hides_directory nat_eq stack (With real upper) to name) _
         (upper_of (With real upper) object) object_differs
         ∙ left_elsewhere inode (is_some (shown_in_lowers_at nat_eq stack (With real upper) from old)) fresh stack away
-        (upper_of (With real upper) from) old
-        (ne_eqb inode (fresh 0) (new 0)) from_differs
+        (upper_of (With real upper) from) old (ne_eqb inode (fresh 0) (new 0)) from_differs
         ∙ moved_elsewhere inode freed (upper_of (With real upper) from) old (upper_of (With real upper) to) name
         (upper_of (With real upper) object)
         from_differs (upper_differs files tree numbers inode node real upper fine to t) object_differs spared
         ∙ emptied_elsewhere inode upper (upper_directory_named (With real upper) to name)
-        (replaced_differs real upper fine to name)
-        ∙ fine.here
+        (replaced_differs real upper fine to name) ∙ fine.here
 
     changed_both_keeps : (object : ℕ) (change : Option (Node ℕ) → Option (Node ℕ)) → HasUpper real object
         → (changed_both nat_eq (With real upper) object change).upper.tree.node inode ≡ node
-    changed_both_keeps object change has =
-        kept_elsewhere upper (upper_of (With real upper) object) change inode
+    changed_both_keeps object change has = kept_elsewhere upper (upper_of (With real upper) object) change inode
         (upper_differs files tree numbers inode node real upper fine object has) ∙ fine.here
 
   -- each change, after what it asks to be copied was copied
@@ -171,8 +139,7 @@ module _ (files : FileTree ℕ) (tree : IsTree files.tree) (numbers : ListsNumbe
       (upper : FileTree ℕ) (fine : Apart real upper)
       (Kept : Option (Node ℕ) → Type 0) (same : (o : Option (Node ℕ)) → o ≡ node → Kept o) (change_made : Change ℕ)
       (moves : (from : ℕ) (old : List ℕ) (to : ℕ) (name : List ℕ) (object : ℕ)
-      → Move from old to name object ≡ change_made
-      → (moved_real : ℕ → Option (Real ℕ)) (moved_upper : FileTree ℕ)
+      → Move from old to name object ≡ change_made → (moved_real : ℕ → Option (Real ℕ)) (moved_upper : FileTree ℕ)
       → copied_up nat_eq (evens (odds fresh)) (copied_up nat_eq (evens fresh) (With real upper) object) to
       ≡ With moved_real moved_upper
       → Apart moved_real moved_upper → HasUpper moved_real from → HasUpper moved_real to → HasUpper moved_real object
@@ -206,8 +173,7 @@ module _ (files : FileTree ℕ) (tree : IsTree files.tree) (numbers : ListsNumbe
         let copied = (up_arrives files tree numbers inode node (odds fresh)
         (λ k. new (2 * k + 1)) first.real first.upper first.fine directory there.0).arrives in
         subst (λ m. After (merge_with_link nat_eq (copied_up nat_eq (odds fresh) m directory) directory name object))
-        (sym first.is)
-        (subst (λ m. After (merge_with_link nat_eq m directory name object)) (sym copied.is)
+        (sym first.is) (subst (λ m. After (merge_with_link nat_eq m directory name object)) (sym copied.is)
         (same _ (linked_keeps fresh new stack copied.real copied.upper copied.fine directory name object
         copied.copied)))
     each_keeps (Remove directory name object) is there from_too =
@@ -225,8 +191,7 @@ module _ (files : FileTree ℕ) (tree : IsTree files.tree) (numbers : ListsNumbe
         subst (λ m. After (merge_with_moved nat_eq (odds (odds fresh)) stack
         (copied_up nat_eq (evens (odds fresh)) m to) from old to name object)) (sym first.is)
         (subst (λ m. After (merge_with_moved nat_eq (odds (odds fresh)) stack m from old to name object))
-        (sym copied.is)
-        (moves from old to name object is copied.real copied.upper
+        (sym copied.is) (moves from old to name object is copied.real copied.upper
         (ap (λ m. copied_up nat_eq (evens (odds fresh)) m to) first.is ∙ copied.is) copied.fine
         (copied.grows from (from_too from old object there.0 first.real first.grows first.copied both.parent))
         copied.copied (copied.grows object first.copied)))

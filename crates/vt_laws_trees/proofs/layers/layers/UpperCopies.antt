@@ -103,8 +103,7 @@ module _ (files : FileTree ℕ) (tree : IsTree files.tree) (numbers : ListsNumbe
       (reverse (chain most (named_parent nat_eq files.tree) directory))) directory
   line_arrives fresh new k real upper fine zero most directory r h =
       subst (λ list. Arrives real (copied_each nat_eq fresh k (MergeOf real upper) (reverse list)) directory)
-      (sym (up_at_root files tree most directory r))
-      (copy_arrives real upper fine directory (fresh k) (new k)
+      (sym (up_at_root files tree most directory r)) (copy_arrives real upper fine directory (fresh k) (new k)
       (directory_used files.tree directory (reached_directory files tree zero directory r))
       (λ name e. absurd (tree.root_unnamed name.0 name.1 (named_so files tree directory name e ∙ ap Some r))))
   line_arrives fresh new k real upper fine (suc steps) zero directory r h = absurd (let no : ⊥ = omega arith in no)
@@ -120,8 +119,7 @@ module _ (files : FileTree ℕ) (tree : IsTree files.tree) (numbers : ListsNumbe
       (line_arrives fresh new k real upper fine steps most r.0 r.2 (omega arith))
       (directory_used files.tree directory r.4)
       (λ name e. sym (tree.one_parent name.0 name.1 directory (named_so files tree directory name e) r.4)
-      ∙ tree.one_parent r.0 r.1 directory r.3 r.4)
-      last.0).arrives)
+      ∙ tree.one_parent r.0 r.1 directory r.3 r.4) last.0).arrives)
 
   -- An object is copied, and so is the directory that has a name of it.
   pub record ArrivesWithParent (before : ℕ → Option (Real ℕ)) (merge : Merge ℕ) (object : ℕ) : Type 0 where
@@ -148,10 +146,8 @@ module _ (files : FileTree ℕ) (tree : IsTree files.tree) (numbers : ListsNumbe
           let both = then_copied fresh new real
           (copied_each nat_eq fresh 0 (MergeOf real upper) (directories_to nat_eq files name.0)) name.0 object
           (line_arrives fresh new 0 real upper fine reached.0 (length files.numbers) name.0 reached.1
-          (depth_bound files tree numbers reached.0 name.0 reached.1))
-          there
-          (λ other is. ap (λ n. n.0) (same_Some other name (sym is ∙ e)))
-          last.0 in
+          (depth_bound files tree numbers reached.0 name.0 reached.1)) there
+          (λ other is. ap (λ n. n.0) (same_Some other name (sym is ∙ e))) last.0 in
           subst (λ m. ArrivesWithParent real m object) (sym last.1) (record {
             arrives = both.arrives;
             parent = λ other is. subst (HasUpper both.arrives.real)

@@ -1,7 +1,6 @@
 -- Each overlay of a world is fit to change.
-use Rattle.std.proofs.Common.{arith}
+use Rattle.std.proofs.Common.{arith, ◌≡◌, refl, sym, ap, ◌∙◌, true≢false, ℕ, nat_eq, List, Option, Some, None, is_some}
 use Rattle.std.proofs.lemmas.Grind.{common_steps}
-use Rattle.std.proofs.Common.{◌≡◌, refl, sym, ap, ◌∙◌, true≢false, ℕ, nat_eq, List, Option, Some, None, is_some}
 use Rattle.vt_spec.specs.Machine.Filesystems.{merge_of}
 use Rattle.vt_spec.specs.Machine.Layers.{OpenLayer}
 use Rattle.vt_spec.specs.Lists.{Fresh, holds_of}
@@ -42,16 +41,15 @@ module _ (world : World ℕ) (conditions : IsWorld nat_eq world) (number : ℕ) 
       → upper_object (overlay.real inode) ≡ Some object
       → is_directory_node ((filesystem_numbered nat_eq world upper.filesystem).files.tree.node object)
       ≡ is_directory_node (merged.files.tree.node inode)
-  kinds path inode object e h =
-      grind (
-        arith,
-        common_steps,
-        real_named world conditions number overlay is upper has path inode e,
-        top,
-        overlay_merges world conditions number overlay is,
-        same_directory,
-        none_is_some,
-      )
+  kinds path inode object e h = grind (
+    arith,
+    common_steps,
+    real_named world conditions number overlay is upper has path inode e,
+    top,
+    overlay_merges world conditions number overlay is,
+    same_directory,
+    none_is_some,
+  )
 
   pub overlay_is_fit : (fresh : Fresh ℕ) → ((j k : ℕ) → fresh j ≡ fresh k → j ≡ k)
       → ((k : ℕ) → inode_in world upper.filesystem (fresh k) ≡ None)
@@ -71,8 +69,7 @@ module _ (world : World ℕ) (conditions : IsWorld nat_eq world) (number : ℕ) 
     unused = λ k inode e.
         true≢false (sym (ap (holds_of (λ layer. is_there nat_eq world layer.filesystem (fresh k))) (sym has)
         ∙ (overlay_merges world conditions number overlay is).upper_there inode (fresh k)
-        (upper_is (overlay.real inode) (fresh k) e))
-        ∙ ap is_some (vacant k));
+        (upper_is (overlay.real inode) (fresh k) e)) ∙ ap is_some (vacant k));
     distinct = distinct;
   }
 

@@ -1,7 +1,6 @@
 -- The directories from the root down to one.
-use Rattle.std.proofs.Common.{arith}
+use Rattle.std.proofs.Common.{arith, ◌≡◌, ◌≢◌, refl, sym, ap, subst, ◌∙◌, true≢false, ℕ, zero, suc, nat_eq, Bool, true, false, List, [], ◌∷◌, Option, Some, None, option_and_then, ⊎_elim}
 use Rattle.std.proofs.lemmas.Grind.{common_steps}
-use Rattle.std.proofs.Common.{◌≡◌, ◌≢◌, refl, sym, ap, subst, ◌∙◌, true≢false, ℕ, zero, suc, nat_eq, Bool, true, false, List, [], ◌∷◌, Option, Some, None, option_and_then, ⊎_elim}
 use Rattle.std.proofs.lemmas.Bool.Decides.{eqb_tells}
 use Rattle.std.specs.List.{find, filter_map}
 use Rattle.std.specs.Prelude.{option_map}
@@ -30,8 +29,7 @@ named_so files tree object name e = searched files.numbers e
     searched : (numbers : List ℕ) → first_of_list (filter_map (name_in nat_eq files object) numbers) ≡ Some name
         → entry_at files.tree name.0 name.1 ≡ Some object
     searched [] e = none_is_some name e
-    searched (directory ∷ numbers) e =
-        by (name_in nat_eq files object directory) refl e (searched numbers)
+    searched (directory ∷ numbers) e = by (name_in nat_eq files object directory) refl e (searched numbers)
       where
         by : (o : Option (ℕ × List ℕ)) → name_in nat_eq files object directory ≡ o
             → first_of_list (Rattle.std.specs.List.cons_option o (filter_map (name_in nat_eq files object) numbers))
@@ -85,9 +83,7 @@ module _ (files : FileTree ℕ) (tree : IsTree files.tree) where
   -- a directory that has a name, or an entry, is reached
   pub is_reached_in : (directory : ℕ) (name : List ℕ) (object : ℕ) → entry_at files.tree directory name ≡ Some object
       → (steps : ℕ) × ReachedIn files.tree steps directory
-  is_reached_in directory name object e =
-      ⊎_elim
-      (λ t. (0, t.1))
+  is_reached_in directory name object e = ⊎_elim (λ t. (0, t.1))
       (λ t. by t.1 (has_entry_to nat_eq files.tree (parent_in directory (files.tree.node directory)) directory) refl)
       (eqb_tells directory files.tree.root)
     where
@@ -105,8 +101,7 @@ module _ (files : FileTree ℕ) (tree : IsTree files.tree) where
       by other true h =
           let named = entry_from files.tree tree (parent_in directory (files.tree.node directory)) directory h in
           from_root (parent_in directory (files.tree.node directory), named.0, named.1)
-      by other false h =
-          none_is_some object (sym (ap (entry_named name) (tree.unnamed_empty directory is other
+      by other false h = none_is_some object (sym (ap (entry_named name) (tree.unnamed_empty directory is other
           (λ named. true≢false (sym (ap (λ p. has_entry_to nat_eq files.tree p directory)
           (tree.one_parent named.0 named.1 directory named.2 is)
           ∙ entry_to files.tree named.0 named.1 directory named.2) ∙ h)))) ∙ e)

@@ -1,8 +1,7 @@
 -- In an overlay whose tree is what its layers show: the root has an object in the upper layer, and so has each
 -- directory that has an entry for an upper object; what lies below has one name.
-use Rattle.std.proofs.Common.{arith}
+use Rattle.std.proofs.Common.{arith, ◌≡◌, refl, sym, ap, ◌∙◌, true≢false, ℕ, zero, suc, nat_eq, eqb-true, Bool, true, false, cond, ◌||◌, List, [], ◌∷◌, ◌++◌, map, Option, Some, None, is_some, option_and_then}
 use Rattle.std.proofs.lemmas.Grind.{common_steps}
-use Rattle.std.proofs.Common.{◌≡◌, refl, sym, ap, ◌∙◌, true≢false, ℕ, zero, suc, nat_eq, eqb-true, Bool, true, false, cond, not, ◌||◌, List, [], ◌∷◌, ◌++◌, map, Option, Some, None, is_some, option_and_then}
 use Rattle.std.specs.List.{cons_option, filter_map, find, list_any}
 use Rattle.std.specs.Prelude.{option_map}
 use Rattle.vt_spec.specs.FileTree.{FileTree, a_name, name_in}
@@ -41,8 +40,7 @@ without_last_of_longer (first ∷ second ∷ path) name = ap (λ p. first ∷ p)
 -- an object with an entry that leads to it has a name
 pub has_a_name : (files : FileTree ℕ) → ListsNumbers nat_eq files → (directory : ℕ) (name : List ℕ) (object : ℕ)
     → entry_at files.tree directory name ≡ Some object → is_some (a_name nat_eq files object) ≡ true
-has_a_name files numbers directory name object e =
-    searched files.numbers (numbers directory
+has_a_name files numbers directory name object e = searched files.numbers (numbers directory
     ∙ directory_used files.tree directory (has_entries files.tree directory name object e))
   where
     found : (entries : Entries ℕ) → list_any (nat_eq object) (map (λ entry. entry.1) entries) ≡ true
@@ -79,17 +77,7 @@ has_a_name files numbers directory name object e =
     searched : (list : List ℕ) → list_any (nat_eq directory) list ≡ true
         → is_some (first_of_list (filter_map (name_in nat_eq files object) list)) ≡ true
     searched [] e = absurd (true≢false (sym e))
-    searched (number ∷ list) e = by (nat_eq directory number) refl e (searched list)
-      where
-        by : (b : Bool) → nat_eq directory number ≡ b → (b || list_any (nat_eq directory) list) ≡ true
-            → (list_any (nat_eq directory) list ≡ true
-            → is_some (first_of_list (filter_map (name_in nat_eq files object) list)) ≡ true)
-            → is_some (first_of_list (cons_option (name_in nat_eq files object number)
-            (filter_map (name_in nat_eq files object) list))) ≡ true
-        by true t e rest = first (name_in nat_eq files object number) (filter_map (name_in nat_eq files object) list)
-            (ap (λ n. is_some (name_in nat_eq files object n)) (sym (eqb-true directory number t)) ∙ here)
-        by false t e rest = later (name_in nat_eq files object number) (filter_map (name_in nat_eq files object) list)
-            (rest e)
+    searched (number ∷ list) e = grind (arith, common_steps, first, eqb-true, here, later, searched list)
 
 -- Layers with an upper one on top
 module _ (top : OpenLayer ℕ) (lower : List (OpenLayer ℕ)) where
@@ -99,14 +87,7 @@ module _ (top : OpenLayer ℕ) (lower : List (OpenLayer ℕ)) where
   -- a directory of the upper layer is shown
   pub upper_is_real : (path : List (List ℕ)) (directory : ℕ) → at_path top path ≡ Some directory
       → IsDirectory top.tree directory → real_at path ≡ Some (Upper directory)
-  upper_is_real path directory e d =
-      ap (λ o. option_map (λ object. real_object true object.seen.layer object)
-      (option_map (λ seen. record { path = path; seen = seen }) o))
-      (ap (λ o. Rattle.vt_spec.proofs.Layers.shown_over top 0 o
-      (Rattle.vt_spec.proofs.Layers.cuts top path)
-      (Rattle.vt_spec.proofs.Layers.shown_from 1 lower path)) e
-      ∙ ap (λ b. Rattle.vt_spec.specs.Lists.when (not b) (record { layer = 0; object = directory }))
-      (directory_no_whiteout (top.tree.node directory) d))
+  upper_is_real path directory e d = grind (arith, common_steps, directory_no_whiteout)
 
   -- what the upper layer shows at a path with one name more is in a directory of the upper layer
   pub real_is_upper : (path : List (List ℕ)) (name : List ℕ)
@@ -117,20 +98,14 @@ module _ (top : OpenLayer ℕ) (lower : List (OpenLayer ℕ)) where
           → option_and_then (λ directory. entry_at top.tree directory name) o ≡ Some object
           → is_some (upper_object (real_at path)) ≡ true
       in_upper None e object has = none_is_some object has
-      in_upper (Some directory) e object has =
-          ap (λ o. is_some (upper_object o))
+      in_upper (Some directory) e object has = ap (λ o. is_some (upper_object o))
           (upper_is_real path directory e (has_entries top.tree directory name object has))
 
       seen_by : (layer object : ℕ) → IsShown (top ∷ lower) (path ++ name ∷ [])
-          (record { layer = layer; object = object })
-          → is_some (upper_object (Some (real_object true layer
+          (record { layer = layer; object = object }) → is_some (upper_object (Some (real_object true layer
           (record { path = path ++ name ∷ []; seen = record { layer = layer; object = object } })))) ≡ true
           → is_some (upper_object (real_at path)) ≡ true
-      seen_by zero object is h =
-          in_upper (at_path top path) refl object
-          (sym (last_name top.tree top.directory path name)
-          ∙ ap (λ l. at_path l (path ++ name ∷ [])) (same_Some top is.has_uncut.0.0 is.has_uncut.0.1)
-          ∙ is.has_uncut.0.2)
+      seen_by zero object is h = grind (arith, common_steps, in_upper, last_name, same_Some)
       seen_by (suc layer) object is h = absurd (true≢false (sym h))
 
       by : (o : Option (Shown ℕ)) → shown (top ∷ lower) (path ++ name ∷ []) ≡ o

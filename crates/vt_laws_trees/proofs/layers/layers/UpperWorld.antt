@@ -3,20 +3,18 @@
 use Rattle.std.proofs.lemmas.Grind.{common_steps}
 use Rattle.std.proofs.Common.{◌≡◌, ◌≢◌, ◌<◌, All, refl, sym, ap, subst, ◌∙◌, true≢false, arith, ℕ, suc, nat_eq, Bool, true, false, cond, not, ◌&&◌, List, [], ◌∷◌, ◌++◌, map, length, Option, Some, None, is_some}
 use Rattle.std.specs.List.{find, list_all}
-use Rattle.std.specs.Prelude.{nat_le, option_to_list}
+use Rattle.std.specs.Prelude.{option_to_list}
 use Rattle.vt_spec.specs.Language.Changes.{Change}
 use Rattle.vt_spec.specs.Machine.CopyUp.{Merge, merge_changed}
 use Rattle.vt_spec.specs.FileTree.{FileTree, a_name}
 use Rattle.vt_spec.specs.Machine.Filesystems.{filesystem_changed, merge_of, overlay_changed, stack_of, with_change, with_files, with_merge}
 use Rattle.vt_spec.specs.Machine.Layers.{OpenLayer, shown}
-use Rattle.vt_spec.specs.Lists.{Fresh, without_last, is_empty_list}
+use Rattle.vt_spec.specs.Lists.{Fresh, without_last}
 use Rattle.vt_spec.specs.Machine.Locked.{of_overlay, overlay_or}
 use Rattle.vt_spec.specs.Machine.Merging.{merged_at, real_object}
 use Rattle.vt_spec.specs.Machine.Mounts.{Location}
-use Rattle.vt_spec.specs.Language.Limits.{most_lowers}
-use Rattle.vt_spec.specs.Machine.Policy.{same_bool}
 use Rattle.vt_spec.specs.Machine.World.{Filesystem, Layer, Overlay, Real, World, filesystem_at, filesystem_numbered, files_at, is_overlay, layers_of, mount_at, open_layer, upper_object, with_filesystem}
-use Rattle.vt_spec.specs.Machine.Invariants.{IsMerged, IsWorld, ListsNumbers, has_fit_layers, is_plain_layer, number_at_path}
+use Rattle.vt_spec.specs.Machine.Invariants.{IsMerged, IsWorld, ListsNumbers, is_plain_layer, number_at_path}
 use Rattle.vt_spec.specs.Tree.{Node, is_directory_node}
 use Rattle.vt_spec.specs.TreeInvariant.{IsTree, entry_at, led}
 use Rattle.vt_spec.proofs.Trees.{led-append}
@@ -38,8 +36,7 @@ use Rattle.vt_laws_trees.specs.Trees.Settling.{inode_in}
 pub all_found : (P : Filesystem ℕ → Type 0) (test : Filesystem ℕ → Bool) (list : List (Filesystem ℕ)) → All P list
     → (filesystem : Filesystem ℕ) → find test list ≡ Some filesystem → P filesystem
 all_found P test [] all filesystem e = none_is_some filesystem e
-all_found P test (first ∷ list) all filesystem e =
-    by (test first) e (all_found P test list
+all_found P test (first ∷ list) all filesystem e = by (test first) e (all_found P test list
     (λ k d h. all (suc k) d (let l : suc k < suc (length list) = omega arith in l)) filesystem)
   where
     by : (b : Bool) → cond b (Some first) (find test list) ≡ Some filesystem
@@ -51,13 +48,12 @@ all_found P test (first ∷ list) all filesystem e =
 all_pass_found : (passes test : Filesystem ℕ → Bool) (list : List (Filesystem ℕ)) → list_all passes list ≡ true
     → (filesystem : Filesystem ℕ) → find test list ≡ Some filesystem → passes filesystem ≡ true
 all_pass_found passes test [] all filesystem e = none_is_some filesystem e
-all_pass_found passes test (first ∷ list) all filesystem e =
-    grind (
-      arith,
-      common_steps,
-      all_pass_found passes test list (and_true_right (passes first) _ all) filesystem,
-      and_true_left,
-    )
+all_pass_found passes test (first ∷ list) all filesystem e = grind (
+  arith,
+  common_steps,
+  all_pass_found passes test list (and_true_right (passes first) _ all) filesystem,
+  and_true_left,
+)
 
 -- an overlay is there
 pub overlay_found : (world : World ℕ) (number : ℕ) (overlay : Overlay ℕ)
@@ -88,63 +84,33 @@ module _ (world : World ℕ) (conditions : IsWorld nat_eq world) (number : ℕ) 
   overlay_merges = conditions.overlays.overlays_merge number overlay is
 
   plain_layers : list_all (is_plain_layer nat_eq world) (layers_of overlay) ≡ true
-  plain_layers =
-      sym (ap (overlay_or true (λ o. list_all (is_plain_layer nat_eq world) (layers_of o))) is)
+  plain_layers = sym (ap (overlay_or true (λ o. list_all (is_plain_layer nat_eq world) (layers_of o))) is)
       ∙ all_pass_found (of_overlay true (λ o. list_all (is_plain_layer nat_eq world) (layers_of o)))
       (λ filesystem. nat_eq number filesystem.number) world.filesystems conditions.overlays.plain_layers merged
       (overlay_found world number overlay is)
 
   -- its layers may be mounted
   pub overlay_layers : AreLayers world overlay
-  overlay_layers = (
-    some_lower (option_to_list overlay.upper) overlay.lowers has_lowers,
-    without_middle
-        (option_to_list overlay.upper) (option_to_list overlay.work) overlay.lowers plain_layers,
+  overlay_layers = grind (
+    arith,
+    common_steps,
+    plain_layers,
+    and_true_left,
+    all_pass_found,
+    overlay_found,
+    true≢false,
+    and_true_right,
   )
-    where
-      has_lowers : not (is_empty_list overlay.lowers) ≡ true
-      has_lowers =
-          and_true_left (not (is_empty_list overlay.lowers)) (nat_le (length overlay.lowers) most_lowers)
-          (and_true_left (not (is_empty_list overlay.lowers) && nat_le (length overlay.lowers) most_lowers)
-          (same_bool (is_some overlay.upper) (is_some overlay.work))
-          (sym (ap (overlay_or true has_fit_layers) is)
-          ∙ all_pass_found (of_overlay true has_fit_layers)
-          (λ filesystem. nat_eq number filesystem.number) world.filesystems conditions.overlays.fit_layers merged
-          (overlay_found world number overlay is)))
-
-      some_lower : (above lowers : List (Layer ℕ)) → not (is_empty_list lowers) ≡ true → above ++ lowers ≢ []
-      some_lower [] [] e none = true≢false (sym e)
-      some_lower [] (layer ∷ lowers) e none = absurd cc
-      some_lower (layer ∷ above) lowers e none = absurd cc
-
-      without_middle : (first middle last : List (Layer ℕ))
-          → list_all (is_plain_layer nat_eq world) (first ++ middle ++ last) ≡ true
-          → list_all (is_plain_layer nat_eq world) (first ++ last) ≡ true
-      without_middle [] [] last e = e
-      without_middle [] (layer ∷ middle) last e =
-          without_middle [] middle last (and_true_right (is_plain_layer nat_eq world layer) _ e)
-      without_middle (layer ∷ first) middle last e =
-          let plain = and_true_left (is_plain_layer nat_eq world layer) _ e in
-          ap (λ b. b && list_all (is_plain_layer nat_eq world) (first ++ last)) plain
-          ∙ without_middle first middle last (and_true_right (is_plain_layer nat_eq world layer) _ e)
 
   module _ (upper : Layer ℕ) (has : overlay.upper ≡ Some upper) where
     plain_upper : is_plain_layer nat_eq world upper ≡ true
-    plain_upper =
-        and_true_left (is_plain_layer nat_eq world upper) _
+    plain_upper = and_true_left (is_plain_layer nat_eq world upper) _
         (sym (ap (λ o. list_all (is_plain_layer nat_eq world)
         (option_to_list o ++ option_to_list overlay.work ++ overlay.lowers)) has) ∙ plain_layers)
 
     -- the upper layer is in another filesystem
     pub upper_elsewhere : upper.filesystem ≢ number
-    upper_elsewhere e =
-        grind (
-          arith,
-          common_steps,
-          and_true_left (not (is_overlay (filesystem_numbered nat_eq world
-              upper.filesystem))) _ plain_upper,
-          true≢false,
-        )
+    upper_elsewhere e = grind (arith, common_steps, and_true_left, plain_upper, true≢false)
 
     upper_directory : is_directory_node
         ((filesystem_numbered nat_eq world upper.filesystem).files.tree.node upper.directory) ≡ true
@@ -160,14 +126,12 @@ module _ (world : World ℕ) (conditions : IsWorld nat_eq world) (number : ℕ) 
     -- the real object of what names lead to is the one that is shown there
     pub real_named : (path : List (List ℕ)) (object : ℕ) → number_at_path files path ≡ Some object
         → overlay.real object ≡ real_at top lower path
-    real_named path object e =
-        overlay_merges.names path object e
+    real_named path object e = overlay_merges.names path object e
         ∙ ap (λ o. Rattle.std.specs.Prelude.option_map (λ m. real_object (is_some o) m.seen.layer m)
         (merged_at (map (open_layer nat_eq world) (option_to_list o ++ overlay.lowers)) path)) has
 
     pub root_is_upper : HasUpper overlay.real files.tree.root
-    root_is_upper =
-        ap (λ o. is_some (upper_object o))
+    root_is_upper = ap (λ o. is_some (upper_object o))
         (real_named [] files.tree.root refl ∙ upper_is_real top lower [] upper.directory refl upper_directory)
 
     -- something is shown where names lead
@@ -181,10 +145,8 @@ module _ (world : World ℕ) (conditions : IsWorld nat_eq world) (number : ℕ) 
     above_upper from old object e h =
         let reached = is_reached_in files overlay_tree from old object e in
         let way = way_to files.tree reached.0 from reached.1 in
-        ap (λ o. is_some (upper_object o)) (real_named way.0 from way.1)
-        ∙ real_is_upper top lower way.0 old
-        (ap (λ o. is_some (upper_object o))
-        (sym (real_named (way.0 ++ old ∷ []) object
+        ap (λ o. is_some (upper_object o)) (real_named way.0 from way.1) ∙ real_is_upper top lower way.0 old
+        (ap (λ o. is_some (upper_object o)) (sym (real_named (way.0 ++ old ∷ []) object
         (led-append files.tree files.tree.root way.0 old from object way.1 e))) ∙ h)
 
     -- what lies only below has one name
@@ -202,24 +164,19 @@ module _ (world : World ℕ) (conditions : IsWorld nat_eq world) (number : ℕ) 
         (shown_there (way.0 ++ old ∷ []) object here (overlay_tree.alive from old object e))
         (ap (λ o. is_some (upper_object o)) (sym (real_named (way.0 ++ old ∷ []) object here)) ∙ low)
         (sym (real_named (way.0 ++ old ∷ []) object here) ∙ real_named (way_other.0 ++ name ∷ []) object there) in
-        same_Some from other
-        (sym way.1 ∙ ap (led files.tree files.tree.root)
-        (sym (without_last_of_longer way.0 old) ∙ ap without_last same ∙ without_last_of_longer way_other.0 name)
-        ∙ way_other.1)
+        grind (arith, common_steps, same_Some, without_last_of_longer)
 
     -- so where an object that has a name is copied, the directory that it leaves is there
     pub from_too : (from : ℕ) (old : List ℕ) (object : ℕ) → entry_at files.tree from old ≡ Some object
         → (later : ℕ → Option (Real ℕ)) → ((n : ℕ) → HasUpper overlay.real n → HasUpper later n)
         → HasUpper later object → ((name : ℕ × List ℕ) → a_name nat_eq files object ≡ Some name
         → HasUpper later name.0) → HasUpper later from
-    from_too from old object e later grows copied parent =
-        by (is_some (upper_object (overlay.real object))) refl
+    from_too from old object e later grows copied parent = by (is_some (upper_object (overlay.real object))) refl
       where
         named : is_some (upper_object (overlay.real object)) ≡ false → (o : Option (ℕ × List ℕ))
             → a_name nat_eq files object ≡ o → is_some o ≡ true → HasUpper later from
         named low None a h = absurd (true≢false (sym h))
-        named low (Some name) a h =
-            subst (HasUpper later) (one_below name.0 from name.1 old object
+        named low (Some name) a h = subst (HasUpper later) (one_below name.0 from name.1 old object
             (named_so files overlay_tree object name a) e low) (parent name a)
 
         by : (b : Bool) → is_some (upper_object (overlay.real object)) ≡ b → HasUpper later from
@@ -237,22 +194,17 @@ module _ (world : World ℕ) (conditions : IsWorld nat_eq world) (number : ℕ) 
 
       merge_keeps : IsKept before ((merge_changed nat_eq fresh (stack_of nat_eq world overlay upper)
           (merge_of nat_eq world merged overlay upper) change).upper.tree.node inode)
-      merge_keeps =
-          changes_keep files overlay_tree overlay_numbers inode before fresh new
-          (stack_of nat_eq world overlay upper) overlay.real
-          (filesystem_numbered nat_eq world upper.filesystem).files
+      merge_keeps = changes_keep files overlay_tree overlay_numbers inode before fresh new
+          (stack_of nat_eq world overlay upper) overlay.real (filesystem_numbered nat_eq world upper.filesystem).files
           (record { here = refl; apart = apart; root = root_is_upper }) change there from_too
 
       world_keeps : (merge : Merge ℕ) → IsKept before (merge.upper.tree.node inode)
           → IsKept before (inode_in (with_merge nat_eq world merged overlay upper merge) upper.filesystem inode)
-      world_keeps merge kept =
-          filesystem_there (λ f. IsKept before (f.files.tree.node inode))
+      world_keeps merge kept = filesystem_there (λ f. IsKept before (f.files.tree.node inode))
           (with_filesystem nat_eq world changed_overlay)
           (with_files (filesystem_numbered nat_eq world upper.filesystem) merge.upper) upper.filesystem
-          (sym (number_of_filesystem world upper.filesystem)) kept
-          (λ none. kept_same before None
-          (sym (ap (λ f. f.files.tree.node inode)
-          (sym (filesystem_elsewhere world changed_overlay upper.filesystem
+          (sym (number_of_filesystem world upper.filesystem)) kept (λ none. kept_same before None
+          (sym (ap (λ f. f.files.tree.node inode) (sym (filesystem_elsewhere world changed_overlay upper.filesystem
           (λ e. upper_elsewhere (e ∙ number_of_filesystem world number))) ∙ none))))
         where
           changed_overlay : Filesystem ℕ
@@ -263,20 +215,17 @@ module _ (world : World ℕ) (conditions : IsWorld nat_eq world) (number : ℕ) 
 
       pub change_keeps : IsKept before
           (inode_in (filesystem_changed nat_eq fresh world merged merged.overlay change) upper.filesystem inode)
-      change_keeps =
-          subst (λ o. IsKept before (inode_in
+      change_keeps = subst (λ o. IsKept before (inode_in
           (filesystem_changed nat_eq fresh world merged o change) upper.filesystem inode)) (sym is)
           (subst (λ o. IsKept before (inode_in
           (overlay_changed nat_eq fresh world merged overlay o change) upper.filesystem inode)) (sym has)
           (world_keeps _ merge_keeps))
 
 pub upper_filesystem_keeps : (fresh : Fresh ℕ) (world : World ℕ) (location : Location ℕ) (change : Change ℕ)
-    (overlay : Overlay ℕ) (upper : Layer ℕ) (inode : ℕ)
-    → IsWorld nat_eq world
+    (overlay : Overlay ℕ) (upper : Layer ℕ) (inode : ℕ) → IsWorld nat_eq world
     → (filesystem_at nat_eq world location).overlay ≡ Some overlay → overlay.upper ≡ Some upper
     → SpeaksOfWhatIsThere (files_at nat_eq world location) change
-    → ((k : ℕ) → inode ≢ fresh k) → ¬ (IsUpperObject overlay inode)
-    → IsKept (inode_in world upper.filesystem inode)
+    → ((k : ℕ) → inode ≢ fresh k) → ¬ (IsUpperObject overlay inode) → IsKept (inode_in world upper.filesystem inode)
     (inode_in (with_change nat_eq fresh world location change) upper.filesystem inode)
 upper_filesystem_keeps fresh world location change overlay upper inode conditions is has there new not_object =
     change_keeps world conditions

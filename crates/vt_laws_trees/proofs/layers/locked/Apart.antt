@@ -1,12 +1,11 @@
 -- Objects of an upper layer lie under no other layer of a live overlay.
-use Rattle.std.proofs.Common.{arith}
+use Rattle.std.proofs.Common.{arith, ◌≡◌, ◌≢◌, refl, sym, ap, subst, ◌∙◌, true≢false, ℕ, nat_eq, eq-eqb, eqb-true, Bool, true, false, not, ◌&&◌, List, [], ◌∷◌, ◌++◌, Option, Some, None, is_some, unwrap_or, inl, inr, ◌⊎◌, ⊎_elim}
 use Rattle.std.proofs.lemmas.Grind.{common_steps}
-use Rattle.std.proofs.Common.{◌≡◌, ◌≢◌, refl, sym, ap, subst, ◌∙◌, true≢false, ℕ, nat_eq, eq-eqb, eqb-true, Bool, true, false, not, ◌&&◌, List, [], ◌∷◌, ◌++◌, Option, Some, None, is_some, unwrap_or, inl, inr, ◌⊎◌, ⊎_elim}
 use Rattle.std.specs.List.{find, list_any, list_all}
 use Rattle.std.specs.Prelude.{flat_map, option_to_list}
 use Rattle.vt_spec.specs.FileTree.{FileTree, is_under}
 use Rattle.vt_spec.specs.Lists.{any_pair, holds_of}
-use Rattle.vt_spec.specs.Machine.Locked.{counts_in_layer, is_object_of, is_real_upper, lies_in_layer, lies_or_counts_under, live_upper_and_work, of_overlay, overlaps_one_of, overlay_or, overlays, upper_and_work}
+use Rattle.vt_spec.specs.Machine.Locked.{is_object_of, is_real_upper, lies_in_layer, lies_or_counts_under, live_upper_and_work, of_overlay, overlaps_one_of, overlay_or, overlays, upper_and_work}
 use Rattle.vt_spec.specs.Machine.World.{Filesystem, Layer, Overlay, World, filesystem_numbered, is_overlay, layers_of, no_filesystem, upper_object}
 use Rattle.vt_spec.specs.Machine.Invariants.{IsWorld, ListsNumbers, is_plain_layer, is_there, live_lowers, overlap}
 use Rattle.vt_spec.specs.Tree.{is_directory_node}
@@ -37,15 +36,7 @@ pair_append : {A : Type 0} (test : A → A → Bool) (xs bs : List A) → any_pa
     → (any_pair test bs ≡ false) × ((a b : A) → Among a xs → Among b bs → test a b ≡ false)
 pair_append test [] bs e = (e, λ a b m n. absurd m)
 pair_append test (x ∷ xs) bs e =
-    let rest = pair_append test xs bs (or_false_right (list_any (test x) (xs ++ bs)) _ e) in (
-      rest.0,
-      λ a b m n.
-          ⊎_elim
-          (λ (same : a ≡ x). ap (λ y. test y b) same
-          ∙ none_among (test x) (xs ++ bs) (or_false_left (list_any (test x) (xs ++ bs)) _ e) b
-          (among-append_right xs bs b n))
-          (λ later. rest.1 a b later n) m,
-    )
+    grind (arith, common_steps, or_false_right, none_among, or_false_left, among-append_right, pair_append test xs bs)
 
 apart_pairs : {A B : Type 0} (test : B → B → Bool) (f : A → List B) (xs : List A)
     → any_pair test (flat_map f xs) ≡ false
@@ -54,10 +45,7 @@ apart_pairs : {A B : Type 0} (test : B → B → Bool) (f : A → List B) (xs : 
 apart_pairs test f [] e x y differ m n a b p q = absurd m
 apart_pairs test f (z ∷ zs) e x y differ m n a b p q =
     let parts = pair_append test (f z) (flat_map f zs) e in
-    ⊎_elim
-    (λ (x_here : x ≡ z).
-    ⊎_elim
-    (λ (y_here : y ≡ z). absurd (differ (x_here ∙ sym y_here)))
+    ⊎_elim (λ (x_here : x ≡ z). ⊎_elim (λ (y_here : y ≡ z). absurd (differ (x_here ∙ sym y_here)))
     (λ y_later. inl (parts.1 a b (subst (λ w. Among a (f w)) x_here p) (among-flat_map f zs y b y_later q))) n)
     (λ x_later.
     ⊎_elim
@@ -75,17 +63,14 @@ module _ (world : World ℕ) where
   pub merged_among : (number : ℕ) (overlay : Overlay ℕ)
       → (filesystem_numbered nat_eq world number).overlay ≡ Some overlay
       → Among (filesystem_numbered nat_eq world number) (overlays world)
-  merged_among number overlay is =
-      among-filter is_overlay world.filesystems (filesystem_numbered nat_eq world number)
+  merged_among number overlay is = among-filter is_overlay world.filesystems (filesystem_numbered nat_eq world number)
       (found_among (λ f. nat_eq number f.number) world.filesystems (filesystem_numbered nat_eq world number)
-      (overlay_found world number overlay is))
-      (ap is_some is)
+      (overlay_found world number overlay is)) (ap is_some is)
 
   -- a layer of a live overlay is among those of all
   pub layer_among : (layers : Overlay ℕ → List (Layer ℕ)) (number : ℕ) (overlay : Overlay ℕ)
       → (filesystem_numbered nat_eq world number).overlay ≡ Some overlay → (layer : Layer ℕ)
-      → Among layer (layers overlay)
-      → Among layer (flat_map (of_overlay [] layers) (overlays world))
+      → Among layer (layers overlay) → Among layer (flat_map (of_overlay [] layers) (overlays world))
   layer_among layers number overlay is layer m =
       among-flat_map (of_overlay [] layers) (overlays world) (filesystem_numbered nat_eq world number) layer
       (merged_among number overlay is) (subst (λ o. Among layer (overlay_or [] layers o)) (sym is) m)
@@ -100,8 +85,7 @@ module _ (world : World ℕ) (conditions : IsWorld nat_eq world) where
           → is_some ((unwrap_or o (no_filesystem number)).files.tree.node inode) ≡ true
           → Among inode (unwrap_or o (no_filesystem number)).files.numbers
       by None e h = absurd (true≢false (sym h))
-      by (Some filesystem) e h =
-          among_numbers filesystem.files.numbers inode
+      by (Some filesystem) e h = among_numbers filesystem.files.numbers inode
           (all_found (λ f. ListsNumbers nat_eq f.files)
           (λ f. nat_eq number f.number) world.filesystems conditions.files.numbers filesystem e inode ∙ h)
 
@@ -109,26 +93,17 @@ module _ (world : World ℕ) (conditions : IsWorld nat_eq world) where
   pub layer_plain : (number : ℕ) (overlay : Overlay ℕ)
       → (filesystem_numbered nat_eq world number).overlay ≡ Some overlay
       → (layer : Layer ℕ) → Among layer (layers_of overlay) → is_plain_layer nat_eq world layer ≡ true
-  layer_plain number overlay is layer m =
-      among_from_list_all (is_plain_layer nat_eq world) (layers_of overlay)
+  layer_plain number overlay is layer m = among_from_list_all (is_plain_layer nat_eq world) (layers_of overlay)
       (sym (ap (overlay_or true (λ o. list_all (is_plain_layer nat_eq world) (layers_of o))) is)
       ∙ among_from_list_all (of_overlay true
       (λ o. list_all (is_plain_layer nat_eq world) (layers_of o))) world.filesystems
       conditions.overlays.plain_layers (filesystem_numbered nat_eq world number)
       (found_among (λ f. nat_eq number f.number) world.filesystems (filesystem_numbered nat_eq world number)
-      (overlay_found world number overlay is)))
-      layer m
+      (overlay_found world number overlay is))) layer m
 
   pub no_overlay_in : (layer : Layer ℕ) → is_plain_layer nat_eq world layer ≡ true
       → (filesystem_numbered nat_eq world layer.filesystem).overlay ≡ None
-  no_overlay_in layer plain =
-      grind (
-        arith,
-        common_steps,
-        and_true_left (not (is_overlay (filesystem_numbered nat_eq world
-            layer.filesystem))) _ plain,
-        true≢false,
-      )
+  no_overlay_in layer plain = grind (arith, common_steps, and_true_left, true≢false)
 
   module _ (number : ℕ) (overlay : Overlay ℕ) (is : (filesystem_numbered nat_eq world number).overlay ≡ Some overlay)
       (upper : Layer ℕ) (has : overlay.upper ≡ Some upper) where
@@ -141,8 +116,7 @@ module _ (world : World ℕ) (conditions : IsWorld nat_eq world) where
 
     module _ (object : ℕ) (is_object : IsUpperObject overlay object) where
       object_there : is_some (inode_in world upper.filesystem object) ≡ true
-      object_there =
-          ap (holds_of (λ layer. is_there nat_eq world layer.filesystem object)) (sym has)
+      object_there = ap (holds_of (λ layer. is_there nat_eq world layer.filesystem object)) (sym has)
           ∙ (overlay_merges world conditions number overlay is).upper_there is_object.0 object is_object.1
 
       shown_there : is_some ((filesystem_numbered nat_eq world number).files.tree.node is_object.0) ≡ true
@@ -150,35 +124,20 @@ module _ (world : World ℕ) (conditions : IsWorld nat_eq world) where
 
       -- an object of the upper layer counts under its directory
       is_of : is_object_of nat_eq upper.filesystem object (filesystem_numbered nat_eq world number) overlay ≡ true
-      is_of =
-          and_from _ _
-          (ap (holds_of (λ layer. nat_eq upper.filesystem layer.filesystem)) has
-          ∙ eq-eqb upper.filesystem upper.filesystem refl)
-          (any_from_among (is_real_upper nat_eq overlay object)
-          (filesystem_numbered nat_eq world number).files.numbers is_object.0
-          (listed number is_object.0 shown_there)
+      is_of = and_from _ _ (ap (holds_of (λ layer. nat_eq upper.filesystem layer.filesystem)) has
+          ∙ eq-eqb upper.filesystem upper.filesystem refl) (any_from_among (is_real_upper nat_eq overlay object)
+          (filesystem_numbered nat_eq world number).files.numbers is_object.0 (listed number is_object.0 shown_there)
           (ap (λ r. holds_of (nat_eq object) (upper_object r)) is_object.1 ∙ eq-eqb object object refl))
 
       directory_lies : lies_in_layer nat_eq world upper.filesystem upper.directory upper ≡ true
-      directory_lies =
-          and_from _ _ (eq-eqb upper.filesystem upper.filesystem refl)
+      directory_lies = and_from _ _ (eq-eqb upper.filesystem upper.filesystem refl)
           (under_itself (filesystem_numbered nat_eq world upper.filesystem).files upper.directory
           (and_true_right (not (is_overlay (filesystem_numbered nat_eq world upper.filesystem))) _
           (layer_plain number overlay is upper upper_in_layers)))
 
       pub object_counts : lies_or_counts_under nat_eq world upper.filesystem object upper ≡ true
       object_counts =
-          or_right (lies_in_layer nat_eq world upper.filesystem object upper) _
-          (any_from_among (counts_in_layer nat_eq world upper.filesystem object upper) (overlays world)
-          (filesystem_numbered nat_eq world number)
-          (merged_among world number overlay is)
-          (subst (λ o. overlay_or false (λ v.
-          holds_of (λ u. lies_in_layer nat_eq world u.filesystem u.directory upper) v.upper
-          && is_object_of nat_eq upper.filesystem object (filesystem_numbered nat_eq world number) v) o ≡ true)
-          (sym is)
-          (and_from _ _
-          (ap (holds_of (λ u. lies_in_layer nat_eq world u.filesystem u.directory upper)) has ∙ directory_lies)
-          is_of)))
+          grind (arith, common_steps, or_right, any_from_among, merged_among, and_from, directory_lies, is_of)
 
       pub object_listed : Among object (filesystem_numbered nat_eq world upper.filesystem).files.numbers
       object_listed = listed upper.filesystem object object_there
@@ -186,16 +145,13 @@ module _ (world : World ℕ) (conditions : IsWorld nat_eq world) where
       -- and under no lower layer of a live overlay
       pub no_lower : (lower : Layer ℕ) → Among lower (live_lowers nat_eq world)
           → lies_or_counts_under nat_eq world upper.filesystem object lower ≡ true → ⊥
-      no_lower lower m lies =
-          never_both _ _
+      no_lower lower m lies = never_both _ _
           (none_among (λ (o : ℕ). lies_or_counts_under nat_eq world upper.filesystem o upper
           && list_any (lies_or_counts_under nat_eq world upper.filesystem o) (live_lowers nat_eq world))
           (filesystem_numbered nat_eq world upper.filesystem).files.numbers
           (none_among (overlaps_one_of nat_eq world (live_lowers nat_eq world))
           (live_upper_and_work world) conditions.overlays.lowers_apart upper
-          (layer_among world upper_and_work number overlay is upper upper_is_layer))
-          object object_listed)
-          object_counts
+          (layer_among world upper_and_work number overlay is upper upper_is_layer)) object object_listed) object_counts
           (any_from_among (lies_or_counts_under nat_eq world upper.filesystem object)
           (live_lowers nat_eq world) lower m lies)
 
@@ -204,8 +160,7 @@ module _ (world : World ℕ) (conditions : IsWorld nat_eq world) where
           → (filesystem_numbered nat_eq world other).overlay ≡ Some overlay2
           → (layer : Layer ℕ) → Among layer (upper_and_work overlay2)
           → lies_or_counts_under nat_eq world upper.filesystem object layer ≡ true → ⊥
-      no_other other differ overlay2 is2 layer m lies =
-          ⊎_elim
+      no_other other differ overlay2 is2 layer m lies = ⊎_elim
           (λ (e : overlap nat_eq world upper layer ≡ false). apart upper layer refl e object_counts lies)
           (λ (e : overlap nat_eq world layer upper ≡ false). apart layer upper
           (lies_there world object upper.filesystem layer lies) e lies object_counts)
@@ -221,13 +176,4 @@ module _ (world : World ℕ) (conditions : IsWorld nat_eq world) where
           apart : (a b : Layer ℕ) → upper.filesystem ≡ a.filesystem → overlap nat_eq world a b ≡ false
               → lies_or_counts_under nat_eq world upper.filesystem object a ≡ true
               → lies_or_counts_under nat_eq world upper.filesystem object b ≡ true → ⊥
-          apart a b same e f g =
-              never_both _ _
-              (none_among (λ (o : ℕ). lies_or_counts_under nat_eq world upper.filesystem o a
-              && list_any (lies_or_counts_under nat_eq world upper.filesystem o) (b ∷ []))
-              (filesystem_numbered nat_eq world upper.filesystem).files.numbers
-              (ap (λ n. list_any (λ (o : ℕ). lies_or_counts_under nat_eq world n o a
-              && list_any (lies_or_counts_under nat_eq world n o) (b ∷ []))
-              (filesystem_numbered nat_eq world n).files.numbers) same ∙ e)
-              object object_listed)
-              f (or_left _ false g)
+          apart a b same e f g = grind (arith, common_steps, never_both, none_among, object_listed, or_left)

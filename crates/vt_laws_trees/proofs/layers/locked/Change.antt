@@ -1,7 +1,6 @@
 -- What a change that is granted leaves as it was: what is locked, but for upper objects of the overlay that is changed.
-use Rattle.std.proofs.Common.{arith}
+use Rattle.std.proofs.Common.{arith, ◌≡◌, ◌≢◌, refl, sym, ap, subst, ◌∙◌, ℕ, nat_eq, true, false, List, Option, Some, None, inr, ◌⊎◌, ⊎_elim}
 use Rattle.std.proofs.lemmas.Grind.{common_steps}
-use Rattle.std.proofs.Common.{◌≡◌, ◌≢◌, refl, sym, ap, subst, ◌∙◌, ℕ, nat_eq, true, false, List, Option, Some, None, inr, ◌⊎◌, ⊎_elim}
 use Rattle.std.proofs.lemmas.Bool.Decides.{eqb_tells}
 use Rattle.vt_spec.specs.Language.Changes.{Change, changed}
 use Rattle.vt_spec.specs.Machine.Filesystems.{filesystem_changed, with_change, with_files}
@@ -61,17 +60,16 @@ module _ (world : World ℕ) (fresh : Fresh ℕ) where
       → (mount_at nat_eq before location).filesystem ≡ (mount_at nat_eq world location).filesystem
       → IsGranted supply (mount_at nat_eq world location).filesystem change
       → Leaves (with_change nat_eq supply before location change)
-  leaves_change supply before location change same at granted =
-      inr (record {
-        supply = supply;
-        mounted = (mount_at nat_eq world location).filesystem;
-        change = change;
-        granted = granted;
-        so = looks_at_filesystems supply before world (mount_at nat_eq before location).filesystem change
-            ∙ ap (λ m. (changed_in supply (record world { filesystems = before.filesystems }) m change).filesystems) at
-            ∙ ap (λ list. (changed_in supply (record world { filesystems = list })
-            (mount_at nat_eq world location).filesystem change).filesystems) same;
-      })
+  leaves_change supply before location change same at granted = inr (record {
+    supply = supply;
+    mounted = (mount_at nat_eq world location).filesystem;
+    change = change;
+    granted = granted;
+    so = looks_at_filesystems supply before world (mount_at nat_eq before location).filesystem change
+        ∙ ap (λ m. (changed_in supply (record world { filesystems = before.filesystems }) m change).filesystems) at
+        ∙ ap (λ list. (changed_in supply (record world { filesystems = list })
+        (mount_at nat_eq world location).filesystem change).filesystems) same;
+  })
 
   module _ (conditions : IsWorld nat_eq world) (filesystem inode : ℕ)
       (locked : is_locked nat_eq world filesystem inode ≡ true) (new : IsNew inode)
@@ -85,28 +83,22 @@ module _ (world : World ℕ) (fresh : Fresh ℕ) where
     module _ (supply : Fresh ℕ) (mounted : ℕ) (change : Change ℕ) (granted : IsGranted supply mounted change)
         (not_of : IsNotOf mounted) where
       at_mounted : filesystem ≡ mounted → Stays world filesystem inode (changed_in supply world mounted change)
-      at_mounted at =
-          subst (λ o. Stays world filesystem inode
+      at_mounted at = subst (λ o. Stays world filesystem inode
           (filesystem_changed nat_eq supply world (filesystem_numbered nat_eq world mounted) o change))
           (sym (ap (λ n. (filesystem_numbered nat_eq world n).overlay) (sym at) ∙ plain))
           (filesystem_there (λ f. IsKept (inode_in world filesystem inode) (f.files.tree.node inode)) world
           (with_files (filesystem_numbered nat_eq world mounted)
           (changed nat_eq (filesystem_numbered nat_eq world mounted).files change)) filesystem
-          (at ∙ sym (number_of_filesystem world mounted))
-          (subst (λ n. IsKept (inode_in world n inode)
+          (at ∙ sym (number_of_filesystem world mounted)) (subst (λ n. IsKept (inode_in world n inode)
           ((changed nat_eq (filesystem_numbered nat_eq world mounted).files change).tree.node inode)) (sym at)
           (others_stay (filesystem_numbered nat_eq world mounted).files change inode
           (granted.unlocked inode (ap (λ n. is_locked nat_eq world n inode) (sym at) ∙ locked) new)))
           (λ none. kept_same (inode_in world filesystem inode) None (sym (ap (λ f. f.files.tree.node inode) none))))
 
-      elsewhere : filesystem ≢ mounted
-          → ((overlay : Overlay ℕ) (upper : Layer ℕ)
+      elsewhere : filesystem ≢ mounted → ((overlay : Overlay ℕ) (upper : Layer ℕ)
           → (filesystem_numbered nat_eq world mounted).overlay ≡ Some overlay → overlay.upper ≡ Some upper
-          → filesystem ≢ upper.filesystem)
-          → Stays world filesystem inode (changed_in supply world mounted change)
-      elsewhere away no_upper =
-          kept_same (inode_in world filesystem inode) _
-          (ap (λ f. f.files.tree.node inode)
+          → filesystem ≢ upper.filesystem) → Stays world filesystem inode (changed_in supply world mounted change)
+      elsewhere away no_upper = kept_same (inode_in world filesystem inode) _ (ap (λ f. f.files.tree.node inode)
           (changed_elsewhere supply world (filesystem_numbered nat_eq world mounted) change filesystem
           (λ e. away (e ∙ number_of_filesystem world mounted)) no_upper))
 
@@ -116,12 +108,9 @@ module _ (world : World ℕ) (fresh : Fresh ℕ) where
           layered : (overlay : Overlay ℕ) → (filesystem_numbered nat_eq world mounted).overlay ≡ Some overlay
               → (o : Option (Layer ℕ)) → overlay.upper ≡ o
               → Stays world filesystem inode (changed_in supply world mounted change)
-          layered overlay is None has =
-              elsewhere away (λ other upper i h.
+          layered overlay is None has = elsewhere away (λ other upper i h.
               none_is_some upper (sym has ∙ ap (λ v. v.upper) (same_Some overlay other (sym is ∙ i)) ∙ h))
-          layered overlay is (Some upper) has =
-              ⊎_elim
-              (λ t.
+          layered overlay is (Some upper) has = ⊎_elim (λ t.
               subst (λ n. Stays world n inode (changed_in supply world mounted change)) (sym t.1)
               (change_keeps world conditions mounted overlay is upper has inode
               (not_of overlay upper is has t.1) supply (granted.part inode new) change (granted.there overlay is)))
@@ -142,8 +131,7 @@ module _ (world : World ℕ) (fresh : Fresh ℕ) where
     -- and so for what a call leaves
     stays_as : (later other : World ℕ) → later.filesystems ≡ other.filesystems → Stays world filesystem inode other
         → Stays world filesystem inode later
-    stays_as later other e =
-        subst (λ f. IsKept (inode_in world filesystem inode) (f.files.tree.node inode))
+    stays_as later other e = subst (λ f. IsKept (inode_in world filesystem inode) (f.files.tree.node inode))
         (sym (same_filesystem other later filesystem e))
 
     pub as_it_was : (later : World ℕ) → later.filesystems ≡ world.filesystems → Stays world filesystem inode later

@@ -1,15 +1,14 @@
 -- Each call on files leaves the filesystems as they were, or with one change that is granted.
-use Rattle.std.proofs.Common.{arith}
+use Rattle.std.proofs.Common.{arith, List, None, Option, Some, [], ap, eqb-true, false, inl, is_some, nat_eq, ne_eqb, not, option_map, refl, subst, sym, true, true≢false, unwrap_or, ℕ, ◌*◌, ◌+◌, ◌||◌, ◌∙◌, ◌∷◌, ◌≡◌, ◌≢◌, Result}
 use Rattle.std.proofs.lemmas.Grind.{common_steps}
-use Rattle.std.proofs.Common.{List, None, Option, Some, [], ap, eqb-true, false, inl, is_some, nat_eq, ne_eqb, not, option_map, refl, subst, sym, true, true≢false, unwrap_or, ℕ, ◌*◌, ◌+◌, ◌||◌, ◌∙◌, ◌∷◌, ◌≡◌, ◌≢◌, Result}
 use Rattle.vt_spec.specs.Language.Calls.{Access, Call}
 use Rattle.vt_spec.specs.Language.Changes.{Change}
 use Rattle.vt_spec.specs.Language.Changes.Change.{SetBytes, SetMark}
-use Rattle.vt_spec.specs.Lists.{Fresh, evens, is_among, odds}
+use Rattle.vt_spec.specs.Lists.{Fresh, is_among}
 use Rattle.vt_spec.specs.Machine.Locked.{is_locked, is_locked_at}
 use Rattle.vt_spec.specs.Machine.Mounts.{Location}
 use Rattle.vt_spec.specs.Machine.Descriptors.{pwritten}
-use Rattle.vt_spec.specs.Machine.Rows.{file_mode, linking, making, new_file}
+use Rattle.vt_spec.specs.Machine.Rows.{file_mode, linking, new_file}
 use Rattle.vt_spec.proofs.Tables.{with_new}
 use Rattle.vt_spec.specs.Machine.Rules.Removing.{moving, object_there, removing, rename_rules}
 use Rattle.vt_spec.specs.Machine.Detach.{without_replaced, without_mounts_on}
@@ -64,8 +63,7 @@ module _ (world : World ℕ) (fresh : Fresh ℕ) (task : Task ℕ) where
   Speaks location change = SpeaksOfWhatIsThere (filesystem_at nat_eq world location).files change
 
   abbrev Differs : Location ℕ → ℕ → Type 0
-  Differs location node =
-      (inode : ℕ) → is_locked nat_eq world (mount_at nat_eq world location).filesystem inode ≡ true
+  Differs location node = (inode : ℕ) → is_locked nat_eq world (mount_at nat_eq world location).filesystem inode ≡ true
       → nat_eq inode node ≡ false
 
   -- what is not locked is no inode that is
@@ -90,20 +88,14 @@ module _ (world : World ℕ) (fresh : Fresh ℕ) (task : Task ℕ) where
   -- a new object in a directory that is there and not locked
   new_left : (place : Place ℕ) (node : Node ℕ) → is_locked_at nat_eq world place.parent ≡ false → NodeThere place.parent
       → Left (with_new nat_eq fresh world place node)
-  new_left place node unlocked there =
-      change_left (odds fresh) (λ inode new k. new (2 * k + 1)) place.parent (making place (evens fresh 0) node)
-      (λ inode locked new.
-      or_from (nat_eq inode (fresh 0)) _ (ne_eqb inode (fresh 0) (new 0))
-      (or_from (nat_eq inode place.parent.node) false (differs place.parent unlocked inode locked) refl))
-      (λ overlay is. there)
+  new_left place node unlocked there = grind (arith, common_steps, change_left, or_from, ne_eqb, differs)
 
   -- a change of one inode that is there and not locked
   one_left : (location : Location ℕ) (change : Change ℕ) → inodes_changed change ≡ location.node ∷ []
       → is_locked_at nat_eq world location ≡ false
       → ((overlay : Overlay ℕ) → (filesystem_at nat_eq world location).overlay ≡ Some overlay → Speaks location change)
       → Left (with_change nat_eq fresh world location change)
-  one_left location change is unlocked =
-      change_left fresh whole location change (λ inode locked new.
+  one_left location change is unlocked = change_left fresh whole location change (λ inode locked new.
       ap (is_among nat_eq inode) is
       ∙ or_from (nat_eq inode location.node) false (differs location unlocked inode locked) refl)
 
@@ -112,11 +104,9 @@ module _ (world : World ℕ) (fresh : Fresh ℕ) (task : Task ℕ) where
   opened_left file access there = grind (arith, common_steps, change_left, whole, same)
 
   pwritten_left : (file : Location ℕ) (offset : ℕ) (bytes : List ℕ) → is_locked_at nat_eq world file ≡ false
-      → NodeThere file
-      → Left (pwritten nat_eq fresh world file offset bytes)
+      → NodeThere file → Left (pwritten nat_eq fresh world file offset bytes)
   pwritten_left file offset [] unlocked there = same
-  pwritten_left file offset (byte ∷ bytes) unlocked there =
-      change_left fresh whole file _
+  pwritten_left file offset (byte ∷ bytes) unlocked there = change_left fresh whole file _
       (λ inode locked new. or_from (nat_eq inode file.node) false (differs file unlocked inode locked) refl)
       (λ overlay is. there)
 
@@ -127,8 +117,7 @@ module _ (world : World ℕ) (fresh : Fresh ℕ) (task : Task ℕ) where
   renamed_left from to is word passed =
       leaves_change world fresh fresh (without_replaced nat_eq world to.object) from.parent
       (moving from to (object_there from))
-      (filesystems-without_replaced world to.object) (shown-without_replaced world to.object from.parent)
-      (record {
+      (filesystems-without_replaced world to.object) (shown-without_replaced world to.object from.parent) (record {
         part = whole;
         unlocked = λ inode locked new.
             or_from (nat_eq inode from.parent.node) _ (differs from.parent of_from.0 inode locked)
@@ -184,8 +173,7 @@ module _ (fresh : Fresh ℕ) (world : World ℕ) (task : Task ℕ) (conditions :
       new_left world fresh task place (whiteout_made task) passed.1.1.1.1.0 (allowed_is_there _ _ _ passed.1.1.1.1.1.0)
   granted_left call permit c (makes_hard_link old name from place from_end end named passed) =
       one_left world fresh task place.parent (linking from.location place) refl
-      (or_false_right (is_locked_at nat_eq world from.location) _ passed.1.1.1.1.0)
-      (λ overlay is. (
+      (or_false_right (is_locked_at nat_eq world from.location) _ passed.1.1.1.1.0) (λ overlay is. (
         allowed_is_there _ _ _ passed.1.1.1.1.1.1.0,
         subst (λ m. is_some (node_at nat_eq world (record { mount = m; node = from.location.node })) ≡ true)
             (eqb-true from.location.mount place.parent.mount (not-false _ passed.1.1.1.1.1.0))
@@ -197,22 +185,17 @@ module _ (fresh : Fresh ℕ) (world : World ℕ) (task : Task ℕ) (conditions :
       (λ overlay is. allowed_is_there _ _ _ passed.1.1.1.1.0)
   granted_left call permit c (removes_directory path place end word passed) =
       leaves_change world fresh fresh (without_mounts_on nat_eq world (object_there place)) place.parent
-      (removing place (object_there place))
-      (same_filesystems_without world (object_there place))
-      (same_mounted_without world (object_there place) place.parent)
-      (record {
+      (removing place (object_there place)) (same_filesystems_without world (object_there place))
+      (same_mounted_without world (object_there place) place.parent) (record {
         part = λ inode new. new;
-        unlocked = λ inode locked new.
-            or_from (nat_eq inode place.parent.node) false
+        unlocked = λ inode locked new. or_from (nat_eq inode place.parent.node) false
             (differs world fresh task place.parent (or_false_right
             (is_locked_at nat_eq world (object_there place)) _ passed.1.1.1.1.0) inode locked) refl;
         there = λ overlay is. allowed_is_there _ _ _ passed.1.1.1.1.1.1.0;
       })
-  granted_left call permit c (renames old name from to names two passed) =
-      renamed_left world fresh task from to
+  granted_left call permit c (renames old name from to names two passed) = renamed_left world fresh task from to
       (at_end (IsOldPlace world task) (old_leaf_walk nat_eq world task old) from (ends_old_leaf_walk world task old)
-      names.from_end)
-      names.from_named.0 passed
+      names.from_end) names.from_named.0 passed
   granted_left call permit c (changes_mode path mode here end passed) =
       one_left world fresh task here.location _ refl passed.1.1.0
       (λ overlay is. there_at _ here end (object_walk_there world conditions task called path))

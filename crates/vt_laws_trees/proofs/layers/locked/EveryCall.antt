@@ -23,8 +23,7 @@ module _ (fresh : Fresh ℕ) (world : World ℕ) (task : Task ℕ) (conditions :
     (called : task_called world task.name ≡ Some task) where
   call_left : (call : Call) → changes_no_mount call ≡ true
       → Leaves world fresh (call_outcome nat_eq fresh world task call).world
-  call_left call c =
-      call_holds (Leaves world fresh) fresh world task call (inl refl) (λ permit granted.
+  call_left call c = call_holds (Leaves world fresh) fresh world task call (inl refl) (λ permit granted.
       granted_left fresh world task conditions called call permit c granted)
 
   -- what lies in a layer of an overlay is locked, and stays where it is no upper object of the overlay that is changed
@@ -37,8 +36,7 @@ module _ (fresh : Fresh ℕ) (world : World ℕ) (task : Task ℕ) (conditions :
     later = (call_outcome nat_eq fresh world task call).world
 
     locked : is_locked nat_eq world layer.filesystem inode ≡ true
-    locked =
-        any_from_among (lies_or_counts_under nat_eq world layer.filesystem inode) (live_layers world) layer
+    locked = any_from_among (lies_or_counts_under nat_eq world layer.filesystem inode) (live_layers world) layer
         (layer_among world layers_of number overlay is layer m) lies
 
     plain : (filesystem_numbered nat_eq world layer.filesystem).overlay ≡ None
@@ -82,35 +80,30 @@ in_all_layers overlay layer m = among-append_left (upper_and_work overlay) overl
 pub calls_go_through_one : (fresh : Fresh ℕ) (world : World ℕ) (task : Task ℕ) (call : Call)
     → IsWorld nat_eq world → task_called world task.name ≡ Some task → changes_no_mount call ≡ true
     → (through : ℕ) × GoesThrough fresh world (call_outcome nat_eq fresh world task call).world through
-calls_go_through_one fresh world task call conditions called c =
-    ⊎_elim
-    (λ e. (
-      0,
-      record {
-        elsewhere = λ number differ upper. same_filesystem world later number e;
-        others = λ number overlay layer inode differ is m lies new.
-            same_stays fresh world task conditions called call c number overlay is layer
-            (in_all_layers overlay layer (among_from_contains (upper_and_work overlay) layer m)) inode lies new e;
-      },
-    ))
-    (λ change. (
-      change.mounted,
-      record {
-        elsewhere = λ number differ upper.
-            same_filesystem (changed_in change.supply world change.mounted change.change) later number change.so
-            ∙ changed_elsewhere change.supply world
-            (filesystem_numbered nat_eq world change.mounted) change.change number
-            (λ e. differ (e ∙ number_of_filesystem world change.mounted)) upper;
-        others = λ number overlay layer inode differ is m lies new.
-            layer_stays fresh world task conditions called call c number overlay is layer
-            (in_all_layers overlay layer (among_from_contains (upper_and_work overlay) layer m)) inode lies new change
-            (λ other upper i has at object.
-            no_other world conditions change.mounted other i upper has inode object number differ overlay is layer
-            (among_from_contains (upper_and_work overlay) layer m)
-            (subst (λ n. lies_or_counts_under nat_eq world n inode layer ≡ true) at lies));
-      },
-    ))
-    (call_left fresh world task conditions called call c)
+calls_go_through_one fresh world task call conditions called c = ⊎_elim (λ e. (
+  0,
+  record {
+    elsewhere = λ number differ upper. same_filesystem world later number e;
+    others = λ number overlay layer inode differ is m lies new.
+        same_stays fresh world task conditions called call c number overlay is layer
+        (in_all_layers overlay layer (among_from_contains (upper_and_work overlay) layer m)) inode lies new e;
+  },
+)) (λ change. (
+  change.mounted,
+  record {
+    elsewhere = λ number differ upper.
+        same_filesystem (changed_in change.supply world change.mounted change.change) later number change.so
+        ∙ changed_elsewhere change.supply world (filesystem_numbered nat_eq world change.mounted) change.change number
+        (λ e. differ (e ∙ number_of_filesystem world change.mounted)) upper;
+    others = λ number overlay layer inode differ is m lies new.
+        layer_stays fresh world task conditions called call c number overlay is layer
+        (in_all_layers overlay layer (among_from_contains (upper_and_work overlay) layer m)) inode lies new change
+        (λ other upper i has at object.
+        no_other world conditions change.mounted other i upper has inode object number differ overlay is layer
+        (among_from_contains (upper_and_work overlay) layer m)
+        (subst (λ n. lies_or_counts_under nat_eq world n inode layer ≡ true) at lies));
+  },
+)) (call_left fresh world task conditions called call c)
   where
     later : World ℕ
     later = (call_outcome nat_eq fresh world task call).world

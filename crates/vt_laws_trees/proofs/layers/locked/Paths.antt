@@ -1,12 +1,11 @@
 -- Where what lies under a layer stays as it was, paths lead from the layer's directory where they led.
-use Rattle.std.proofs.Common.{arith}
+use Rattle.std.proofs.Common.{arith, ◌≡◌, ◌≢◌, sym, ap, ◌∙◌, true≢false, eq-eqb, ℕ, nat_eq, true, cond, not, ◌&&◌, ◌||◌, List, Some, is_some}
 use Rattle.std.proofs.lemmas.Grind.{common_steps}
-use Rattle.std.proofs.Common.{◌≡◌, ◌≢◌, refl, sym, ap, ◌∙◌, true≢false, eq-eqb, ℕ, nat_eq, true, cond, not, ◌&&◌, ◌||◌, List, Some, is_some}
-use Rattle.std.specs.List.{find, list_any}
-use Rattle.vt_spec.specs.FileTree.{is_directory_under, is_file_under, is_under}
+use Rattle.std.specs.List.{find}
+use Rattle.vt_spec.specs.FileTree.{is_directory_under, is_file_under}
 use Rattle.vt_spec.specs.Lists.{Fresh}
 use Rattle.vt_spec.specs.Machine.Layers.{at_path}
-use Rattle.vt_spec.specs.Machine.Locked.{counts_in_layer, lies_or_counts_under, overlays, upper_and_work}
+use Rattle.vt_spec.specs.Machine.Locked.{lies_or_counts_under, upper_and_work}
 use Rattle.vt_spec.specs.Machine.Policy.{call_outcome}
 use Rattle.vt_spec.specs.Machine.World.{Filesystem, Layer, World, filesystem_numbered, is_overlay, layers_of, open_layer}
 use Rattle.vt_spec.specs.Machine.Invariants.{IsWorld, ListsNumbers, is_plain_layer}
@@ -36,18 +35,15 @@ module _ (world : World ℕ) (conditions : IsWorld nat_eq world) (layer : Layer 
   found = grind (arith, common_steps, true≢false)
 
   pub layer_tree : IsTree filesystem.files.tree
-  layer_tree =
-      all_found (λ f. IsTree f.files.tree)
+  layer_tree = all_found (λ f. IsTree f.files.tree)
       (λ f. nat_eq layer.filesystem f.number) world.filesystems conditions.files.trees filesystem found
 
   layer_numbers : ListsNumbers nat_eq filesystem.files
-  layer_numbers =
-      all_found (λ f. ListsNumbers nat_eq f.files)
+  layer_numbers = all_found (λ f. ListsNumbers nat_eq f.files)
       (λ f. nat_eq layer.filesystem f.number) world.filesystems conditions.files.numbers filesystem found
 
   top_under : is_directory_under nat_eq filesystem.files layer.directory layer.directory ≡ true
-  top_under =
-      sym (ap (λ b. cond b (is_directory_under nat_eq filesystem.files layer.directory layer.directory)
+  top_under = sym (ap (λ b. cond b (is_directory_under nat_eq filesystem.files layer.directory layer.directory)
       (is_file_under nat_eq filesystem.files layer.directory layer.directory)) top_directory)
       ∙ under_itself filesystem.files layer.directory top_directory
 
@@ -55,11 +51,7 @@ module _ (world : World ℕ) (conditions : IsWorld nat_eq world) (layer : Layer 
   pub led_lies : (path : List (List ℕ)) (object : ℕ) → at_path (open_layer nat_eq world layer) path ≡ Some object
       → lies_or_counts_under nat_eq world layer.filesystem object layer ≡ true
   led_lies path object e =
-      ap (λ b. b || list_any (counts_in_layer nat_eq world layer.filesystem object layer) (overlays world))
-      (ap (λ b. b && is_under nat_eq filesystem.files layer.directory object)
-      (eq-eqb layer.filesystem layer.filesystem refl)
-      ∙ led_below filesystem.files layer_tree layer_numbers layer.directory layer.directory path object
-      top_under top_directory e)
+      grind (arith, common_steps, eq-eqb, led_below, layer_tree, layer_numbers, top_under, top_directory)
 
   pub led_there : (path : List (List ℕ)) (object : ℕ) → at_path (open_layer nat_eq world layer) path ≡ Some object
       → is_some (inode_in world layer.filesystem object) ≡ true
@@ -85,8 +77,7 @@ lower_paths_are_locked fresh world task call number overlay lower conditions cal
     let in_layers : Among lower (layers_of overlay) =
     among-append_right (upper_and_work overlay) overlay.lowers lower m in
     leads_as_before world conditions lower (layer_plain world conditions number overlay is lower in_layers)
-    (call_outcome nat_eq fresh world task call).world
-    (λ inode lies there.
+    (call_outcome nat_eq fresh world task call).world (λ inode lies there.
     lower_layers_stay_locked fresh world task call number overlay lower inode conditions called c is contains lies
     (no_new fresh world lower.filesystem inode none there))
 
@@ -96,7 +87,6 @@ other_paths_stay fresh world task call through number overlay layer conditions g
     let in_layers : Among layer (layers_of overlay) =
     among-append_left (upper_and_work overlay) overlay.lowers layer m in
     leads_as_before world conditions layer (layer_plain world conditions number overlay is layer in_layers)
-    (call_outcome nat_eq fresh world task call).world
-    (λ inode lies there.
+    (call_outcome nat_eq fresh world task call).world (λ inode lies there.
     goes.others number overlay layer inode differ is contains lies
     (no_new fresh world layer.filesystem inode none there))

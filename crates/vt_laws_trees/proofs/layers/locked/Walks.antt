@@ -1,9 +1,9 @@
 -- Where a task's walk ends something is, and so where its descriptors are.
-use Rattle.std.proofs.Common.{◌≡◌, refl, sym, ap, subst, ℕ, zero, suc, nat_eq, Bool, true, false, cond, List, [], ◌∷◌, ◌+◌, reverse, Option, Some, None, is_some, Ok, Err, Result, ok_or, inr}
+use Rattle.std.proofs.Common.{arith, ◌≡◌, refl, sym, ap, subst, ℕ, zero, suc, nat_eq, Bool, true, false, cond, List, [], ◌∷◌, ◌+◌, reverse, Option, Some, None, is_some, Ok, Result, ok_or, inr}
+use Rattle.std.proofs.lemmas.Grind.{common_steps}
 use Rattle.std.specs.List.{find}
 use Rattle.std.specs.Prelude.{option_to_list}
 use Rattle.vt_spec.specs.Errors.{denial}
-use Rattle.vt_spec.specs.declared.errors.Deny.{Deny}
 use Rattle.vt_spec.specs.declared.errors.Rule.TheVariants.{S4}
 use Rattle.vt_spec.specs.PathText.{ends_in_slash, is_absolute, words}
 use Rattle.vt_spec.specs.FileTree.{symlink_text}
@@ -33,8 +33,7 @@ module _ (world : World ℕ) (conditions : IsWorld nat_eq world) (task : Task �
   directory_is location is = directory_used (files_at nat_eq world location).tree location.node is
 
   root_there : There task.root
-  root_there =
-      directory_is task.root (and_true_left (is_directory_at nat_eq world task.root) _ (and_true_left _ _
+  root_there = directory_is task.root (and_true_left (is_directory_at nat_eq world task.root) _ (and_true_left _ _
       (called_stands world conditions task called)))
 
   own_there : There task.directory
@@ -56,8 +55,7 @@ module _ (world : World ℕ) (conditions : IsWorld nat_eq world) (task : Task �
   word_ends = word_there world conditions.files.trees (worlds_are_standing world conditions) task
 
   abbrev FollowEnds : Follow ℕ → Type 0
-  FollowEnds follow =
-      (directory : Location ℕ) (link : Here ℕ) (text : List ℕ) → There directory
+  FollowEnds follow = (directory : Location ℕ) (link : Here ℕ) (text : List ℕ) → There directory
       → EndsThere (follow directory link text)
 
   if_link_there : (next : Here ℕ) (follow : List ℕ → Result (Here ℕ) (Stop ℕ)) → There next.location
@@ -72,9 +70,7 @@ module _ (world : World ℕ) (conditions : IsWorld nat_eq world) (task : Task �
       ends_then (λ reached. There reached.location) (λ next. There next.location)
       (words_walked nat_eq world task follow here front) _ (words_there follow goes here is front) (λ reached end.
       ends_then (λ next. There next.location) (λ next. There next.location)
-      (word_walked nat_eq world task reached (last_word word)) _
-      (word_ends reached (last_word word))
-      (λ next found.
+      (word_walked nat_eq world task reached (last_word word)) _ (word_ends reached (last_word word)) (λ next found.
       if_link_there next (follow reached.location next) found (λ text. goes reached.location next text end)
       (symlink_text (node_at nat_eq world next.location))))
 
@@ -88,12 +84,10 @@ module _ (world : World ℕ) (conditions : IsWorld nat_eq world) (task : Task �
       (ends_unless (λ start. There start.location) link.steps (follow_rules nat_eq world link text)
       (symlink_start nat_eq world task directory link text) (λ passed. start_there directory text is))
       (λ start start_is.
-      ends_then (λ reached. There reached.location) (λ next. There next.location)
-      (words_walked nat_eq world task
+      ends_then (λ reached. There reached.location) (λ next. There next.location) (words_walked nat_eq world task
       (λ inside next inner. symlink_walked nat_eq depth world task inside next inner) start (reverse (words text))) _
       (words_there (λ inside next inner. symlink_walked nat_eq depth world task inside next inner)
-      (symlink_there depth) start start_is (reverse (words text)))
-      (λ reached end.
+      (symlink_there depth) start start_is (reverse (words text))) (λ reached end.
       ends_unless (λ next. There next.location) reached.steps (slash_rules nat_eq world text reached.location) reached
       (λ passed. end)))
 
@@ -110,8 +104,7 @@ module _ (world : World ℕ) (conditions : IsWorld nat_eq world) (task : Task �
   front_there : (here : Here ℕ) → There here.location → (list : List (List ℕ))
       → EndsThere (prefix_walked nat_eq world task (followed nat_eq world task) here list)
   front_there here is [] = is
-  front_there here is (word ∷ front) =
-      words_there (followed nat_eq world task)
+  front_there here is (word ∷ front) = words_there (followed nat_eq world task)
       (λ directory link inner at. symlink_there (most_symlinks + 1) directory link inner at) here is front
 
   last_there : (here : Here ℕ) (word : LastWord) → There here.location
@@ -123,8 +116,7 @@ module _ (world : World ℕ) (conditions : IsWorld nat_eq world) (task : Task �
 
   link_walk_by_there : (b : Bool) (path : List ℕ) → EndsThere (symlink_walk_by nat_eq b world task path)
   link_walk_by_there true path = object_walk_there path
-  link_walk_by_there false path =
-      ends_next (λ here. There here.location) (path_text path) _ (λ text.
+  link_walk_by_there false path = ends_next (λ here. There here.location) (path_text path) _ (λ text.
       ends_then (λ here. There here.location) (λ here. There here.location)
       (prefix_walked nat_eq world task (followed nat_eq world task) (walk_start task text) (reverse (words text))) _
       (front_there (walk_start task text) (start_there task.directory text own_there) (reverse (words text)))
@@ -134,38 +126,18 @@ module _ (world : World ℕ) (conditions : IsWorld nat_eq world) (task : Task �
   link_walk_there path = link_walk_by_there (ends_in_slash path) path
 
   pub descriptor_there : (number : ℕ) (fits : Descriptor ℕ → Bool) (descriptor : Descriptor ℕ)
-      → descriptor_at task number fits ≡ Ok descriptor
-      → There descriptor.location
-  descriptor_there number fits descriptor e =
-      and_true_right _ _
-      (among_from_list_all (is_located_well nat_eq world)
+      → descriptor_at task number fits ≡ Ok descriptor → There descriptor.location
+  descriptor_there number fits descriptor e = and_true_right _ _ (among_from_list_all (is_located_well nat_eq world)
       (all_locations world) conditions.tasks.locations_live descriptor.location
-      (among-flat_map locations_of world.tasks task descriptor.location
-      (called_there world.tasks task.name task called)
+      (among-flat_map locations_of world.tasks task descriptor.location (called_there world.tasks task.name task called)
       (inr (inr (among-map (λ d. d.location) task.descriptors descriptor
       (by (descriptor_numbered task number) refl e))))))
     where
       chosen : (held : Descriptor ℕ) → Among held task.descriptors → (b : Bool)
           → ok_or (cond b (Some held) None) (denial S4) ≡ Ok descriptor → Among descriptor task.descriptors
       chosen held m true h = subst (λ d. Among d task.descriptors) (ok_same held descriptor (Ok held) refl h) m
-      chosen held m false h = absurd (no_answer h)
-        where
-          is_answer : Result (Descriptor ℕ) Deny → Bool
-          is_answer (Ok d) = true
-          is_answer (Err d) = false
-
-          no_answer : Err (denial S4) ≡ Ok descriptor → ⊥
-          no_answer h = Rattle.std.proofs.Common.true≢false (sym (ap is_answer h))
+      chosen held m false h = grind (arith, common_steps)
 
       by : (o : Option (Descriptor ℕ)) → descriptor_numbered task number ≡ o
           → ok_or (find fits (option_to_list o)) (denial S4) ≡ Ok descriptor → Among descriptor task.descriptors
-      by None f h = absurd (no_answer h)
-        where
-          is_answer : Result (Descriptor ℕ) Deny → Bool
-          is_answer (Ok d) = true
-          is_answer (Err d) = false
-
-          no_answer : Err (denial S4) ≡ Ok descriptor → ⊥
-          no_answer h = Rattle.std.proofs.Common.true≢false (sym (ap is_answer h))
-      by (Some held) f h = chosen held
-          (found_among (λ d. Rattle.std.specs.Prelude.nat_eq number d.number) task.descriptors held f) (fits held) h
+      by o f h = grind (arith, common_steps, chosen, found_among)

@@ -49,22 +49,12 @@ WithMounts world mounts master = record world { mounts = mounts; master = master
 merged_with : (world : World ℕ) (mounts : List (Mount ℕ)) (master : ℕ → Option ℕ) (filesystem : Filesystem ℕ)
     (overlay : Overlay ℕ)
     → IsMerged nat_eq world filesystem overlay → IsMerged nat_eq (WithMounts world mounts master) filesystem overlay
-merged_with world mounts master filesystem overlay is = record {
-  shows = is.shows;
-  names = is.names;
-  real_objects = is.real_objects;
-  real_there = is.real_there;
-  no_whiteout = is.no_whiteout;
-  no_mark = is.no_mark;
-  upper_there = is.upper_there;
-  one_to_one = is.one_to_one;
-}
+merged_with world mounts master filesystem overlay is = grind (arith, common_steps)
 
 pub overlays_with : (world : World ℕ) (mounts : List (Mount ℕ)) (master : ℕ → Option ℕ)
     → OverlayInvariants nat_eq world → OverlayInvariants nat_eq (WithMounts world mounts master)
 overlays_with world mounts master is = record {
-  overlays_merge = λ number overlay e.
-      merged_with world mounts master (filesystem_numbered nat_eq world number) overlay
+  overlays_merge = λ number overlay e. merged_with world mounts master (filesystem_numbered nat_eq world number) overlay
       (is.overlays_merge number overlay e);
   fit_layers = is.fit_layers;
   plain_layers = is.plain_layers;
@@ -75,13 +65,7 @@ overlays_with world mounts master is = record {
 
 pub trees_with : (world : World ℕ) (mounts : List (Mount ℕ)) (master : ℕ → Option ℕ) → TreeInvariants nat_eq world
     → TreeInvariants nat_eq (WithMounts world mounts master)
-trees_with world mounts master is = record {
-  trees = is.trees;
-  own_parents = is.own_parents;
-  numbers = is.numbers;
-  one_filesystem = is.one_filesystem;
-  fit_filesystems = is.fit_filesystems;
-}
+trees_with world mounts master is = grind (arith, common_steps)
 
 none_equal : (number : ℕ) (list : List (Filesystem ℕ)) → is_among nat_eq number (map (λ f. f.number) list) ≡ false
     → (filesystem : Filesystem ℕ) → Among list filesystem → nat_eq filesystem.number number ≡ false
@@ -93,8 +77,7 @@ none_equal number (first ∷ list) e filesystem (inr among) =
 module _ (world : World ℕ) (conditions : IsWorld nat_eq world) (fresh : Fresh ℕ) (are_new : AreNewNumbers fresh world)
     (task : Task ℕ) where
   abbrev AreReached : LayerLocations ℕ → Type 0
-  AreReached places =
-      All (λ (layer : Layer ℕ). IsReached
+  AreReached places = All (λ (layer : Layer ℕ). IsReached
       (filesystem_numbered nat_eq world layer.filesystem).files.tree layer.directory)
       (layers_of (overlay_at nat_eq world task places))
 
@@ -124,8 +107,7 @@ module _ (world : World ℕ) (conditions : IsWorld nat_eq world) (fresh : Fresh 
         ap (λ f. Rattle.std.proofs.Common.not (Rattle.vt_spec.specs.Machine.World.is_overlay f)
         && Rattle.vt_spec.specs.Tree.is_directory_node (f.files.tree.node layer.directory))
         (Later.same_filesystem world conditions overlay are_layers
-        (evens fresh) (evens-distinct fresh are_new.distinct) unused layer.filesystem old)
-        ∙ plain
+        (evens fresh) (evens-distinct fresh are_new.distinct) unused layer.filesystem old) ∙ plain
 
     all_plain_later : (layers : List (Layer ℕ)) → list_all (is_plain_layer nat_eq world) layers ≡ true
         → list_all (is_plain_layer nat_eq later) layers ≡ true
@@ -141,8 +123,7 @@ module _ (world : World ℕ) (conditions : IsWorld nat_eq world) (fresh : Fresh 
 
     pushed : (test : Filesystem ℕ → Bool) → list_all test world.filesystems ≡ true → test new ≡ true
         → list_all test (world.filesystems ++ new ∷ []) ≡ true
-    pushed test all last =
-        list_all-append test world.filesystems (new ∷ []) ∙ ap (λ b. b && (test new && true)) all
+    pushed test all last = list_all-append test world.filesystems (new ∷ []) ∙ ap (λ b. b && (test new && true)) all
         ∙ ap (λ b. b && true) last
 
     trees_later : TreeInvariants nat_eq later
@@ -156,16 +137,13 @@ module _ (world : World ℕ) (conditions : IsWorld nat_eq world) (fresh : Fresh 
       numbers = All-push (λ f. ListsNumbers nat_eq f.files) world.filesystems new conditions.files.numbers
           (new_overlay_lists_numbers (evens fresh) world overlay conditions are_layers
           (evens-distinct fresh are_new.distinct));
-      one_filesystem =
-          from_no_pair (λ a b. nat_eq a.number b.number) (λ a b. nat_eq a.number b.number)
+      one_filesystem = from_no_pair (λ a b. nat_eq a.number b.number) (λ a b. nat_eq a.number b.number)
           (world.filesystems ++ new ∷ [])
           (pairwise_append (λ a b. nat_eq a.number b.number ≡ false) world.filesystems (new ∷ [])
           (no_pair (λ a b. nat_eq a.number b.number) world.filesystems conditions.files.one_filesystem)
-          (λ b among. absurd among, tt)
-          (λ a b in_old in_new. Rattle.std.proofs.Common.⊎_elim
+          (λ b among. absurd among, tt) (λ a b in_old in_new. Rattle.std.proofs.Common.⊎_elim
           (λ e. ap (λ f. nat_eq a.number f.number) (sym e)
-          ∙ none_equal (evens (evens fresh) 0) world.filesystems unused a in_old)
-          (λ none. absurd none) in_new))
+          ∙ none_equal (evens (evens fresh) 0) world.filesystems unused a in_old) (λ none. absurd none) in_new))
           (λ a b l r. refl);
       fit_filesystems = pushed is_fit_filesystem conditions.files.fit_filesystems
           (new_overlay_is_fit (evens fresh) world overlay conditions are_layers
@@ -176,8 +154,7 @@ module _ (world : World ℕ) (conditions : IsWorld nat_eq world) (fresh : Fresh 
     reached_later : (layer : Layer ℕ) → is_plain_layer nat_eq world layer ≡ true
         → IsReached (filesystem_numbered nat_eq world layer.filesystem).files.tree layer.directory
         → IsReached (filesystem_numbered nat_eq later layer.filesystem).files.tree layer.directory
-    reached_later layer plain is =
-        subst (λ (f : Filesystem ℕ). IsReached f.files.tree layer.directory)
+    reached_later layer plain is = subst (λ (f : Filesystem ℕ). IsReached f.files.tree layer.directory)
         (sym (Later.same_filesystem world conditions overlay are_layers
         (evens fresh) (evens-distinct fresh are_new.distinct) unused layer.filesystem
         (Later.plain_is_old world conditions overlay are_layers
@@ -188,8 +165,7 @@ module _ (world : World ℕ) (conditions : IsWorld nat_eq world) (fresh : Fresh 
         Lists.Among layer (option_to_list o ++ option_to_list overlay.work ++ overlay.lowers)) (sym has) (inl refl)
 
     uppers_later : (number : ℕ) (some_overlay : Overlay ℕ) (upper : Layer ℕ)
-        → (filesystem_numbered nat_eq later number).overlay ≡ Some some_overlay
-        → some_overlay.upper ≡ Some upper
+        → (filesystem_numbered nat_eq later number).overlay ≡ Some some_overlay → some_overlay.upper ≡ Some upper
         → IsReached (filesystem_numbered nat_eq later upper.filesystem).files.tree upper.directory
     uppers_later number some_overlay upper e has = by (nat_eq number new.number) refl
       where
@@ -210,10 +186,8 @@ module _ (world : World ℕ) (conditions : IsWorld nat_eq world) (fresh : Fresh 
             (eqb-true number new.number t) ∙ unused)) t) in
             let own = own_upper upper (ap (upper_in overlay) (sym (ap (λ (f : Filesystem ℕ). f.overlay) same) ∙ e)
             ∙ has) in
-            reached_later upper
-            (Lists.among_from_list_all (is_plain_layer nat_eq world) (layers_of overlay)
-            (all_plain world task places walked passed) upper own)
-            (Lists.among_from_all (λ (layer : Layer ℕ). IsReached
+            reached_later upper (Lists.among_from_list_all (is_plain_layer nat_eq world) (layers_of overlay)
+            (all_plain world task places walked passed) upper own) (Lists.among_from_all (λ (layer : Layer ℕ). IsReached
             (filesystem_numbered nat_eq world layer.filesystem).files.tree layer.directory)
             (layers_of overlay) reached upper own)
           where
@@ -245,8 +219,7 @@ module _ (world : World ℕ) (conditions : IsWorld nat_eq world) (fresh : Fresh 
 
     trees_mounted : (place : Location ℕ) (flags : MountFlags)
         → TreeInvariants nat_eq (overlay_mounted nat_eq fresh world task place places flags)
-    trees_mounted place flags =
-        trees_with later (overlay_mounted nat_eq fresh world task place places flags).mounts
+    trees_mounted place flags = trees_with later (overlay_mounted nat_eq fresh world task place places flags).mounts
         (overlay_mounted nat_eq fresh world task place places flags).master trees_later
 
     overlays_mounted : (place : Location ℕ) (flags : MountFlags)
@@ -262,8 +235,7 @@ module _ (world : World ℕ) (conditions : IsWorld nat_eq world) (fresh : Fresh 
       → (place : Location ℕ) (flags : MountFlags) → Said (overlay_mounted nat_eq fresh world task place places flags))
       → (path : List ℕ) (options : Option OverlayWords) (flags : MountFlags) (permit : Permit ℕ)
       → IsGranted nat_eq (looks_of nat_eq world) (overfills nat_eq fresh world task) task
-      (MountOverlay path options flags) permit
-      → Said (apply nat_eq fresh world task permit).world
+      (MountOverlay path options flags) permit → Said (apply nat_eq fresh world task permit).world
   granted_makes Said makes path options flags permit
       (mounts_overlayfs _ words _ here layers admin end walked layered passed) =
       makes layers (are_walked world task words layers walked) (layers_are_reached world task words layers conditions
@@ -275,8 +247,7 @@ module _ (world : World ℕ) (conditions : IsWorld nat_eq world) (fresh : Fresh 
       → (place : Location ℕ) (flags : MountFlags) → Said (overlay_mounted nat_eq fresh world task place places flags))
       → (path : List ℕ) (options : Option OverlayWords) (flags : MountFlags)
       → Said (call_outcome nat_eq fresh world task (MountOverlay path options flags)).world
-  mounting Said is makes path options flags =
-      call_holds Said fresh world task (MountOverlay path options flags) is
+  mounting Said is makes path options flags = call_holds Said fresh world task (MountOverlay path options flags) is
       (granted_makes Said makes path options flags)
 
 pub mounting_keeps_trees : MountingKeepsTrees
@@ -300,13 +271,10 @@ module _ (world : World ℕ) (fresh : Fresh ℕ) (task : Task ℕ) (flags : Moun
   granted_mounts : (path : List ℕ) (words : OverlayWords) (places : LayerLocations ℕ) (permit : Permit ℕ)
       → layers_walked nat_eq world task words ≡ Ok places
       → IsGranted nat_eq (looks_of nat_eq world) (overfills nat_eq fresh world task) task
-      (MountOverlay path (Some words) flags) permit
-      → IsMounted places (apply nat_eq fresh world task permit).world
-  granted_mounts path words places permit walked
-      (mounts_overlayfs _ _ _ here layers admin end found passed free) =
+      (MountOverlay path (Some words) flags) permit → IsMounted places (apply nat_eq fresh world task permit).world
+  granted_mounts path words places permit walked (mounts_overlayfs _ _ _ here layers admin end found passed free) =
       subst (λ places. IsMounted places (overlay_mounted nat_eq fresh world task here.location layers flags))
-      (same_ok layers places (sym found ∙ walked))
-      (record { place = here.location; passed = passed; is = refl })
+      (same_ok layers places (sym found ∙ walked)) (record { place = here.location; passed = passed; is = refl })
 
   pub overlay_is_mounted : (path : List ℕ) (words : OverlayWords) (places : LayerLocations ℕ)
       → layers_walked nat_eq world task words ≡ Ok places

@@ -10,7 +10,6 @@ use Rattle.vt_spec.specs.declared.errors.Deny.{Deny}
 use Rattle.vt_spec.specs.declared.errors.Rule.TheVariants.{W3, W8}
 use Rattle.vt_spec.specs.Errors.{NoneFails, Rules, and_then}
 use Rattle.vt_spec.specs.Language.Calls.{OverlayWords}
-use Rattle.vt_spec.specs.Language.Limits.{most_lowers}
 use Rattle.vt_spec.specs.Lists.{is_empty_list}
 use Rattle.vt_spec.specs.Machine.Looks.{looks_of}
 use Rattle.vt_spec.specs.Machine.Mounts.{Location}
@@ -45,37 +44,26 @@ module _ (world : World ℕ) (task : Task ℕ) where
 
   source_ends : (path : List ℕ) → Ends (λ here. is_directory_at nat_eq world here.location ≡ true)
       (source_walk nat_eq world task path)
-  source_ends path =
-      ends_then (λ here. is_directory_at nat_eq world here.location ≡ true)
-      (λ here. is_directory_at nat_eq world here.location ≡ true)
-      (directory_walk nat_eq world task path) _
+  source_ends path = ends_then (λ here. is_directory_at nat_eq world here.location ≡ true)
+      (λ here. is_directory_at nat_eq world here.location ≡ true) (directory_walk nat_eq world task path) _
       (ends_next (λ here. is_directory_at nat_eq world here.location ≡ true) (path_walked nat_eq world task path) _
       (λ here.
       ends_unless (λ there. is_directory_at nat_eq world there.location ≡ true) here.steps
       ((not (is_directory_at nat_eq world here.location), W3) ∷ []) here
-      (λ passed. not_true (is_directory_at nat_eq world here.location) passed.0)))
-      (λ here is.
+      (λ passed. not_true (is_directory_at nat_eq world here.location) passed.0))) (λ here is.
       ends_unless (λ there. is_directory_at nat_eq world there.location ≡ true) here.steps
       ((is_removed_at nat_eq world here.location, W8) ∷ []) here (λ passed. is))
 
   each_ends : (paths : List (List ℕ)) → Gives AreDirectories (each_walked nat_eq world task paths)
   each_ends [] = refl
   each_ends (path ∷ paths) =
-      gives_then (λ here. is_directory_at nat_eq world here.location ≡ true) AreDirectories
-      (walk_end (source_walk nat_eq world task path)) _
-      (gives_end _ (source_walk nat_eq world task path) (source_ends path)) (λ here is.
-      gives_then AreDirectories AreDirectories (each_walked nat_eq world task paths) _ (each_ends paths) (λ rest are.
-      ap (λ b. b && list_all (is_directory_at nat_eq world) rest) is ∙ are))
+      grind (arith, common_steps, gives_then, source_walk, gives_end, source_ends, each_walked, each_ends paths)
 
   given_ends : (path : Option (List ℕ))
       → Gives (λ place. AreDirectories (option_to_list place) × (is_some place ≡ is_some path))
       (walked_if_given nat_eq world task path)
   given_ends None = (refl, refl)
-  given_ends (Some path) =
-      gives_then (λ here. is_directory_at nat_eq world here.location ≡ true)
-      (λ place. AreDirectories (option_to_list place) × (is_some place ≡ true))
-      (walk_end (source_walk nat_eq world task path)) _
-      (gives_end _ (source_walk nat_eq world task path) (source_ends path)) (λ here is. (ap (λ b. b && true) is, refl))
+  given_ends (Some path) = grind (arith, common_steps, gives_then, source_walk, gives_end, source_ends)
 
   -- the places of layers: directories, and a work directory only beside an upper one
   pub record AreWalked (places : LayerLocations ℕ) : Type 0 where
@@ -99,8 +87,7 @@ module _ (world : World ℕ) (task : Task ℕ) where
       record { lowers = low; upper = up.0; work = at.0; beside = λ e. at.1 ∙ no_work words (sym up.1 ∙ e) })))
 
   pub are_walked : (words : OverlayWords) (places : LayerLocations ℕ) → layers_walked nat_eq world task words
-      ≡ Ok places
-      → AreWalked places
+      ≡ Ok places → AreWalked places
   are_walked words places e = given AreWalked (layers_walked nat_eq world task words) places (layers_end words) e
 
   module _ (places : LayerLocations ℕ) (walked : AreWalked places)
@@ -142,21 +129,17 @@ module _ (world : World ℕ) (task : Task ℕ) where
     all_three : (one two three : List (Layer ℕ)) → list_all (is_plain_layer nat_eq world) one ≡ true
         → list_all (is_plain_layer nat_eq world) two ≡ true → list_all (is_plain_layer nat_eq world) three ≡ true
         → list_all (is_plain_layer nat_eq world) (one ++ two ++ three) ≡ true
-    all_three one two three a b c =
-        list_all-append (is_plain_layer nat_eq world) (one ++ two) three
+    all_three one two three a b c = list_all-append (is_plain_layer nat_eq world) (one ++ two) three
         ∙ ap (λ x. x && list_all (is_plain_layer nat_eq world) three)
         (list_all-append (is_plain_layer nat_eq world) one two
-        ∙ ap (λ x. x && list_all (is_plain_layer nat_eq world) two) a ∙ b)
-        ∙ c
+        ∙ ap (λ x. x && list_all (is_plain_layer nat_eq world) two) a ∙ b) ∙ c
 
     pub plain_lowers : list_all (is_plain_layer nat_eq world) overlay.lowers ≡ true
-    plain_lowers = plain_places places.lowers
-        (split_left places.lowers _ (split_left
+    plain_lowers = plain_places places.lowers (split_left places.lowers _ (split_left
         (places.lowers ++ option_to_list places.upper) _ none_in_overlay)) walked.lowers
 
     pub plain_upper : list_all (is_plain_layer nat_eq world) (option_to_list overlay.upper) ≡ true
-    plain_upper = plain_option places.upper
-        (split_right places.lowers _ (split_left
+    plain_upper = plain_option places.upper (split_right places.lowers _ (split_left
         (places.lowers ++ option_to_list places.upper) _ none_in_overlay)) walked.upper
 
     pub plain_work : list_all (is_plain_layer nat_eq world) (option_to_list overlay.work) ≡ true
@@ -168,8 +151,7 @@ module _ (world : World ℕ) (task : Task ℕ) where
         (option_to_list overlay.work) overlay.lowers plain_upper plain_work plain_lowers
 
     pub shown_plain : list_all (is_plain_layer nat_eq world) (option_to_list overlay.upper ++ overlay.lowers) ≡ true
-    shown_plain =
-        list_all-append (is_plain_layer nat_eq world) (option_to_list overlay.upper) overlay.lowers
+    shown_plain = list_all-append (is_plain_layer nat_eq world) (option_to_list overlay.upper) overlay.lowers
         ∙ ap (λ x. x && list_all (is_plain_layer nat_eq world) overlay.lowers) plain_upper ∙ plain_lowers
 
     no_fewer : (n m : ℕ) → nat_lt n m ≡ false → nat_le m n ≡ true
@@ -188,13 +170,7 @@ module _ (world : World ℕ) (task : Task ℕ) where
     beside_each_other (Some upper) (Some work) e f = refl
 
     pub fit_layers : has_fit_layers overlay ≡ true
-    fit_layers =
-        ap (λ b. b && nat_le (length overlay.lowers) most_lowers
-        && same_bool (is_some overlay.upper) (is_some overlay.work)) (not_empty places.lowers passed.0)
-        ∙ ap (λ b. b && same_bool (is_some overlay.upper) (is_some overlay.work))
-        (ap (λ n. nat_le n most_lowers) (length-map places.lowers layer)
-        ∙ no_fewer most_lowers (length places.lowers) passed.1.1.1.0)
-        ∙ beside_each_other places.upper places.work passed.1.1.0 walked.beside
+    fit_layers = grind (arith, common_steps, not_empty, length-map, no_fewer, beside_each_other)
 
     pub has_layers : option_to_list overlay.upper ++ overlay.lowers ≡ [] → ⊥
     has_layers = grind (arith, common_steps, layer, true≢false)

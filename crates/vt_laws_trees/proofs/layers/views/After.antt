@@ -1,7 +1,6 @@
 -- What a change of the upper layer leaves of what is shown.
-use Rattle.std.proofs.Common.{arith}
+use Rattle.std.proofs.Common.{arith, ◌≡◌, ◌≢◌, refl, sym, ap, subst, ◌∙◌, true≢false, ℕ, nat_eq, Bool, true, false, not, cond, List, [], ◌∷◌, ◌++◌, Option, Some, None}
 use Rattle.std.proofs.lemmas.Grind.{common_steps}
-use Rattle.std.proofs.Common.{◌≡◌, ◌≢◌, refl, sym, ap, subst, ◌∙◌, true≢false, ℕ, nat_eq, Bool, true, false, not, cond, List, [], ◌∷◌, ◌++◌, ⊎_elim, Option, Some, None}
 use Rattle.std.proofs.lemmas.Bool.Decides.{eqb_tells}
 use Rattle.std.proofs.lemmas.List.{append-nil}
 use Rattle.std.specs.List.{list_any}
@@ -47,8 +46,7 @@ prefixes_fail test path front is none = fails (list_any test (prefixes front)) (
     found : (inner : List (List ℕ)) × IsFrontOf inner front × (test inner ≡ true) → ⊥
     found there = true≢false (sym there.2 ∙ front_fails test path there.0 (
       there.1.0 ++ is.0,
-      sym (append_assoc there.0 there.1.0 is.0) ∙ ap (λ p. p ++ is.0) there.1.1
-          ∙ is.1,
+      sym (append_assoc there.0 there.1.0 is.0) ∙ ap (λ p. p ++ is.0) there.1.1 ∙ is.1,
       there.1.2,
     ) none)
 
@@ -80,15 +78,7 @@ holds_after : (R : Option (Node ℕ) → Option (Node ℕ)
     → Type 0) (files : FileTree ℕ) (number : ℕ) (change : Option (Node ℕ) → Option (Node ℕ))
     → ((o : Option (Node ℕ)) → R o o) → ((o : Option (Node ℕ)) → R o (change o)) → (inode : ℕ)
     → R (files.tree.node inode) ((changed_node nat_eq files number change).tree.node inode)
-holds_after R files number change same changes inode =
-    ⊎_elim
-    (λ t. subst (λ b. R (files.tree.node inode) (cond b (change (files.tree.node number)) (files.tree.node inode)))
-    (sym t.0)
-    (subst (λ n. R (files.tree.node n) (change (files.tree.node number))) (sym t.1)
-    (changes (files.tree.node number))))
-    (λ t. subst (R (files.tree.node inode)) (sym (kept_elsewhere files number change inode t.0))
-    (same (files.tree.node inode)))
-    (eqb_tells inode number)
+holds_after R files number change same changes inode = grind (arith, common_steps, kept_elsewhere, eqb_tells)
 
 -- and so of what a path leads to
 module _ (R : Option (Node ℕ) → Option (Node ℕ) → Type 0) (same : (o : Option (Node ℕ)) → R o o) where
@@ -111,8 +101,7 @@ not_named files top directory name path none =
 
 module _ (files : FileTree ℕ) (top : ℕ) where
   names_stay : (change : Change ℕ) → Rattle.vt_laws_trees.specs.Layers.Layers.Views.changes_names_alone change ≡ true
-      → (path : List (List ℕ))
-      → led (changed nat_eq files change).tree top path ≡ led files.tree top path
+      → (path : List (List ℕ)) → led (changed nat_eq files change).tree top path ≡ led files.tree top path
       → Stays (view_in files top) (view_after files change top) path
   names_stay change is path e = (
     e,
@@ -135,8 +124,7 @@ module _ (files : FileTree ℕ) (top : ℕ) where
     Alike change path = LeadAlikeTo path (view_in files top) (view_after files change top)
 
     -- where a path and all its fronts stay
-    all_stay : (change : Change ℕ) (path : List (List ℕ))
-        → Stays (view_in files top) (view_after files change top) path
+    all_stay : (change : Change ℕ) (path : List (List ℕ)) → Stays (view_in files top) (view_after files change top) path
         → ((front : List (List ℕ)) → IsFrontOf front path
         → Stays (view_in files top) (view_after files change top) front) → Alike change path
     all_stay change path here front =
@@ -147,8 +135,7 @@ module _ (files : FileTree ℕ) (top : ℕ) where
         → ((path : List (List ℕ)) → goes_through (view_in files top) directory name path ≡ false
         → Stays (view_in files top) (view_after files change top) path)
         → (path : List (List ℕ)) → goes_through (view_in files top) directory name path ≡ false → Alike change path
-    through_none change directory name stays path none =
-        all_stay change path (stays path none)
+    through_none change directory name stays path none = all_stay change path (stays path none)
         (λ front is. stays front (prefixes_fail (names_entry (view_in files top) directory name) path front is none))
 
     pub lead_alike : (change : Change ℕ) → IsPlainChange files.tree change → (path : List (List ℕ))
@@ -175,12 +162,10 @@ module _ (files : FileTree ℕ) (top : ℕ) where
     lead_alike (Remove directory name object) plain path none =
         through_none (Remove directory name object) directory name
         (λ path none. names_stay (Remove directory name object) refl path
-        (remove_ends_paths files top directory object name path
-        ∙ ap (λ b. cond b None (led files.tree top path)) none))
+        (remove_ends_paths files top directory object name path ∙ ap (λ b. cond b None (led files.tree top path)) none))
         path none
     lead_alike (Move from old to new object) plain path none =
-        all_stay (Move from old to new object) path (stays path no_new no_old)
-        (λ front is. stays front
+        all_stay (Move from old to new object) path (stays path no_new no_old) (λ front is. stays front
         (prefixes_fail (names_entry (view_in files top) to new) path front is no_new)
         (prefixes_fail (names_entry (view_in files top) from old) path front is no_old))
       where
@@ -193,33 +178,28 @@ module _ (files : FileTree ℕ) (top : ℕ) where
         stays : (path : List (List ℕ)) → goes_through (view_in files top) to new path ≡ false
             → goes_through (view_in files top) from old path ≡ false
             → Stays (view_in files top) (view_after files (Move from old to new object) top) path
-        stays path no_new no_old =
-            names_stay (Move from old to new object) refl path
+        stays path no_new no_old = names_stay (Move from old to new object) refl path
             (old_leads_nowhere files top from to object old new plain path no_new
             ∙ ap (λ b. cond b None (led files.tree top path)) no_old)
     lead_alike (SetBytes file bytes) plain path none =
         all_stay (SetBytes file bytes) path (stays path) (λ front is. stays front)
       where
         stays : (path : List (List ℕ)) → Stays (view_in files top) (view_after files (SetBytes file bytes) top) path
-        stays path =
-            one_stays file (node_with_bytes bytes) (bytes_hide bytes) path
+        stays path = one_stays file (node_with_bytes bytes) (bytes_hide bytes) path
             ((bytes_change_one_inode files top file bytes).0 path)
     lead_alike (SetAttr object attr) plain path none =
         all_stay (SetAttr object attr) path (stays path) (λ front is. stays front)
       where
         stays : (path : List (List ℕ)) → Stays (view_in files top) (view_after files (SetAttr object attr) top) path
-        stays path =
-            one_stays object (node_with_attr attr) (attr_hides attr) path
+        stays path = one_stays object (node_with_attr attr) (attr_hides attr) path
             ((attr_changes_one_inode files top object attr).0 path)
     lead_alike (SetMark directory opaque) plain path none = record {
       leads = leads path;
-      inode =
-          holds_led IsOneKind (λ o. (hides_itself o).of_kind) files.tree
+      inode = holds_led IsOneKind (λ o. (hides_itself o).of_kind) files.tree
           (changed_node nat_eq files directory (node_with_mark opaque)).tree top path (leads path)
           (λ inode l. holds_after IsOneKind files directory (node_with_mark opaque) (λ o. (hides_itself o).of_kind)
           (mark_of_kind opaque) inode);
-      on_the_way =
-          λ front is. holds_led HidesAlike hides_itself files.tree
+      on_the_way = λ front is. holds_led HidesAlike hides_itself files.tree
           (changed_node nat_eq files directory (node_with_mark opaque)).tree top front (leads front)
           (λ inode l. subst (HidesAlike (files.tree.node inode))
           (sym (kept_elsewhere files directory (node_with_mark opaque) inode
@@ -228,8 +208,7 @@ module _ (files : FileTree ℕ) (top : ℕ) where
           (hides_itself (files.tree.node inode)));
     }
       where
-        leads : (path : List (List ℕ))
-            → led (changed_node nat_eq files directory (node_with_mark opaque)).tree top path
+        leads : (path : List (List ℕ)) → led (changed_node nat_eq files directory (node_with_mark opaque)).tree top path
             ≡ led files.tree top path
         leads = (mark_changes_one_inode files top directory opaque).0
     lead_alike (CopyUp object) plain path none =
@@ -245,23 +224,19 @@ shown_elsewhere_stays files change top lowers tree is_top plain path none =
 pub on_top : (view : View ℕ) (lowers : List (View ℕ)) (path : List (List ℕ)) (object : ℕ) (white : Bool)
     → view.leads path ≡ Some object → is_kind_in White (view.node object) ≡ white
     → shown_from 0 (view ∷ lowers) path ≡ when (not white) (record { layer = 0; object = object })
-on_top view lowers path object white e is =
-    ap (λ o. shown_over view 0 o (cuts view path) (shown_from 1 lowers path)) e
+on_top view lowers path object white e is = ap (λ o. shown_over view 0 o (cuts view path) (shown_from 1 lowers path)) e
     ∙ ap (λ b. when (not b) (record { layer = 0; object = object })) is
 
 pub new_name_is_shown : NewNameIsShown
 new_name_is_shown files top directory number name node lowers is vacant bare path e =
     on_top (view_after files (Make directory name number node) top) lowers path number
-    (is_kind White (kind_of node.content))
-    (make_adds_path files top directory number name node is vacant bare path
+    (is_kind White (kind_of node.content)) (make_adds_path files top directory number name node is vacant bare path
     ∙ ap (λ b. cond b (Some number) (led files.tree top path)) e)
     (ap (is_kind_in White) (make_adds_inode files top directory number name node is.in_directory vacant).0)
 
 pub link_is_shown : LinkIsShown
 link_is_shown files top directory object name lowers is file path e =
     on_top (view_after files (AddName directory name object) top) lowers path object
-    (is_kind_in White (files.tree.node object))
-    (add_name_adds_path files top directory object name is file path
-    ∙ ap (λ b. cond b (Some object) (led files.tree top path)) e)
-    (white_alike (files.tree.node object) _
+    (is_kind_in White (files.tree.node object)) (add_name_adds_path files top directory object name is file path
+    ∙ ap (λ b. cond b (Some object) (led files.tree top path)) e) (white_alike (files.tree.node object) _
     (names_leave_inodes files (AddName directory name object) top object refl))

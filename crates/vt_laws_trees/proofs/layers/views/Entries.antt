@@ -1,7 +1,6 @@
 -- The entries of a tree after a change of one inode.
-use Rattle.std.proofs.Common.{arith}
+use Rattle.std.proofs.Common.{arith, ◌≡◌, sym, ap, ◌∙◌, true≢false, ℕ, nat_eq, Bool, true, cond, ◌&&◌, List, ⊎_elim, Option, Some, None}
 use Rattle.std.proofs.lemmas.Grind.{common_steps}
-use Rattle.std.proofs.Common.{◌≡◌, sym, ap, ◌∙◌, true≢false, ℕ, nat_eq, Bool, true, cond, ◌&&◌, List, ⊎_elim, Option, Some, None}
 use Rattle.std.proofs.lemmas.Bool.Decides.{eqb_tells}
 use Rattle.std.specs.Cmp.Lexicographic.{bytes_decides, texts_ties}
 use Rattle.std.specs.Str.{bytes_eq}
@@ -18,48 +17,31 @@ is_entry directory name other word = nat_eq other directory && bytes_eq word nam
 
 pub is_that_entry : (directory : ℕ) (name : List ℕ) (other : ℕ) (word : List ℕ)
     → is_entry directory name other word ≡ true → (other ≡ directory) × (word ≡ name)
-is_that_entry directory name other word e =
-    ⊎_elim
+is_that_entry directory name other word e = ⊎_elim
     (λ t. (t.1, (bytes_decides word name).0 (sym (ap (λ b. b && bytes_eq word name) t.0) ∙ e)))
-    (λ t. absurd (true≢false (sym e ∙ ap (λ b. b && bytes_eq word name) t.0)))
-    (eqb_tells other directory)
+    (λ t. absurd (true≢false (sym e ∙ ap (λ b. b && bytes_eq word name) t.0))) (eqb_tells other directory)
 
 module _ (files : FileTree ℕ) (directory : ℕ) (name : List ℕ) where
   -- a change of one inode that gives one of its names another meaning
   one_entry : (change : Option (Node ℕ) → Option (Node ℕ)) (to : Option ℕ)
       → ((word : List ℕ) → entry_named word (entries_in (change (files.tree.node directory)))
-      ≡ cond (bytes_eq word name) to (entry_at files.tree directory word))
-      → (other : ℕ) (word : List ℕ)
+      ≡ cond (bytes_eq word name) to (entry_at files.tree directory word)) → (other : ℕ) (word : List ℕ)
       → entry_at (changed_node nat_eq files directory change).tree other word
       ≡ cond (is_entry directory name other word) to (entry_at files.tree other word)
-  one_entry change to told other word =
-      ⊎_elim
-      (λ t. ap (λ b. entry_named word
-      (entries_in (cond b (change (files.tree.node directory)) (files.tree.node other)))) t.0
-      ∙ told word
-      ∙ ap (λ d. cond (bytes_eq word name) to (entry_at files.tree d word)) (sym t.1)
-      ∙ ap (λ b. cond (b && bytes_eq word name) to (entry_at files.tree other word)) (sym t.0))
-      (λ t. ap (λ b. entry_named word
-      (entries_in (cond b (change (files.tree.node directory)) (files.tree.node other)))) t.0
-      ∙ ap (λ b. cond (b && bytes_eq word name) to (entry_at files.tree other word)) (sym t.0))
-      (eqb_tells other directory)
+  one_entry change to told other word = grind (arith, common_steps, told, eqb_tells)
 
-  pub given : (number : ℕ) → IsDirectory files.tree directory
-      → (other : ℕ) (word : List ℕ)
+  pub given : (number : ℕ) → IsDirectory files.tree directory → (other : ℕ) (word : List ℕ)
       → entry_at (with_name nat_eq files directory name number).tree other word
       ≡ cond (is_entry directory name other word) (Some number) (entry_at files.tree other word)
   given number is = one_entry (node_with_entry name number) (Some number) told
     where
-      told : (word : List ℕ)
-          → entry_named word (entries_in (node_with_entry name number (files.tree.node directory)))
+      told : (word : List ℕ) → entry_named word (entries_in (node_with_entry name number (files.tree.node directory)))
           ≡ cond (bytes_eq word name) (Some number) (entry_at files.tree directory word)
-      told word =
-          ap (entry_named word) (entries-node_with_entry name number (files.tree.node directory) is)
+      told word = ap (entry_named word) (entries-node_with_entry name number (files.tree.node directory) is)
           ∙ entry_named-with_entry word name number (entries_in (files.tree.node directory))
           ∙ ap (λ b. cond b (Some number) (entry_at files.tree directory word)) (sym (texts_ties word name))
 
-  pub taken : (other : ℕ) (word : List ℕ)
-      → entry_at (without_name nat_eq files directory name).tree other word
+  pub taken : (other : ℕ) (word : List ℕ) → entry_at (without_name nat_eq files directory name).tree other word
       ≡ cond (is_entry directory name other word) None (entry_at files.tree other word)
   taken = grind (arith, common_steps, one_entry, entries-node_without_entry, entry_named-without_entry)
 

@@ -1,7 +1,6 @@
 -- Views that lead alike along a path show the same there.
-use Rattle.std.proofs.Common.{arith}
+use Rattle.std.proofs.Common.{arith, ◌≡◌, refl, sym, ap, ◌∙◌, true≢false, ℕ, ◌+◌, Bool, not, ◌||◌, List, [], ◌∷◌, map, Option, Some, None}
 use Rattle.std.proofs.lemmas.Grind.{common_steps}
-use Rattle.std.proofs.Common.{◌≡◌, refl, sym, ap, ◌∙◌, true≢false, ℕ, ◌+◌, Bool, not, ◌||◌, List, [], ◌∷◌, map, Option, Some, None}
 use Rattle.std.specs.List.{list_any}
 use Rattle.vt_spec.specs.declared.attributes.Kind.TheVariants.{White}
 use Rattle.vt_spec.specs.FileTree.{is_kind, is_kind_in}
@@ -61,8 +60,7 @@ module _ (path : List (List ℕ)) where
   all_shown [] (other ∷ others) are depth = absurd are
   all_shown (view ∷ views) [] are depth = absurd are
   all_shown (view ∷ views) (other ∷ others) are depth =
-      over_alike view other are.0 depth (shown_from (depth + 1) others path)
-      ∙ ap (shown_over view depth (view.leads path) (cuts view path)) (all_shown views others are.1 (depth + 1))
+      grind (arith, common_steps, over_alike, all_shown views others are.1 (depth + 1))
 
   -- one view over the same others
   pub shown_in_lowers_at_alike : (one other : View ℕ) → LeadAlikeTo path one other → (lowers : List (View ℕ))
@@ -78,14 +76,8 @@ all_lead_alike : (path : List (List ℕ)) (views others : List (View ℕ)) → A
 all_lead_alike path [] [] are = tt
 all_lead_alike path [] (other ∷ others) are = absurd are
 all_lead_alike path (view ∷ views) [] are = absurd are
-all_lead_alike path (view ∷ views) (other ∷ others) are = (
-  record {
-    leads = are.0.leads path;
-    inode = (hides_so (node_led view path) (node_led other path) (are.0.inodes path)).of_kind;
-    on_the_way = λ front is. hides_so (node_led view front) (node_led other front) (are.0.inodes front);
-  },
-  all_lead_alike path views others are.1,
-)
+all_lead_alike path (view ∷ views) (other ∷ others) are =
+    grind (arith, common_steps, hides_so, all_lead_alike path views others are.1)
 
 pub shown_by_views : ShownByViews
 shown_by_views views others are path = shown_by_prefixes views others path (all_lead_alike path views others are)

@@ -1,7 +1,6 @@
 -- What is shown where a name of the upper layer was.
-use Rattle.std.proofs.Common.{arith}
+use Rattle.std.proofs.Common.{arith, ◌≡◌, ◌≢◌, refl, sym, ap, subst, ◌∙◌, true≢false, ℕ, Bool, true, false, cond, ◌||◌, List, [], ◌∷◌, ◌++◌, map, Option, Some, None, option_and_then}
 use Rattle.std.proofs.lemmas.Grind.{common_steps}
-use Rattle.std.proofs.Common.{◌≡◌, ◌≢◌, refl, sym, ap, subst, ◌∙◌, true≢false, ℕ, Bool, true, false, cond, ◌||◌, List, [], ◌∷◌, ◌++◌, map, Option, Some, None, option_and_then}
 use Rattle.std.proofs.lemmas.List.{append-nil}
 use Rattle.std.specs.List.{list_any}
 use Rattle.vt_spec.specs.Language.Changes.Change.{Move, Remove}
@@ -39,8 +38,7 @@ named_by tree directory name (word ∷ next ∷ rest) start e =
     by : (o : Option ℕ) → entry_at tree start word ≡ o
         → holds_of (λ inner. ends_in tree directory name inner (next ∷ rest)) o ≡ true
         → ((inner : ℕ) → ends_in tree directory name inner (next ∷ rest) ≡ true
-        → IsNamed tree inner directory name (next ∷ rest))
-        → IsNamed tree start directory name (word ∷ next ∷ rest)
+        → IsNamed tree inner directory name (next ∷ rest)) → IsNamed tree start directory name (word ∷ next ∷ rest)
     by None f e later = absurd (true≢false (sym e))
     by (Some inner) f e later =
         let found = later inner e in
@@ -67,12 +65,10 @@ shown_under before after lowers way name gone alike =
 module _ (files : FileTree ℕ) (top directory : ℕ) (name : List ℕ) where
   pub is_named : (path : List (List ℕ)) → names_entry (view_in files top) directory name path ≡ true
       → IsNamed files.tree top directory name path
-  is_named path e =
-      named_by files.tree directory name path top (sym (names_it files.tree directory name path top) ∙ e)
+  is_named path e = named_by files.tree directory name path top (sym (names_it files.tree directory name path top) ∙ e)
 
   -- the path of an entry goes through it
-  goes_through_named : (way : List (List ℕ))
-      → names_entry (view_in files top) directory name (way ++ name ∷ []) ≡ true
+  goes_through_named : (way : List (List ℕ)) → names_entry (view_in files top) directory name (way ++ name ∷ []) ≡ true
       → goes_through (view_in files top) directory name (way ++ name ∷ []) ≡ true
   goes_through_named way e =
       grind (arith, common_steps, prefix_passes, append-nil (way ++ name ∷ []), cons_is_not_empty)
@@ -81,14 +77,12 @@ module _ (files : FileTree ℕ) (top directory : ℕ) (name : List ℕ) where
   pub way_goes_elsewhere : IsTree files.tree → (object : ℕ) → entry_at files.tree directory name ≡ Some object
       → (way : List (List ℕ)) → led files.tree top way ≡ Some directory
       → goes_through (view_in files top) directory name way ≡ false
-  way_goes_elsewhere tree object named way e =
-      fails (goes_through (view_in files top) directory name way)
+  way_goes_elsewhere tree object named way e = fails (goes_through (view_in files top) directory name way)
       (λ t. back (through_is_split files top directory name way t))
     where
       back : (first rest : List (List ℕ)) × (first ++ name ∷ rest ≡ way) × (led files.tree top first ≡ Some directory)
           → ⊥
-      back parts =
-          no_way_up files tree directory name object named parts.1
+      back parts = no_way_up files tree directory name object named parts.1
           (sym (ap (option_and_then (λ next. led files.tree next parts.1)) named)
           ∙ sym (led_parts files.tree parts.0 (name ∷ parts.1) top directory parts.3)
           ∙ ap (led files.tree top) parts.2 ∙ e)
@@ -100,8 +94,7 @@ removed_shows_below files top directory object name lowers tree is_top named pat
     at : IsNamed files.tree top directory name path
         → shown_from 0 (view_after files (Remove directory name object) top ∷ lowers) path
         ≡ shown_in_lowers (view_in files top) lowers path
-    at there =
-        subst (λ p. shown_from 0 (view_after files (Remove directory name object) top ∷ lowers) p
+    at there = subst (λ p. shown_from 0 (view_after files (Remove directory name object) top ∷ lowers) p
         ≡ shown_in_lowers (view_in files top) lowers p) there.1
         (shown_under (view_in files top) (view_after files (Remove directory name object) top) lowers there.0 name
         (remove_ends_paths files top directory object name (there.0 ++ name ∷ [])
@@ -139,6 +132,5 @@ moved_shows_below files top from to object old new lowers tree is_top can path e
         neither : (way : List (List ℕ)) → goes_through (view_in files top) to new (way ++ old ∷ []) ≡ false
             → goes_through (view_in files top) from old way ≡ false
             → (goes_through (view_in files top) to new way || goes_through (view_in files top) from old way) ≡ false
-        neither way no_new no_old =
-            ap (λ b. b || goes_through (view_in files top) from old way)
+        neither way no_new no_old = ap (λ b. b || goes_through (view_in files top) from old way)
             (none_left (names_entry (view_in files top) to new) way no_new) ∙ no_old

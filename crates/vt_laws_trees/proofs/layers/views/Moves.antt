@@ -3,9 +3,9 @@ use Rattle.std.proofs.lemmas.Grind.{common_steps}
 use Rattle.std.proofs.Common.{◌≡◌, ◌≢◌, ◌≤◌, refl, sym, ap, subst, ◌∙◌, true≢false, eq-eqb, arith, ℕ, suc, nat_eq, true, false, cond, ◌&&◌, List, [], ◌∷◌, ◌++◌, Option, Some, None, option_and_then}
 use Rattle.std.specs.Cmp.Lexicographic.{bytes_decides}
 use Rattle.std.specs.Str.{bytes_eq}
-use Rattle.vt_spec.specs.Language.Changes.{node_with_parent, node_without_entry, with_moved, with_name, without_name, without_parent}
+use Rattle.vt_spec.specs.Language.Changes.{node_with_parent, with_moved, with_name, without_name, without_parent}
 use Rattle.vt_spec.specs.FileTree.{FileTree}
-use Rattle.vt_spec.specs.Tree.{Tree, entries_in, entry_named, is_directory_node}
+use Rattle.vt_spec.specs.Tree.{Tree, entries_in, entry_named}
 use Rattle.vt_spec.specs.TreeInvariant.{IsDirectory, IsTree, entry_at, led}
 use Rattle.vt_laws_trees.specs.Layers.Layers.Views.{MovedLeadsOn, NewLeadsAsOld, OldLeadsNowhere, ThroughIsSplit}
 use Rattle.vt_laws_trees.proofs.layers.layers.CopyingParts.{parent_keeps, without_entry_keeps}
@@ -59,8 +59,7 @@ steps_on tree (name ∷ names) steps from to r e d =
   where
     by : (o : Option ℕ) → entry_at tree from name ≡ o → option_and_then (λ next. led tree next names) o ≡ Some to
         → ((next : ℕ) → ReachedIn tree (suc steps) next → led tree next names ≡ Some to → IsDirectory tree to
-        → ReachedIn tree (after_steps names (suc steps)) to)
-        → ReachedIn tree (after_steps names (suc steps)) to
+        → ReachedIn tree (after_steps names (suc steps)) to) → ReachedIn tree (after_steps names (suc steps)) to
     by None o e on = none_is_some to e
     by (Some next) o e on = on next (from, name, r, o, leads_to_directory tree names next to e d) e d
 
@@ -79,9 +78,7 @@ no_way_up files tree from old object named names e =
 -- Two trees, of which the one has an object under another name
 
 module _ (before after : Tree ℕ) (from : ℕ) (old : List ℕ) (to : ℕ) (new : List ℕ) (object : ℕ)
-    (told : (other : ℕ) (word : List ℕ)
-    → entry_at after other word
-    ≡ cond (is_entry to new other word) (Some object)
+    (told : (other : ℕ) (word : List ℕ) → entry_at after other word ≡ cond (is_entry to new other word) (Some object)
     (cond (is_entry from old other word) None (entry_at before other word))) where
   pub others_led : (path : List (List ℕ)) (start : ℕ) → passes before to new start path ≡ false
       → led after start path ≡ cond (passes before from old start path) None (led before start path)
@@ -99,8 +96,7 @@ module _ (before after : Tree ℕ) (from : ℕ) (old : List ℕ) (to : ℕ) (new
 
     -- what lies under the object goes through neither name
     object_led : (path : List (List ℕ)) → led after object path ≡ led before object path
-    object_led path =
-        others_led path object (passes_not to new object path (λ way rest is l. not_under way l))
+    object_led path = others_led path object (passes_not to new object path (λ way rest is l. not_under way l))
         ∙ ap (λ b. cond b None (led before object path))
         (passes_not from old object path (λ way rest is l. not_up way l))
 
@@ -108,34 +104,23 @@ module _ (before after : Tree ℕ) (from : ℕ) (old : List ℕ) (to : ℕ) (new
     stops_there : (o : Option ℕ) → entry_at before to new ≡ o → (rest : List (List ℕ))
         → option_and_then (λ next. led before next rest) o ≡ Some to → ⊥
     stops_there None e rest l = none_is_some to l
-    stops_there (Some k) e [] l =
-        none_is_some k (sym (no_entries before k (replaced k e) new)
-        ∙ ap (λ n. entry_at before n new) (same_Some k to l) ∙ e)
-    stops_there (Some k) e (word ∷ rest) l =
-        none_is_some to (sym
-        (ap (option_and_then (λ next. led before next rest)) (no_entries before k (replaced k e) word)) ∙ l)
+    stops_there (Some k) e [] l = grind (arith, common_steps, none_is_some, no_entries, same_Some)
+    stops_there (Some k) e (word ∷ rest) l = grind (arith, common_steps, none_is_some, no_entries)
 
     -- nor does a way to the new name's directory
     way_led : (way : List (List ℕ)) (start : ℕ) → led before start way ≡ Some to → led after start way ≡ Some to
-    way_led way start e =
-        others_led way start
-        (passes_not to new start way (λ first rest is l.
+    way_led way start e = others_led way start (passes_not to new start way (λ first rest is l.
         stops_there (entry_at before to new) refl rest (sym (led_parts before first (new ∷ rest) start to l)
-        ∙ ap (led before start) is ∙ e)))
-        ∙ ap (λ b. cond b None (led before start way))
+        ∙ ap (led before start) is ∙ e))) ∙ ap (λ b. cond b None (led before start way))
         (passes_not from old start way (λ first rest is l.
         not_under rest (sym (ap (option_and_then (λ next. led before next rest)) named)
-        ∙ sym (led_parts before first (old ∷ rest) start from l) ∙ ap (led before start) is ∙ e)))
-        ∙ e
+        ∙ sym (led_parts before first (old ∷ rest) start from l) ∙ ap (led before start) is ∙ e))) ∙ e
 
     pub moved_led : (way rest : List (List ℕ)) (start : ℕ) → led before start way ≡ Some to
         → led after start (way ++ new ∷ rest) ≡ led before object rest
-    moved_led way rest start e =
-        led_parts after way (new ∷ rest) start to (way_led way start e)
-        ∙ ap (option_and_then (λ next. led after next rest))
-        (told to new ∙ ap (λ b. cond b (Some object)
-        (cond (is_entry from old to new) None (entry_at before to new))) itself)
-        ∙ object_led rest
+    moved_led way rest start e = led_parts after way (new ∷ rest) start to (way_led way start e)
+        ∙ ap (option_and_then (λ next. led after next rest)) (told to new ∙ ap (λ b. cond b (Some object)
+        (cond (is_entry from old to new) None (entry_at before to new))) itself) ∙ object_led rest
       where
         itself : is_entry to new to new ≡ true
         itself = ap (λ b. b && bytes_eq new new) (eq-eqb to to refl) ∙ (bytes_decides new new).1 refl
@@ -146,15 +131,7 @@ module _ (files : FileTree ℕ) (from : ℕ) (old : List ℕ) (to : ℕ) (new : 
     (is : IsDirectory files.tree to) where
   still : (replaced : Option ℕ)
       → IsDirectory (without_name nat_eq (without_parent nat_eq files replaced) from old).tree to
-  still replaced =
-      grind (
-        arith,
-        common_steps,
-        part-changed_node is_directory_node (without_parent nat_eq files replaced) from
-            (node_without_entry old) (without_entry_keeps old).directory to,
-        part-changed_node,
-        parent_keeps,
-      )
+  still replaced = grind (arith, common_steps, part-changed_node, without_entry_keeps, parent_keeps)
 
   pub move_told : (other : ℕ) (word : List ℕ)
       → entry_at (with_moved nat_eq files from old to new object).tree other word
@@ -164,12 +141,9 @@ module _ (files : FileTree ℕ) (from : ℕ) (old : List ℕ) (to : ℕ) (new : 
       let replaced = entry_named new (entries_in (files.tree.node to)) in
       let freed = without_parent nat_eq files replaced in
       let left = without_name nat_eq freed from old in
-      ap (entry_named word)
-      (entries_stay (with_name nat_eq left to new object) object (node_with_parent to)
-      (entries-node_with_parent to) other)
-      ∙ given left to new object (still replaced) other word
-      ∙ ap (cond (is_entry to new other word) (Some object))
-      (taken freed from old other word
+      ap (entry_named word) (entries_stay (with_name nat_eq left to new object) object (node_with_parent to)
+      (entries-node_with_parent to) other) ∙ given left to new object (still replaced) other word
+      ∙ ap (cond (is_entry to new other word) (Some object)) (taken freed from old other word
       ∙ ap (λ entries. cond (is_entry from old other word) None (entry_named word entries))
       (entries-without_parent files replaced other))
 

@@ -1,7 +1,6 @@
 -- A new name and a removed one, on the view of a layer.
-use Rattle.std.proofs.Common.{arith}
+use Rattle.std.proofs.Common.{arith, ◌≡◌, ◌≢◌, refl, sym, ap, subst, ◌∙◌, true≢false, ℕ, nat_eq, Bool, true, false, cond, List, [], ⊎_elim, Option, Some, None, is_some}
 use Rattle.std.proofs.lemmas.Grind.{common_steps}
-use Rattle.std.proofs.Common.{◌≡◌, ◌≢◌, refl, sym, ap, subst, ◌∙◌, true≢false, ℕ, nat_eq, Bool, true, false, cond, List, [], ⊎_elim, Option, Some, None, is_some}
 use Rattle.std.proofs.lemmas.Bool.Decides.{eqb_tells}
 use Rattle.vt_spec.specs.Language.Changes.{changed_node, node_without_entry, with_inode, with_name, without_name, without_parent}
 use Rattle.vt_spec.specs.Language.Changes.Change.{AddName, CopyUp, Make, Move, Remove, SetAttr, SetBytes, SetMark}
@@ -28,61 +27,46 @@ pub no_entries : (tree : Tree ℕ) (object : ℕ) → entries_in (tree.node obje
 no_entries tree object empty word = ap (entry_named word) empty
 
 -- A name given to what has no names in it
-module _ (before after : Tree ℕ) (directory : ℕ) (name : List ℕ) (object : ℕ)
-    (told : (other : ℕ) (word : List ℕ)
-    → entry_at after other word
-    ≡ cond (is_entry directory name other word) (Some object) (entry_at before other word))
+module _ (before after : Tree ℕ) (directory : ℕ) (name : List ℕ) (object : ℕ) (told : (other : ℕ) (word : List ℕ)
+    → entry_at after other word ≡ cond (is_entry directory name other word) (Some object) (entry_at before other word))
     (other_one : object ≢ directory) (empty : entries_in (before.node object) ≡ []) where
   stays_empty : (word : List ℕ) → entry_at after object word ≡ None
   stays_empty word = grind (arith, common_steps, is_that_entry, no_entries)
 
   pub given_led : ((k : ℕ) → entry_at before directory name ≡ Some k → entries_in (before.node k) ≡ [])
-      → (start : ℕ) (path : List (List ℕ))
-      → led after start path
+      → (start : ℕ) (path : List (List ℕ)) → led after start path
       ≡ cond (names_entry (record { leads = λ p. led before start p; node = λ n. before.node n }) directory name path)
       (Some object) (led before start path)
-  given_led bare start path =
-      entry_led before after directory name (Some object) told
+  given_led bare start path = entry_led before after directory name (Some object) told
       (λ k e. no_entries before k (bare k e))
-      (λ k e word. ap (λ n. entry_at after n word) (sym (same_Some object k e)) ∙ stays_empty word)
-      path start
+      (λ k e word. ap (λ n. entry_at after n word) (sym (same_Some object k e)) ∙ stays_empty word) path start
       ∙ ap (λ b. cond b (Some object) (led before start path)) (sym (names_it before directory name path start))
 
 -- Inodes but for their names
 
 pub alike_kept : (one other : Option (Node ℕ)) → IsKept one other → IsAlike one other
-alike_kept one other is =
-    record { there = is.there; kind = is.kind; attr = is.attr; bytes = is.bytes; mark = is.mark }
+alike_kept one other is = record { there = is.there; kind = is.kind; attr = is.attr; bytes = is.bytes; mark = is.mark }
 
 pub alike_same : (one other : Option (Node ℕ)) → other ≡ one → IsAlike one other
 alike_same one other e =
     subst (λ o. IsAlike one o) (sym e) (record { there = refl; kind = refl; attr = refl; bytes = refl; mark = refl })
 
 pub alike_both : (one middle other : Option (Node ℕ)) → IsAlike one middle → IsAlike middle other → IsAlike one other
-alike_both one middle other a b = record {
-  there = b.there ∙ a.there;
-  kind = b.kind ∙ a.kind;
-  attr = b.attr ∙ a.attr;
-  bytes = b.bytes ∙ a.bytes;
-  mark = b.mark ∙ a.mark;
-}
+alike_both one middle other a b = grind (arith, common_steps)
 
 pub alike_after : (files : FileTree ℕ) (number : ℕ) (change : Option (Node ℕ) → Option (Node ℕ)) → KeepsButNames change
-    → (inode : ℕ)
-    → IsAlike (files.tree.node inode) ((changed_node nat_eq files number change).tree.node inode)
+    → (inode : ℕ) → IsAlike (files.tree.node inode) ((changed_node nat_eq files number change).tree.node inode)
 alike_after files number change keeps inode = grind (arith, common_steps, alike_same, kept_elsewhere)
 
 -- a new inode alone, without names in it, leaves all entries
 pub inode_entries : (files : FileTree ℕ) (number : ℕ) (node : Node ℕ) → files.tree.node number ≡ None
     → entries_of node.content ≡ [] → (other : ℕ)
     → entries_in ((with_inode nat_eq files number node).tree.node other) ≡ entries_in (files.tree.node other)
-inode_entries files number node vacant bare other =
-    ⊎_elim
+inode_entries files number node vacant bare other = ⊎_elim
     (λ t. ap (λ n. entries_in ((with_inode nat_eq files number node).tree.node n)) t.1
     ∙ ap entries_in (node_set files.tree number (Some node)) ∙ bare
     ∙ sym (ap entries_in vacant) ∙ ap (λ n. entries_in (files.tree.node n)) (sym t.1))
-    (λ t. ap entries_in (node_other files.tree number (Some node) other t.1))
-    (eqb_tells other number)
+    (λ t. ap entries_in (node_other files.tree number (Some node) other t.1)) (eqb_tells other number)
 
 -- A new inode, and its name
 module _ (files : FileTree ℕ) (directory number : ℕ) (name : List ℕ) (node : Node ℕ)
@@ -107,11 +91,9 @@ module _ (files : FileTree ℕ) (directory number : ℕ) (name : List ℕ) (node
       (alike_after grown directory (node_with_entry name number) (entry_keeps name number) inode)
 
   module _ (bare : entries_of node.content ≡ []) where
-    made_told : (other : ℕ) (word : List ℕ)
-        → entry_at made.tree other word
+    made_told : (other : ℕ) (word : List ℕ) → entry_at made.tree other word
         ≡ cond (is_entry directory name other word) (Some number) (entry_at files.tree other word)
-    made_told other word =
-        given grown directory name number
+    made_told other word = given grown directory name number
         (ap is_directory_node (node_other files.tree number (Some node) directory (λ same. number_differs (sym same)))
         ∙ is) other word
         ∙ ap (λ entries. cond (is_entry directory name other word) (Some number) (entry_named word entries))
@@ -134,8 +116,7 @@ make_ends_paths files top directory number name node is vacant bare not_back pat
     entry_over files.tree after directory name (Some number) told (λ k e names. not_back k names e)
     (λ k e word. ap (λ n. entry_at after n word) (sym (same_Some number k e))
     ∙ stays_empty files.tree after directory name number told
-    (number_differs files directory number name node is vacant) (ap entries_in vacant) word)
-    path top
+    (number_differs files directory number name node is vacant) (ap entries_in vacant) word) path top
     ∙ sym (λ i. cond (names_it files.tree directory name path top i) (Some number)
     (cond (goes_through_it files.tree directory name path top i) None (led files.tree top path)))
 
@@ -151,8 +132,7 @@ module _ (files : FileTree ℕ) (directory object : ℕ) (name : List ℕ) where
   abbrev left : FileTree ℕ
   left = without_parent nat_eq (without_name nat_eq files directory name) (Some object)
 
-  left_told : (other : ℕ) (word : List ℕ)
-      → entry_at left.tree other word
+  left_told : (other : ℕ) (word : List ℕ) → entry_at left.tree other word
       ≡ cond (is_entry directory name other word) None (entry_at files.tree other word)
   left_told other word =
       ap (entry_named word) (entries-without_parent (without_name nat_eq files directory name) (Some object) other)
@@ -161,11 +141,9 @@ module _ (files : FileTree ℕ) (directory object : ℕ) (name : List ℕ) where
 pub remove_takes_path : RemoveTakesPath
 remove_takes_path files top directory object name named empty path =
     entry_led files.tree (left files directory object name).tree directory name None
-    (left_told files directory object name)
-    (λ k e word. no_entries files.tree k
+    (left_told files directory object name) (λ k e word. no_entries files.tree k
     (ap (λ n. entries_in (files.tree.node n)) (same_Some k object (sym e ∙ named)) ∙ empty) word)
-    (λ k e. none_is_some k e)
-    path top
+    (λ k e. none_is_some k e) path top
     ∙ ap (λ b. cond b None (led files.tree top path)) (sym (names_it files.tree directory name path top))
 
 pub remove_ends_paths : RemoveEndsPaths
@@ -186,8 +164,7 @@ names_leave_inodes files (Move from old to new object) top inode e =
     let freed = without_parent nat_eq files (entry_named new (entries_in (files.tree.node to))) in
     let left = without_name nat_eq freed from old in
     let named = with_name nat_eq left to new object in
-    alike_both (files.tree.node inode) (freed.tree.node inode) _
-    (alike_kept (files.tree.node inode) _
+    alike_both (files.tree.node inode) (freed.tree.node inode) _ (alike_kept (files.tree.node inode) _
     (kept_without_parent files (entry_named new (entries_in (files.tree.node to))) inode))
     (alike_both (freed.tree.node inode) (left.tree.node inode) _
     (alike_after freed from (node_without_entry old) (without_entry_keeps old) inode)
@@ -236,6 +213,5 @@ pub remove_is_seen : RemoveIsSeen
 remove_is_seen files top directory object name named empty path =
     seen_by files.tree (left files directory object name).tree top path
     (names_entry (view_in files top) directory name path) None None
-    (remove_takes_path files top directory object name named empty path)
-    (make_seen None)
+    (remove_takes_path files top directory object name named empty path) (make_seen None)
     (λ inode e. names_leave_inodes files (Remove directory name object) top inode refl)

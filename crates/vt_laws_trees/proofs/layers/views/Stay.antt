@@ -1,7 +1,8 @@
 -- Changes that move no path of a layer: bytes, attributes and marks, and changes elsewhere in its tree.
-use Rattle.std.proofs.Common.{◌≡◌, refl, sym, ap, subst, ◌∙◌, true≢false, ne_eqb, ℕ, nat_eq, true, false, ◌||◌, List, [], ◌∷◌, Option, Some, None, is_some, option_and_then}
+use Rattle.std.proofs.Common.{arith, ◌≡◌, refl, sym, ap, subst, ◌∙◌, true≢false, ne_eqb, ℕ, nat_eq, true, false, ◌||◌, List, [], ◌∷◌, Option, Some, None, is_some, option_and_then}
+use Rattle.std.proofs.lemmas.Grind.{common_steps}
 use Rattle.vt_spec.specs.Language.Changes.{Change, changed, changed_node, node_with_attr, node_with_mark, with_inode}
-use Rattle.vt_spec.specs.Language.Changes.Change.{AddName, CopyUp, Make, Move, Remove, SetAttr, SetBytes, SetMark}
+use Rattle.vt_spec.specs.Language.Changes.Change.{Make}
 use Rattle.vt_spec.specs.FileTree.{FileTree}
 use Rattle.vt_spec.specs.Lists.{is_among, then_some}
 use Rattle.vt_spec.specs.Tree.{Node, Tree, entries_in, entries_of, entry_named, node_with_bytes}
@@ -19,8 +20,7 @@ use Rattle.vt_spec.proofs.NodeChanges.{entries-node_with_attr, entries-node_with
 -- where entries are as they were at all that a directory leads to, so are paths
 pub led_where : (before after : Tree ℕ) (path : List (List ℕ)) (start : ℕ)
     → ((way : List (List ℕ)) (inode : ℕ) → led before start way ≡ Some inode → (word : List ℕ)
-    → entry_at after inode word ≡ entry_at before inode word)
-    → led after start path ≡ led before start path
+    → entry_at after inode word ≡ entry_at before inode word) → led after start path ≡ led before start path
 led_where before after [] start same = refl
 led_where before after (word ∷ rest) start same =
     ap (option_and_then (λ next. led after next rest)) (same [] start refl word)
@@ -36,8 +36,7 @@ led_where before after (word ∷ rest) start same =
 
 -- a change of one inode that keeps its entries
 stays_led : (files : FileTree ℕ) (number : ℕ) (change : Option (Node ℕ) → Option (Node ℕ))
-    → ((o : Option (Node ℕ)) → entries_in (change o) ≡ entries_in o)
-    → (top : ℕ) (path : List (List ℕ))
+    → ((o : Option (Node ℕ)) → entries_in (change o) ≡ entries_in o) → (top : ℕ) (path : List (List ℕ))
     → led (changed_node nat_eq files number change).tree top path ≡ led files.tree top path
 stays_led files number change keeps top path =
     led_where files.tree (changed_node nat_eq files number change).tree path top
@@ -65,45 +64,28 @@ mark_changes_one_inode files top directory opaque =
 
 -- what is there and is not changed has no new number
 among_the_old : (files : FileTree ℕ) (change : Change ℕ) → MakesWithNewNumber files.tree change → (inode : ℕ)
-    → is_some (files.tree.node inode) ≡ true
-    → is_among nat_eq inode (old_inodes_changed change) ≡ false
+    → is_some (files.tree.node inode) ≡ true → is_among nat_eq inode (old_inodes_changed change) ≡ false
     → is_among nat_eq inode (inodes_changed change) ≡ false
-among_the_old files (Make directory name number node) new inode there e =
-    ap (λ b. b || is_among nat_eq inode (directory ∷ []))
-    (ne_eqb inode number
-    (λ same. true≢false (sym there ∙ ap (λ n. is_some (files.tree.node n)) same ∙ ap is_some new))) ∙ e
-among_the_old files (AddName directory name object) new inode there e = e
-among_the_old files (Remove directory name object) new inode there e = e
-among_the_old files (Move from old to name object) new inode there e = e
-among_the_old files (SetBytes file bytes) new inode there e = e
-among_the_old files (SetAttr object attr) new inode there e = e
-among_the_old files (SetMark directory opaque) new inode there e = e
-among_the_old files (CopyUp object) new inode there e = e
+among_the_old files change new inode there e = grind (arith, common_steps, ne_eqb, true≢false)
 
 pub elsewhere_keeps_view : ElsewhereKeepsView
 elsewhere_keeps_view files change top tree is new apart path = (leads, by (led files.tree top path) refl)
   where
     kept : (way : List (List ℕ)) (inode : ℕ) → led files.tree top way ≡ Some inode
         → IsKept (files.tree.node inode) ((changed nat_eq files change).tree.node inode)
-    kept way inode l =
-        others_stay files change inode
-        (among_the_old files change new inode
+    kept way inode l = others_stay files change inode (among_the_old files change new inode
         (led_is_there (record { tree = files.tree; directory = top }) tree is way inode l) (apart way inode l))
 
     leads : led (changed nat_eq files change).tree top path ≡ led files.tree top path
-    leads =
-        led_where files.tree (changed nat_eq files change).tree path top
+    leads = led_where files.tree (changed nat_eq files change).tree path top
         (λ way inode l word. ap (entry_named word) (kept way inode l).names)
 
-    by : (o : Option ℕ) → led files.tree top path ≡ o
-        → IsAlike (then_some (led files.tree top path) files.tree.node)
+    by : (o : Option ℕ) → led files.tree top path ≡ o → IsAlike (then_some (led files.tree top path) files.tree.node)
         (then_some (led (changed nat_eq files change).tree top path) (changed nat_eq files change).tree.node)
-    by None e =
-        subst (λ o. IsAlike (then_some (led files.tree top path) files.tree.node)
+    by None e = subst (λ o. IsAlike (then_some (led files.tree top path) files.tree.node)
         (then_some o (changed nat_eq files change).tree.node)) (sym (leads ∙ e))
         (subst (λ o. IsAlike (then_some o files.tree.node) None) (sym e) (alike_same None None refl))
-    by (Some inode) e =
-        subst (λ o. IsAlike (then_some (led files.tree top path) files.tree.node)
+    by (Some inode) e = subst (λ o. IsAlike (then_some (led files.tree top path) files.tree.node)
         (then_some o (changed nat_eq files change).tree.node)) (sym (leads ∙ e))
         (subst (λ o. IsAlike (then_some o files.tree.node) ((changed nat_eq files change).tree.node inode)) (sym e)
         (alike_kept (files.tree.node inode) _ (kept path inode e)))

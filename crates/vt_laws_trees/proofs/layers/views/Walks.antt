@@ -1,7 +1,6 @@
 -- Where paths lead when one entry of a tree changes.
-use Rattle.std.proofs.Common.{arith}
+use Rattle.std.proofs.Common.{arith, ◌≡◌, ◌≢◌, refl, sym, ap, ◌∙◌, true≢false, ℕ, Bool, true, false, cond, ◌||◌, List, [], ◌∷◌, ◌++◌, map, Option, Some, None, option_and_then}
 use Rattle.std.proofs.lemmas.Grind.{common_steps}
-use Rattle.std.proofs.Common.{◌≡◌, ◌≢◌, refl, sym, ap, ◌∙◌, true≢false, ℕ, Bool, true, false, cond, ◌||◌, List, [], ◌∷◌, ◌++◌, map, Option, Some, None, option_and_then}
 use Rattle.std.specs.List.{list_any}
 use Rattle.vt_spec.specs.Lists.{prefixes, holds_of}
 use Rattle.vt_spec.specs.Machine.Views.{View}
@@ -52,26 +51,18 @@ module _ (tree : Tree ℕ) (directory : ℕ) (name : List ℕ) where
       → ((word : List ℕ) (rest : List (List ℕ)) → one (word ∷ rest) ≡ other (word ∷ rest))
       → (path : List (List ℕ)) → list_any one (prefixes path) ≡ list_any other (prefixes path)
   prefixes_alike one other same [] = refl
-  prefixes_alike one other same (word ∷ path) =
-      ap (λ b. one (word ∷ []) || b) (list_any_of_map one (λ front. word ∷ front) (prefixes path)
-      ∙ any_alike (λ front. one (word ∷ front)) (λ front. other (word ∷ front)) (same word) (prefixes path)
-      ∙ sym (list_any_of_map other (λ front. word ∷ front) (prefixes path)))
-      ∙ ap (λ b. b || list_any other (map (λ front. word ∷ front) (prefixes path))) (same word [])
+  prefixes_alike one other same (word ∷ path) = grind (arith, common_steps, list_any_of_map, any_alike)
 
   pub goes_through_it : (path : List (List ℕ)) (start : ℕ)
       → goes_through (view_from tree start) directory name path ≡ passes start path
   goes_through_it [] start = refl
-  goes_through_it (word ∷ rest) start =
-      ap (λ b. is_entry directory name start word || b)
+  goes_through_it (word ∷ rest) start = ap (λ b. is_entry directory name start word || b)
       (list_any_of_map (names_entry (view_from tree start) directory name) (λ front. word ∷ front) (prefixes rest)
       ∙ prefixes_alike (λ front. names_entry (view_from tree start) directory name (word ∷ front))
-      (λ front. holds_of (λ inner. names_entry (view_from tree inner) directory name front)
-      (entry_at tree start word))
-      (deeper start word) rest
-      ∙ by (entry_at tree start word) (goes_through_it rest))
+      (λ front. holds_of (λ inner. names_entry (view_from tree inner) directory name front) (entry_at tree start word))
+      (deeper start word) rest ∙ by (entry_at tree start word) (goes_through_it rest))
     where
-      by : (o : Option ℕ) → ((inner : ℕ)
-          → goes_through (view_from tree inner) directory name rest ≡ passes inner rest)
+      by : (o : Option ℕ) → ((inner : ℕ) → goes_through (view_from tree inner) directory name rest ≡ passes inner rest)
           → list_any (λ front. holds_of (λ inner. names_entry (view_from tree inner) directory name front) o)
           (prefixes rest) ≡ holds_of (λ inner. passes inner rest) o
       by None later = list_any-never (prefixes rest)
@@ -79,8 +70,7 @@ module _ (tree : Tree ℕ) (directory : ℕ) (name : List ℕ) where
 
   -- a path that passes has a way to the directory, and the name behind it
   abbrev pub IsSplit : ℕ → List (List ℕ) → Type 0
-  IsSplit start path =
-      (way rest : List (List ℕ)) × (way ++ name ∷ rest ≡ path) × (led tree start way ≡ Some directory)
+  IsSplit start path = (way rest : List (List ℕ)) × (way ++ name ∷ rest ≡ path) × (led tree start way ≡ Some directory)
 
   pub split : (path : List (List ℕ)) (start : ℕ) → passes start path ≡ true → IsSplit start path
   split [] start e = absurd (true≢false (sym e))
@@ -94,8 +84,7 @@ module _ (tree : Tree ℕ) (directory : ℕ) (name : List ℕ) where
             word ∷ there.0,
             there.1,
             ap (λ p. word ∷ p) there.2,
-            ap (option_and_then (λ next. led tree next there.0)) f
-                ∙ there.3,
+            ap (option_and_then (λ next. led tree next there.0)) f ∙ there.3,
           )
 
       by : (b : Bool) → is_entry directory name start word ≡ b
@@ -108,8 +97,7 @@ module _ (tree : Tree ℕ) (directory : ℕ) (name : List ℕ) where
 
 -- One entry that leads elsewhere: what it led to and what it leads to have no entries
 
-module _ (before after : Tree ℕ) (directory : ℕ) (name : List ℕ) (to : Option ℕ)
-    (told : (other : ℕ) (word : List ℕ)
+module _ (before after : Tree ℕ) (directory : ℕ) (name : List ℕ) (to : Option ℕ) (told : (other : ℕ) (word : List ℕ)
     → entry_at after other word ≡ cond (is_entry directory name other word) to (entry_at before other word))
     (leaf_before : (object : ℕ) → entry_at before directory name ≡ Some object → (word : List ℕ)
     → entry_at before object word ≡ None)
@@ -138,8 +126,7 @@ module _ (before after : Tree ℕ) (directory : ℕ) (name : List ℕ) (to : Opt
 
 -- One entry that leads nowhere: no path goes on through it
 
-module _ (before after : Tree ℕ) (directory : ℕ) (name : List ℕ)
-    (told : (other : ℕ) (word : List ℕ)
+module _ (before after : Tree ℕ) (directory : ℕ) (name : List ℕ) (told : (other : ℕ) (word : List ℕ)
     → entry_at after other word ≡ cond (is_entry directory name other word) None (entry_at before other word)) where
   pub entry_gone : (path : List (List ℕ)) (start : ℕ)
       → led after start path ≡ cond (passes before directory name start path) None (led before start path)
@@ -148,8 +135,7 @@ module _ (before after : Tree ℕ) (directory : ℕ) (name : List ℕ)
 
 -- One entry that leads to what has no entries, in the place of what does not lead back to its directory
 
-module _ (before after : Tree ℕ) (directory : ℕ) (name : List ℕ) (to : Option ℕ)
-    (told : (other : ℕ) (word : List ℕ)
+module _ (before after : Tree ℕ) (directory : ℕ) (name : List ℕ) (to : Option ℕ) (told : (other : ℕ) (word : List ℕ)
     → entry_at after other word ≡ cond (is_entry directory name other word) to (entry_at before other word))
     (not_back : (object : ℕ) → entry_at before directory name ≡ Some object → (names : List (List ℕ))
     → led before object names ≢ Some directory)
@@ -183,14 +169,12 @@ module _ (before after : Tree ℕ) (directory : ℕ) (name : List ℕ) (to : Opt
       ap (option_and_then (λ next. led after next rest)) (leaf object refl word)
 
   abbrev led_over : ℕ → List (List ℕ) → Option ℕ
-  led_over start path =
-      cond (ends_in before directory name start path) to
+  led_over start path = cond (ends_in before directory name start path) to
       (cond (passes before directory name start path) None (led before start path))
 
   pub entry_over : (path : List (List ℕ)) (start : ℕ) → led after start path ≡ led_over start path
   entry_over [] start = refl
-  entry_over (word ∷ rest) start =
-      ap (option_and_then (λ next. led after next rest)) (told start word)
+  entry_over (word ∷ rest) start = ap (option_and_then (λ next. led after next rest)) (told start word)
       ∙ by (is_entry directory name start word) refl rest (entry_over rest)
     where
       alone : (o : Option ℕ) → o ≡ cond (holds_of (λ inner. false) o) None (option_and_then (λ next. Some next) o)
@@ -210,8 +194,7 @@ module _ (before after : Tree ℕ) (directory : ℕ) (name : List ℕ) (to : Opt
           → ((inner : ℕ) → led after inner rest ≡ led_over inner rest)
           → option_and_then (λ next. led after next rest) (cond b to (entry_at before start word))
           ≡ led_over start (word ∷ rest)
-      by true is [] later =
-          option_and_then-Some to ∙ ap (λ b. cond b to
+      by true is [] later = option_and_then-Some to ∙ ap (λ b. cond b to
           (cond (passes before directory name start (word ∷ [])) None (led before start (word ∷ [])))) (sym is)
       by true is (next ∷ rest) later =
           let same = is_that_entry directory name start word is in
@@ -220,19 +203,15 @@ module _ (before after : Tree ℕ) (directory : ℕ) (name : List ℕ) (to : Opt
           ∙ ap (entry_at before directory) same.1 in
           over_leads_no_more to leaf_after next rest
           ∙ ap (λ b. cond (b || holds_of (λ inner. passes before directory name inner (next ∷ rest))
-          (entry_at before start word)) None (led before start (word ∷ next ∷ rest))) (sym is)
-          ∙ ap (λ b. cond b to
-          (cond (passes before directory name start (word ∷ next ∷ rest)) None
-          (led before start (word ∷ next ∷ rest))))
+          (entry_at before start word)) None (led before start (word ∷ next ∷ rest))) (sym is) ∙ ap (λ b. cond b to
+          (cond (passes before directory name start (word ∷ next ∷ rest)) None (led before start (word ∷ next ∷ rest))))
           (sym (ap (holds_of (λ inner. ends_in before directory name inner (next ∷ rest))) entry
           ∙ over_ends (entry_at before directory name) refl (next ∷ rest)))
-      by false is [] later =
-          option_and_then-Some (entry_at before start word) ∙ alone (entry_at before start word)
+      by false is [] later = option_and_then-Some (entry_at before start word) ∙ alone (entry_at before start word)
           ∙ ap (λ b. cond b to
           (cond (b || holds_of (λ inner. false) (entry_at before start word)) None (led before start (word ∷ []))))
           (sym is)
-      by false is (next ∷ rest) later =
-          on (entry_at before start word) next rest later
+      by false is (next ∷ rest) later = on (entry_at before start word) next rest later
           ∙ ap (λ b. cond (ends_in before directory name start (word ∷ next ∷ rest)) to
           (cond (b || holds_of (λ inner. passes before directory name inner (next ∷ rest))
           (entry_at before start word)) None (led before start (word ∷ next ∷ rest)))) (sym is)

@@ -1,5 +1,6 @@
 -- What lower layers show after a change they showed before.
-use Rattle.std.proofs.Common.{arith, ◌≡◌, refl, sym, ap, subst, ◌∙◌, true≢false, eq-eqb, ℕ, zero, suc, ◌+◌, nat_eq, Bool, true, false, cond, List, Option, Some, None, is_some}
+use Rattle.std.proofs.lemmas.Grind.{common_steps}
+use Rattle.std.proofs.Common.{arith, ◌≡◌, refl, sym, ap, subst, ◌∙◌, true≢false, eq-eqb, ℕ, suc, ◌+◌, nat_eq, Bool, true, false, cond, List, Option, Some, None, is_some}
 use Rattle.vt_spec.specs.Language.Changes.{Change}
 use Rattle.vt_spec.specs.Language.Changes.Change.{AddName, CopyUp, Make, Move, Remove, SetAttr, SetBytes, SetMark}
 use Rattle.vt_spec.specs.Lists.{Fresh, odds, then_some}
@@ -36,8 +37,7 @@ pub record Uncovers (merge later : Merge ℕ) : Type 0 where
   pub below : (n layer : ℕ) (way : List (List ℕ)) → later.real n ≡ Some (Lower layer way)
       → merge.real n ≡ Some (Lower layer way)
   pub names : (path : List (List ℕ)) (n layer : ℕ) (way : List (List ℕ)) → number_at_path later.files path ≡ Some n
-      → later.real n ≡ Some (Lower layer way)
-      → number_at_path merge.files path ≡ Some n
+      → later.real n ≡ Some (Lower layer way) → number_at_path merge.files path ≡ Some n
 
 abbrev layer_in : ℕ → Option (Real ℕ) → ℕ
 layer_in other None = other
@@ -46,12 +46,10 @@ layer_in other (Some (Lower n way)) = n
 
 -- so what is shown below was shown there
 pub shown_before : (stack : Stack ℕ) (merge later : Merge ℕ) → IsWhole stack merge → IsWhatIsShown stack later
-    → Uncovers merge later
-    → (path : List (List ℕ)) (layer object : ℕ)
+    → Uncovers merge later → (path : List (List ℕ)) (layer object : ℕ)
     → shown (layers_under stack later) path ≡ Some (record { layer = suc layer; object = object })
     → shown (layers_under stack merge) path ≡ Some (record { layer = suc layer; object = object })
-shown_before stack merge later whole after uncovers path layer object e =
-    by (number_at_path later.files path) refl
+shown_before stack merge later whole after uncovers path layer object e = by (number_at_path later.files path) refl
     (subst (λ o. SameObject (then_some (number_at_path later.files path) later.files.tree.node)
     (then_some o (layer_node (layers_under stack later)))) e (after.shows path))
   where
@@ -69,21 +67,12 @@ shown_before stack merge later whole after uncovers path layer object e =
         → shown (layers_under stack merge) path ≡ Some (record { layer = suc layer; object = found }) → found ≡ object
     same_object old found f =
         let was = (computed (layers_under stack merge) path (record { layer = suc layer; object = found })).0 f in
-        same_Some found object
-        (sym was.has_uncut.0.2
-        ∙ ap (λ l. at_path l path) (same_Some was.has_uncut.0.0 is.has_uncut.0.0
-        (sym was.has_uncut.0.1 ∙ is.has_uncut.0.1))
-        ∙ is.has_uncut.0.2)
+        grind (arith, common_steps, same_Some, is)
 
     lies_at : (found : Shown ℕ) → shown (layers_under stack merge) path ≡ Some found → (k : ℕ) → found.layer ≡ k
         → Some (Lower layer path) ≡ Some (real_object true k (record { path = path; seen = found }))
         → shown (layers_under stack merge) path ≡ Some (record { layer = suc layer; object = object })
-    lies_at found f zero l q = none_is_some found.object (ap upper_object q)
-    lies_at found f (suc k) l q =
-        let same : found.layer ≡ suc layer = l ∙ ap suc (sym (ap (layer_in layer) q)) in
-        let here : shown (layers_under stack merge) path ≡ Some (record { layer = suc layer; object = found.object }) =
-        f ∙ ap (λ n. Some (record { layer = n; object = found.object })) same in
-        here ∙ ap (λ n. Some (record { layer = suc layer; object = n })) (same_object found found.object here)
+    lies_at found f k l q = grind (arith, common_steps, none_is_some, same_object)
 
     found_by : (o : Option (Shown ℕ)) → shown (layers_under stack merge) path ≡ o
         → Some (Lower layer path) ≡ real_by path o
@@ -99,8 +88,7 @@ shown_before stack merge later whole after uncovers path layer object e =
         found_by (shown (layers_under stack merge) path) refl
         (sym (uncovers.below n layer path real) ∙ whole.shown.names path n was)
 
-    by : (o : Option ℕ) → number_at_path later.files path ≡ o
-        → SameObject (then_some o later.files.tree.node)
+    by : (o : Option ℕ) → number_at_path later.files path ≡ o → SameObject (then_some o later.files.tree.node)
         (layer_node (layers_under stack later) (record { layer = suc layer; object = object }))
         → shown (layers_under stack merge) path ≡ Some (record { layer = suc layer; object = object })
     by None f same = absurd (object_is_not_none (layer_node (layers_under stack later)
@@ -114,8 +102,7 @@ no_below merge n layer way h e = true≢false (sym h ∙ ap (λ o. is_some (uppe
 
 -- each change does so
 module _ (fresh : Fresh ℕ) (stack : Stack ℕ) (merge : Merge ℕ) (whole : IsWhole stack merge)
-    (distinct : (j k : ℕ) → fresh j ≡ fresh k → j ≡ k)
-    (unused : (k : ℕ) → merge.upper.tree.node (fresh k) ≡ None) where
+    (distinct : (j k : ℕ) → fresh j ≡ fresh k → j ≡ k) (unused : (k : ℕ) → merge.upper.tree.node (fresh k) ≡ None) where
   uncovers : (change : Change ℕ) → IsAskedWell stack merge change
       → Uncovers merge (merge_changed nat_eq fresh stack merge change)
   uncovers (Make d w number node) asked =
@@ -128,22 +115,17 @@ module _ (fresh : Fresh ℕ) (stack : Stack ℕ) (merge : Merge ℕ) (whole : Is
             (below_before stack (odds fresh) (odds-distinct fresh distinct) one number (odds fresh 0) n layer way e);
         names = λ path n layer way f e.
             by path n layer way one is.files (names_entry (view_in one.files one.files.tree.root) d w path)
-            (sym (make_adds_path one.files one.files.tree.root d number w node
-            (record {
+            (sym (make_adds_path one.files one.files.tree.root d number w node (record {
               in_directory = may.name_is_free.in_directory;
-              bare = λ r g.
-                  none_is_some r (sym may.name_is_free.free ∙ g);
-            })
-            may.number_is_new (new_bare d node may.fits) path) ∙ f) e;
+              bare = λ r g. none_is_some r (sym may.name_is_free.free ∙ g);
+            }) may.number_is_new (new_bare d node may.fits) path) ∙ f) e;
       }
     where
       by : (path : List (List ℕ)) (n layer : ℕ) (way : List (List ℕ)) (one : Merge ℕ) → one.files ≡ merge.files
-          → (b : Bool)
-          → cond b (Some number) (number_at_path one.files path) ≡ Some n
+          → (b : Bool) → cond b (Some number) (number_at_path one.files path) ≡ Some n
           → cond (nat_eq n number) (Some (Upper (odds fresh 0))) (one.real n) ≡ Some (Lower layer way)
           → number_at_path merge.files path ≡ Some n
-      by path n layer way one files true f e =
-          none_is_some (odds fresh 0)
+      by path n layer way one files true f e = none_is_some (odds fresh 0)
           (sym (ap upper_object (sym (ap (λ b. cond b (Some (Upper (odds fresh 0))) (one.real n))
           (eq-eqb n number (sym (same_Some number n f)))) ∙ e)))
       by path n layer way one files false f e = sym (ap (λ fs. number_at_path fs path) files) ∙ f
@@ -159,17 +141,13 @@ module _ (fresh : Fresh ℕ) (stack : Stack ℕ) (merge : Merge ℕ) (whole : Is
       let then_may = subst (λ files. MayAddName files.tree d w object) (sym same) may in
       record {
         below = λ n layer way e. first.lower n layer way (second.copied.lower n layer way e);
-        names = λ path n layer way f e.
-            by path n layer way two same (second.copied.grows object
+        names = λ path n layer way f e. by path n layer way two same (second.copied.grows object
             (stands_now fresh stack merge whole distinct unused object may.is_there))
             (names_entry (view_in two.files two.files.tree.root) d w path)
-            (sym (add_name_adds_path two.files two.files.tree.root d object w
-            (record {
+            (sym (add_name_adds_path two.files two.files.tree.root d object w (record {
               in_directory = then_may.name_is_free.in_directory;
-              bare = λ r g.
-                  none_is_some r (sym then_may.name_is_free.free ∙ g);
-            })
-            then_may.no_directory path) ∙ f) e;
+              bare = λ r g. none_is_some r (sym then_may.name_is_free.free ∙ g);
+            }) then_may.no_directory path) ∙ f) e;
       }
     where
       by : (path : List (List ℕ)) (n layer : ℕ) (way : List (List ℕ)) (two : Merge ℕ) → two.files ≡ merge.files
@@ -200,19 +178,16 @@ module _ (fresh : Fresh ℕ) (stack : Stack ℕ) (merge : Merge ℕ) (whole : Is
       let two = both_copied fresh stack merge f old t new o in
       record {
         below = m.lower;
-        names = λ path n layer way e r.
-            sym (ap (λ fs. number_at_path fs path) m.files)
+        names = λ path n layer way e r. sym (ap (λ fs. number_at_path fs path) m.files)
             ∙ below_stays (odds (odds fresh)) stack two m.whole f old t new o m.from m.to m.object m.may m.vacant
-            (λ d. m.cut d ∙ asked.1 (m.was_directory d))
-            (is_some (shown_in_lowers_at nat_eq stack two f old))
+            (λ d. m.cut d ∙ asked.1 (m.was_directory d)) (is_some (shown_in_lowers_at nat_eq stack two f old))
             (hides_directory nat_eq stack two t new) refl refl path n layer way e r;
       }
   uncovers (SetBytes file bytes) there =
       let is = (object_copied stack fresh distinct merge file whole unused there).copied in
       record {
         below = is.lower;
-        names = λ path n layer way f e.
-            sym (ap (λ fs. number_at_path fs path) is.files)
+        names = λ path n layer way f e. sym (ap (λ fs. number_at_path fs path) is.files)
             ∙ sym ((bytes_change_one_inode (copied_up nat_eq fresh merge file).files
             (copied_up nat_eq fresh merge file).files.tree.root file bytes).0 path) ∙ f;
       }
@@ -220,8 +195,7 @@ module _ (fresh : Fresh ℕ) (stack : Stack ℕ) (merge : Merge ℕ) (whole : Is
       let is = (object_copied stack fresh distinct merge object whole unused there).copied in
       record {
         below = is.lower;
-        names = λ path n layer way f e.
-            sym (ap (λ fs. number_at_path fs path) is.files)
+        names = λ path n layer way f e. sym (ap (λ fs. number_at_path fs path) is.files)
             ∙ sym ((attr_changes_one_inode (copied_up nat_eq fresh merge object).files
             (copied_up nat_eq fresh merge object).files.tree.root object attr).0 path) ∙ f;
       }

@@ -1,5 +1,6 @@
 -- The overlay of a world, after a change through it.
-use Rattle.std.proofs.Common.{◌≡◌, ◌≢◌, refl, sym, ap, subst, ◌∙◌, true≢false, eqb-true, ℕ, nat_eq, Bool, true, false, not, eq-eqb, ⊎_elim, inl, inr, List, [], ◌∷◌, ◌++◌, Some, None, is_some}
+use Rattle.std.proofs.Common.{arith, ◌≡◌, ◌≢◌, refl, sym, ap, subst, ◌∙◌, true≢false, eqb-true, ℕ, nat_eq, Bool, true, false, not, eq-eqb, ⊎_elim, inl, inr, List, [], ◌∷◌, ◌++◌, Some, None, is_some}
+use Rattle.std.proofs.lemmas.Grind.{common_steps}
 use Rattle.std.specs.Prelude.{option_to_list}
 use Rattle.vt_spec.specs.Language.Changes.{Change}
 use Rattle.vt_spec.specs.Language.Changes.Change.{AddName, CopyUp, Make, Move, Remove, SetAttr, SetBytes, SetMark}
@@ -38,14 +39,10 @@ use Rattle.vt_laws_trees.specs.Trees.Settling.{inode_in}
 pub spoken : (stack : Stack ℕ) (merge : Merge ℕ) (change : Change ℕ)
     → Rattle.vt_spec.specs.TreeInvariant.IsTree merge.files.tree → IsAskedWell stack merge change
     → SpeaksOfWhatIsThere merge.files change
-spoken stack merge (Make d w number node) tree asked =
-    directory_used merge.files.tree d asked.0.name_is_free.in_directory
-spoken stack merge (AddName d w o) tree may =
-    (directory_used merge.files.tree d may.name_is_free.in_directory, may.is_there)
-spoken stack merge (Remove d w o) tree may =
-    directory_used merge.files.tree d (has_entries merge.files.tree d w o may.named)
-spoken stack merge (Move f old t new o) tree asked =
-    (asked.0.named, directory_used merge.files.tree t asked.0.in_directory)
+spoken stack merge (Make d w number node) tree asked = grind (arith, common_steps, directory_used)
+spoken stack merge (AddName d w o) tree may = grind (arith, common_steps, directory_used)
+spoken stack merge (Remove d w o) tree may = grind (arith, common_steps, directory_used, has_entries)
+spoken stack merge (Move f old t new o) tree asked = grind (arith, common_steps, directory_used)
 spoken stack merge (SetBytes file bytes) tree there = there
 spoken stack merge (SetAttr o attr) tree there = there
 spoken stack merge (SetMark d opaque) tree asked = absurd asked
@@ -97,23 +94,18 @@ module _ (fresh : Fresh ℕ) (world : World ℕ) (location : Location ℕ) (chan
   apart = upper_elsewhere world conditions number overlay is upper has
 
   pub overlay_later : filesystem_numbered nat_eq later number ≡ changed_filesystem
-  overlay_later =
-      filesystem_elsewhere (with_filesystem nat_eq world changed_filesystem) changed_upper number
+  overlay_later = filesystem_elsewhere (with_filesystem nat_eq world changed_filesystem) changed_upper number
       (λ e. apart (sym (e ∙ number_of_filesystem world upper.filesystem)))
       ∙ filesystem_there (λ f. f ≡ changed_filesystem) world changed_filesystem number
-      (sym (number_of_filesystem world number)) refl
-      (λ no. none_is_some overlay (sym (ap (λ f. f.overlay) no) ∙ is))
+      (sym (number_of_filesystem world number)) refl (λ no. none_is_some overlay (sym (ap (λ f. f.overlay) no) ∙ is))
 
   pub upper_later : filesystem_numbered nat_eq later upper.filesystem ≡ changed_upper
-  upper_later =
-      filesystem_there (λ f. f ≡ changed_upper)
+  upper_later = filesystem_there (λ f. f ≡ changed_upper)
       (with_filesystem nat_eq world changed_filesystem) changed_upper upper.filesystem
-      (sym (number_of_filesystem world upper.filesystem)) refl
-      (λ no. absurd (true≢false (sym
+      (sym (number_of_filesystem world upper.filesystem)) refl (λ no. absurd (true≢false (sym
       (and_true_right (not (is_overlay (filesystem_numbered nat_eq world upper.filesystem))) _
       (plain upper (subst (λ o. Among (option_to_list o ++ option_to_list overlay.work ++ overlay.lowers) upper)
-      (sym has) (inl refl))))
-      ∙ ap (λ f. is_directory_node (f.files.tree.node upper.directory))
+      (sym has) (inl refl)))) ∙ ap (λ f. is_directory_node (f.files.tree.node upper.directory))
       (sym (filesystem_elsewhere world changed_filesystem upper.filesystem
       (λ e. apart (e ∙ number_of_filesystem world number))) ∙ no))))
 
@@ -135,8 +127,7 @@ module _ (fresh : Fresh ℕ) (world : World ℕ) (location : Location ℕ) (chan
 
       by : (inode : ℕ) → lies_or_counts_under nat_eq world lower.filesystem inode lower ≡ true
           → is_some (inode_in world lower.filesystem inode) ≡ true
-          → (b : Bool) → nat_eq lower.filesystem upper.filesystem ≡ b
-          → IsKept (inode_in world lower.filesystem inode)
+          → (b : Bool) → nat_eq lower.filesystem upper.filesystem ≡ b → IsKept (inode_in world lower.filesystem inode)
           (inode_in (with_change nat_eq fresh world location change) lower.filesystem inode)
       by inode lies there true e =
           let same = eqb-true lower.filesystem upper.filesystem e in
@@ -150,10 +141,8 @@ module _ (fresh : Fresh ℕ) (world : World ℕ) (location : Location ℕ) (chan
           (λ object. no_lower world conditions number overlay is upper has inode object lower
           (layer_among world (λ o. o.lowers) number overlay is lower m)
           (subst (λ n. lies_or_counts_under nat_eq world n inode lower ≡ true) same lies)))
-      by inode lies there false e =
-          kept_same (inode_in world lower.filesystem inode) _
-          (ap (λ f. f.files.tree.node inode)
-          (others_elsewhere fresh world location change lower.filesystem
+      by inode lies there false e = kept_same (inode_in world lower.filesystem inode) _
+          (ap (λ f. f.files.tree.node inode) (others_elsewhere fresh world location change lower.filesystem
           (λ s. none_is_some overlay (sym no_overlay ∙ ap (λ n. (filesystem_numbered nat_eq world n).overlay) s ∙ is))
           (λ o u f g s. true≢false (sym (eq-eqb lower.filesystem upper.filesystem
           (s ∙ ap (λ l. l.filesystem) (same_Some u upper
@@ -161,11 +150,9 @@ module _ (fresh : Fresh ℕ) (world : World ℕ) (location : Location ℕ) (chan
 
   -- so it is what they show
   shown_later : IsWhatIsShown (stack_of nat_eq later changed_overlay upper) merge
-  shown_later =
-      shown_alike (open_layer nat_eq world) (open_layer nat_eq later) overlay.lowers
+  shown_later = shown_alike (open_layer nat_eq world) (open_layer nat_eq later) overlay.lowers
       (λ lower m. subst (λ w. LeadsAsBefore world w lower) later_is
-      (lower_leads lower (in_list overlay.lowers lower m)))
-      upper.directory overlay.mounter merge
+      (lower_leads lower (in_list overlay.lowers lower m))) upper.directory overlay.mounter merge
       (changes_keep_shown fresh (stack_of nat_eq world overlay upper) before change
       (overlays_are_whole world number overlay upper conditions is has) distinct (λ k. none upper.filesystem k) asked)
 

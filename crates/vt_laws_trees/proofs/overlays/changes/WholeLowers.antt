@@ -1,5 +1,6 @@
 -- Lower layers that lead alike show the same.
-use Rattle.std.proofs.Common.{◌≡◌, refl, sym, ap, subst, ◌∙◌, inl, inr, ℕ, zero, suc, List, [], ◌∷◌, map, Option, Some, None, slice_get}
+use Rattle.std.proofs.Common.{arith, ◌≡◌, refl, sym, ap, subst, ◌∙◌, inl, inr, ℕ, zero, suc, List, [], ◌∷◌, map, Option, Some, None, slice_get}
+use Rattle.std.proofs.lemmas.Grind.{common_steps}
 use Rattle.std.proofs.lemmas.Option.{slice_get-map, same_Some}
 use Rattle.std.specs.Prelude.{option_map}
 use Rattle.vt_spec.specs.Lists.{then_some}
@@ -25,8 +26,7 @@ use Rattle.vt_laws_trees.proofs.layers.directories.Still.{among_slice}
 
 module _ (one other : Layer ℕ → OpenLayer ℕ) where
   abbrev pub LeadsAlike : Layer ℕ → Type 0
-  LeadsAlike layer =
-      (path : List (List ℕ)) → (at_path (other layer) path ≡ at_path (one layer) path)
+  LeadsAlike layer = (path : List (List ℕ)) → (at_path (other layer) path ≡ at_path (one layer) path)
       × IsKept (node_at_path (one layer) path) (node_at_path (other layer) path)
 
   all_alike : (layers : List (Layer ℕ)) → ((layer : Layer ℕ) → Among layers layer → LeadsAlike layer)
@@ -35,8 +35,7 @@ module _ (one other : Layer ℕ → OpenLayer ℕ) where
   all_alike (layer ∷ layers) alike = (
     record {
       leads = λ path. (alike layer (inl refl) path).0;
-      inodes = λ path.
-          alike_kept _ _ (alike layer (inl refl) path).1;
+      inodes = λ path. alike_kept _ _ (alike layer (inl refl) path).1;
     },
     all_alike layers (λ l m. alike l (inr m)),
   )
@@ -76,14 +75,11 @@ module _ (one other : Layer ℕ → OpenLayer ℕ) where
             → IsAlike (layer_node (layers_under stack_one merge) (record { layer = layer; object = object }))
             (layer_node (layers_under stack_other merge) (record { layer = layer; object = object }))
         by zero object is = alike_same (merge.upper.tree.node object) (merge.upper.tree.node object) refl
-        by (suc k) object is =
-            subst (λ x. IsAlike (then_some x (λ l. l.tree.node object))
-            (then_some (slice_get (map other layers) k) (λ l. l.tree.node object)))
-            (sym (slice_get-map one layers k))
+        by (suc k) object is = subst (λ x. IsAlike (then_some x (λ l. l.tree.node object))
+            (then_some (slice_get (map other layers) k) (λ l. l.tree.node object))) (sym (slice_get-map one layers k))
             (subst (λ x. IsAlike (then_some (option_map one (slice_get layers k)) (λ l. l.tree.node object))
             (then_some x (λ l. l.tree.node object))) (sym (slice_get-map other layers k))
-            (below k object (slice_get layers k) refl
-            (λ layer f. ap (λ l. at_path l path)
+            (below k object (slice_get layers k) refl (λ layer f. ap (λ l. at_path l path)
             (same_Some layer is.has_uncut.0.0 (sym f ∙ sym (slice_get-map one layers k) ∙ is.has_uncut.0.1))
             ∙ is.has_uncut.0.2)))
 
@@ -91,23 +87,11 @@ module _ (one other : Layer ℕ → OpenLayer ℕ) where
         → IsAlike (then_some r (inode_behind stack_one merge)) (then_some r (inode_behind stack_other merge))
     behind_alike None = alike_same None None refl
     behind_alike (Some (Upper object)) = alike_same (merge.upper.tree.node object) (merge.upper.tree.node object) refl
-    behind_alike (Some (Lower k path)) =
-        subst (λ x. IsAlike (then_some x (λ l. node_at_path l path))
-        (then_some (slice_get (map other layers) k) (λ l. node_at_path l path))) (sym (slice_get-map one layers k))
-        (subst (λ x. IsAlike (then_some (option_map one (slice_get layers k)) (λ l. node_at_path l path))
-        (then_some x (λ l. node_at_path l path))) (sym (slice_get-map other layers k))
-        (by (slice_get layers k) refl))
-      where
-        by : (x : Option (Layer ℕ)) → slice_get layers k ≡ x
-            → IsAlike (then_some (option_map one x) (λ l. node_at_path l path))
-            (then_some (option_map other x) (λ l. node_at_path l path))
-        by None s = alike_same None None refl
-        by (Some layer) s = alike_kept _ _ (alike layer (among_slice layers k layer s) path).1
+    behind_alike (Some (Lower k path)) = grind (arith, common_steps, slice_get-map, alike_same, alike_kept, among_slice)
 
     pub shown_alike : IsWhatIsShown stack_one merge → IsWhatIsShown stack_other merge
     shown_alike is = record {
-      shows = λ path.
-          subst (λ o. SameObject (then_some (number_at_path merge.files path) merge.files.tree.node)
+      shows = λ path. subst (λ o. SameObject (then_some (number_at_path merge.files path) merge.files.tree.node)
           (then_some o (layer_node (layers_under stack_other merge)))) (sym (shown_same path))
           (by path (shown (layers_under stack_one merge) path) refl (is.shows path));
       names = λ path number e. is.names path number e ∙ ap (real_by path) (sym (shown_same path));

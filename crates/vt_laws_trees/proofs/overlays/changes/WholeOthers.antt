@@ -1,5 +1,6 @@
 -- Every other overlay of a world, after a change through one.
-use Rattle.std.proofs.Common.{◌≡◌, ◌≢◌, refl, sym, ap, subst, ◌∙◌, true≢false, eqb-true, eq-eqb, ⊎_elim, inl, inr, ℕ, zero, suc, nat_eq, Bool, true, false, map, List, [], ◌∷◌, ◌++◌, Option, Some, None, is_some, slice_get}
+use Rattle.std.proofs.Common.{arith, ◌≡◌, ◌≢◌, refl, sym, ap, subst, ◌∙◌, true≢false, eqb-true, eq-eqb, ⊎_elim, inl, inr, ℕ, zero, suc, nat_eq, Bool, true, false, map, List, [], ◌∷◌, ◌++◌, Option, Some, None, is_some, slice_get}
+use Rattle.std.proofs.lemmas.Grind.{common_steps}
 use Rattle.std.proofs.lemmas.Option.{slice_get-map, same_Some}
 use Rattle.std.specs.Prelude.{option_map, option_to_list}
 use Rattle.vt_spec.specs.Language.Calls.{Call}
@@ -52,8 +53,7 @@ module _ (world later : World ℕ) (filesystem : Filesystem ℕ) (other : Overla
   all_alike (layer ∷ layers) alike = (
     record {
       leads = λ path. (alike layer (inl refl) path).0;
-      inodes = λ path.
-          alike_kept _ _ (alike layer (inl refl) path).1;
+      inodes = λ path. alike_kept _ _ (alike layer (inl refl) path).1;
     },
     all_alike layers (λ l m. alike l (inr m)),
   )
@@ -78,10 +78,8 @@ module _ (world later : World ℕ) (filesystem : Filesystem ℕ) (other : Overla
       (sym (slice_get-map one (shown_layers other) seen.layer))
       (subst (λ x. IsAlike (then_some (option_map one (slice_get (shown_layers other) seen.layer))
       (λ l. l.tree.node seen.object)) (then_some x (λ l. l.tree.node seen.object)))
-      (sym (slice_get-map two (shown_layers other) seen.layer))
-      (by (slice_get (shown_layers other) seen.layer) refl
-      (λ layer f. ap (λ l. at_path l path)
-      (same_Some layer is.has_uncut.0.0
+      (sym (slice_get-map two (shown_layers other) seen.layer)) (by (slice_get (shown_layers other) seen.layer) refl
+      (λ layer f. ap (λ l. at_path l path) (same_Some layer is.has_uncut.0.0
       (sym f ∙ sym (slice_get-map one (shown_layers other) seen.layer) ∙ is.has_uncut.0.1)) ∙ is.has_uncut.0.2)))
     where
       by : (x : Option (Layer ℕ)) → slice_get (shown_layers other) seen.layer ≡ x
@@ -99,35 +97,20 @@ module _ (world later : World ℕ) (filesystem : Filesystem ℕ) (other : Overla
   behind_alike : (number : ℕ) (r : Option (Real ℕ)) → other.real number ≡ r
       → IsAlike (then_some r (real_node nat_eq world other)) (then_some r (real_node nat_eq later other))
   behind_alike number None e = alike_same None None refl
-  behind_alike number (Some (Upper object)) e = by other.upper refl
-    where
-      by : (x : Option (Layer ℕ)) → other.upper ≡ x
-          → IsAlike (then_some x (λ layer. (filesystem_numbered nat_eq world layer.filesystem).files.tree.node object))
-          (then_some x (λ layer. (filesystem_numbered nat_eq later layer.filesystem).files.tree.node object))
-      by None u = alike_same None None refl
-      by (Some layer) u = alike_kept _ _ (own layer object u (number, e))
-  behind_alike number (Some (Lower k path)) e = by (slice_get other.lowers k) refl
-    where
-      by : (x : Option (Layer ℕ)) → slice_get other.lowers k ≡ x
-          → IsAlike (then_some x (λ l. node_at_path (one l) path)) (then_some x (λ l. node_at_path (two l) path))
-      by None s = alike_same None None refl
-      by (Some layer) s = alike_kept _ _
-          (leads layer (among-append_right (option_to_list other.upper) other.lowers layer
-          (among_slice other.lowers k layer s)) path).1
+  behind_alike number (Some (Upper object)) e = grind (arith, common_steps, alike_same, alike_kept, own)
+  behind_alike number (Some (Lower k path)) e =
+      grind (arith, common_steps, alike_same, alike_kept, leads, among-append_right, among_slice)
 
   pub stays_merged : IsMerged nat_eq world filesystem other → IsMerged nat_eq later filesystem other
   stays_merged is = record {
-    shows = λ path.
-        subst (λ o. SameObject (then_some (number_at_path filesystem.files path) filesystem.files.tree.node)
+    shows = λ path. subst (λ o. SameObject (then_some (number_at_path filesystem.files path) filesystem.files.tree.node)
         (then_some o (layer_node (map two (shown_layers other))))) (sym (shown_same path))
         (by path (shown (map one (shown_layers other)) path) refl (is.shows path));
-    names = λ path number e.
-        is.names path number e
+    names = λ path number e. is.names path number e
         ∙ ap (λ o. option_map (λ m. Rattle.vt_spec.specs.Machine.Merging.real_object
         (is_some other.upper) m.seen.layer m) (option_map (λ seen. record { path = path; seen = seen }) o))
         (sym (shown_same path));
-    real_objects = λ number.
-        alike_objects (filesystem.files.tree.node number) _ (filesystem.files.tree.node number) _
+    real_objects = λ number. alike_objects (filesystem.files.tree.node number) _ (filesystem.files.tree.node number) _
         (is.real_objects number) (alike_same _ _ refl) (behind_alike number (other.real number) refl);
     real_there = is.real_there;
     no_whiteout = is.no_whiteout;
@@ -175,9 +158,7 @@ module _ (fresh : Fresh ℕ) (world : World ℕ) (location : Location ℕ) (chan
           (upper_filesystem_keeps fresh world location change overlay upper inode conditions is has speaks
           (no_new fresh world upper.filesystem inode (none upper.filesystem)
           (subst (λ n. is_some (inode_in world n inode) ≡ true) same there)) (apart (sym same)))
-      by false e =
-          kept_same (inode_in world layer.filesystem inode) _
-          (ap (λ f. f.files.tree.node inode)
+      by false e = kept_same (inode_in world layer.filesystem inode) _ (ap (λ f. f.files.tree.node inode)
           (others_elsewhere fresh world location change layer.filesystem
           (λ s. none_is_some overlay (sym (no_overlay_in world conditions layer plain)
           ∙ ap (λ n. (filesystem_numbered nat_eq world n).overlay) s ∙ is))
@@ -194,11 +175,9 @@ module _ (fresh : Fresh ℕ) (world : World ℕ) (location : Location ℕ) (chan
     apart_upper : (layer : Layer ℕ) → Lists.Among layer (upper_and_work other) → (inode : ℕ)
         → lies_or_counts_under nat_eq world layer.filesystem inode layer ≡ true
         → upper.filesystem ≡ layer.filesystem → ¬ (IsUpperObject overlay inode)
-    apart_upper layer m inode lies same object =
-        no_other world conditions
+    apart_upper layer m inode lies same object = no_other world conditions
         (mount_at nat_eq world location).filesystem overlay is upper has inode object number differ other is_other layer
-        m
-        (subst (λ n. lies_or_counts_under nat_eq world n inode layer ≡ true) (sym same) lies)
+        m (subst (λ n. lies_or_counts_under nat_eq world n inode layer ≡ true) (sym same) lies)
 
     apart_lower : (layer : Layer ℕ) → Lists.Among layer other.lowers → (inode : ℕ)
         → lies_or_counts_under nat_eq world layer.filesystem inode layer ≡ true
@@ -236,19 +215,16 @@ module _ (fresh : Fresh ℕ) (world : World ℕ) (location : Location ℕ) (chan
         let m = in_upper layer e in
         let plain = layer_plain world conditions number other is_other layer
         (among-append_left (upper_and_work other) other.lowers layer m) in
-        inode_kept layer plain object
-        (ap (holds_of (λ l. is_there nat_eq world l.filesystem object)) (sym e)
+        inode_kept layer plain object (ap (holds_of (λ l. is_there nat_eq world l.filesystem object)) (sym e)
         ∙ (overlay_merges world conditions number other is_other).upper_there of.0 object of.1)
         (apart_upper layer m object (object_counts world conditions number other is_other layer e object of))
 
     same_filesystem : filesystem_numbered nat_eq later number ≡ filesystem_numbered nat_eq world number
-    same_filesystem =
-        others_elsewhere fresh world location change number differ
+    same_filesystem = others_elsewhere fresh world location change number differ
         (λ o u f g s. none_is_some other (sym (no_overlay_in world conditions upper
         (layer_plain world conditions (mount_at nat_eq world location).filesystem overlay is upper
         (subst (λ x. Lists.Among upper (option_to_list x ++ option_to_list overlay.work ++ overlay.lowers)) (sym has)
-        (inl refl))))
-        ∙ ap (λ n. (filesystem_numbered nat_eq world n).overlay)
+        (inl refl)))) ∙ ap (λ n. (filesystem_numbered nat_eq world n).overlay)
         (ap (λ l. l.filesystem) (same_Some upper u
         (sym has ∙ ap (λ v. v.upper) (same_Some overlay o (sym is ∙ f)) ∙ g)) ∙ sym s) ∙ is_other))
 
@@ -271,8 +247,7 @@ module _ (fresh : Fresh ℕ) (world : World ℕ) (task : Task ℕ) (call : Call)
     (called : task_called world task.name ≡ Some task) (kind : changes_no_mount call ≡ true)
     (none : (filesystem : ℕ) → AreNoInodes fresh world filesystem)
     (goes : GoesThrough fresh world (call_outcome nat_eq fresh world task call).world through)
-    (differ : number ≢ through)
-    (is_other : (filesystem_numbered nat_eq world number).overlay ≡ Some other) where
+    (differ : number ≢ through) (is_other : (filesystem_numbered nat_eq world number).overlay ≡ Some other) where
   abbrev after : World ℕ
   after = (call_outcome nat_eq fresh world task call).world
 
@@ -281,8 +256,7 @@ module _ (fresh : Fresh ℕ) (world : World ℕ) (task : Task ℕ) (call : Call)
       (Lists.among-append (option_to_list other.upper) other.lowers layer m)
     where
       low : Lists.Among layer other.lowers → LeadsAsBefore world after layer
-      low l =
-          lower_paths_are_locked fresh world task call number other layer conditions called kind is_other
+      low l = lower_paths_are_locked fresh world task call number other layer conditions called kind is_other
           (Lists.contains_from_among other.lowers layer l) (none layer.filesystem)
 
       up : (x : Option (Layer ℕ)) → other.upper ≡ x → Lists.Among layer (option_to_list x)
@@ -293,13 +267,11 @@ module _ (fresh : Fresh ℕ) (world : World ℕ) (task : Task ℕ) (call : Call)
           other_paths_stay fresh world task call through number other layer conditions goes differ is_other
           (Lists.contains_from_among (upper_and_work other) layer
           (subst (λ o. Lists.Among layer (option_to_list o ++ option_to_list other.work))
-          (sym (e ∙ ap Some (sym same))) (inl refl)))
-          (none layer.filesystem)
+          (sym (e ∙ ap Some (sym same))) (inl refl))) (none layer.filesystem)
 
   call_own : (layer : Layer ℕ) (object : ℕ) → other.upper ≡ Some layer → IsUpperObject other object
       → IsKept (inode_in world layer.filesystem object) (inode_in after layer.filesystem object)
-  call_own layer object e of =
-      goes.others number other layer object differ is_other
+  call_own layer object e of = goes.others number other layer object differ is_other
       (Lists.contains_from_among (upper_and_work other) layer
       (subst (λ o. Lists.Among layer (option_to_list o ++ option_to_list other.work)) (sym e) (inl refl)))
       (object_counts world conditions number other is_other layer e object of)
@@ -308,9 +280,7 @@ module _ (fresh : Fresh ℕ) (world : World ℕ) (task : Task ℕ) (call : Call)
       ∙ (overlay_merges world conditions number other is_other).upper_there of.0 object of.1))
 
   call_same : filesystem_numbered nat_eq after number ≡ filesystem_numbered nat_eq world number
-  call_same =
-      goes.elsewhere number differ
-      (λ o u f g s. none_is_some other (sym (no_overlay_in world conditions u
+  call_same = goes.elsewhere number differ (λ o u f g s. none_is_some other (sym (no_overlay_in world conditions u
       (layer_plain world conditions through o f u
       (subst (λ x. Lists.Among u (option_to_list x ++ option_to_list o.work ++ o.lowers)) (sym g) (inl refl))))
       ∙ ap (λ n. (filesystem_numbered nat_eq world n).overlay) (sym s) ∙ is_other))

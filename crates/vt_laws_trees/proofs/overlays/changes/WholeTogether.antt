@@ -55,10 +55,8 @@ module _ (fresh : Fresh ℕ) (stack : Stack ℕ) (merge : Merge ℕ) (whole : Is
 
 -- the directory of a name whose object stands in the upper layer does so too
 pub stands_above : (stack : Stack ℕ) (merge : Merge ℕ) → IsWhole stack merge → (d : ℕ) (w : List ℕ) (object : ℕ)
-    → entry_at merge.files.tree d w ≡ Some object
-    → StandsInUpper merge object → StandsInUpper merge d
-stands_above stack merge whole d w object named stands =
-    by (led merge.upper.tree stack.directory way.0) refl
+    → entry_at merge.files.tree d w ≡ Some object → StandsInUpper merge object → StandsInUpper merge d
+stands_above stack merge whole d w object named stands = by (led merge.upper.tree stack.directory way.0) refl
     (sym (last_name merge.upper.tree stack.directory way.0 w)
     ∙ named_above stack merge whole (way.0 ++ w ∷ []) object (upper_of merge object)
     (led-append merge.files.tree merge.files.tree.root way.0 w d object way.1 named) (upper_real merge object stands))
@@ -71,8 +69,7 @@ stands_above stack merge whole d w object named stands =
         → option_and_then (λ n. entry_at merge.upper.tree n w) x ≡ Some (upper_of merge object) → StandsInUpper merge d
     by None l e = none_is_some _ e
     by (Some u) l e =
-        let found = above_named stack merge whole way.0 u l
-        (directory_no_whiteout (merge.upper.tree.node u)
+        let found = above_named stack merge whole way.0 u l (directory_no_whiteout (merge.upper.tree.node u)
         (has_entries merge.upper.tree u w (upper_of merge object) e)) in
         subst (StandsInUpper merge) (same_Some found.0 d (sym found.1 ∙ way.1))
         (ap (λ r. is_some (upper_object r)) found.2)
@@ -143,8 +140,7 @@ twice fresh stack merge whole distinct unused f old t new o may =
           (λ j. odds-no_evens (odds fresh) (odds-distinct fresh distinct) 0 j);
       may = subst (λ files. MayMove files.tree f old t new o) (sym both) may;
       was_directory = λ d. subst (λ files. IsDirectory files.tree o) both d;
-      cut = λ d.
-          ap (λ path. has_lower_directory
+      cut = λ d. ap (λ path. has_lower_directory
           (record { tree = two.upper.tree; directory = stack.directory } ∷ []) stack.lowers path)
           (ap (λ files. unwrap_or (path_down nat_eq files files.tree.root f) [] ++ old ∷ []) both)
           ∙ ap (λ b. not (b || false) && Views.lowers_have_directory (map view_of stack.lowers)
@@ -161,11 +157,9 @@ twice fresh stack merge whole distinct unused f old t new o may =
           (new_of_evens fresh) first.copied.names)
           (told_wider (IsNewBy (evens (odds fresh))) (IsNewBy fresh) one.upper two.upper
           (λ y n. new_of_odds fresh y (new_of_evens (odds fresh) y n)) second.copied.names);
-      objects = λ n object e.
-          ⊎_elim
+      objects = λ n object e. ⊎_elim
           (λ f. ⊎_elim inl (λ g. inr (new_of_evens fresh object g)) (first.copied.objects n object f))
-          (λ g. inr (new_of_odds fresh object (new_of_evens (odds fresh) object g)))
-          (second.copied.objects n object e);
+          (λ g. inr (new_of_odds fresh object (new_of_evens (odds fresh) object g))) (second.copied.objects n object e);
       sizes = λ f h. second.copied.sizes (ap is_fit_tree same ∙ f) (first.copied.sizes f h);
     }
 

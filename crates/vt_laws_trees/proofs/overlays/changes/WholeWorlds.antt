@@ -1,14 +1,13 @@
 -- An overlay of a world, as one record.
-use Rattle.std.proofs.Common.{◌≡◌, refl, sym, ap, subst, ◌∙◌, ℕ, nat_eq, ◌++◌, map, Option, Some, None, slice_get}
+use Rattle.std.proofs.Common.{arith, ◌≡◌, sym, ap, subst, ◌∙◌, ℕ, nat_eq, ◌++◌, map, Option, Some, slice_get}
+use Rattle.std.proofs.lemmas.Grind.{common_steps}
 use Rattle.std.proofs.lemmas.Option.{slice_get-map}
-use Rattle.std.specs.Prelude.{option_map, option_to_list}
+use Rattle.std.specs.Prelude.{option_to_list}
 use Rattle.vt_spec.specs.Lists.{then_some}
 use Rattle.vt_spec.specs.Machine.CopyUp.{Merge, Stack}
 use Rattle.vt_spec.specs.Machine.Filesystems.{merge_of, stack_of}
-use Rattle.vt_spec.specs.Machine.Layers.{node_at_path}
 use Rattle.vt_spec.specs.Machine.World.{Filesystem, Layer, Overlay, Real, World, filesystem_numbered, open_layer}
-use Rattle.vt_spec.specs.Machine.World.Real.{Lower, Upper}
-use Rattle.vt_spec.specs.Machine.Invariants.{IsMerged, SameObject, real_node}
+use Rattle.vt_spec.specs.Machine.Invariants.{IsMerged, real_node}
 use Rattle.vt_laws_trees.proofs.layers.layers.ShownDirectories.{AreOpen}
 use Rattle.vt_laws_trees.proofs.layers.layers.ShownMounted.{are_open}
 use Rattle.vt_laws_trees.proofs.layers.layers.UpperWorld.{overlay_layers, overlay_merges, overlay_numbers, overlay_tree}
@@ -28,43 +27,13 @@ module _ (world : World ℕ) (filesystem : Filesystem ℕ) (overlay : Overlay �
 
   behind_same : (o : Option (Real ℕ))
       → then_some o (real_node nat_eq world with_upper) ≡ then_some o (inode_behind stack merge)
-  behind_same None = refl
-  behind_same (Some (Upper object)) = refl
-  behind_same (Some (Lower layer path)) =
-      by (slice_get overlay.lowers layer)
-      ∙ sym (ap (λ o. then_some o (λ lower. node_at_path lower path))
-      (slice_get-map (open_layer nat_eq world) overlay.lowers layer))
-    where
-      by : (o : Option (Layer ℕ)) → then_some o (λ lower. node_at_path (open_layer nat_eq world lower) path)
-          ≡ then_some (option_map (open_layer nat_eq world) o) (λ lower. node_at_path lower path)
-      by None = refl
-      by (Some lower) = refl
+  behind_same o = grind (arith, common_steps, slice_get-map)
 
   to_shown : IsMerged nat_eq world filesystem with_upper → IsWhatIsShown stack merge
-  to_shown is = record {
-    shows = is.shows;
-    names = is.names;
-    real_objects = λ number. subst (SameObject (filesystem.files.tree.node number)) (behind_same (overlay.real number))
-        (is.real_objects number);
-    real_there = is.real_there;
-    no_whiteout = is.no_whiteout;
-    no_mark = is.no_mark;
-    upper_there = is.upper_there;
-    one_to_one = is.one_to_one;
-  }
+  to_shown is = grind (arith, common_steps, behind_same)
 
   from_shown : IsWhatIsShown stack merge → IsMerged nat_eq world filesystem with_upper
-  from_shown is = record {
-    shows = is.shows;
-    names = is.names;
-    real_objects = λ number. subst (SameObject (filesystem.files.tree.node number))
-        (sym (behind_same (overlay.real number))) (is.real_objects number);
-    real_there = is.real_there;
-    no_whiteout = is.no_whiteout;
-    no_mark = is.no_mark;
-    upper_there = is.upper_there;
-    one_to_one = is.one_to_one;
-  }
+  from_shown is = grind (arith, common_steps, behind_same)
 
   is_with_upper : overlay.upper ≡ Some upper → overlay ≡ with_upper
   is_with_upper has = ap (λ o. record overlay { upper = o }) has
@@ -78,8 +47,7 @@ pub overlays_are_whole : OverlaysAreWhole
 overlays_are_whole world number overlay upper conditions is has = record {
   tree = overlay_tree world conditions number overlay is;
   numbers = overlay_numbers world conditions number overlay is;
-  layers =
-      subst (λ o. AreOpen (map (open_layer nat_eq world) (option_to_list o ++ overlay.lowers))) has
+  layers = subst (λ o. AreOpen (map (open_layer nat_eq world) (option_to_list o ++ overlay.lowers))) has
       (are_open world conditions overlay (overlay_layers world conditions number overlay is));
   reached = conditions.overlays.uppers_reached number overlay upper is has;
   shown = to_shown world (filesystem_numbered nat_eq world number) overlay upper

@@ -1,5 +1,6 @@
 -- Which number is at a path of a merged tree, and what its inode is.
-use Rattle.std.proofs.Common.{◌≡◌, ◌≢◌, refl, sym, ap, subst, ◌∙◌, true≢false, ℕ, nat_eq, eq-eqb, eqb-true, Bool, true, false, cond, ◌||◌, T, List, [], ◌∷◌, ◌++◌, map, Option, Some, None, is_some, option_and_then}
+use Rattle.std.proofs.Common.{arith, ◌≡◌, ◌≢◌, refl, sym, ap, subst, ◌∙◌, true≢false, ℕ, nat_eq, eq-eqb, eqb-true, Bool, true, false, cond, ◌||◌, T, List, [], ◌∷◌, ◌++◌, map, Option, Some, None, is_some, option_and_then}
+use Rattle.std.proofs.lemmas.Grind.{common_steps}
 use Rattle.std.proofs.lemmas.Slice.Eq.{bytes_eq-Decides}
 use Rattle.std.specs.FinMap.Entries.{is_sorted, same_entries}
 use Rattle.std.specs.Cmp.Lexicographic.{nat_list_cmp_total}
@@ -36,10 +37,8 @@ use Rattle.vt_spec.proofs.Worlds.{nothing_is_no_object}
 
 -- a merged inode is its real object, with a parent and entries of its own
 same_filled : (parent : ℕ) (entries : Entries ℕ) (content shown : Content ℕ) → same_content content shown ≡ true
-    → opaque_of content ≡ false
-    → (is_directory (kind_of content) ≡ true → (own : ℕ) → parent_of own content ≡ parent)
-    → (is_directory (kind_of content) ≡ true → entries_of content ≡ entries)
-    → content ≡ content_as parent entries shown
+    → opaque_of content ≡ false → (is_directory (kind_of content) ≡ true → (own : ℕ) → parent_of own content ≡ parent)
+    → (is_directory (kind_of content) ≡ true → entries_of content ≡ entries) → content ≡ content_as parent entries shown
 same_filled parent entries (Directory p e o) (Directory q f r) s mark up names = λ i. Directory (up refl 0 i)
     (names refl i) (mark i)
 same_filled parent entries (Directory p e o) (Regular bytes) s mark up names = absurd (true≢false (sym s))
@@ -64,8 +63,7 @@ same_filled parent entries Whiteout Whiteout s mark up names = absurd (true≢fa
 pub node_filled : (parent : ℕ) (entries : Entries ℕ) (number : ℕ) (node shown : Option (Node ℕ))
     → SameObject node shown → is_opaque_in node ≡ false
     → (is_directory_node node ≡ true → parent_in number node ≡ parent)
-    → (is_directory_node node ≡ true → entries_in node ≡ entries)
-    → node ≡ option_map (node_as parent entries) shown
+    → (is_directory_node node ≡ true → entries_in node ≡ entries) → node ≡ option_map (node_as parent entries) shown
 node_filled parent entries number None None s mark up names = refl
 node_filled parent entries number None (Some shown) s mark up names = absurd s
 node_filled parent entries number (Some node) None s mark up names = absurd s
@@ -108,26 +106,14 @@ listed number name (other ∷ names) = by (number other) refl (is_name name othe
         → entry_named name (with_names number names) ≡ cond (list_any (is_name name) names) (number name) None
         → entry_named name (cons_option (option_map (λ n. (other, n)) o) (with_names number names)) ≡ cond
         (b || list_any (is_name name) names) (number name) None
-    by None e true same rest =
-        rest ∙ both (list_any (is_name name) names) (ap number (same_name name other same) ∙ e)
-        ∙ sym (ap number (same_name name other same) ∙ e)
-      where
-        both : (b : Bool) → number name ≡ None → cond b (number name) None ≡ None
-        both true e = e
-        both false e = refl
-    by None e false same rest = rest
-    by (Some n) e true same rest = ap (λ b. cond b (Some n) (entry_named name (with_names number names))) same
-        ∙ sym (ap number (same_name name other same) ∙ e)
-    by (Some n) e false same rest = ap (λ b. cond b (Some n) (entry_named name (with_names number names))) same ∙ rest
+    by o e b same rest = grind (arith, common_steps, same, is_name, same_name)
 
 in_order : (number : List ℕ → Option ℕ) (names : List (List ℕ)) → Pairwise NameBelow names
     → T (is_sorted name_cmp (with_names number names))
-in_order number names rise =
-    rising_sorted (with_names number names)
+in_order number names rise = rising_sorted (with_names number names)
     (pairwise_filter_map NameBelow (λ a b. NameBelow a.0 b.0) (λ name. option_map (λ n. (name, n)) (number name))
     (λ a b x y e f h. subst (λ q. NameBelow x.0 q) (name_is b y (number b) f)
-    (subst (λ q. NameBelow q b) (name_is a x (number a) e) h))
-    names rise)
+    (subst (λ q. NameBelow q b) (name_is a x (number a) e) h)) names rise)
   where
     name_is : (name : List ℕ) (entry : List ℕ × ℕ) (o : Option ℕ) → option_map (λ n. (name, n)) o ≡ Some entry
         → name ≡ entry.0
@@ -192,16 +178,14 @@ module _ (number_of : Real ℕ → ℕ) (held : ℕ → Option (Real ℕ)) (worl
           → SameObject (then_some o filesystem.files.tree.node) (node_shown nat_eq world overlay path)
           → at path ≡ number_shown number_of world overlay path
       by None e same = e ∙ none (shown layers path) refl same
-      by (Some number) e same =
-          e ∙ sym (numbered number (reached_there path number e))
+      by (Some number) e same = e ∙ sym (numbered number (reached_there path number e))
           ∙ ap (option_map number_of) (is.merged.names path number e)
 
   -- Entries of a directory at a path
   module _ (path : List (List ℕ)) (number : ℕ) (leads : at path ≡ Some number) where
     entry_is : (name : List ℕ) → entry_at filesystem.files.tree number name ≡ number_shown number_of world overlay
         (path ++ name ∷ [])
-    entry_is name =
-        sym (ap (option_and_then (λ d. entry_at filesystem.files.tree d name)) leads)
+    entry_is name = sym (ap (option_and_then (λ d. entry_at filesystem.files.tree d name)) leads)
         ∙ sym (last_name filesystem.files.tree filesystem.files.tree.root path name)
         ∙ numbers_are_shown (path ++ name ∷ [])
 
@@ -220,8 +204,7 @@ module _ (number_of : Real ℕ → ℕ) (held : ℕ → Option (Real ℕ)) (worl
 
     found : (name : List ℕ) → entry_named name
         (entries_shown number_of world overlay path) ≡ number_shown number_of world overlay (path ++ name ∷ [])
-    found name =
-        listed (λ n. number_shown number_of world overlay (path ++ n ∷ [])) name (names_shown layers path)
+    found name = listed (λ n. number_shown number_of world overlay (path ++ n ∷ [])) name (names_shown layers path)
         ∙ by (list_any (is_name name) (names_shown layers path)) refl
       where
         by : (b : Bool) → list_any (is_name name) (names_shown layers path) ≡ b
@@ -231,8 +214,7 @@ module _ (number_of : Real ℕ → ℕ) (held : ℕ → Option (Real ℕ)) (worl
         by false e = sym (not_shown name e)
 
     entries_are : entries_in (filesystem.files.tree.node number) ≡ entries_shown number_of world overlay path
-    entries_are =
-        same_entries name_cmp nat_list_cmp_total (λ x y e. same_name x y (ap is_eq e))
+    entries_are = same_entries name_cmp nat_list_cmp_total (λ x y e. same_name x y (ap is_eq e))
         (entries_in (filesystem.files.tree.node number)) (entries_shown number_of world overlay path)
         (subst T (sym (is.tree.in_order number)) tt)
         (in_order (λ n. number_shown number_of world overlay (path ++ n ∷ [])) (names_shown layers path)
@@ -273,13 +255,11 @@ module _ (number_of : Real ℕ → ℕ) (held : ℕ → Option (Real ℕ)) (worl
       let reached = is_reached_in filesystem.files is.tree has.0 has.1 number has.2 in
       let way = way_to filesystem.files.tree reached.0 has.0 reached.1 in (
         way.0 ++ has.1 ∷ [],
-        led-append filesystem.files.tree filesystem.files.tree.root way.0 has.1 has.0 number way.1
-            has.2,
+        led-append filesystem.files.tree filesystem.files.tree.root way.0 has.1 has.0 number way.1 has.2,
       )
 
   pub other_is_held : (number : ℕ) → ((path : List (List ℕ)) → at path ≢ Some number)
-      → (filesystem.files.tree.node number ≡ inode_held world overlay held number)
-      × (overlay.real number ≡ held number)
+      → (filesystem.files.tree.node number ≡ inode_held world overlay held number) × (overlay.real number ≡ held number)
   other_is_held number out = (
     node_filled number [] number (filesystem.files.tree.node number)
         (then_some (held number) (real_node nat_eq world overlay))
@@ -315,8 +295,7 @@ data IsAt (files : FileTree ℕ) (number : ℕ) : Type 0 where
   is_nowhere : ((path : List (List ℕ)) → number_at_path files path ≢ Some number) → IsAt files number
 
 module _ (number_of : Real ℕ → ℕ) (held : ℕ → Option (Real ℕ)) (world : World ℕ) (one other : Filesystem ℕ)
-    (overlay another : Overlay ℕ)
-    (upper : another.upper ≡ overlay.upper) (lowers : another.lowers ≡ overlay.lowers)
+    (overlay another : Overlay ℕ) (upper : another.upper ≡ overlay.upper) (lowers : another.lowers ≡ overlay.lowers)
     (is : IsMergedTree world one overlay) (named : IsNamedBy number_of held one overlay)
     (other_is : IsMergedTree world other another) (other_named : IsNamedBy number_of held other another) where
   found_at : (number : ℕ) → IsAt one.files number
@@ -341,8 +320,7 @@ module _ (number_of : Real ℕ → ℕ) (held : ℕ → Option (Real ℕ)) (worl
               ∙ ap is_some f)
 
   same_paths : (path : List (List ℕ)) → number_at_path other.files path ≡ number_at_path one.files path
-  same_paths path =
-      numbers_are_shown number_of held world other another other_is other_named path
+  same_paths path = numbers_are_shown number_of held world other another other_is other_named path
       ∙ (λ i. number_shown number_of world (record overlay { upper = upper i; lowers = lowers i }) path)
       ∙ sym (numbers_are_shown number_of held world one overlay is named path)
 

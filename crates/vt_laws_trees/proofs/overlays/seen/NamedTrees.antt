@@ -37,8 +37,7 @@ module _ (number_of : Real ℕ → ℕ) (held : ℕ → Option (Real ℕ)) (long
 
   shows : (number : ℕ) (path : List (List ℕ)) → found number ≡ Some path
       → number_shown number_of world overlay path ≡ Some number
-  shows number path e =
-      shown_number number (number_shown number_of world overlay path)
+  shows number path e = shown_number number (number_shown number_of world overlay path)
       (found_passes (λ path. holds_of (nat_eq number) (number_shown number_of world overlay path))
       (paths_from longest (layers_shown world overlay) []) path e)
 
@@ -47,8 +46,7 @@ module _ (number_of : Real ℕ → ℕ) (held : ℕ → Option (Real ℕ)) (long
     where
       by : (o : Option (List (List ℕ))) → found number ≡ o → number ≡ number_of object
       by None f = holds number object (sym (real_is number None f) ∙ e)
-      by (Some path) f =
-          same_Some number (number_of object) (sym (shows number path f)
+      by (Some path) f = same_Some number (number_of object) (sym (shows number path f)
           ∙ ap (option_map number_of) (sym (real_is number (Some path) f) ∙ e))
 
   -- so paths lead to the numbers that are shown, whatever is held

@@ -19,8 +19,7 @@ use Rattle.vt_laws_trees.specs.Overlays.TreesSeen.{PathsAreNoLonger, files_of}
 
 pub all_at : {A : Type 0} (P : A → Type 0) (list : List A) → All P list → (k : ℕ) (a : A)
     → slice_get list k ≡ Some a → P a
-all_at P list all k a e =
-    subst P (get_or_from_slice_get list k a a e) (all k a (slice_get_within list k a e))
+all_at P list all k a e = subst P (get_or_from_slice_get list k a a e) (all k a (slice_get_within list k a e))
 
 -- a path that leads somewhere is no longer than there are inodes
 module _ (files : FileTree ℕ) (tree : IsTree files.tree) (listed : ListsNumbers nat_eq files) (start : ℕ) where
@@ -46,8 +45,7 @@ module _ (files : FileTree ℕ) (tree : IsTree files.tree) (listed : ListsNumber
   length-led [] to e = omega arith
   length-led (name ∷ path) to e =
       let last = last_of (name ∷ path) (not_empty name path) in
-      let long : length (name ∷ path) ≡ suc (length last.0) =
-      sym (ap length last.2) ∙ length_longer last.0 last.1 in
+      let long : length (name ∷ path) ≡ suc (length last.0) = sym (ap length last.2) ∙ length_longer last.0 last.1 in
       let within = at_last last.0 last.1 to (led files.tree start last.0) refl
       (sym (last_name files.tree start last.0 last.1) ∙ ap (led files.tree start) last.2 ∙ e) in
       omega (arith, long, within)

@@ -1,5 +1,6 @@
 -- Each merged tree that is named so is the tree that is seen.
-use Rattle.std.proofs.Common.{◌≡◌, ◌⊎◌, ◌≢◌, inl, inr, refl, sym, ap, ◌∙◌, true≢false, ℕ, nat_eq, eq-eqb, eqb-true, Bool, true, false, List, [], ◌∷◌, Option, Some, None, if◌then◌else◌, is_some}
+use Rattle.std.proofs.Common.{arith, ◌≡◌, ◌⊎◌, ◌≢◌, inl, inr, refl, sym, ap, ◌∙◌, true≢false, ℕ, nat_eq, eq-eqb, eqb-true, Bool, true, false, List, [], ◌∷◌, Option, Some, None, if◌then◌else◌, is_some}
+use Rattle.std.proofs.lemmas.Grind.{common_steps}
 use Rattle.std.specs.List.{find}
 use Rattle.std.specs.Prelude.{get_or, option_map, unwrap_or}
 use Rattle.vt_spec.proofs.Found.{found_passes}
@@ -20,12 +21,9 @@ use Rattle.vt_laws_trees.proofs.overlays.seen.Paths.{paths_are_no_longer}
 by_first : {A : Type 0} (test : A → Bool) (first : A) (list : List A) (a : A) (b : Bool) → test first ≡ b
     → (Among list a → find test list ≢ None) → (first ≡ a) ⊎ Among list a → test a ≡ true
     → find test (first ∷ list) ≢ None
-by_first test first list a true s rest among passes e =
-    none_is_some first (sym e ∙ ap (λ b. if b then Some first else find test list) s)
-by_first test first list a false s rest (inl same) passes e =
-    true≢false (sym passes ∙ ap test (sym same) ∙ s)
-by_first test first list a false s rest (inr among) passes e =
-    rest among (sym (ap (λ b. if b then Some first else find test list) s) ∙ e)
+by_first test first list a true s rest among passes e = grind (arith, common_steps, none_is_some)
+by_first test first list a false s rest (inl same) passes e = true≢false (sym passes ∙ ap test (sym same) ∙ s)
+by_first test first list a false s rest (inr among) passes e = grind (arith, common_steps)
 
 not_missed : {A : Type 0} (test : A → Bool) (list : List A) (a : A) → test a ≡ true → Among list a
     → find test list ≢ None
@@ -52,8 +50,7 @@ module _ (number_of : Real ℕ → ℕ) (held : ℕ → Option (Real ℕ)) (worl
       by : (o : Option (Shown ℕ)) → shown (layers_shown world overlay) path ≡ o
           → number_shown number_of world overlay path ≡ Some number
           → Among (paths_from longest (layers_shown world overlay) []) path
-      by None s e = none_is_some number
-          (sym (ap (λ o. option_map number_of (option_map
+      by None s e = none_is_some number (sym (ap (λ o. option_map number_of (option_map
           (λ object. real_object (is_some overlay.upper) object.seen.layer object)
           (option_map (λ seen. record { path = path; seen = seen }) o))) s) ∙ e)
       by (Some seen) s e = paths_complete (layers_shown world overlay) is.layers longest [] path seen
@@ -67,8 +64,7 @@ module _ (number_of : Real ℕ → ℕ) (held : ℕ → Option (Real ℕ)) (worl
       (found_passes (passes number) (paths_from longest (layers_shown world overlay) []) path e) in
       inodes_are_those number_of held world filesystem overlay is named path number
       (numbers_are_those number_of held world filesystem overlay is named path ∙ shows)
-  same number None e =
-      others_are_held number_of held world filesystem overlay is named number (λ path at.
+  same number None e = others_are_held number_of held world filesystem overlay is named number (λ path at.
       let shows = sym (numbers_are_those number_of held world filesystem overlay is named path) ∙ at in
       not_missed (passes number) (paths_from longest (layers_shown world overlay) []) path
       (ap (holds_of (nat_eq number)) shows ∙ eq-eqb number number refl) (gone_through path number shows) e)

@@ -1,8 +1,9 @@
 -- Bytes and attributes of what stands in the upper layer are set: the tree is still what the layers show.
-use Rattle.std.proofs.Common.{◌≡◌, refl, sym, ap, subst, ◌∙◌, true≢false, eqb-true, eq-eqb, ℕ, zero, suc, nat_eq, Bool, true, false, cond, List, map, Option, Some, None, is_some, slice_get, unwrap_or}
+use Rattle.std.proofs.Common.{arith, ◌≡◌, refl, sym, ap, subst, ◌∙◌, true≢false, eqb-true, eq-eqb, ℕ, zero, suc, nat_eq, Bool, true, false, cond, List, map, Option, Some, None, is_some, slice_get, unwrap_or}
+use Rattle.std.proofs.lemmas.Grind.{common_steps}
 use Rattle.vt_spec.specs.declared.attributes.Attr.{Attr}
 use Rattle.vt_spec.specs.declared.attributes.Kind.TheVariants.{White}
-use Rattle.vt_spec.specs.FileTree.{is_kind, is_kind_in, is_opaque_in, opaque_of}
+use Rattle.vt_spec.specs.FileTree.{is_kind, is_kind_in, is_opaque_in}
 use Rattle.vt_spec.specs.Language.Changes.{changed_node, node_with_attr}
 use Rattle.vt_spec.specs.Language.Changes.Change.{SetAttr, SetBytes}
 use Rattle.vt_spec.specs.Lists.{then_some}
@@ -10,9 +11,9 @@ use Rattle.vt_spec.specs.Machine.CopyUp.{Merge, Stack, changed_both, upper_of}
 use Rattle.vt_spec.specs.Machine.Layers.{OpenLayer, view_of}
 use Rattle.vt_spec.specs.Machine.World.{Real, upper_object}
 use Rattle.vt_spec.specs.Machine.World.Real.{Lower, Upper}
-use Rattle.vt_spec.specs.Machine.Invariants.{ListsNumbers, SameObject, number_at_path, same_content}
-use Rattle.vt_spec.specs.Tree.{Content, Node, kind_of, node_with_bytes, with_bytes}
-use Rattle.vt_spec.specs.Tree.Content.{Directory, Regular, Symlink, Whiteout}
+use Rattle.vt_spec.specs.Machine.Invariants.{ListsNumbers, SameObject, number_at_path}
+use Rattle.vt_spec.specs.Tree.{Node, node_with_bytes, with_bytes}
+use Rattle.vt_spec.specs.Tree.Content.{Directory}
 use Rattle.vt_spec.specs.TreeInvariant.{IsTree}
 use Rattle.vt_laws_trees.proofs.trees.ChangesKeepTrees.{changes_keep_numbers, changes_keep_trees}
 use Rattle.vt_laws_trees.specs.Layers.Layers.ChangesUpper.{StandsInUpper}
@@ -58,51 +59,7 @@ attr_shape attr = record {
     by (Some a) (Some b) s = (refl, s.1)
 
 bytes_shape : (bytes : List ℕ) → KeepsShape (node_with_bytes bytes)
-bytes_shape bytes = record {
-  there = λ o. elim o as (λ o. is_some (node_with_bytes bytes o) ≡ is_some o) [ None ↦ refl | Some node ↦ refl ];
-  white = λ o. elim o as (λ o. is_kind_in White (node_with_bytes bytes o)
-      ≡ is_kind_in White o) [ None ↦ refl | Some node ↦ white node.content ];
-  mark = λ o. elim o as (λ o. is_opaque_in (node_with_bytes bytes o)
-      ≡ is_opaque_in o) [ None ↦ refl | Some node ↦ mark node.content ];
-  same = by;
-}
-  where
-    white : (c : Content ℕ) → is_kind White (kind_of (with_bytes c bytes)) ≡ is_kind White (kind_of c)
-    white (Directory parent entries opaque) = refl
-    white (Regular old) = refl
-    white (Symlink text) = refl
-    white Whiteout = refl
-
-    mark : (c : Content ℕ) → opaque_of (with_bytes c bytes) ≡ opaque_of c
-    mark (Directory parent entries opaque) = refl
-    mark (Regular old) = refl
-    mark (Symlink text) = refl
-    mark Whiteout = refl
-
-    content : (a b : Content ℕ) → same_content a b ≡ true
-        → same_content (with_bytes a bytes) (with_bytes b bytes) ≡ true
-    content (Directory p e o) (Directory q f r) s = refl
-    content (Directory p e o) (Regular b) s = s
-    content (Directory p e o) (Symlink b) s = s
-    content (Directory p e o) Whiteout s = s
-    content (Regular a) (Directory q f r) s = s
-    content (Regular a) (Regular b) s = bytes_eq_itself bytes
-    content (Regular a) (Symlink b) s = s
-    content (Regular a) Whiteout s = s
-    content (Symlink a) (Directory q f r) s = s
-    content (Symlink a) (Regular b) s = s
-    content (Symlink a) (Symlink b) s = s
-    content (Symlink a) Whiteout s = s
-    content Whiteout (Directory q f r) s = s
-    content Whiteout (Regular b) s = s
-    content Whiteout (Symlink b) s = s
-    content Whiteout Whiteout s = s
-
-    by : (a b : Option (Node ℕ)) → SameObject a b → SameObject (node_with_bytes bytes a) (node_with_bytes bytes b)
-    by None None s = tt
-    by None (Some b) s = absurd s
-    by (Some a) None s = absurd s
-    by (Some a) (Some b) s = (s.0, content a.content b.content s.1)
+bytes_shape bytes = grind (arith, common_steps, bytes_eq_itself)
 
 module _ (stack : Stack ℕ) (merge : Merge ℕ) (whole : IsWhole stack merge) (file : ℕ)
     (stands : StandsInUpper merge file) (change : Option (Node ℕ) → Option (Node ℕ)) (shape : KeepsShape change)
@@ -125,39 +82,32 @@ module _ (stack : Stack ℕ) (merge : Merge ℕ) (whole : IsWhole stack merge) (
   object_same number = by (merge.real number) refl (nat_eq number file) refl (is_fine.objects number)
     where
       at_upper : (u : ℕ) → merge.real number ≡ Some (Upper u) → (b : Bool) → nat_eq number file ≡ b → (c : Bool)
-          → nat_eq u (upper_of merge file) ≡ c
-          → SameObject (merge.files.tree.node number) (merge.upper.tree.node u)
+          → nat_eq u (upper_of merge file) ≡ c → SameObject (merge.files.tree.node number) (merge.upper.tree.node u)
           → SameObject (cond b (change (merge.files.tree.node file)) (merge.files.tree.node number))
           (cond c (change (merge.upper.tree.node (upper_of merge file))) (merge.upper.tree.node u))
       at_upper u r true n true v same =
           shape.same _ _ (subst (λ k. SameObject (merge.files.tree.node file) (merge.upper.tree.node k))
           (eqb-true u (upper_of merge file) v)
           (subst (λ k. SameObject (merge.files.tree.node k) (merge.upper.tree.node u)) (eqb-true number file n) same))
-      at_upper u r true n false v same =
-          absurd (true≢false (sym (ap (λ k. nat_eq k (upper_of merge file))
+      at_upper u r true n false v same = absurd (true≢false (sym (ap (λ k. nat_eq k (upper_of merge file))
           (upper_one u (upper_of merge file) (sym r ∙ ap merge.real (eqb-true number file n) ∙ real))
           ∙ eq-eqb (upper_of merge file) (upper_of merge file) refl) ∙ v))
         where
           upper_one : (a b : ℕ) → Some (Upper a) ≡ Some (Upper b) → a ≡ b
           upper_one a b e = same_Some a b (ap upper_object e)
-      at_upper u r false n true v same =
-          absurd (true≢false (sym (ap (λ k. nat_eq k file)
+      at_upper u r false n true v same = absurd (true≢false (sym (ap (λ k. nat_eq k file)
           (is_fine.one number file (ap is_some r)
-          (r ∙ ap (λ k. Some (Upper k)) (eqb-true u (upper_of merge file) v) ∙ sym real)) ∙ eq-eqb file file refl)
-          ∙ n))
+          (r ∙ ap (λ k. Some (Upper k)) (eqb-true u (upper_of merge file) v) ∙ sym real)) ∙ eq-eqb file file refl) ∙ n))
       at_upper u r false n false v same = same
 
       by : (o : Option (Real ℕ)) → merge.real number ≡ o → (b : Bool) → nat_eq number file ≡ b
           → SameObject (merge.files.tree.node number) (then_some o (inode_behind stack merge))
           → SameObject (cond b (change (merge.files.tree.node file)) (merge.files.tree.node number))
           (then_some o (inode_behind stack later))
-      by None r true n same = none_is_some (Upper (upper_of merge file))
-          (sym r ∙ ap merge.real (eqb-true number file n) ∙ real)
+      by None r true n same = grind (arith, common_steps, none_is_some, real, eqb-true)
       by None r false n same = same
       by (Some (Upper u)) r b n same = at_upper u r b n (nat_eq u (upper_of merge file)) refl same
-      by (Some (Lower layer path)) r true n same =
-          absurd (true≢false (sym (ap (λ o. is_some (upper_object o)) real)
-          ∙ ap (λ o. is_some (upper_object o)) (sym (ap merge.real (eqb-true number file n)) ∙ r)))
+      by (Some (Lower layer path)) r true n same = grind (arith, common_steps, true≢false, real, eqb-true)
       by (Some (Lower layer path)) r false n same = same
 
   not_there : (o p : Option (Node ℕ)) → is_some o ≡ is_some p → o ≡ None → p ≡ None
@@ -168,8 +118,7 @@ module _ (stack : Stack ℕ) (merge : Merge ℕ) (whole : IsWhole stack merge) (
   fine_later = record {
     paths = λ path. ap (λ o. then_some o merge.real) (one_path path) ∙ is_fine.paths path ∙ sym (one_seen path);
     objects = object_same;
-    there = λ number none. is_fine.there number
-        (not_there (later.files.tree.node number) (merge.files.tree.node number)
+    there = λ number none. is_fine.there number (not_there (later.files.tree.node number) (merge.files.tree.node number)
         (part-changed_node is_some merge.files file change shape.there number) none);
     whiteout = λ number. part-changed_node (is_kind_in White) merge.files file change shape.white number
         ∙ is_fine.whiteout number;
@@ -212,8 +161,7 @@ attr_keeps_whole stack merge object attr whole stands =
     (changes_keep_numbers merge.files (SetAttr object attr) whole.numbers)
     (changes_keep_trees merge.upper (SetAttr (upper_of merge object) attr) top.0 tt)
     (part-changed_node Rattle.vt_spec.specs.Tree.is_directory_node merge.upper (upper_of merge object)
-    (node_with_attr attr)
-    (λ o. elim o as (λ o. Rattle.vt_spec.specs.Tree.is_directory_node (node_with_attr attr o)
+    (node_with_attr attr) (λ o. elim o as (λ o. Rattle.vt_spec.specs.Tree.is_directory_node (node_with_attr attr o)
     ≡ Rattle.vt_spec.specs.Tree.is_directory_node o) [ None ↦ refl | Some node ↦ refl ]) stack.directory ∙ top.1) (
       whole.reached.0,
       (attr_changes_one_inode merge.upper merge.upper.tree.root
@@ -231,8 +179,7 @@ bytes_keep_whole stack merge file bytes whole stands =
     (changes_keep_numbers merge.files (SetBytes file bytes) whole.numbers)
     (changes_keep_trees merge.upper (SetBytes (upper_of merge file) bytes) top.0 tt)
     (part-changed_node Rattle.vt_spec.specs.Tree.is_directory_node merge.upper (upper_of merge file)
-    (node_with_bytes bytes)
-    (Rattle.vt_spec.proofs.Nodes.is_directory-node_with_bytes bytes) stack.directory ∙ top.1) (
+    (node_with_bytes bytes) (Rattle.vt_spec.proofs.Nodes.is_directory-node_with_bytes bytes) stack.directory ∙ top.1) (
       whole.reached.0,
       (bytes_change_one_inode merge.upper merge.upper.tree.root
           (upper_of merge file) bytes).0 whole.reached.0 ∙ whole.reached.1,

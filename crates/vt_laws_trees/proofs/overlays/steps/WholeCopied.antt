@@ -1,5 +1,6 @@
 -- One object is copied up: the tree is still what the layers show.
-use Rattle.std.proofs.Common.{◌≡◌, ◌≢◌, refl, sym, ap, subst, ◌∙◌, true≢false, eq-eqb, ne_eqb, ◌⊎◌, ⊎_elim, inl, inr, ℕ, nat_eq, Bool, true, false, not, cond, List, [], ◌∷◌, ◌++◌, map, Option, Some, None, is_some, option_and_then}
+use Rattle.std.proofs.Common.{arith, ◌≡◌, ◌≢◌, refl, sym, ap, subst, ◌∙◌, true≢false, eq-eqb, ne_eqb, ◌⊎◌, ⊎_elim, inl, inr, ℕ, nat_eq, Bool, true, false, not, cond, List, [], ◌∷◌, ◌++◌, map, Option, Some, None, is_some, option_and_then}
+use Rattle.std.proofs.lemmas.Grind.{common_steps}
 use Rattle.std.proofs.lemmas.Bool.Decides.{eqb_tells}
 use Rattle.vt_spec.specs.declared.attributes.Kind.TheVariants.{White}
 use Rattle.vt_spec.specs.FileTree.{FileTree, a_name, is_kind, is_kind_in}
@@ -136,14 +137,12 @@ module _ (stack : Stack ℕ) (merge : Merge ℕ) (whole : IsWhole stack merge) (
   apart = with_inode nat_eq merge.upper copy (copy_node copy)
 
   apart_there : (k : ℕ) → is_some (merge.upper.tree.node k) ≡ true → apart.tree.node k ≡ merge.upper.tree.node k
-  apart_there k there =
-      node_other merge.upper.tree copy (Some (copy_node copy)) k
+  apart_there k there = node_other merge.upper.tree copy (Some (copy_node copy)) k
       (λ same. true≢false (sym there ∙ ap (λ n. is_some (merge.upper.tree.node n)) same ∙ ap is_some vacant))
 
   apart_entry : (directory : ℕ) (name : List ℕ)
       → entry_at apart.tree directory name ≡ entry_at merge.upper.tree directory name
-  apart_entry directory name =
-      ap (entry_named name) (inode_entries merge.upper copy (copy_node copy) vacant
+  apart_entry directory name = ap (entry_named name) (inode_entries merge.upper copy (copy_node copy) vacant
       (entries_of-copied_content copy node.content) directory)
 
   apart_led : (start : ℕ) (path : List (List ℕ)) → led apart.tree start path ≡ led merge.upper.tree start path
@@ -151,8 +150,7 @@ module _ (stack : Stack ℕ) (merge : Merge ℕ) (whole : IsWhole stack merge) (
       (entries_of-copied_content copy node.content) start path
 
   was_directory : (k : ℕ) → IsDirectory apart.tree k → (k ≡ copy) ⊎ IsDirectory merge.upper.tree k
-  was_directory k d =
-      ⊎_elim (λ t. inl t.1)
+  was_directory k d = ⊎_elim (λ t. inl t.1)
       (λ t. inr (sym (ap is_directory_node (node_other merge.upper.tree copy (Some (copy_node copy)) k t.1)) ∙ d))
       (eqb_tells k copy)
 
@@ -177,8 +175,7 @@ module _ (stack : Stack ℕ) (merge : Merge ℕ) (whole : IsWhole stack merge) (
     root_directory = still_directory merge.upper.tree.root top_tree.root_directory;
     root_parent = apart_parent merge.upper.tree.root top_tree.root_directory ∙ top_tree.root_parent;
     root_unnamed = λ directory name e. top_tree.root_unnamed directory name (sym (apart_entry directory name) ∙ e);
-    in_order = λ directory.
-        ap (Rattle.std.specs.FinMap.Entries.is_sorted name_cmp)
+    in_order = λ directory. ap (Rattle.std.specs.FinMap.Entries.is_sorted name_cmp)
         (inode_entries merge.upper copy (copy_node copy) vacant (entries_of-copied_content copy node.content) directory)
         ∙ top_tree.in_order directory;
     alive = λ directory name k e.
@@ -190,29 +187,22 @@ module _ (stack : Stack ℕ) (merge : Merge ℕ) (whole : IsWhole stack merge) (
     one_name = λ directory name other k e f d.
         top_tree.one_name directory name other k (sym (apart_entry directory name) ∙ e)
         (sym (apart_entry directory other) ∙ f) (named_directory directory name k e d);
-    parent_directory = λ k d.
-        ⊎_elim
-        (λ same. subst (IsDirectory apart.tree)
+    parent_directory = λ k d. ⊎_elim (λ same. subst (IsDirectory apart.tree)
         (sym (ap (λ n. parent_in n (apart.tree.node n)) same
         ∙ ap (parent_in copy) (node_set merge.upper.tree copy (Some (copy_node copy)))
-        ∙ copy_parent_itself node.content))
-        (subst (IsDirectory apart.tree) same d))
+        ∙ copy_parent_itself node.content)) (subst (IsDirectory apart.tree) same d))
         (λ old. subst (IsDirectory apart.tree) (sym (apart_parent k old))
-        (still_directory _ (top_tree.parent_directory k old)))
-        (was_directory k d);
+        (still_directory _ (top_tree.parent_directory k old))) (was_directory k d);
     reached = λ k d named.
         let old = named_directory named.0 named.1 k named.2 d in
         let way = top_tree.reached k old (named.0, named.1, sym (apart_entry named.0 named.1) ∙ named.2) in
         (way.0, apart_led merge.upper.tree.root way.0 ∙ way.1);
-    unnamed_empty = λ k d no_root unnamed.
-        ⊎_elim
-        (λ same. ap (λ n. entries_in (apart.tree.node n)) same
+    unnamed_empty = λ k d no_root unnamed. ⊎_elim (λ same. ap (λ n. entries_in (apart.tree.node n)) same
         ∙ ap entries_in (node_set merge.upper.tree copy (Some (copy_node copy)))
         ∙ entries_of-copied_content copy node.content)
         (λ old. inode_entries merge.upper copy (copy_node copy) vacant (entries_of-copied_content copy node.content) k
         ∙ top_tree.unnamed_empty k old no_root
-        (λ named. unnamed (named.0, named.1, apart_entry named.0 named.1 ∙ named.2)))
-        (was_directory k d);
+        (λ named. unnamed (named.0, named.1, apart_entry named.0 named.1 ∙ named.2))) (was_directory k d);
   }
 
   module _ (unnamed : a_name nat_eq merge.files object ≡ None) where
@@ -250,16 +240,11 @@ module _ (stack : Stack ℕ) (merge : Merge ℕ) (whole : IsWhole stack merge) (
             (record { tree = merge.upper.tree; directory = stack.directory }) top_tree top_directory path k e)
 
     seen_same : (path : List (List ℕ)) → real_seen stack beside path ≡ real_seen stack merge path
-    seen_same path =
-        ap (real_by path)
-        (over_same (view_in merge.upper stack.directory) (view_in apart stack.directory)
-        (map view_of stack.lowers) path (apart_led stack.directory path)
-        (λ k e. ap (is_kind_in White) (apart_there k
+    seen_same path = ap (real_by path) (over_same (view_in merge.upper stack.directory) (view_in apart stack.directory)
+        (map view_of stack.lowers) path (apart_led stack.directory path) (λ k e. ap (is_kind_in White) (apart_there k
         (led_is_there (record { tree = merge.upper.tree; directory = stack.directory }) top_tree top_directory path k
-        e)))
-        (prefixes_agree (λ front. hides (node_led (view_in merge.upper stack.directory) front))
-        (λ front. hides (node_led (view_in apart stack.directory) front)) path
-        (λ front f. ap hides (node_same front))))
+        e))) (prefixes_agree (λ front. hides (node_led (view_in merge.upper stack.directory) front))
+        (λ front. hides (node_led (view_in apart stack.directory) front)) path (λ front f. ap hides (node_same front))))
 
     paths_beside : (path : List (List ℕ))
         → then_some (number_at_path merge.files path) real_later ≡ real_seen stack beside path
@@ -271,14 +256,10 @@ module _ (stack : Stack ℕ) (merge : Merge ℕ) (whole : IsWhole stack merge) (
             (ne_eqb n object (λ same. no_path path (e ∙ ap Some same)))
 
     own_parent_beside : HasOwnParents merge.upper.tree → HasOwnParents apart.tree
-    own_parent_beside own k is none =
-        ⊎_elim
-        (λ same. ap (λ n. parent_in n (apart.tree.node n)) same
+    own_parent_beside own k is none = ⊎_elim (λ same. ap (λ n. parent_in n (apart.tree.node n)) same
         ∙ ap (parent_in copy) (node_set merge.upper.tree copy (Some (copy_node copy)))
-        ∙ copy_parent_itself node.content ∙ sym same)
-        (λ old. apart_parent k old ∙ own k old
-        (λ named. none (named.0, named.1, apart_entry named.0 named.1 ∙ named.2)))
-        (was_directory k is)
+        ∙ copy_parent_itself node.content ∙ sym same) (λ old. apart_parent k old ∙ own k old
+        (λ named. none (named.0, named.1, apart_entry named.0 named.1 ∙ named.2))) (was_directory k is)
 
     beside_goes : Goes stack.directory merge.upper apart
     beside_goes = record {
@@ -292,8 +273,7 @@ module _ (stack : Stack ℕ) (merge : Merge ℕ) (whole : IsWhole stack merge) (
     }
 
     beside_is_whole : IsWhole stack beside
-    beside_is_whole =
-        whole_again stack merge beside whole whole.tree whole.numbers apart_is_tree
+    beside_is_whole = whole_again stack merge beside whole whole.tree whole.numbers apart_is_tree
         (still_directory stack.directory top_directory)
         (whole.reached.0, apart_led merge.upper.tree.root whole.reached.0 ∙ whole.reached.1)
         (grown_is_fine stack merge fine_before merge.files apart object copy vacant
@@ -346,10 +326,8 @@ module _ (stack : Stack ℕ) (merge : Merge ℕ) (whole : IsWhole stack merge) (
       where
         seen : (r : ℕ) → entry_at merge.upper.tree ud w ≡ Some r → (white : Bool)
             → is_kind_in White (merge.upper.tree.node r) ≡ white → ⊥
-        seen r e white k =
-            at white (sym (ap (λ o. then_some o merge.real) here) ∙ fine_before.paths (way.0 ++ w ∷ [])
-            ∙ ap (real_by (way.0 ++ w ∷ []))
-            (on_top before lowers (way.0 ++ w ∷ []) r white
+        seen r e white k = at white (sym (ap (λ o. then_some o merge.real) here) ∙ fine_before.paths (way.0 ++ w ∷ [])
+            ∙ ap (real_by (way.0 ++ w ∷ [])) (on_top before lowers (way.0 ++ w ∷ []) r white
             (led-append merge.upper.tree stack.directory way.0 w ud r up_way e) k))
           where
             at : (white : Bool) → merge.real object
@@ -369,16 +347,14 @@ module _ (stack : Stack ℕ) (merge : Merge ℕ) (whole : IsWhole stack merge) (
 
     leads_same : (path : List (List ℕ)) → names_entry before ud w path ≡ false
         → led with_copy.tree stack.directory path ≡ led merge.upper.tree stack.directory path
-    leads_same path e =
-        make_adds_path merge.upper stack.directory ud copy w (copy_node ud) takes vacant bare path
+    leads_same path e = make_adds_path merge.upper stack.directory ud copy w (copy_node ud) takes vacant bare path
         ∙ ap (λ b. cond b (Some copy) (led merge.upper.tree stack.directory path)) e
 
     others_alike : (u : ℕ) → u ≢ copy → IsAlike (merge.upper.tree.node u) (with_copy.tree.node u)
     others_alike = (make_adds_inode merge.upper stack.directory ud copy w (copy_node ud) ud_directory vacant).1
 
     is_old : (path : List (List ℕ)) (k : ℕ) → led merge.upper.tree stack.directory path ≡ Some k → k ≢ copy
-    is_old path k l same =
-        true≢false (sym (led_is_there
+    is_old path k l same = true≢false (sym (led_is_there
         (record { tree = merge.upper.tree; directory = stack.directory }) top_tree top_directory path k l)
         ∙ ap (λ n. is_some (merge.upper.tree.node n)) same ∙ ap is_some vacant)
 
@@ -404,8 +380,7 @@ module _ (stack : Stack ℕ) (merge : Merge ℕ) (whole : IsWhole stack merge) (
       where
         by : (front : List (List ℕ)) (b : Bool) → names_entry before ud w front ≡ b
             → hides (node_led after front) ≡ hides (node_led before front)
-        by front true e =
-            hides_at front true e ∙ copy_hides_not ud node node.content is_dir
+        by front true e = hides_at front true e ∙ copy_hides_not ud node node.content is_dir
             ∙ sym (ap (λ o. hides (then_some o merge.upper.tree.node))
             (named_led merge.upper stack.directory ud w front e ∙ free))
         by front false e = hides_at front false e
@@ -421,8 +396,7 @@ module _ (stack : Stack ℕ) (merge : Merge ℕ) (whole : IsWhole stack merge) (
     number_none : is_directory (kind_of node.content) ≡ false → (path : List (List ℕ))
         → goes_through before ud w path ≡ true → names_entry before ud w path ≡ false
         → number_at_path merge.files path ≡ None
-    number_none not_dir path through other =
-        through_bare merge.files merge.files.tree.root d object w has
+    number_none not_dir path through other = through_bare merge.files merge.files.tree.root d object w has
         (no_entries merge.files.tree object
         (entries_in-no_directory (merge.files.tree.node object) (ap is_directory_node is ∙ not_dir))) path
         (same_through stack merge whole d ud real_d ud_directory w path ∙ through)
@@ -434,21 +408,17 @@ module _ (stack : Stack ℕ) (merge : Merge ℕ) (whole : IsWhole stack merge) (
       where
         file : is_directory (kind_of node.content) ≡ false → (b : Bool) → goes_through before ud w path ≡ b
             → shown_from 0 (after ∷ lowers) path ≡ shown_from 0 (before ∷ lowers) path
-        file not_dir true through =
-            cut_shows_none after lowers path
+        file not_dir true through = cut_shows_none after lowers path
             (leads_same path e ∙ through_free merge.upper stack.directory ud w free path through)
-            (file_cuts not_dir path through)
-            ∙ sym (real_by_none path (shown (layers_under stack merge) path)
+            (file_cuts not_dir path through) ∙ sym (real_by_none path (shown (layers_under stack merge) path)
             (sym (fine_before.paths path) ∙ ap (λ o. then_some o merge.real) (number_none not_dir path through e)))
-        file not_dir false elsewhere =
-            shown_elsewhere_stays merge.upper
+        file not_dir false elsewhere = shown_elsewhere_stays merge.upper
             (Make ud w copy (copy_node ud)) stack.directory lowers top_tree top_directory
             (takes, vacant, bare) path elsewhere
 
         by : (b : Bool) → is_directory (kind_of node.content) ≡ b
             → shown_from 0 (after ∷ lowers) path ≡ shown_from 0 (before ∷ lowers) path
-        by true is_dir =
-            over_same before after lowers path (leads_same path e)
+        by true is_dir = over_same before after lowers path (leads_same path e)
             (λ k l. white_alike (merge.upper.tree.node k) (with_copy.tree.node k) (others_alike k (is_old path k l)))
             (cuts_same is_dir path)
         by false not_dir = file not_dir (goes_through before ud w path) refl
@@ -460,17 +430,13 @@ module _ (stack : Stack ℕ) (merge : Merge ℕ) (whole : IsWhole stack merge) (
         other : names_entry before ud w path ≡ false → (o : Option ℕ) → number_at_path merge.files path ≡ o
             → then_some o real_later ≡ then_some o merge.real
         other e None l = refl
-        other e (Some n) l =
-            ap (λ b. cond b (Some (Upper copy)) (merge.real n))
-            (ne_eqb n object (λ same.
+        other e (Some n) l = ap (λ b. cond b (Some (Upper copy)) (merge.real n)) (ne_eqb n object (λ same.
             true≢false (sym (entry_named_so merge.upper stack.directory ud w way.0 up_way)
             ∙ ap (names_entry before ud w) (one_way (way.0 ++ w ∷ []) path here (l ∙ ap Some same)) ∙ e)))
 
         by : (b : Bool) → names_entry before ud w path ≡ b
             → then_some (number_at_path merge.files path) real_later ≡ real_seen stack above path
-        by true e =
-            ap (λ o. then_some o real_later)
-            (named_led merge.files merge.files.tree.root d w path
+        by true e = ap (λ o. then_some o real_later) (named_led merge.files merge.files.tree.root d w path
             (same_entry stack merge whole d ud real_d ud_directory w path ∙ e) ∙ has)
             ∙ ap (λ b. cond b (Some (Upper copy)) (merge.real object)) (eq-eqb object object refl)
             ∙ sym (ap (real_by path)
@@ -488,8 +454,7 @@ module _ (stack : Stack ℕ) (merge : Merge ℕ) (whole : IsWhole stack merge) (
       name_is_free = record {
         in_directory = ud_directory;
         reached = (
-          whole.reached.0
-              ++ way.0,
+          whole.reached.0 ++ way.0,
           led_parts merge.upper.tree whole.reached.0 way.0 merge.upper.tree.root stack.directory whole.reached.1
               ∙ up_way,
         );
@@ -504,8 +469,7 @@ module _ (stack : Stack ℕ) (merge : Merge ℕ) (whole : IsWhole stack merge) (
         (top_good stack merge whole) may_copy tt
 
     above_is_whole : IsWhole stack above
-    above_is_whole =
-        whole_again stack merge above whole whole.tree whole.numbers
+    above_is_whole = whole_again stack merge above whole whole.tree whole.numbers
         (changes_keep_trees merge.upper (Make ud w copy (copy_node ud)) top_tree may_copy)
         (directory_alike (merge.upper.tree.node stack.directory) (with_copy.tree.node stack.directory)
         (others_alike stack.directory (is_old [] stack.directory refl)) ∙ top_directory)
@@ -517,26 +481,17 @@ module _ (stack : Stack ℕ) (merge : Merge ℕ) (whole : IsWhole stack merge) (
       where
         still_reached : (b : Bool) → names_entry (view_in merge.upper merge.upper.tree.root) ud w whole.reached.0 ≡ b
             → IsReached with_copy.tree stack.directory
-        still_reached true e =
-            none_is_some stack.directory (sym
-            (named_led merge.upper merge.upper.tree.root ud w whole.reached.0 e ∙ free) ∙ whole.reached.1)
-        still_reached false e = (
-          whole.reached.0,
-          make_adds_path merge.upper merge.upper.tree.root ud copy w (copy_node ud) takes vacant bare whole.reached.0
-              ∙ ap (λ b. cond b (Some copy) (led merge.upper.tree merge.upper.tree.root whole.reached.0)) e
-              ∙ whole.reached.1,
-        )
+        still_reached true e = grind (arith, common_steps, none_is_some, named_led, free)
+        still_reached false e = grind (arith, common_steps, make_adds_path, takes, bare)
 
 pub copy_keeps_whole : CopyKeepsWhole
 copy_keeps_whole stack merge object copy node whole is low vacant parents = by (a_name nat_eq merge.files object) refl
   where
-    by : (o : Option (ℕ × List ℕ)) → a_name nat_eq merge.files object ≡ o
-        → IsWhole stack (record merge {
-          real = with_real nat_eq merge.real object (Upper copy);
-          upper = copy_named nat_eq merge copy o
-              (with_inode nat_eq merge.upper copy
-              (record { attr = node.attr; content = copied_content (copy_parent merge copy o) node.content }));
-        })
+    by : (o : Option (ℕ × List ℕ)) → a_name nat_eq merge.files object ≡ o → IsWhole stack (record merge {
+      real = with_real nat_eq merge.real object (Upper copy);
+      upper = copy_named nat_eq merge copy o (with_inode nat_eq merge.upper copy
+          (record { attr = node.attr; content = copied_content (copy_parent merge copy o) node.content }));
+    })
     by None e = beside_is_whole stack merge whole object copy node is low vacant e
     by (Some name) e = above_is_whole stack merge whole object copy node is low vacant name.0 name.1
         (named_so merge.files whole.tree object name e) (parents name e)
@@ -550,8 +505,7 @@ pub copy_goes : (stack : Stack ℕ) (merge : Merge ℕ) (object copy : ℕ) (nod
 copy_goes stack merge object copy node whole is low vacant parents = by (a_name nat_eq merge.files object) refl
   where
     by : (o : Option (ℕ × List ℕ)) → a_name nat_eq merge.files object ≡ o
-        → Goes stack.directory merge.upper (copy_named nat_eq merge copy o
-        (with_inode nat_eq merge.upper copy
+        → Goes stack.directory merge.upper (copy_named nat_eq merge copy o (with_inode nat_eq merge.upper copy
         (record { attr = node.attr; content = copied_content (copy_parent merge copy o) node.content })))
     by None e = beside_goes stack merge whole object copy node is low vacant e
     by (Some name) e = above_goes stack merge whole object copy node is low vacant name.0 name.1
@@ -569,17 +523,11 @@ copy_cuts stack merge object copy node whole is low vacant parents is_dir path =
     by (a_name nat_eq merge.files object) refl
   where
     by : (o : Option (ℕ × List ℕ)) → a_name nat_eq merge.files object ≡ o
-        → cuts (view_in (copy_named nat_eq merge copy o
-        (with_inode nat_eq merge.upper copy
-        (record {
+        → cuts (view_in (copy_named nat_eq merge copy o (with_inode nat_eq merge.upper copy (record {
           attr = node.attr;
-          content = copied_content
-              (copy_parent merge copy o) node.content;
-        }))) stack.directory) path
-        ≡ cuts (view_in merge.upper stack.directory) path
-    by None e =
-        prefixes_agree (λ front. hides (node_led (view_in merge.upper stack.directory) front)) _ path
+          content = copied_content (copy_parent merge copy o) node.content;
+        }))) stack.directory) path ≡ cuts (view_in merge.upper stack.directory) path
+    by None e = prefixes_agree (λ front. hides (node_led (view_in merge.upper stack.directory) front)) _ path
         (λ front f. ap hides (node_same stack merge whole object copy node is low vacant e front))
-    by (Some name) e =
-        cuts_same stack merge whole object copy node is low vacant name.0 name.1
+    by (Some name) e = cuts_same stack merge whole object copy node is low vacant name.0 name.1
         (named_so merge.files whole.tree object name e) (parents name e) is_dir path

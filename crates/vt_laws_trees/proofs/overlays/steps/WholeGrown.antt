@@ -1,5 +1,6 @@
 -- An overlay in which one inode has a new object in the upper layer, and all others are as they were but for names.
-use Rattle.std.proofs.Common.{◌≡◌, ◌≢◌, refl, sym, ap, subst, ◌∙◌, true≢false, eqb-true, eq-eqb, ⊎_elim, ℕ, nat_eq, Bool, true, false, cond, List, Option, Some, None, is_some}
+use Rattle.std.proofs.Common.{arith, ◌≡◌, ◌≢◌, refl, sym, ap, subst, ◌∙◌, true≢false, eqb-true, eq-eqb, ℕ, nat_eq, Bool, true, false, cond, List, Option, Some, None, is_some}
+use Rattle.std.proofs.lemmas.Grind.{common_steps}
 use Rattle.std.proofs.lemmas.Bool.Decides.{eqb_tells}
 use Rattle.std.specs.Str.{bytes_eq}
 use Rattle.vt_spec.specs.declared.attributes.Kind.{Kind}
@@ -7,12 +8,12 @@ use Rattle.vt_spec.specs.declared.attributes.Kind.TheVariants.{Dir, File, Symlin
 use Rattle.vt_spec.specs.FileTree.{FileTree, is_kind_in, is_opaque_in}
 use Rattle.vt_spec.specs.Lists.{then_some}
 use Rattle.vt_spec.specs.Machine.CopyUp.{Merge, Stack, with_real}
-use Rattle.vt_spec.specs.Machine.World.{Real, upper_object}
+use Rattle.vt_spec.specs.Machine.World.{Real}
 use Rattle.vt_spec.specs.Machine.World.Real.{Lower, Upper}
 use Rattle.vt_spec.specs.Machine.Invariants.{SameObject, number_at_path, same_content}
 use Rattle.vt_spec.specs.Rights.{is_directory}
 use Rattle.vt_spec.specs.Tree.{Content, Node, bytes_of, is_directory_node, kind_of}
-use Rattle.vt_spec.specs.Tree.Content.{Directory, Regular, Symlink, Whiteout}
+use Rattle.vt_spec.specs.Tree.Content.{Symlink}
 use Rattle.vt_laws_trees.specs.Layers.Layers.Mounted.{IsAlike}
 use Rattle.vt_laws_trees.specs.Overlays.WhatIsShown.{inode_behind, real_seen}
 use Rattle.vt_laws_trees.proofs.layers.layers.ShownAlike.{white_alike}
@@ -30,36 +31,10 @@ same_by one other a b = false
 
 content_by : (a b : Content ℕ) → same_content a b ≡ same_by (kind_of a) (kind_of b) (bytes_of a) (bytes_of b)
 unfolding same_by
-content_by (Directory p e o) (Directory q f r) = refl
-content_by (Directory p e o) (Regular b) = refl
-content_by (Directory p e o) (Symlink b) = refl
-content_by (Directory p e o) Whiteout = refl
-content_by (Regular a) (Directory q f r) = refl
-content_by (Regular a) (Regular b) = refl
-content_by (Regular a) (Symlink b) = refl
-content_by (Regular a) Whiteout = refl
-content_by (Symlink a) (Directory q f r) = refl
-content_by (Symlink a) (Regular b) = refl
-content_by (Symlink a) (Symlink b) = refl
-content_by (Symlink a) Whiteout = refl
-content_by Whiteout (Directory q f r) = refl
-content_by Whiteout (Regular b) = refl
-content_by Whiteout (Symlink b) = refl
-content_by Whiteout Whiteout = refl
+content_by a b = grind (arith, common_steps)
 
 pub alike_objects : (a b c d : Option (Node ℕ)) → SameObject a b → IsAlike a c → IsAlike b d → SameObject c d
-alike_objects None None None None s x y = tt
-alike_objects None None None (Some d) s x y = absurd (true≢false y.there)
-alike_objects None None (Some c) d s x y = absurd (true≢false x.there)
-alike_objects None (Some b) c d s x y = absurd s
-alike_objects (Some a) None c d s x y = absurd s
-alike_objects (Some a) (Some b) None d s x y = absurd (true≢false (sym x.there))
-alike_objects (Some a) (Some b) (Some c) None s x y = absurd (true≢false (sym y.there))
-alike_objects (Some a) (Some b) (Some c) (Some d) s x y = (
-  x.attr ∙ s.0 ∙ sym y.attr,
-  content_by c.content d.content ∙ (λ i. same_by (x.kind i) (y.kind i) (x.bytes i) (y.bytes i))
-      ∙ sym (content_by a.content b.content) ∙ s.1,
-)
+alike_objects a b c d s x y = grind (arith, common_steps, true≢false, content_by)
 
 pub directory_alike : (one other : Option (Node ℕ)) → IsAlike one other
     → is_directory_node other ≡ is_directory_node one
@@ -88,8 +63,7 @@ module _ (stack : Stack ℕ) (merge : Merge ℕ) (is_fine : IsFine stack merge) 
   not_new n u r same = true≢false
       (sym (is_fine.upper n u r) ∙ ap (λ k. is_some (merge.upper.tree.node k)) same ∙ ap is_some vacant)
 
-  object_same : (n : ℕ) (b : Bool) → nat_eq n number ≡ b
-      → SameObject (files.tree.node n)
+  object_same : (n : ℕ) (b : Bool) → nat_eq n number ≡ b → SameObject (files.tree.node n)
       (then_some (cond b (Some (Upper copy)) (merge.real n)) (inode_behind stack grown))
   object_same n true e = subst (λ k. SameObject (files.tree.node k) (upper.tree.node copy))
       (sym (eqb-true n number e)) new
@@ -100,8 +74,7 @@ module _ (stack : Stack ℕ) (merge : Merge ℕ) (is_fine : IsFine stack merge) 
           → SameObject (files.tree.node n) (then_some o (inode_behind stack grown))
       by None r same = alike_objects (merge.files.tree.node n) None (files.tree.node n) None same
           (others n (differs n e)) (make_seen None)
-      by (Some (Upper u)) r same =
-          alike_objects (merge.files.tree.node n) (merge.upper.tree.node u) (files.tree.node n)
+      by (Some (Upper u)) r same = alike_objects (merge.files.tree.node n) (merge.upper.tree.node u) (files.tree.node n)
           (upper.tree.node u) same (others n (differs n e)) (above u (not_new n u r))
       by (Some (Lower layer path)) r same =
           alike_objects (merge.files.tree.node n) (inode_behind stack merge (Lower layer path)) (files.tree.node n)
@@ -116,14 +89,7 @@ module _ (stack : Stack ℕ) (merge : Merge ℕ) (is_fine : IsFine stack merge) 
 
   upper_there : (n object : ℕ) (b : Bool) → cond b (Some (Upper copy)) (merge.real n) ≡ Some (Upper object)
       → is_some (upper.tree.node object) ≡ true
-  upper_there n object true r = subst (λ k. is_some (upper.tree.node k) ≡ true)
-      (same_Some copy object (ap upper_object r)) (by (files.tree.node number) (upper.tree.node copy) there new)
-    where
-      by : (a b : Option (Node ℕ)) → is_some a ≡ true → SameObject a b → is_some b ≡ true
-      by None b t s = absurd (true≢false (sym t))
-      by (Some a) None t s = absurd s
-      by (Some a) (Some b) t s = refl
-  upper_there n object false r = (above object (not_new n object r)).there ∙ is_fine.upper n object r
+  upper_there n object b r = grind (arith, common_steps, same_Some, true≢false, not_new)
 
   one_to_one : (a b : ℕ) (x y : Bool) → nat_eq a number ≡ x → nat_eq b number ≡ y
       → is_some (cond x (Some (Upper copy)) (merge.real a)) ≡ true
@@ -135,20 +101,5 @@ module _ (stack : Stack ℕ) (merge : Merge ℕ) (is_fine : IsFine stack merge) 
 
   pub grown_is_fine : ((path : List (List ℕ))
       → then_some (number_at_path files path) real ≡ real_seen stack grown path) → IsFine stack grown
-  grown_is_fine paths = record {
-    paths = paths;
-    objects = λ n. object_same n (nat_eq n number) refl;
-    there = λ n none. real_there n (nat_eq n number) refl none;
-    whiteout = λ n.
-        ⊎_elim
-        (λ t. ap (λ k. is_kind_in White (files.tree.node k)) t.1 ∙ white)
-        (λ t. white_alike (merge.files.tree.node n) (files.tree.node n) (others n t.1) ∙ is_fine.whiteout n)
-        (eqb_tells n number);
-    mark = λ n.
-        ⊎_elim
-        (λ t. ap (λ k. is_opaque_in (files.tree.node k)) t.1 ∙ mark)
-        (λ t. (others n t.1).mark ∙ is_fine.mark n)
-        (eqb_tells n number);
-    upper = λ n object. upper_there n object (nat_eq n number);
-    one = λ a b. one_to_one a b (nat_eq a number) (nat_eq b number) refl refl;
-  }
+  grown_is_fine paths =
+      grind (arith, common_steps, object_same, real_there, white_alike, eqb_tells, upper_there, one_to_one)

@@ -1,16 +1,15 @@
 -- Names that are given and taken in the upper layer, and the one name of a directory there.
-use Rattle.std.proofs.Common.{◌≡◌, refl, sym, ap, subst, ◌∙◌, true≢false, arith, ℕ, zero, suc, ◌+◌, nat_eq, map, slice_get, Bool, true, false, not, cond, ◌&&◌, ◌||◌, List, [], ◌∷◌, ◌++◌, Option, Some, None, is_some, option_and_then}
-use Rattle.vt_spec.specs.declared.attributes.Kind.TheVariants.{White}
-use Rattle.vt_spec.specs.FileTree.{FileTree, is_kind_in}
+use Rattle.std.proofs.lemmas.Grind.{common_steps}
+use Rattle.std.proofs.Common.{◌≡◌, refl, sym, ap, subst, ◌∙◌, true≢false, arith, ℕ, suc, ◌+◌, nat_eq, map, slice_get, Bool, true, false, not, cond, ◌&&◌, ◌||◌, List, [], ◌∷◌, ◌++◌, Option, Some, None, is_some, option_and_then}
+use Rattle.vt_spec.specs.FileTree.{FileTree}
 use Rattle.vt_spec.specs.Language.Changes.{changed_node, node_with_parent, node_without_entries}
-use Rattle.vt_spec.specs.Lists.{holds_of, then_some, when}
+use Rattle.vt_spec.specs.Lists.{then_some, when}
 use Rattle.vt_spec.specs.Machine.CopyUp.{Merge, Stack, upper_directory_named, without_contents}
 use Rattle.vt_spec.proofs.Layers.{shown_from}
 use Rattle.vt_spec.specs.Machine.Layers.{OpenLayer, Shown, at_path, view_of}
 use Rattle.vt_spec.specs.Machine.Views
 use Rattle.vt_spec.specs.Machine.Views.{cuts, node_led, shown_over}
-use Rattle.vt_spec.specs.Machine.World.{Real, upper_object}
-use Rattle.vt_spec.specs.Machine.World.Real.{Lower, Upper}
+use Rattle.vt_spec.specs.Machine.World.Real.{Upper}
 use Rattle.vt_spec.specs.Machine.Invariants.{number_at_path}
 use Rattle.vt_spec.specs.Tree.{Tree, entry_named, entries_in, is_directory_node}
 use Rattle.vt_spec.specs.TreeInvariant.{IsDirectory, IsTree, entry_at, led}
@@ -36,38 +35,24 @@ use Rattle.vt_spec.proofs.NodeChanges.{directory_no_whiteout}
 use Rattle.vt_spec.proofs.Options.{none_is_some}
 
 -- a path that does not go through the one entry that changes
-module _ (before after : Tree ℕ) (to : ℕ) (new : List ℕ) (value : Option ℕ)
-    (told : (other : ℕ) (word : List ℕ)
+module _ (before after : Tree ℕ) (to : ℕ) (new : List ℕ) (value : Option ℕ) (told : (other : ℕ) (word : List ℕ)
     → entry_at after other word ≡ cond (is_entry to new other word) value (entry_at before other word)) where
   pub beside_led : (path : List (List ℕ)) (start : ℕ) → passes before to new start path ≡ false
       → led after start path ≡ led before start path
   beside_led [] start e = refl
-  beside_led (word ∷ rest) start e =
-      ap (option_and_then (λ next. led after next rest)) (told start word)
-      ∙ by (is_entry to new start word) (entry_at before start word) e (beside_led rest)
-    where
-      by : (is_new : Bool) (o : Option ℕ) → (is_new || holds_of (λ inner. passes before to new inner rest) o) ≡ false
-          → ((inner : ℕ) → passes before to new inner rest ≡ false → led after inner rest ≡ led before inner rest)
-          → option_and_then (λ next. led after next rest) (cond is_new value o)
-          ≡ option_and_then (λ next. led before next rest) o
-      by true o e later = absurd (true≢false e)
-      by false None e later = refl
-      by false (Some inner) e later = later inner e
+  beside_led (word ∷ rest) start e = grind (arith, common_steps, is_entry, passes, true≢false, beside_led rest)
 
 -- a directory that loses its whiteouts and its parent is as it was but for names
 pub emptied_alike : (files : FileTree ℕ) (o : Option ℕ) (u : ℕ)
     → IsAlike (files.tree.node u) ((without_contents nat_eq files o).tree.node u)
 emptied_alike files None u = alike_same (files.tree.node u) (files.tree.node u) refl
 emptied_alike files (Some k) u =
-    alike_both (files.tree.node u) ((changed_node nat_eq files k node_without_entries).tree.node u) _
-    (alike_after files k node_without_entries without_entries_keeps u)
-    (alike_after (changed_node nat_eq files k node_without_entries) k (node_with_parent k) (parent_keeps k) u)
+    grind (arith, common_steps, alike_both, alike_after, without_entries_keeps, parent_keeps)
 
 -- and all others have their names
 pub emptied_entries : (files : FileTree ℕ) (k other : ℕ) (word : List ℕ) → nat_eq other k ≡ false
     → entry_at (without_contents nat_eq files (Some k)).tree other word ≡ entry_at files.tree other word
-emptied_entries files k other word differ =
-    ap (λ n. entry_named word (entries_in n))
+emptied_entries files k other word differ = ap (λ n. entry_named word (entries_in n))
     (kept_elsewhere (changed_node nat_eq files k node_without_entries) k (node_with_parent k) other differ
     ∙ kept_elsewhere files k node_without_entries other differ)
 
@@ -83,25 +68,19 @@ lowers_have (first ∷ lowers) depth place object layer path there is at d =
   where
     here : slice_get (first ∷ lowers) 0 ≡ Some layer
         → Views.lowers_have_directory (map view_of (first ∷ lowers)) path ≡ true
-    here f =
-        or_left (is_directory_node (node_led (view_of first) path)) _
+    here f = or_left (is_directory_node (node_led (view_of first) path)) _
         (ap (λ o. is_directory_node (then_some o first.tree.node))
         (ap (λ l. at_path l path) (same_Some first layer f) ∙ at)
         ∙ ap (λ l. is_directory_node (l.tree.node object)) (same_Some first layer f) ∙ d)
 
     below : (cut : Bool) → cuts (view_of first) path ≡ cut → (k : ℕ) → slice_get lowers k ≡ Some layer
         → shown_over (view_of first) depth None cut (shown_from (depth + 1) lowers path)
-        ≡ Some (record { layer = depth + suc k; object = object })
-        → ((k : ℕ) → slice_get lowers k ≡ Some layer
+        ≡ Some (record { layer = depth + suc k; object = object }) → ((k : ℕ) → slice_get lowers k ≡ Some layer
         → shown_from (depth + 1) lowers path ≡ Some (record { layer = depth + 1 + k; object = object })
         → Views.lowers_have_directory (map view_of lowers) path ≡ true)
         → Views.lowers_have_directory (map view_of (first ∷ lowers)) path ≡ true
     below true c k f e rest = none_is_some _ e
-    below false c k f e rest =
-        or_right (is_directory_node (node_led (view_of first) path)) _
-        (ap (λ b. not b && Views.lowers_have_directory (map view_of lowers) path) c
-        ∙ rest k f (e ∙ ap (λ n. Some (record { layer = n; object = object }))
-        (let h : depth + suc k ≡ depth + 1 + k = omega arith in h)))
+    below false c k f e rest = grind (arith, common_steps, or_right)
 
     over : (k : ℕ) (found : ℕ) (white : Bool)
         → when {A = Shown ℕ} (not white) (record { layer = depth; object = found })
@@ -113,21 +92,11 @@ lowers_have (first ∷ lowers) depth place object layer path there is at d =
 
     by : (place : ℕ) → slice_get (first ∷ lowers) place ≡ Some layer
         → shown_from depth (first ∷ lowers) path ≡ Some (record { layer = depth + place; object = object })
-        → (o : Option ℕ) → at_path first path ≡ o
-        → ((k : ℕ) → slice_get lowers k ≡ Some layer
+        → (o : Option ℕ) → at_path first path ≡ o → ((k : ℕ) → slice_get lowers k ≡ Some layer
         → shown_from (depth + 1) lowers path ≡ Some (record { layer = depth + 1 + k; object = object })
         → Views.lowers_have_directory (map view_of lowers) path ≡ true)
         → Views.lowers_have_directory (map view_of (first ∷ lowers)) path ≡ true
-    by place f e (Some found) a rest =
-        let none : place ≡ 0 = over place found (is_kind_in White (first.tree.node found))
-        (sym (ap (λ o. shown_over (view_of first) depth o (cuts (view_of first) path)
-        (shown_from (depth + 1) lowers path)) a) ∙ e) in
-        here (ap (slice_get (first ∷ lowers)) (sym none) ∙ f)
-    by zero f e None a rest = here f
-    by (suc k) f e None a rest =
-        below (cuts (view_of first) path) refl k f
-        (sym (ap (λ o. shown_over (view_of first) depth o (cuts (view_of first) path)
-        (shown_from (depth + 1) lowers path)) a) ∙ e) rest
+    by place f e o a rest = grind (arith, common_steps, over, shown_from, here, below)
 
 -- The name of a directory of the overlay in the upper layer
 module _ (stack : Stack ℕ) (merge : Merge ℕ) (whole : IsWhole stack merge) (d ud : ℕ) (w : List ℕ) (object uo : ℕ)
@@ -141,8 +110,7 @@ module _ (stack : Stack ℕ) (merge : Merge ℕ) (whole : IsWhole stack merge) (
   up_way = named_above stack merge whole way.0 d ud way.1 real_d
 
   pub named_in_upper : entry_at merge.upper.tree ud w ≡ Some uo
-  named_in_upper =
-      sym (last_name merge.upper.tree stack.directory way.0 w
+  named_in_upper = sym (last_name merge.upper.tree stack.directory way.0 w
       ∙ ap (option_and_then (λ n. entry_at merge.upper.tree n w)) up_way)
       ∙ named_above stack merge whole (way.0 ++ w ∷ []) object uo
       (led-append merge.files.tree merge.files.tree.root way.0 w d object way.1 named) real_o
@@ -188,25 +156,4 @@ module _ (stack : Stack ℕ) (merge : Merge ℕ) (whole : IsWhole stack merge) (
 pub own_upper : (merge : Merge ℕ) (d : ℕ) (w : List ℕ) (uo : ℕ) → upper_directory_named merge d w ≡ Some uo
     → (object : ℕ) × (entry_at merge.files.tree d w ≡ Some object) × (merge.real object ≡ Some (Upper uo))
     × IsDirectory merge.files.tree object
-own_upper merge d w uo e = by (entry_at merge.files.tree d w) refl e
-  where
-    upper_is : (r : Option (Real ℕ)) → upper_object r ≡ Some uo → r ≡ Some (Upper uo)
-    upper_is None e = none_is_some uo e
-    upper_is (Some (Upper k)) e = ap (λ n. Some (Upper n)) (same_Some k uo e)
-    upper_is (Some (Lower layer path)) e = none_is_some uo e
-
-    at : (object : ℕ) → entry_at merge.files.tree d w ≡ Some object → (b : Bool)
-        → is_directory_node (merge.files.tree.node object) ≡ b
-        → cond b (upper_object (merge.real object)) None ≡ Some uo
-        → (object : ℕ) × (entry_at merge.files.tree d w ≡ Some object) × (merge.real object ≡ Some (Upper uo))
-        × IsDirectory merge.files.tree object
-    at object f true is_dir e = (object, f, upper_is (merge.real object) e, is_dir)
-    at object f false is_dir e = none_is_some uo e
-
-    by : (o : Option ℕ) → entry_at merge.files.tree d w ≡ o
-        → then_some o (λ k. cond (is_directory_node (merge.files.tree.node k)) (upper_object (merge.real k)) None)
-        ≡ Some uo
-        → (object : ℕ) × (entry_at merge.files.tree d w ≡ Some object) × (merge.real object ≡ Some (Upper uo))
-        × IsDirectory merge.files.tree object
-    by None f e = none_is_some uo e
-    by (Some object) f e = at object f (is_directory_node (merge.files.tree.node object)) refl e
+own_upper merge d w uo e = grind (arith, common_steps, none_is_some, same_Some)

@@ -1,4 +1,5 @@
 -- An object is copied up with the directories above it, one by one: the tree is still what the layers show.
+use Rattle.std.proofs.lemmas.Grind.{common_steps}
 use Rattle.std.proofs.Common.{arith, ◌≡◌, ◌≢◌, ◌≤◌, ◌⊎◌, inl, inr, refl, sym, ap, subst, ◌∙◌, true≢false, ℕ, zero, suc, ◌+◌, nat_eq, eq-eqb, Bool, true, false, cond, List, [], ◌∷◌, ◌++◌, ⊎_elim, reverse, length, Option, Some, None, is_some}
 use mathlib.Core.List.{reverse-cons}
 use Rattle.std.specs.Prelude.{⊤}
@@ -34,8 +35,7 @@ use Rattle.vt_spec.proofs.Options.{none_from_not_some, none_is_some}
 -- each object of a list comes after the directory of its name
 abbrev pub IsLine : FileTree ℕ → List ℕ → List ℕ → Type 0
 IsLine files done [] = ⊤
-IsLine files done (object ∷ rest) =
-    ((name : ℕ × List ℕ) → a_name nat_eq files object ≡ Some name → Among done name.0)
+IsLine files done (object ∷ rest) = ((name : ℕ × List ℕ) → a_name nat_eq files object ≡ Some name → Among done name.0)
     × IsLine files (object ∷ done) rest
 
 abbrev and_done : List ℕ → List ℕ → List ℕ
@@ -75,8 +75,7 @@ pub record GoodLine (files : FileTree ℕ) (list : List ℕ) (last : ℕ) : Type
 
 module _ (files : FileTree ℕ) (tree : IsTree files.tree) (numbers : ListsNumbers nat_eq files) where
   one_more : (list : List ℕ) (last next : ℕ) → GoodLine files list last → IsDirectory files.tree last
-      → IsThere files next
-      → ((name : ℕ × List ℕ) → a_name nat_eq files next ≡ Some name → name.0 ≡ last)
+      → IsThere files next → ((name : ℕ × List ℕ) → a_name nat_eq files next ≡ Some name → name.0 ≡ last)
       → GoodLine files (list ++ next ∷ []) next
   one_more list last next good is_dir there named = record {
     line = line_append files list [] (next ∷ []) good.line
@@ -92,8 +91,7 @@ module _ (files : FileTree ℕ) (tree : IsTree files.tree) (numbers : ListsNumbe
   to_directory zero most directory r h =
       subst (λ list. GoodLine files (reverse list) directory) (sym (up_at_root files tree most directory r)) (record {
         line = (
-          λ name e. absurd (tree.root_unnamed name.0 name.1
-              (named_so files tree directory name e ∙ ap Some r)),
+          λ name e. absurd (tree.root_unnamed name.0 name.1 (named_so files tree directory name e ∙ ap Some r)),
           tt,
         );
         ends = inl refl;
@@ -103,13 +101,11 @@ module _ (files : FileTree ℕ) (tree : IsTree files.tree) (numbers : ListsNumbe
         directories = λ d x m. ⊎_elim (λ same. subst (IsDirectory files.tree) same d) (λ none. absurd none) m;
       })
   to_directory (suc steps) zero directory r h = absurd (let no : ⊥ = omega arith in no)
-  to_directory (suc steps) (suc most) directory r h =
-      subst (λ list. GoodLine files list directory)
+  to_directory (suc steps) (suc most) directory r h = subst (λ list. GoodLine files list directory)
       (sym (ap (λ list. reverse list) (up_from files tree most steps directory r)
       ∙ reverse-cons directory (chain most (named_parent nat_eq files.tree) r.0)))
       (one_more (reverse (chain most (named_parent nat_eq files.tree) r.0)) r.0 directory
-      (to_directory steps most r.0 r.2 (omega arith))
-      (has_entries files.tree r.0 r.1 directory r.3)
+      (to_directory steps most r.0 r.2 (omega arith)) (has_entries files.tree r.0 r.1 directory r.3)
       (directory_used files.tree directory r.4)
       (λ name e. sym (tree.one_parent name.0 name.1 directory (named_so files tree directory name e) r.4)
       ∙ tree.one_parent r.0 r.1 directory r.3 r.4))
@@ -161,31 +157,19 @@ module _ (stack : Stack ℕ) (fresh : Fresh ℕ) (distinct : (j k : ℕ) → fre
       → (copy_named nat_eq merge copy o (with_inode nat_eq merge.upper copy node)).tree.node x ≡ None
   still_vacant merge copy node None x none differ = node_other merge.upper.tree copy (Some node) x differ ∙ none
   still_vacant merge copy node (Some name) x none differ =
-      none_from_not_some _ (part-changed_node is_some (with_inode nat_eq merge.upper copy node) (upper_of merge name.0)
-      (node_with_entry name.1 copy) (is_some-node_with_entry name.1 copy) x
-      ∙ ap is_some (node_other merge.upper.tree copy (Some node) x differ ∙ none))
+      grind (arith, common_steps, none_from_not_some, part-changed_node, is_some-node_with_entry, node_other)
 
   -- what lies below after a copy lay there before
   pub below_before : (merge : Merge ℕ) (object copy n layer : ℕ) (path : List (List ℕ))
       → with_real nat_eq merge.real object (Upper copy) n ≡ Some (Lower layer path)
       → merge.real n ≡ Some (Lower layer path)
-  below_before merge object copy n layer path e = by (nat_eq n object) e
-    where
-      by : (b : Bool) → cond b (Some (Upper copy)) (merge.real n) ≡ Some (Lower layer path)
-          → merge.real n ≡ Some (Lower layer path)
-      by true e = none_is_some copy (sym (ap upper_object e))
-      by false e = e
+  below_before merge object copy n layer path e = grind (arith, common_steps, none_is_some)
 
   -- an upper object after a copy was one before, or is the copy
   own_before : (merge : Merge ℕ) (object k n y : ℕ)
       → with_real nat_eq merge.real object (Upper (fresh k)) n ≡ Some (Upper y)
       → (merge.real n ≡ Some (Upper y)) ⊎ IsNewBy fresh y
-  own_before merge object k n y e = by (nat_eq n object) e
-    where
-      by : (b : Bool) → cond b (Some (Upper (fresh k))) (merge.real n) ≡ Some (Upper y)
-          → (merge.real n ≡ Some (Upper y)) ⊎ IsNewBy fresh y
-      by true e = inr (k, same_Some y (fresh k) (sym (ap upper_object e)))
-      by false e = inl e
+  own_before merge object k n y e = grind (arith, common_steps, same_Some)
 
   -- names lead where they led after a copy, or to the copy
   copy_told : (merge : Merge ℕ) (copy : ℕ) (node : Node ℕ) → entries_of node.content ≡ [] → (o : Option (ℕ × List ℕ))
@@ -202,9 +186,7 @@ module _ (stack : Stack ℕ) (fresh : Fresh ℕ) (distinct : (j k : ℕ) → fre
   copy_sized : (merge : Merge ℕ) → IsWhole stack merge → (object copy : ℕ) (node : Node ℕ)
       → merge.files.tree.node object ≡ Some node
       → (o : Option (ℕ × List ℕ)) → a_name nat_eq merge.files object ≡ o → is_fit_tree merge.files ≡ true
-      → is_fit_tree merge.upper ≡ true
-      → is_fit_tree (copy_named nat_eq merge copy o
-      (with_inode nat_eq merge.upper copy
+      → is_fit_tree merge.upper ≡ true → is_fit_tree (copy_named nat_eq merge copy o (with_inode nat_eq merge.upper copy
       (record { attr = node.attr; content = copied_content (copy_parent merge copy o) node.content }))) ≡ true
   copy_sized merge whole object copy node is o named f h = by o named
     where
@@ -213,16 +195,14 @@ module _ (stack : Stack ℕ) (fresh : Fresh ℕ) (distinct : (j k : ℕ) → fre
           (ap fits (sym is) ∙ fits_here merge.files whole.numbers f object (ap is_some is))
 
       by : (o : Option (ℕ × List ℕ)) → a_name nat_eq merge.files object ≡ o
-          → is_fit_tree (copy_named nat_eq merge copy o
-          (with_inode nat_eq merge.upper copy
+          → is_fit_tree (copy_named nat_eq merge copy o (with_inode nat_eq merge.upper copy
           (record { attr = node.attr; content = copied_content (copy_parent merge copy o) node.content }))) ≡ true
       by None e = inode_fits merge.upper copy
           (record { attr = node.attr; content = copied_content copy node.content }) (limits copy) h
       by (Some name) e =
           let inode : Node ℕ = record {
             attr = node.attr;
-            content = copied_content
-                (upper_of merge name.0) node.content;
+            content = copied_content (upper_of merge name.0) node.content;
           } in
           name_sized (with_inode nat_eq merge.upper copy inode) (upper_of merge name.0) name.1 copy
           (name_fits merge.files whole.numbers f name.0 name.1 object (named_so merge.files whole.tree object name e))
@@ -237,8 +217,7 @@ module _ (stack : Stack ℕ) (fresh : Fresh ℕ) (distinct : (j k : ℕ) → fre
       by false = h
 
   abbrev Rest : ℕ → List ℕ → Type 0
-  Rest k rest =
-      (m : Merge ℕ) (ready : List ℕ) → IsWhole stack m → IsLine m.files ready rest
+  Rest k rest = (m : Merge ℕ) (ready : List ℕ) → IsWhole stack m → IsLine m.files ready rest
       → ((n : ℕ) → Among ready n → StandsInUpper m n)
       → ((x : ℕ) → Among rest x → IsThere m.files x) → ((j : ℕ) → k + 1 ≤ j → m.upper.tree.node (fresh j) ≡ None)
       → IsLineCopied stack fresh m (copied_each nat_eq fresh (k + 1) m rest) rest
@@ -298,13 +277,10 @@ module _ (stack : Stack ℕ) (fresh : Fresh ℕ) (distinct : (j k : ℕ) → fre
           ap (λ b. is_some (upper_object (cond b (Some (Upper (fresh k))) (merge.real object))))
           (eq-eqb object object refl) in
           let still : (x : ℕ) → merge.upper.tree.node x ≡ None → x ≢ fresh k → one.upper.tree.node x ≡ None =
-          λ x none differ. still_vacant merge (fresh k)
-          (record {
+          λ x none differ. still_vacant merge (fresh k) (record {
             attr = node.attr;
-            content = copied_content
-                (copy_parent merge (fresh k) (a_name nat_eq merge.files object)) node.content;
-          })
-          (a_name nat_eq merge.files object) x none differ in
+            content = copied_content (copy_parent merge (fresh k) (a_name nat_eq merge.files object)) node.content;
+          }) (a_name nat_eq merge.files object) x none differ in
           let next = later one (object ∷ done) now line.1 (up_with one grows stands) (λ x m. there x (inr m))
           (λ j h. still (fresh j) (unused j (omega arith))
           (λ e. let same = distinct j k e in absurd (let no : ⊥ = omega arith in no))) in
@@ -319,35 +295,29 @@ module _ (stack : Stack ℕ) (fresh : Fresh ℕ) (distinct : (j k : ℕ) → fre
               upper = goes_both stack.directory merge.upper one.upper (copied_each nat_eq fresh (k + 1) one rest).upper
                   (copy_goes stack merge object (fresh k) node whole is
                   (none_from_not_some (upper_object (merge.real object)) low) (unused k (omega arith))
-                  (λ name e. up name.0 (line.0 name e)))
-                  next.copied.upper;
+                  (λ name e. up name.0 (line.0 name e))) next.copied.upper;
               names = told_both (IsNewBy fresh) merge.upper one.upper (copied_each nat_eq fresh (k + 1) one rest).upper
                   (copy_told merge (fresh k) (record {
                     attr = node.attr;
                     content = copied_content
                         (copy_parent merge (fresh k) (a_name nat_eq merge.files object)) node.content;
-                  })
-                  (entries_of-copied_content
+                  }) (entries_of-copied_content
                   (copy_parent merge (fresh k) (a_name nat_eq merge.files object)) node.content)
-                  (a_name nat_eq merge.files object) (k, refl))
-                  next.copied.names;
+                  (a_name nat_eq merge.files object) (k, refl)) next.copied.names;
               objects = λ n o e. ⊎_elim (λ f. own_before merge object k n o f) inr (next.copied.objects n o e);
               sizes = λ f h. next.copied.sizes f
                   (copy_sized merge whole object (fresh k) node is (a_name nat_eq merge.files object) refl f h);
             };
             all = λ n m. ⊎_elim (λ e. subst (StandsInUpper (copied_each nat_eq fresh (k + 1) one rest)) e
                 (next.copied.grows object stands)) (λ l. next.all n l) m;
-            cut = λ d path.
-                next.cut (λ x m. d x (inr m)) path
-                ∙ copy_cuts stack merge object (fresh k) node whole is
+            cut = λ d path. next.cut (λ x m. d x (inr m)) path ∙ copy_cuts stack merge object (fresh k) node whole is
                 (none_from_not_some (upper_object (merge.real object)) low)
                 (unused k (omega arith)) (λ name e. up name.0 (line.0 name e))
                 (ap is_directory_node (sym is) ∙ d object (inl refl)) path;
           }
 
       by : (o : Option (Node ℕ)) → merge.files.tree.node object ≡ o → (b : Bool) → is_in_upper merge object ≡ b
-          → Rest k rest
-          → IsLineCopied stack fresh merge
+          → Rest k rest → IsLineCopied stack fresh merge
           (copied_each nat_eq fresh (k + 1) (copy_of nat_eq merge object (fresh k) o b) rest) (object ∷ rest)
       by None e b s later = absurd (true≢false (sym (there object (inl refl)) ∙ ap is_some e))
       by (Some node) e true s later = stays s later
@@ -364,8 +334,7 @@ module _ (stack : Stack ℕ) (fresh : Fresh ℕ) (distinct : (j k : ℕ) → fre
   pub stands_copied : (merge : Merge ℕ) (object : ℕ) (whole : IsWhole stack merge)
       (unused : (k : ℕ) → merge.upper.tree.node (fresh k) ≡ None) (there : IsThere merge.files object)
       → StandsInUpper (copied_up nat_eq fresh merge object) object
-  stands_copied merge object whole unused there =
-      (object_copied merge object whole unused there).all object
+  stands_copied merge object whole unused there = (object_copied merge object whole unused there).all object
       (to_object merge.files whole.tree whole.numbers object there).ends
 
 pub copies_keep_whole : CopiesKeepWhole

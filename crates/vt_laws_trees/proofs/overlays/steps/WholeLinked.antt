@@ -1,5 +1,6 @@
 -- An object of the upper layer is put under a further name: the tree is still what the layers show.
-use Rattle.std.proofs.Common.{◌≡◌, refl, sym, ap, subst, ◌∙◌, true≢false, ℕ, nat_eq, Bool, true, false, not, cond, ◌||◌, List, [], ◌∷◌, ◌++◌, map, Option, Some, None, is_some, option_and_then}
+use Rattle.std.proofs.Common.{arith, ◌≡◌, refl, sym, ap, subst, ◌∙◌, true≢false, ℕ, nat_eq, Bool, true, false, not, cond, ◌||◌, List, [], ◌∷◌, ◌++◌, map, Option, Some, None, is_some, option_and_then}
+use Rattle.std.proofs.lemmas.Grind.{common_steps}
 use Rattle.vt_spec.specs.declared.attributes.Kind.TheVariants.{White}
 use Rattle.vt_spec.specs.FileTree.{FileTree, is_kind, is_kind_in, opaque_of}
 use Rattle.vt_spec.specs.Language.Changes.{changed}
@@ -9,9 +10,9 @@ use Rattle.vt_spec.specs.Machine.CopyUp.{Merge, Stack, merge_with_link, upper_of
 use Rattle.vt_spec.specs.Machine.Layers.{shown, view_of}
 use Rattle.vt_spec.specs.Machine.Views.{View, hides, node_led, shown_from}
 use Rattle.vt_spec.specs.Machine.World.Real.{Upper}
-use Rattle.vt_spec.specs.Machine.Invariants.{SameObject, number_at_path, same_content}
-use Rattle.vt_spec.specs.Tree.{Content, Node, is_directory_node, kind_of}
-use Rattle.vt_spec.specs.Tree.Content.{Directory, Regular, Symlink, Whiteout}
+use Rattle.vt_spec.specs.Machine.Invariants.{SameObject, number_at_path}
+use Rattle.vt_spec.specs.Tree.{Node, is_directory_node}
+use Rattle.vt_spec.specs.Tree.Content.{Directory}
 use Rattle.vt_spec.specs.TreeInvariant.{IsDirectory, IsTree, entry_at, led}
 use Rattle.vt_spec.proofs.Trees.{led-append}
 use Rattle.vt_laws_trees.specs.Trees.{MayAddName}
@@ -33,19 +34,7 @@ use Rattle.vt_spec.proofs.Options.{none_is_some}
 
 -- what is the same object as another is no whiteout
 pub no_white_object : (a b : Option (Node ℕ)) → SameObject a b → is_kind_in White b ≡ false
-no_white_object None None s = refl
-no_white_object None (Some b) s = absurd s
-no_white_object (Some a) None s = absurd s
-no_white_object (Some a) (Some b) s = by a.content b.content s.1
-  where
-    by : (x y : Content ℕ) → same_content x y ≡ true → is_kind White (kind_of y) ≡ false
-    by x (Directory p n o) e = refl
-    by x (Regular t) e = refl
-    by x (Symlink t) e = refl
-    by (Directory p n o) Whiteout e = absurd (true≢false (sym e))
-    by (Regular t) Whiteout e = absurd (true≢false (sym e))
-    by (Symlink t) Whiteout e = absurd (true≢false (sym e))
-    by Whiteout Whiteout e = absurd (true≢false (sym e))
+no_white_object a b s = grind (arith, common_steps, true≢false)
 
 -- what is there and is no directory hides what is below
 pub file_hides : (o : Option (Node ℕ)) → is_some o ≡ true → is_directory_node o ≡ false → hides o ≡ true
@@ -108,8 +97,7 @@ module _ (stack : Stack ℕ) (merge : Merge ℕ) (whole : IsWhole stack merge) (
   way = may.name_is_free.reached.0
 
   nothing_here : number_at_path merge.files (way ++ w ∷ []) ≡ None
-  nothing_here =
-      last_name merge.files.tree merge.files.tree.root way w
+  nothing_here = last_name merge.files.tree merge.files.tree.root way w
       ∙ ap (option_and_then (λ x. entry_at merge.files.tree x w)) may.name_is_free.reached.1 ∙ may.name_is_free.free
 
   whiteout_there : (r : ℕ) → entry_at merge.upper.tree ud w ≡ Some r → is_kind_in White (merge.upper.tree.node r) ≡ true
@@ -118,54 +106,44 @@ module _ (stack : Stack ℕ) (merge : Merge ℕ) (whole : IsWhole stack merge) (
       by : (b : Bool) → is_kind_in White (merge.upper.tree.node r) ≡ b
           → is_kind_in White (merge.upper.tree.node r) ≡ true
       by true k = k
-      by false k =
-          none_is_some (Upper r) (sym (ap (λ o. then_some o merge.real) nothing_here)
-          ∙ fine_before.paths (way ++ w ∷ [])
-          ∙ ap (real_by (way ++ w ∷ []))
-          (on_top before lowers (way ++ w ∷ []) r false
-          (led-append merge.upper.tree stack.directory way w ud r
+      by false k = none_is_some (Upper r) (sym (ap (λ o. then_some o merge.real) nothing_here)
+          ∙ fine_before.paths (way ++ w ∷ []) ∙ ap (real_by (way ++ w ∷ []))
+          (on_top before lowers (way ++ w ∷ []) r false (led-append merge.upper.tree stack.directory way w ud r
           (named_above stack merge whole way d ud may.name_is_free.reached.1 real_d) e) k))
 
   takes : TakesName merge.upper.tree ud w
   takes = record {
     in_directory = ud_directory;
-    bare = λ r e.
-        white_bare (merge.upper.tree.node r) (whiteout_there r e);
+    bare = λ r e. white_bare (merge.upper.tree.node r) (whiteout_there r e);
   }
 
   takes_here : TakesName merge.files.tree d w
   takes_here = record {
     in_directory = may.name_is_free.in_directory;
-    bare = λ r e.
-        none_is_some r (sym may.name_is_free.free ∙ e);
+    bare = λ r e. none_is_some r (sym may.name_is_free.free ∙ e);
   }
 
   leads_none : (path : List (List ℕ)) → goes_through before ud w path ≡ true → names_entry before ud w path ≡ false
       → led upper.tree stack.directory path ≡ None
-  leads_none path through other =
-      add_name_adds_path merge.upper stack.directory ud uo w takes uo_file path
+  leads_none path through other = add_name_adds_path merge.upper stack.directory ud uo w takes uo_file path
       ∙ ap (λ b. cond b (Some uo) (led merge.upper.tree stack.directory path)) other
       ∙ by (entry_at merge.upper.tree ud w) refl
     where
       by : (o : Option ℕ) → entry_at merge.upper.tree ud w ≡ o → led merge.upper.tree stack.directory path ≡ None
       by None e = through_free merge.upper stack.directory ud w e path through
-      by (Some r) e =
-          through_bare merge.upper stack.directory ud r w e
-          (no_entries merge.upper.tree r
+      by (Some r) e = through_bare merge.upper stack.directory ud r w e (no_entries merge.upper.tree r
           (white_bare (merge.upper.tree.node r) (whiteout_there r e))) path through other
 
   hides_here : (front : List (List ℕ)) → names_entry before ud w front ≡ true → hides (node_led after front) ≡ true
   hides_here front e =
       let alike = subst (λ x. IsAlike (cond x (merge.upper.tree.node uo) (node_led before front))
-      (node_led after front)) e
-      (add_name_is_seen merge.upper stack.directory ud uo w takes uo_file front) in
+      (node_led after front)) e (add_name_is_seen merge.upper stack.directory ud uo w takes uo_file front) in
       hiding_alike (merge.upper.tree.node uo) (node_led after front)
       (hides_so (merge.upper.tree.node uo) (node_led after front) alike)
       ∙ file_hides (merge.upper.tree.node uo) (fine_before.upper object uo real_object) uo_file
 
   number_none : (path : List (List ℕ)) → goes_through before ud w path ≡ true → number_at_path merge.files path ≡ None
-  number_none path through =
-      through_free merge.files merge.files.tree.root d w may.name_is_free.free path
+  number_none path through = through_free merge.files merge.files.tree.root d w may.name_is_free.free path
       (same_through stack merge whole d ud real_d ud_directory w path ∙ through)
 
   shown_same : (path : List (List ℕ)) → names_entry before ud w path ≡ false
@@ -178,8 +156,7 @@ module _ (stack : Stack ℕ) (merge : Merge ℕ) (whole : IsWhole stack merge) (
           let found = prefix_found (names_entry before ud w) path through in
           cut_shows_none after lowers path (leads_none path through other)
           (prefix_passes (λ front. hides (node_led after front)) path found.0 found.1.0 found.1.1 found.1.2
-          (hides_here found.0 found.2))
-          ∙ sym (real_by_none path (shown (layers_under stack merge) path)
+          (hides_here found.0 found.2)) ∙ sym (real_by_none path (shown (layers_under stack merge) path)
           (sym (fine_before.paths path) ∙ ap (λ o. then_some o merge.real) (number_none path through)))
       by false elsewhere = shown_elsewhere_stays merge.upper
           (AddName ud w uo) stack.directory lowers top_tree top_directory (takes, uo_file) path elsewhere
@@ -189,25 +166,20 @@ module _ (stack : Stack ℕ) (merge : Merge ℕ) (whole : IsWhole stack merge) (
     where
       goes : (b : Bool) → names_entry before ud w path ≡ b
           → number_at_path files path ≡ cond b (Some object) (number_at_path merge.files path)
-      goes b e =
-          add_name_adds_path merge.files merge.files.tree.root d object w takes_here may.no_directory path
+      goes b e = add_name_adds_path merge.files merge.files.tree.root d object w takes_here may.no_directory path
           ∙ ap (λ x. cond x (Some object) (number_at_path merge.files path))
           (same_entry stack merge whole d ud real_d ud_directory w path ∙ e)
 
       by : (b : Bool) → names_entry before ud w path ≡ b
           → then_some (number_at_path files path) merge.real ≡ real_seen stack later path
-      by true e =
-          ap (λ o. then_some o merge.real) (goes true e) ∙ real_object
-          ∙ sym (ap (real_by path)
+      by true e = ap (λ o. then_some o merge.real) (goes true e) ∙ real_object ∙ sym (ap (real_by path)
           (link_is_shown merge.upper stack.directory ud uo w lowers takes uo_file path e
           ∙ ap (λ b. when (not b) (record { layer = 0; object = uo })) uo_not_white))
-      by false e =
-          ap (λ o. then_some o merge.real) (goes false e) ∙ fine_before.paths path
+      by false e = ap (λ o. then_some o merge.real) (goes false e) ∙ fine_before.paths path
           ∙ sym (ap (real_by path) (shown_same path e))
 
   pub later_is_fine : IsFine stack later
-  later_is_fine =
-      rearranged_is_fine stack merge fine_before files upper
+  later_is_fine = rearranged_is_fine stack merge fine_before files upper
       (λ n. names_leave_inodes merge.files (AddName d w object) merge.files.tree.root n refl)
       (λ n u r. names_leave_inodes merge.upper (AddName ud w uo) stack.directory u refl) paths_later
 

@@ -1,5 +1,6 @@
 -- A new object under a name that shows nothing: the tree is still what the layers show.
-use Rattle.std.proofs.Common.{◌≡◌, refl, sym, ap, subst, ◌∙◌, true≢false, eqb-true, eq-eqb, ne_eqb, inl, inr, ℕ, suc, nat_eq, Bool, true, false, not, cond, List, [], ◌∷◌, ◌++◌, map, Option, Some, None, is_some, option_and_then}
+use Rattle.std.proofs.Common.{arith, ◌≡◌, refl, sym, ap, subst, ◌∙◌, true≢false, eqb-true, eq-eqb, ne_eqb, inl, inr, ℕ, suc, nat_eq, Bool, true, false, not, cond, List, [], ◌∷◌, ◌++◌, map, Option, Some, None, is_some, option_and_then}
+use Rattle.std.proofs.lemmas.Grind.{common_steps}
 use Rattle.vt_spec.specs.declared.attributes.Kind.TheVariants.{White}
 use Rattle.vt_spec.specs.FileTree.{FileTree, is_kind, is_kind_in, is_opaque_in, opaque_of}
 use Rattle.vt_spec.specs.Language.Changes.{changed, changed_node, content_with_mark, content_with_parent, node_with_mark}
@@ -40,14 +41,7 @@ use Rattle.vt_spec.proofs.Truths.{bytes_eq_itself}
 
 -- a whiteout has no names in it
 pub white_bare : (o : Option (Node ℕ)) → is_kind_in White o ≡ true → entries_in o ≡ []
-white_bare None e = refl
-white_bare (Some node) e = by node.content e
-  where
-    by : (c : Content ℕ) → is_kind White (kind_of c) ≡ true → entries_of c ≡ []
-    by (Directory p n o) e = absurd (true≢false (sym e))
-    by (Regular b) e = refl
-    by (Symlink b) e = refl
-    by Whiteout e = refl
+white_bare o e = grind (arith, common_steps, true≢false)
 
 -- a new inode has no names in it and no mark
 pub new_bare : (d : ℕ) (node : Node ℕ) → IsNewIn d node → entries_of node.content ≡ []
@@ -55,19 +49,11 @@ new_bare d node (inl e) = ap entries_of e
 new_bare d node (inr e) = entries_of-no_directory node.content e
 
 new_unmarked : (d : ℕ) (node : Node ℕ) → IsNewIn d node → opaque_of node.content ≡ false
-new_unmarked d node (inl e) = ap opaque_of e
-new_unmarked d node (inr e) = by node.content e
-  where
-    by : (c : Content ℕ) → is_directory (kind_of c) ≡ false → opaque_of c ≡ false
-    by (Directory p n o) e = absurd (true≢false e)
-    by (Regular b) e = refl
-    by (Symlink b) e = refl
-    by Whiteout e = refl
+new_unmarked d node known = grind (arith, common_steps, true≢false)
 
 -- what lower layers show at a name in a directory
 pub below_name : (stack : Stack ℕ) (merge : Merge ℕ) (whole : IsWhole stack merge) (d : ℕ) (w : List ℕ)
-    (way : List (List ℕ))
-    → number_at_path merge.files way ≡ Some d → IsDirectory merge.files.tree d
+    (way : List (List ℕ)) → number_at_path merge.files way ≡ Some d → IsDirectory merge.files.tree d
     → cuts (view_in merge.upper stack.directory) way ≡ false
     → shown_in_lowers_at nat_eq stack merge d w ≡ shown_from 1 (map view_of stack.lowers) (way ++ w ∷ [])
 below_name stack merge whole d w way e is_directory uncut =
@@ -129,8 +115,7 @@ module _ (stack : Stack ℕ) (merge : Merge ℕ) (whole : IsWhole stack merge) (
   up_way = named_above stack merge whole way d ud may.name_is_free.reached.1 real_d
 
   nothing_here : number_at_path merge.files (way ++ w ∷ []) ≡ None
-  nothing_here =
-      last_name merge.files.tree merge.files.tree.root way w
+  nothing_here = last_name merge.files.tree merge.files.tree.root way w
       ∙ ap (option_and_then (λ x. entry_at merge.files.tree x w)) may.name_is_free.reached.1 ∙ may.name_is_free.free
 
   -- the upper layer has nothing under the name but a whiteout
@@ -140,25 +125,21 @@ module _ (stack : Stack ℕ) (merge : Merge ℕ) (whole : IsWhole stack merge) (
       by : (b : Bool) → is_kind_in White (merge.upper.tree.node r) ≡ b
           → is_kind_in White (merge.upper.tree.node r) ≡ true
       by true k = k
-      by false k =
-          none_is_some (Upper r) (sym (ap (λ o. then_some o merge.real) nothing_here)
-          ∙ fine_before.paths (way ++ w ∷ [])
-          ∙ ap (real_by (way ++ w ∷ []))
+      by false k = none_is_some (Upper r) (sym (ap (λ o. then_some o merge.real) nothing_here)
+          ∙ fine_before.paths (way ++ w ∷ []) ∙ ap (real_by (way ++ w ∷ []))
           (on_top before lowers (way ++ w ∷ []) r false
           (led-append merge.upper.tree stack.directory way w ud r up_way e) k))
 
   takes : TakesName merge.upper.tree ud w
   takes = record {
     in_directory = ud_directory;
-    bare = λ r e.
-        white_bare (merge.upper.tree.node r) (whiteout_there r e);
+    bare = λ r e. white_bare (merge.upper.tree.node r) (whiteout_there r e);
   }
 
   takes_here : TakesName merge.files.tree d w
   takes_here = record {
     in_directory = may.name_is_free.in_directory;
-    bare = λ r e.
-        none_is_some r (sym may.name_is_free.free ∙ e);
+    bare = λ r e. none_is_some r (sym may.name_is_free.free ∙ e);
   }
 
   node_bare : entries_of node.content ≡ []
@@ -170,14 +151,11 @@ module _ (stack : Stack ℕ) (merge : Merge ℕ) (whole : IsWhole stack merge) (
     where
       by : (o : Option ℕ) → entry_at merge.upper.tree ud w ≡ o → led merge.upper.tree stack.directory path ≡ None
       by None e = through_free merge.upper stack.directory ud w e path through
-      by (Some r) e =
-          through_bare merge.upper stack.directory ud r w e
-          (no_entries merge.upper.tree r
+      by (Some r) e = through_bare merge.upper stack.directory ud r w e (no_entries merge.upper.tree r
           (white_bare (merge.upper.tree.node r) (whiteout_there r e))) path through other
 
   number_none : (path : List (List ℕ)) → goes_through before ud w path ≡ true → number_at_path merge.files path ≡ None
-  number_none path through =
-      through_free merge.files merge.files.tree.root d w may.name_is_free.free path
+  number_none path through = through_free merge.files merge.files.tree.root d w may.name_is_free.free path
       (same_through stack merge whole d ud real_d ud_directory w path ∙ through)
 
   -- below it nothing is shown
@@ -215,11 +193,9 @@ module _ (stack : Stack ℕ) (merge : Merge ℕ) (whole : IsWhole stack merge) (
               found f = at (names_entry before ud w f.0) refl
                 where
                   at : (b : Bool) → names_entry before ud w f.0 ≡ b → ⊥
-                  at true n =
-                      none_is_some d (sym (number_none to
+                  at true n = none_is_some d (sym (number_none to
                       (prefix_passes (names_entry before ud w) to f.0 f.1.0 f.1.1 f.1.2 n)) ∙ there)
-                  at false n =
-                      true≢false (sym (prefix_passes (λ front. hides (node_led after front)) path f.0
+                  at false n = true≢false (sym (prefix_passes (λ front. hides (node_led after front)) path f.0
                       (f.1.0 ++ w ∷ next ∷ rest)
                       (sym (append_assoc f.0 f.1.0 (w ∷ next ∷ rest)) ∙ ap (λ p. p ++ w ∷ next ∷ rest) f.1.1 ∙ is) f.1.2
                       (WholeNew.hides_at merge.upper stack.directory top_tree top_directory ud c w new takes vacant bare
@@ -235,12 +211,10 @@ module _ (stack : Stack ℕ) (merge : Merge ℕ) (whole : IsWhole stack merge) (
       by : (b : Bool) → hides (Some new) ≡ b → (x : Bool) → cuts after path ≡ x
           → shown_from 0 (after ∷ lowers) path ≡ None
       by b h true cut = cut_shows_none after lowers path leads cut
-      by true h false cut =
-          absurd (true≢false (sym
+      by true h false cut = absurd (true≢false (sym
           (WholeNew.cuts_through merge.upper stack.directory top_tree top_directory ud c w new takes vacant bare h path
           through) ∙ cut))
-      by false h false cut =
-          ap (λ o. shown_over after 0 o (cuts after path) (shown_from 1 lowers path)) leads
+      by false h false cut = ap (λ o. shown_over after 0 o (cuts after path) (shown_from 1 lowers path)) leads
           ∙ ap (λ b. shown_over after 0 None b (shown_from 1 lowers path)) cut
           ∙ lower_none h cut (shown_from 1 lowers path) refl
 
@@ -250,9 +224,7 @@ module _ (stack : Stack ℕ) (merge : Merge ℕ) (whole : IsWhole stack merge) (
     where
       by : (b : Bool) → goes_through before ud w path ≡ b
           → shown_from 0 (after ∷ lowers) path ≡ shown_from 0 (before ∷ lowers) path
-      by true through =
-          none_after path through other
-          ∙ sym (real_by_none path (shown (layers_under stack merge) path)
+      by true through = none_after path through other ∙ sym (real_by_none path (shown (layers_under stack merge) path)
           (sym (fine_before.paths path) ∙ ap (λ o. then_some o merge.real) (number_none path through)))
       by false elsewhere =
           shown_elsewhere_stays merge.upper (Make ud w c new) stack.directory lowers top_tree top_directory
@@ -263,13 +235,10 @@ module _ (stack : Stack ℕ) (merge : Merge ℕ) (whole : IsWhole stack merge) (
     where
       old : (o : Option ℕ) → number_at_path merge.files path ≡ o → then_some o real ≡ then_some o merge.real
       old None l = refl
-      old (Some n) l =
-          ap (λ b. cond b (Some (Upper c)) (merge.real n))
-          (ne_eqb n number (λ is.
+      old (Some n) l = ap (λ b. cond b (Some (Upper c)) (merge.real n)) (ne_eqb n number (λ is.
           true≢false (sym (led_is_there
           (record { tree = merge.files.tree; directory = merge.files.tree.root }) whole.tree whole.tree.root_directory
-          path n l)
-          ∙ ap (λ k. is_some (merge.files.tree.node k)) is ∙ ap is_some may.number_is_new)))
+          path n l) ∙ ap (λ k. is_some (merge.files.tree.node k)) is ∙ ap is_some may.number_is_new)))
 
       goes : (b : Bool) → names_entry before ud w path ≡ b
           → number_at_path files path ≡ cond b (Some number) (number_at_path merge.files path)
@@ -280,30 +249,23 @@ module _ (stack : Stack ℕ) (merge : Merge ℕ) (whole : IsWhole stack merge) (
 
       by : (b : Bool) → names_entry before ud w path ≡ b
           → then_some (number_at_path files path) real ≡ real_seen stack later path
-      by true e =
-          ap (λ o. then_some o real) (goes true e)
-          ∙ ap (λ b. cond b (Some (Upper c)) (merge.real number)) (eq-eqb number number refl)
-          ∙ sym (ap (real_by path)
+      by true e = ap (λ o. then_some o real) (goes true e)
+          ∙ ap (λ b. cond b (Some (Upper c)) (merge.real number)) (eq-eqb number number refl) ∙ sym (ap (real_by path)
           (new_name_is_shown merge.upper stack.directory ud c w new lowers takes vacant bare path e
           ∙ ap (λ b. when (not b) (record { layer = 0; object = c })) white_new))
-      by false e =
-          ap (λ o. then_some o real) (goes false e) ∙ old (number_at_path merge.files path) refl
-          ∙ fine_before.paths path
-          ∙ sym (ap (real_by path) (shown_same path e))
+      by false e = ap (λ o. then_some o real) (goes false e) ∙ old (number_at_path merge.files path) refl
+          ∙ fine_before.paths path ∙ sym (ap (real_by path) (shown_same path e))
 
   number_there : files.tree.node number ≡ Some node
-  number_there =
-      (make_adds_inode merge.files merge.files.tree.root d number w node may.name_is_free.in_directory
+  number_there = (make_adds_inode merge.files merge.files.tree.root d number w node may.name_is_free.in_directory
       may.number_is_new).0
 
   pub later_is_fine : IsFine stack later
-  later_is_fine =
-      grown_is_fine stack merge fine_before files upper number c vacant
+  later_is_fine = grown_is_fine stack merge fine_before files upper number c vacant
       (make_adds_inode merge.files merge.files.tree.root d number w node may.name_is_free.in_directory
       may.number_is_new).1
       (WholeNew.others_alike merge.upper stack.directory top_tree top_directory ud c w new takes vacant bare)
-      (subst (λ o. SameObject o (upper.tree.node c)) (sym number_there)
-      (subst (SameObject (Some node))
+      (subst (λ o. SameObject o (upper.tree.node c)) (sym number_there) (subst (SameObject (Some node))
       (sym (WholeNew.new_there merge.upper stack.directory top_tree top_directory ud c w new takes vacant bare)) same))
       (ap is_some number_there) (ap (is_kind_in White) number_there ∙ white)
       (ap is_opaque_in number_there ∙ new_unmarked d node may.fits) paths_later
@@ -327,30 +289,17 @@ module _ (files : FileTree ℕ) (ud c : ℕ) (w : List ℕ) (new : Node ℕ) (is
       true≢false (sym is_directory ∙ ap (λ n. is_directory_node (files.tree.node n)) same
       ∙ ap is_directory_node vacant))
 
-  nodes_same : (k : ℕ) (b : Bool) → nat_eq k c ≡ b
-      → cond b (node_with_mark true (unmarked.tree.node c))
+  nodes_same : (k : ℕ) (b : Bool) → nat_eq k c ≡ b → cond b (node_with_mark true (unmarked.tree.node c))
       (cond (nat_eq k ud) (node_with_entry w c (cond (nat_eq ud c) (Some new) (files.tree.node ud)))
       (cond b (Some new) (files.tree.node k)))
       ≡ cond (nat_eq k ud) (node_with_entry w c (cond (nat_eq ud c) (Some marked_node) (files.tree.node ud)))
       (cond b (Some marked_node) (files.tree.node k))
-  nodes_same k true e =
-      ap (node_with_mark true) ((make_adds_inode files files.tree.root ud c w new is_directory vacant).0)
-      ∙ sym (ap (λ b. cond b (node_with_entry w c (cond (nat_eq ud c) (Some marked_node) (files.tree.node ud)))
-      (Some marked_node)) (apart k (eqb-true k c e)))
-  nodes_same k false e =
-      ap (λ b. cond (nat_eq k ud) (node_with_entry w c (cond b (Some new) (files.tree.node ud)))
-      (files.tree.node k)) ud_apart
-      ∙ sym (ap (λ b. cond (nat_eq k ud) (node_with_entry w c (cond b (Some marked_node) (files.tree.node ud)))
-      (files.tree.node k)) ud_apart)
+  nodes_same k b e = grind (arith, common_steps, make_adds_inode, apart, eqb-true, ud_apart)
 
   pub marked_is_made : changed_node nat_eq unmarked c (node_with_mark true)
       ≡ changed nat_eq files (Make ud w c marked_node)
   marked_is_made = λ i. record {
-    tree = record {
-      root = files.tree.root;
-      node = λ k.
-          nodes_same k (nat_eq k c) refl i;
-    };
+    tree = record { root = files.tree.root; node = λ k. nodes_same k (nat_eq k c) refl i };
     numbers = c ∷ files.numbers;
   }
 
@@ -397,40 +346,28 @@ make_keeps_shown fresh stack merge d w number node whole stands vacant may white
     upper_directory = directory_above stack merge whole d (upper_of merge d) (upper_real merge d stands)
         ∙ may.name_is_free.in_directory
 
-    by : (b : Bool) → hides_directory nat_eq stack merge d w ≡ b
-        → IsFine stack (record {
-          files = changed nat_eq merge.files (Make d w number node);
-          real = with_real nat_eq merge.real number (Upper (fresh 0));
-          upper = with_mark nat_eq b (changed nat_eq merge.upper
-              (Make (upper_of merge d) w (fresh 0)
-              (record { attr = node.attr; content = content_with_parent (upper_of merge d) node.content }))) (fresh 0);
-        })
-    by false h =
-        later_is_fine stack merge whole d w number node stands may (fresh 0) vacant
+    by : (b : Bool) → hides_directory nat_eq stack merge d w ≡ b → IsFine stack (record {
+      files = changed nat_eq merge.files (Make d w number node);
+      real = with_real nat_eq merge.real number (Upper (fresh 0));
+      upper = with_mark nat_eq b (changed nat_eq merge.upper (Make (upper_of merge d) w (fresh 0)
+          (record { attr = node.attr; content = content_with_parent (upper_of merge d) node.content }))) (fresh 0);
+    })
+    by false h = later_is_fine stack merge whole d w number node stands may (fresh 0) vacant
         (record { attr = node.attr; content = content_with_parent (upper_of merge d) node.content })
         (refl, parent_same (upper_of merge d) node.content white)
         (entries_of-content_with_parent (upper_of merge d) node.content ∙ new_bare d node may.fits)
         white (ap (is_kind White) (kind_of-content_with_parent (upper_of merge d) node.content) ∙ white) (λ shows. h)
-    by true h =
-        subst (λ u. IsFine stack (record {
-          files = changed nat_eq merge.files
-              (Make d w number node);
-          real = with_real nat_eq merge.real number (Upper (fresh 0));
-          upper = u;
-        }))
-        (sym (marked_is_made merge.upper (upper_of merge d) (fresh 0) w
-        (record {
-          attr = node.attr;
-          content = content_with_parent
-              (upper_of merge d) node.content;
-        }) upper_directory vacant))
-        (later_is_fine stack merge whole d w number node stands may (fresh 0) vacant
-        (record {
-          attr = node.attr;
-          content = content_with_mark true
-              (content_with_parent (upper_of merge d) node.content);
-        })
-        (refl, mark_same (upper_of merge d) node.content white)
+    by true h = subst (λ u. IsFine stack (record {
+      files = changed nat_eq merge.files (Make d w number node);
+      real = with_real nat_eq merge.real number (Upper (fresh 0));
+      upper = u;
+    })) (sym (marked_is_made merge.upper (upper_of merge d) (fresh 0) w (record {
+      attr = node.attr;
+      content = content_with_parent (upper_of merge d) node.content;
+    }) upper_directory vacant)) (later_is_fine stack merge whole d w number node stands may (fresh 0) vacant (record {
+      attr = node.attr;
+      content = content_with_mark true (content_with_parent (upper_of merge d) node.content);
+    }) (refl, mark_same (upper_of merge d) node.content white)
         (mark_names (upper_of merge d) node.content ∙ new_bare d node may.fits)
         white (ap (is_kind White) (mark_kind (upper_of merge d) node.content) ∙ white)
         (λ shows. absurd (true≢false (sym (mark_hides (upper_of merge d) node node.content) ∙ shows))))

@@ -1,5 +1,6 @@
 -- A mark is set in the upper layer where lower layers have no directory: the tree is still what the layers show.
-use Rattle.std.proofs.Common.{◌≡◌, refl, sym, ap, subst, ◌∙◌, true≢false, eqb-true, eq-eqb, ℕ, suc, nat_eq, Bool, true, false, cond, List, [], ◌∷◌, ◌++◌, map, Option, Some, None, is_some}
+use Rattle.std.proofs.Common.{arith, ◌≡◌, refl, sym, ap, subst, ◌∙◌, true≢false, eqb-true, eq-eqb, ℕ, suc, nat_eq, Bool, true, false, cond, List, [], ◌∷◌, ◌++◌, map, Option, Some, None, is_some}
+use Rattle.std.proofs.lemmas.Grind.{common_steps}
 use Rattle.std.proofs.lemmas.List.{append-nil}
 use Rattle.vt_laws_trees.proofs.layers.layers.CopyingNames.{directory_marked}
 use Rattle.vt_spec.specs.declared.attributes.Kind.TheVariants.{White}
@@ -13,8 +14,7 @@ use Rattle.vt_spec.specs.Machine.Views.{View, cuts, shown_from, shown_over}
 use Rattle.vt_spec.specs.Machine.World.{Real}
 use Rattle.vt_spec.specs.Machine.World.Real.{Lower, Upper}
 use Rattle.vt_spec.specs.Machine.Invariants.{SameObject, number_at_path}
-use Rattle.vt_spec.specs.Tree.{Content, Node, is_directory_node}
-use Rattle.vt_spec.specs.Tree.Content.{Directory, Regular, Symlink, Whiteout}
+use Rattle.vt_spec.specs.Tree.{Node, is_directory_node}
 use Rattle.vt_laws_trees.proofs.trees.ChangesKeepTrees.{changes_keep_trees}
 use Rattle.vt_laws_trees.specs.Layers.Layers.ChangesUpper.{StandsInUpper}
 use Rattle.vt_laws_trees.specs.Layers.Layers.ShownAfter.{leads_over}
@@ -37,59 +37,17 @@ mark_there : (opaque : Bool) (o : Option (Node ℕ)) → is_some (node_with_mark
 mark_there opaque None = refl
 mark_there opaque (Some node) = refl
 
-mark_white : (opaque : Bool) (o : Option (Node ℕ))
-    → is_kind_in White (node_with_mark opaque o) ≡ is_kind_in White o
-mark_white opaque None = refl
-mark_white opaque (Some node) = by node.content
-  where
-    by : (c : Content ℕ) → is_kind_in White (node_with_mark opaque (Some (record { attr = node.attr; content = c })))
-        ≡ is_kind_in White (Some (record { attr = node.attr; content = c }))
-    by (Directory parent entries old) = refl
-    by (Regular bytes) = refl
-    by (Symlink text) = refl
-    by Whiteout = refl
+mark_white : (opaque : Bool) (o : Option (Node ℕ)) → is_kind_in White (node_with_mark opaque o) ≡ is_kind_in White o
+mark_white opaque o = grind (arith, common_steps)
 
 mark_directory : (opaque : Bool) (o : Option (Node ℕ))
     → is_directory_node (node_with_mark opaque o) ≡ is_directory_node o
-mark_directory opaque None = refl
-mark_directory opaque (Some node) = by node.content
-  where
-    by : (c : Content ℕ) → is_directory_node (node_with_mark opaque (Some (record { attr = node.attr; content = c })))
-        ≡ is_directory_node (Some (record { attr = node.attr; content = c }))
-    by (Directory parent entries old) = refl
-    by (Regular bytes) = refl
-    by (Symlink text) = refl
-    by Whiteout = refl
+mark_directory opaque o = grind (arith, common_steps)
 
 -- an inode is its real object, whatever mark that has
 mark_same : (opaque : Bool) (merged real : Option (Node ℕ)) → SameObject merged real
     → SameObject merged (node_with_mark opaque real)
-mark_same opaque None None same = same
-mark_same opaque None (Some real) same = absurd same
-mark_same opaque (Some merged) None same = absurd same
-mark_same opaque (Some merged) (Some real) same = by merged.content real.content same
-  where
-    by : (c d : Content ℕ)
-        → SameObject (Some (record { attr = merged.attr; content = c }))
-        (Some (record { attr = real.attr; content = d }))
-        → SameObject (Some (record { attr = merged.attr; content = c }))
-        (node_with_mark opaque (Some (record { attr = real.attr; content = d })))
-    by (Directory p e o) (Directory q f r) same = same
-    by (Directory p e o) (Regular b) same = same
-    by (Directory p e o) (Symlink b) same = same
-    by (Directory p e o) Whiteout same = same
-    by (Regular a) (Directory q f r) same = same
-    by (Regular a) (Regular b) same = same
-    by (Regular a) (Symlink b) same = same
-    by (Regular a) Whiteout same = same
-    by (Symlink a) (Directory q f r) same = same
-    by (Symlink a) (Regular b) same = same
-    by (Symlink a) (Symlink b) same = same
-    by (Symlink a) Whiteout same = same
-    by Whiteout (Directory q f r) same = same
-    by Whiteout (Regular b) same = same
-    by Whiteout (Symlink b) same = same
-    by Whiteout Whiteout same = same
+mark_same opaque merged real same = grind (arith, common_steps, real)
 
 module _ (stack : Stack ℕ) (merge : Merge ℕ) (whole : IsWhole stack merge) (directory : ℕ)
     (stands : StandsInUpper merge directory) (opaque : Bool)
@@ -122,16 +80,14 @@ module _ (stack : Stack ℕ) (merge : Merge ℕ) (whole : IsWhole stack merge) (
   -- what the upper layer has is shown as before
   on_top_same : (path : List (List ℕ)) (object : ℕ) → before.leads path ≡ Some object
       → shown_from 0 (after ∷ lowers) path ≡ shown_from 0 (before ∷ lowers) path
-  on_top_same path object e =
-      on_top after lowers path object (is_kind_in White (before.node object)) (leads path ∙ e)
+  on_top_same path object e = on_top after lowers path object (is_kind_in White (before.node object)) (leads path ∙ e)
       (part-changed_node (is_kind_in White) merge.upper above (node_with_mark opaque) (mark_white opaque) object)
       ∙ sym (on_top before lowers path object (is_kind_in White (before.node object)) e refl)
 
   -- and where neither it nor lower layers show anything, nothing is
   nothing : (view : View ℕ) (path : List (List ℕ)) → view.leads path ≡ None → shown_from 1 lowers path ≡ None
       → shown_from 0 (view ∷ lowers) path ≡ None
-  nothing view path e none =
-      ap (λ o. shown_over view 0 o (cuts view path) (shown_from 1 lowers path)) e
+  nothing view path e none = ap (λ o. shown_over view 0 o (cuts view path) (shown_from 1 lowers path)) e
       ∙ ap (shown_over view 0 None (cuts view path)) none ∙ by (cuts view path)
     where
       by : (b : Bool) → shown_over view 0 None b None ≡ None
@@ -180,12 +136,10 @@ module _ (stack : Stack ℕ) (merge : Merge ℕ) (whole : IsWhole stack merge) (
       (then_some (merge.real number) (inode_behind stack later))
   objects_same number = by (merge.real number) (fine.objects number)
     where
-      at : (u : ℕ) (b : Bool) → nat_eq u above ≡ b
-          → SameObject (merge.files.tree.node number) (merge.upper.tree.node u)
+      at : (u : ℕ) (b : Bool) → nat_eq u above ≡ b → SameObject (merge.files.tree.node number) (merge.upper.tree.node u)
           → SameObject (merge.files.tree.node number)
           (cond b (node_with_mark opaque (merge.upper.tree.node above)) (merge.upper.tree.node u))
-      at u true e same =
-          mark_same opaque (merge.files.tree.node number) (merge.upper.tree.node above)
+      at u true e same = mark_same opaque (merge.files.tree.node number) (merge.upper.tree.node above)
           (subst (λ k. SameObject (merge.files.tree.node number) (merge.upper.tree.node k)) (eqb-true u above e) same)
       at u false e same = same
 
@@ -214,12 +168,10 @@ module _ (stack : Stack ℕ) (merge : Merge ℕ) (whole : IsWhole stack merge) (
       whole_again stack merge later whole whole.tree whole.numbers
       (changes_keep_trees merge.upper (SetMark above opaque) top.0 tt)
       (part-changed_node is_directory_node merge.upper above (node_with_mark opaque) (mark_directory opaque)
-      stack.directory
-      ∙ top.1) (
+      stack.directory ∙ top.1) (
         whole.reached.0,
         (mark_changes_one_inode merge.upper merge.upper.tree.root above opaque).0 whole.reached.0 ∙ whole.reached.1,
-      )
-      fine_later
+      ) fine_later
 
 pub mark_keeps_whole : MarkKeepsWhole
 mark_keeps_whole stack merge directory opaque whole stands bare =
@@ -229,5 +181,4 @@ pub mark_of_the_tree_is_not_shown : MarkOfTheTreeIsNotShown
 mark_of_the_tree_is_not_shown stack merge directory d is =
     true≢false (sym (ap (λ b. is_opaque_in (cond b (node_with_mark true (merge.files.tree.node directory))
     (merge.files.tree.node directory))) (eq-eqb directory directory refl)
-    ∙ directory_marked (merge.files.tree.node directory) d)
-    ∙ is.no_mark directory)
+    ∙ directory_marked (merge.files.tree.node directory) d) ∙ is.no_mark directory)

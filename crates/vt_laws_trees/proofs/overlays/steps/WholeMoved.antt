@@ -1,12 +1,13 @@
 -- An object is moved: the tree is still what the layers show.
-use Rattle.std.proofs.Common.{◌≡◌, ◌≢◌, refl, sym, ap, subst, ◌∙◌, true≢false, eqb-true, ne_eqb, ⊎_elim, ℕ, nat_eq, Bool, true, false, not, cond, ◌&&◌, ◌||◌, List, [], ◌∷◌, ◌++◌, map, Option, Some, None, is_some, option_and_then}
+use Rattle.std.proofs.Common.{arith, ◌≡◌, ◌≢◌, refl, sym, ap, subst, ◌∙◌, true≢false, eqb-true, ne_eqb, ⊎_elim, ℕ, nat_eq, Bool, true, false, not, cond, ◌&&◌, ◌||◌, List, [], ◌∷◌, ◌++◌, map, Option, Some, None, is_some, option_and_then}
+use Rattle.std.proofs.lemmas.Grind.{common_steps}
 use Rattle.std.proofs.lemmas.Bool.Decides.{eqb_tells}
 use Rattle.vt_spec.specs.declared.attributes.Kind.TheVariants.{White}
 use Rattle.vt_spec.specs.FileTree.{FileTree, is_kind, is_kind_in}
 use Rattle.vt_spec.specs.Language.Changes.{changed, content_with_mark, node_with_mark, with_inode}
 use Rattle.vt_spec.specs.Language.Changes.Change.{Move}
 use Rattle.vt_spec.specs.Lists.{Fresh, then_some, when}
-use Rattle.vt_spec.specs.Machine.CopyUp.{Merge, Stack, hides_directory, is_directory_shown, merge_with_moved as moved_overlay, path_to, shown_in_lowers_at, upper_directory_named, whiteout_of, without_contents}
+use Rattle.vt_spec.specs.Machine.CopyUp.{Merge, Stack, hides_directory, merge_with_moved as moved_overlay, path_to, shown_in_lowers_at, upper_directory_named, whiteout_of, without_contents}
 use Rattle.vt_spec.specs.Machine.Layers.{Shown, has_lower_directory, view_of}
 use Rattle.vt_spec.specs.Machine.Views
 use Rattle.vt_spec.specs.Machine.Views.{View, cuts, hides, node_led, shown_from, shown_over}
@@ -34,7 +35,7 @@ use Rattle.vt_laws_trees.proofs.layers.views.Lower.{way_goes_elsewhere}
 use Rattle.vt_laws_trees.proofs.layers.views.Fronts.{prefixes_agree, hides_so, hiding_alike}
 use Rattle.vt_laws_trees.proofs.layers.views.Moves.{moved_leads_on, old_leads_nowhere, through_is_split}
 use Rattle.vt_laws_trees.proofs.layers.views.Names.{alike_after, names_leave_inodes, no_entries}
-use Rattle.vt_laws_trees.specs.Overlays.WhatIsShown.{IsWhole, MoveKeepsShown, inode_behind, layers_under, real_seen}
+use Rattle.vt_laws_trees.specs.Overlays.WhatIsShown.{IsWhole, MoveKeepsShown, inode_behind, real_seen}
 use Rattle.vt_laws_trees.proofs.overlays.steps.WholeAttributes.{top_open}
 use Rattle.vt_laws_trees.proofs.overlays.steps.WholeGrown.{alike_objects}
 use Rattle.vt_laws_trees.proofs.overlays.steps.WholeLeft.{emptied_alike, lowers_have, one_named}
@@ -100,13 +101,7 @@ mark_more (Some node) = record {
     white Whiteout = refl
 
     content : (a x : Content ℕ) → same_content a x ≡ true → same_content a (content_with_mark true x) ≡ true
-    content (Directory q k l) (Directory p n m) e = refl
-    content (Regular q) (Directory p n m) e = e
-    content (Symlink q) (Directory p n m) e = e
-    content Whiteout (Directory p n m) e = e
-    content a (Regular b) e = e
-    content a (Symlink b) e = e
-    content a Whiteout e = e
+    content a x e = grind (arith, common_steps)
 
     object : (a : Option (Node ℕ)) → SameObject a (Some node) → SameObject a (node_with_mark true (Some node))
     object None same = same
@@ -115,8 +110,7 @@ mark_more (Some node) = record {
 module _ (fresh : Fresh ℕ) (stack : Stack ℕ) (merge : Merge ℕ) (whole : IsWhole stack merge) (f : ℕ) (old : List ℕ)
     (t : ℕ) (new : List ℕ) (o : ℕ)
     (stands_f : StandsInUpper merge f) (stands_t : StandsInUpper merge t) (stands_o : StandsInUpper merge o)
-    (may : MayMove merge.files.tree f old t new o)
-    (vacant : merge.upper.tree.node (fresh 0) ≡ None)
+    (may : MayMove merge.files.tree f old t new o) (vacant : merge.upper.tree.node (fresh 0) ≡ None)
     (alone : IsDirectory merge.files.tree o
     → has_lower_directory (record { tree = merge.upper.tree; directory = stack.directory } ∷ []) stack.lowers
     (path_to nat_eq merge f old) ≡ false)
@@ -213,23 +207,18 @@ module _ (fresh : Fresh ℕ) (stack : Stack ℕ) (merge : Merge ℕ) (whole : Is
 
   led_same : (path : List (List ℕ)) → goes_through before ut new path ≡ false → goes_through before uf old path ≡ false
       → led upper.tree stack.directory path ≡ led merge.upper.tree stack.directory path
-  led_same path no_new no_old =
-      led_else path no_new
-      ∙ ap (λ b. cond b (value left)
+  led_same path no_new no_old = led_else path no_new ∙ ap (λ b. cond b (value left)
       (cond (goes_through before uf old path) None (led merge.upper.tree stack.directory path)))
-      (named_not uf old path no_old)
-      ∙ ap (λ b. cond b None (led merge.upper.tree stack.directory path)) no_old
+      (named_not uf old path no_old) ∙ ap (λ b. cond b None (led merge.upper.tree stack.directory path)) no_old
 
   -- inodes
   abbrev left_tree : FileTree ℕ
-  left_tree =
-      WholeMovedTree.left_base fresh stack merge whole f old t new o stands_f stands_t stands_o may vacant
+  left_tree = WholeMovedTree.left_base fresh stack merge whole f old t new o stands_f stands_t stands_o may vacant
       (without_contents nat_eq merge.upper (upper_directory_named merge t new))
       (emptied_alike merge.upper (upper_directory_named merge t new)) left marks
 
   left_alike : (u : ℕ) → u ≢ c → IsAlike (merge.upper.tree.node u) (left_tree.tree.node u)
-  left_alike =
-      WholeMovedTree.inode_alike fresh stack merge whole f old t new o stands_f stands_t stands_o may vacant
+  left_alike = WholeMovedTree.inode_alike fresh stack merge whole f old t new o stands_f stands_t stands_o may vacant
       (without_contents nat_eq merge.upper (upper_directory_named merge t new))
       (emptied_alike merge.upper (upper_directory_named merge t new)) left marks
 
@@ -243,18 +232,14 @@ module _ (fresh : Fresh ℕ) (stack : Stack ℕ) (merge : Merge ℕ) (whole : Is
   marked_own true = node_set left_tree.tree uo (node_with_mark true (left_tree.tree.node uo))
   marked_own false = refl
 
-  marked_more : (m : Bool) (u : ℕ)
-      → HidesMore (left_tree.tree.node u)
+  marked_more : (m : Bool) (u : ℕ) → HidesMore (left_tree.tree.node u)
       ((Rattle.vt_spec.specs.Machine.CopyUp.with_mark nat_eq m left_tree uo).tree.node u)
-  marked_more m u =
-      ⊎_elim
-      (λ t. subst (λ k. HidesMore (left_tree.tree.node k)
+  marked_more m u = ⊎_elim (λ t. subst (λ k. HidesMore (left_tree.tree.node k)
       ((Rattle.vt_spec.specs.Machine.CopyUp.with_mark nat_eq m left_tree uo).tree.node k)) (sym t.1)
       (subst (HidesMore (left_tree.tree.node uo)) (sym (marked_own m)) (own m)))
       (λ t. subst (HidesMore (left_tree.tree.node u)) (sym (marked_other m u t.0))
       (alike_more (left_tree.tree.node u) (left_tree.tree.node u)
-      (record { there = refl; kind = refl; attr = refl; bytes = refl; mark = refl })))
-      (eqb_tells u uo)
+      (record { there = refl; kind = refl; attr = refl; bytes = refl; mark = refl }))) (eqb_tells u uo)
     where
       own : (m : Bool) → HidesMore (left_tree.tree.node uo)
           (cond m (node_with_mark true (left_tree.tree.node uo)) (left_tree.tree.node uo))
@@ -263,8 +248,7 @@ module _ (fresh : Fresh ℕ) (stack : Stack ℕ) (merge : Merge ℕ) (whole : Is
           (record { there = refl; kind = refl; attr = refl; bytes = refl; mark = refl })
 
   more : (u : ℕ) → u ≢ c → HidesMore (merge.upper.tree.node u) (upper.tree.node u)
-  more u differ =
-      more_both (merge.upper.tree.node u) (left_tree.tree.node u) (upper.tree.node u)
+  more u differ = more_both (merge.upper.tree.node u) (left_tree.tree.node u) (upper.tree.node u)
       (alike_more (merge.upper.tree.node u) (left_tree.tree.node u) (left_alike u differ)) (marked_more marks u)
 
   not_c : (u : ℕ) → is_some (merge.upper.tree.node u) ≡ true → u ≢ c
@@ -282,8 +266,7 @@ module _ (fresh : Fresh ℕ) (stack : Stack ℕ) (merge : Merge ℕ) (whole : Is
   hides_more : (front : List (List ℕ)) → goes_through before ut new front ≡ false
       → goes_through before uf old front ≡ false
       → hides (node_led before front) ≡ true → hides (node_led after front) ≡ true
-  hides_more front no_new no_old h =
-      ap (λ x. hides (then_some x upper.tree.node)) (led_same front no_new no_old)
+  hides_more front no_new no_old h = ap (λ x. hides (then_some x upper.tree.node)) (led_same front no_new no_old)
       ∙ by (led merge.upper.tree stack.directory front) refl h
     where
       by : (x : Option ℕ) → led merge.upper.tree stack.directory front ≡ x
@@ -292,16 +275,13 @@ module _ (fresh : Fresh ℕ) (stack : Stack ℕ) (merge : Merge ℕ) (whole : Is
       by (Some k) l h = (more k (not_c k (is_there front k l))).more h
 
   hides_same : (front : List (List ℕ)) → goes_through before ut new front ≡ false
-      → goes_through before uf old front ≡ false
-      → hides (node_led after front) ≡ hides (node_led before front)
-  hides_same front no_new no_old =
-      ap (λ x. hides (then_some x upper.tree.node)) (led_same front no_new no_old)
+      → goes_through before uf old front ≡ false → hides (node_led after front) ≡ hides (node_led before front)
+  hides_same front no_new no_old = ap (λ x. hides (then_some x upper.tree.node)) (led_same front no_new no_old)
       ∙ by (led merge.upper.tree stack.directory front) refl
     where
       at : (k : ℕ) → led merge.upper.tree stack.directory front ≡ Some k → (b : Bool) → nat_eq k uo ≡ b
           → hides (upper.tree.node k) ≡ hides (merge.upper.tree.node k)
-      at k l false e =
-          ap hides (marked_other marks k e)
+      at k l false e = ap hides (marked_other marks k e)
           ∙ hiding_alike (merge.upper.tree.node k) (left_tree.tree.node k)
           (hides_so (merge.upper.tree.node k) (left_tree.tree.node k) (left_alike k (not_c k (is_there front k l))))
       at k l true e = own (is_directory_node (merge.files.tree.node o)) refl
@@ -314,8 +294,7 @@ module _ (fresh : Fresh ℕ) (stack : Stack ℕ) (merge : Merge ℕ) (whole : Is
           own false d =
               let hid : hides (merge.upper.tree.node k) ≡ true =
               ap (λ n. hides (merge.upper.tree.node n)) (eqb-true k uo e)
-              ∙ file_hides (merge.upper.tree.node uo) uo_there
-              (directory_above stack merge whole o uo real_o ∙ d) in
+              ∙ file_hides (merge.upper.tree.node uo) uo_there (directory_above stack merge whole o uo real_o ∙ d) in
               (more k (not_c k (is_there front k l))).more hid ∙ sym hid
 
       by : (x : Option ℕ) → led merge.upper.tree stack.directory front ≡ x
@@ -326,8 +305,7 @@ module _ (fresh : Fresh ℕ) (stack : Stack ℕ) (merge : Merge ℕ) (whole : Is
   -- Paths through neither name
   shown_old : (path : List (List ℕ)) → goes_through before ut new path ≡ false → goes_through before uf old path ≡ false
       → shown_from 0 (after ∷ lowers) path ≡ shown_from 0 (before ∷ lowers) path
-  shown_old path no_new no_old =
-      over_same before after lowers path (led_same path no_new no_old)
+  shown_old path no_new no_old = over_same before after lowers path (led_same path no_new no_old)
       (λ k l. (more k (not_c k (is_there path k l))).white)
       (prefixes_agree (λ front. hides (node_led before front)) (λ front. hides (node_led after front)) path
       (λ front is. hides_same front (prefixes_fail (names_entry before ut new) path front is no_new)
@@ -335,34 +313,29 @@ module _ (fresh : Fresh ℕ) (stack : Stack ℕ) (merge : Merge ℕ) (whole : Is
 
   -- a way that goes through neither name, and is not cut below
   uncut_way : (to tail path : List (List ℕ)) → to ++ tail ≡ path → goes_through before ut new to ≡ false
-      → goes_through before uf old to ≡ false
-      → cuts after path ≡ false → cuts before to ≡ false
+      → goes_through before uf old to ≡ false → cuts after path ≡ false → cuts before to ≡ false
   uncut_way to tail path is no_new no_old uncut =
       fails (cuts before to) (λ cut. found (prefix_found (λ front. hides (node_led before front)) to cut))
     where
       found : (front : List (List ℕ)) × IsFrontOf front to × (hides (node_led before front) ≡ true) → ⊥
-      found g =
-          true≢false (sym (prefix_passes (λ front. hides (node_led after front)) path g.0 (g.1.0 ++ tail)
+      found g = true≢false (sym (prefix_passes (λ front. hides (node_led after front)) path g.0 (g.1.0 ++ tail)
           (sym (append_assoc g.0 g.1.0 tail) ∙ ap (λ p. p ++ tail) g.1.1 ∙ is) g.1.2
           (hides_more g.0 (prefixes_fail (names_entry before ut new) to g.0 g.1 no_new)
           (prefixes_fail (names_entry before uf old) to g.0 g.1 no_old) g.2)) ∙ uncut)
 
   -- Paths through the old name alone
   from_elsewhere : (to : List (List ℕ)) → number_at_path merge.files to ≡ Some f → goes_through before uf old to ≡ false
-  from_elsewhere to e =
-      sym (same_through stack merge whole f uf real_f uf_directory old to)
+  from_elsewhere to e = sym (same_through stack merge whole f uf real_f uf_directory old to)
       ∙ way_goes_elsewhere merge.files merge.files.tree.root f old whole.tree o may.named to e
 
   way_front : (to rest path : List (List ℕ)) → to ++ old ∷ rest ≡ path → goes_through before ut new path ≡ false
       → goes_through before ut new to ≡ false
   way_front [] rest path is none = refl
-  way_front (word ∷ to) rest path is none =
-      prefixes_fail (names_entry before ut new) path (word ∷ to)
+  way_front (word ∷ to) rest path is none = prefixes_fail (names_entry before ut new) path (word ∷ to)
       (old ∷ rest, is, Rattle.vt_laws_trees.proofs.layers.layers.ShownPaths.not_empty word to) none
 
   abbrev moved_base : FileTree ℕ
-  moved_base =
-      WholeMovedTree.moved_base fresh stack merge whole f old t new o stands_f stands_t stands_o may vacant
+  moved_base = WholeMovedTree.moved_base fresh stack merge whole f old t new o stands_f stands_t stands_o may vacant
       (without_contents nat_eq merge.upper (upper_directory_named merge t new))
       (emptied_alike merge.upper (upper_directory_named merge t new)) left marks
 
@@ -371,10 +344,8 @@ module _ (fresh : Fresh ℕ) (stack : Stack ℕ) (merge : Merge ℕ) (whole : Is
 
   white_left : (b : Bool) → left ≡ b → (k : ℕ) → value b ≡ Some k → is_kind_in White (upper.tree.node k) ≡ true
   white_left false l k e = none_is_some k e
-  white_left true l k e =
-      ap (λ n. is_kind_in White (upper.tree.node n)) (sym (same_Some c k e))
-      ∙ ap (is_kind_in White) (marked_other marks c
-      (ne_eqb c uo (λ same. true≢false
+  white_left true l k e = ap (λ n. is_kind_in White (upper.tree.node n)) (sym (same_Some c k e))
+      ∙ ap (is_kind_in White) (marked_other marks c (ne_eqb c uo (λ same. true≢false
       (sym uo_there ∙ ap (λ n. is_some (merge.upper.tree.node n)) (sym same) ∙ ap is_some vacant))))
       ∙ ap (λ b. is_kind_in White
       ((Rattle.vt_spec.specs.Machine.CopyUp.name_left_by nat_eq b fresh stack moved_base uf old).tree.node c)) l
@@ -397,16 +368,13 @@ module _ (fresh : Fresh ℕ) (stack : Stack ℕ) (merge : Merge ℕ) (whole : Is
       parts = through_is_split merge.upper stack.directory uf old path through
 
       leads_none : names_entry before uf old path ≡ false → led upper.tree stack.directory path ≡ None
-      leads_none other =
-          led_else path no_new
-          ∙ ap (λ b. cond b (value left)
+      leads_none other = led_else path no_new ∙ ap (λ b. cond b (value left)
           (cond (goes_through before uf old path) None (led merge.upper.tree stack.directory path))) other
           ∙ ap (λ b. cond b None (led merge.upper.tree stack.directory path)) through
 
       leads_here : (front : List (List ℕ)) → goes_through before ut new front ≡ false
           → names_entry before uf old front ≡ true → led upper.tree stack.directory front ≡ value left
-      leads_here front none e =
-          led_else front none ∙ ap (λ b.
+      leads_here front none e = led_else front none ∙ ap (λ b.
           cond b (value left) (cond (goes_through before uf old front) None
           (led merge.upper.tree stack.directory front))) e
 
@@ -446,8 +414,7 @@ module _ (fresh : Fresh ℕ) (stack : Stack ℕ) (merge : Merge ℕ) (whole : Is
 
           cut_by : (b : Bool) → cuts after path ≡ b → shown_from 0 (after ∷ lowers) path ≡ None
           cut_by true cut = cut_shows_none after lowers path leads cut
-          cut_by false cut =
-              ap (λ x. shown_over after 0 x (cuts after path) (shown_from 1 lowers path)) leads
+          cut_by false cut = ap (λ x. shown_over after 0 x (cuts after path) (shown_from 1 lowers path)) leads
               ∙ ap (λ b. shown_over after 0 None b (shown_from 1 lowers path)) cut
               ∙ lower_none (shown_in_lowers_at_none l) cut (shown_from 1 lowers path) refl
 
@@ -462,8 +429,7 @@ module _ (fresh : Fresh ℕ) (stack : Stack ℕ) (merge : Merge ℕ) (whole : Is
               (prefix_passes (λ front. hides (node_led after front)) path found.0 found.1.0 found.1.1 found.1.2
               (ap (λ x. hides (then_some x upper.tree.node))
               (leads_here found.0 (prefixes_fail (names_entry before ut new) path found.0 found.1 no_new) found.2
-              ∙ ap value l)
-              ∙ white_hides (upper.tree.node c) (white_left true l c refl)))
+              ∙ ap value l) ∙ white_hides (upper.tree.node c) (white_left true l c refl)))
 
       by : (b : Bool) → left ≡ b → shown_from 0 (after ∷ lowers) path ≡ None
       by true l = white l
@@ -492,8 +458,7 @@ module _ (fresh : Fresh ℕ) (stack : Stack ℕ) (merge : Merge ℕ) (whole : Is
         where
           found : (front : List (List ℕ)) × IsFrontOf front (from_way ++ old ∷ [])
               × (hides (node_led before front) ≡ true) → ⊥
-          found g =
-              true≢false (sym (prefix_passes (λ front. hides (node_led before front))
+          found g = true≢false (sym (prefix_passes (λ front. hides (node_led before front))
               (from_way ++ old ∷ word ∷ rest) g.0 (g.1.0 ++ word ∷ rest)
               (sym (append_assoc g.0 g.1.0 (word ∷ rest)) ∙ ap (λ p. p ++ word ∷ rest) g.1.1
               ∙ append_assoc from_way (old ∷ []) (word ∷ rest)) g.1.2 g.2) ∙ uncut)
@@ -506,10 +471,7 @@ module _ (fresh : Fresh ℕ) (stack : Stack ℕ) (merge : Merge ℕ) (whole : Is
           (ap (shown_from 1 lowers) (append_assoc from_way (old ∷ []) (word ∷ rest)) ∙ e) in
           let has = lowers_have stack.lowers 1 shows.place shows.object shows.layer
           (from_way ++ old ∷ []) shows.there shows.is shows.at shows.directory in
-          true≢false (sym (ap (λ b. not (b || false) && Views.lowers_have_directory lowers (from_way ++ old ∷ []))
-          (uncut_here uncut) ∙ has)
-          ∙ ap (has_lower_directory (record { tree = merge.upper.tree; directory = stack.directory } ∷ []) stack.lowers)
-          (sym (path_to_is merge whole.tree whole.numbers from_way f old from_number f_directory)) ∙ alone is_dir)
+          grind (arith, common_steps, true≢false, uncut_here, path_to_is, from_number, f_directory)
 
       lower_none : cuts before (from_way ++ old ∷ word ∷ rest) ≡ false → (x : Option (Shown ℕ))
           → shown_from 1 lowers (from_way ++ old ∷ word ∷ rest) ≡ x → x ≡ None
@@ -519,8 +481,7 @@ module _ (fresh : Fresh ℕ) (stack : Stack ℕ) (merge : Merge ℕ) (whole : Is
       by : (b : Bool) → cuts before (from_way ++ old ∷ word ∷ rest) ≡ b
           → shown_from 0 (before ∷ lowers) (from_way ++ old ∷ word ∷ rest) ≡ None
       by true cut = cut_shows_none before lowers (from_way ++ old ∷ word ∷ rest) leads cut
-      by false cut =
-          ap (λ x. shown_over before 0 x (cuts before (from_way ++ old ∷ word ∷ rest))
+      by false cut = ap (λ x. shown_over before 0 x (cuts before (from_way ++ old ∷ word ∷ rest))
           (shown_from 1 lowers (from_way ++ old ∷ word ∷ rest))) leads
           ∙ ap (λ b. shown_over before 0 None b (shown_from 1 lowers (from_way ++ old ∷ word ∷ rest))) cut
           ∙ lower_none cut (shown_from 1 lowers (from_way ++ old ∷ word ∷ rest)) refl
@@ -542,8 +503,7 @@ module _ (fresh : Fresh ℕ) (stack : Stack ℕ) (merge : Merge ℕ) (whole : Is
       mark_cuts m =
           prefix_passes (λ front. hides (node_led after front)) (to ++ new ∷ word ∷ rest) (to ++ new ∷ []) (word ∷ rest)
           (append_assoc to (new ∷ []) (word ∷ rest)) (longer_is_not_empty to new)
-          (ap (λ x. hides (then_some x upper.tree.node)) (led_new to [] l)
-          ∙ ap hides (marked_own marks ∙ ap
+          (ap (λ x. hides (then_some x upper.tree.node)) (led_new to [] l) ∙ ap hides (marked_own marks ∙ ap
           (λ b. cond b (node_with_mark true (left_tree.tree.node uo)) (left_tree.tree.node uo)) m)
           ∙ mark_hides (left_tree.tree.node uo) ((left_alike uo (not_c uo uo_there)).there ∙ uo_there))
 
@@ -558,11 +518,7 @@ module _ (fresh : Fresh ℕ) (stack : Stack ℕ) (merge : Merge ℕ) (whole : Is
           marks to l)
           (WholeMovedTree.way_not_old fresh stack merge whole f old t new o stands_f stands_t stands_o may vacant left
           marks to l) uncut in
-          true≢false (sym (mark_cuts (sym is_marks
-          ∙ ap (is_directory_shown (layers_under stack merge))
-          (below_name stack merge whole t new to there t_directory uncut_to)
-          ∙ directory_below_top (record { tree = merge.upper.tree; directory = stack.directory }) stack.lowers
-          (to ++ new ∷ []) shows)) ∙ uncut)
+          grind (arith, common_steps, true≢false, mark_cuts, below_name, there, t_directory, directory_below_top)
 
       lower_none : cuts after (to ++ new ∷ word ∷ rest) ≡ false → (x : Option (Shown ℕ))
           → shown_from 1 lowers (to ++ new ∷ word ∷ rest) ≡ x → x ≡ None
@@ -572,8 +528,7 @@ module _ (fresh : Fresh ℕ) (stack : Stack ℕ) (merge : Merge ℕ) (whole : Is
       by : (b : Bool) → cuts after (to ++ new ∷ word ∷ rest) ≡ b
           → shown_from 0 (after ∷ lowers) (to ++ new ∷ word ∷ rest) ≡ None
       by true cut = cut_shows_none after lowers (to ++ new ∷ word ∷ rest) leads cut
-      by false cut =
-          ap (λ x. shown_over after 0 x (cuts after (to ++ new ∷ word ∷ rest))
+      by false cut = ap (λ x. shown_over after 0 x (cuts after (to ++ new ∷ word ∷ rest))
           (shown_from 1 lowers (to ++ new ∷ word ∷ rest))) leads
           ∙ ap (λ b. shown_over after 0 None b (shown_from 1 lowers (to ++ new ∷ word ∷ rest))) cut
           ∙ lower_none cut (shown_from 1 lowers (to ++ new ∷ word ∷ rest)) refl
@@ -590,10 +545,8 @@ module _ (fresh : Fresh ℕ) (stack : Stack ℕ) (merge : Merge ℕ) (whole : Is
           let behind =
           WholeMovedTree.led_behind fresh stack merge whole f old t new o stands_f stands_t stands_o may vacant rest
           ∙ e in
-          ap (real_by (from_way ++ old ∷ rest)) (on_top before lowers (from_way ++ old ∷ rest) u w behind k)
-          ∙ one w
-          ∙ sym (ap (real_by (to ++ new ∷ rest))
-          (on_top after lowers (to ++ new ∷ rest) u w (led_new to rest l ∙ e)
+          ap (real_by (from_way ++ old ∷ rest)) (on_top before lowers (from_way ++ old ∷ rest) u w behind k) ∙ one w
+          ∙ sym (ap (real_by (to ++ new ∷ rest)) (on_top after lowers (to ++ new ∷ rest) u w (led_new to rest l ∙ e)
           ((more u (not_c u (is_there (from_way ++ old ∷ rest) u behind))).white ∙ k)))
         where
           one : (w : Bool) → real_by (from_way ++ old ∷ rest) (when (not w) (record { layer = 0; object = u }))
@@ -604,19 +557,15 @@ module _ (fresh : Fresh ℕ) (stack : Stack ℕ) (merge : Merge ℕ) (whole : Is
       none : (rest : List (List ℕ)) → led merge.upper.tree uo rest ≡ None
           → real_seen stack merge (from_way ++ old ∷ rest) ≡ real_seen stack later (to ++ new ∷ rest)
       none [] e = none_is_some uo (sym e)
-      none (word ∷ rest) e =
-          nothing (is_directory_node (merge.files.tree.node o)) refl
+      none (word ∷ rest) e = nothing (is_directory_node (merge.files.tree.node o)) refl
           ∙ sym (ap (real_by (to ++ new ∷ word ∷ rest)) (none_new to word rest l e))
         where
           nothing : (b : Bool) → is_directory_node (merge.files.tree.node o) ≡ b
               → real_seen stack merge (from_way ++ old ∷ word ∷ rest) ≡ None
           nothing true d = ap (real_by (from_way ++ old ∷ word ∷ rest)) (nothing_below d word rest e)
-          nothing false d =
-              sym (fine_before.paths (from_way ++ old ∷ word ∷ rest))
-              ∙ ap (λ x. then_some x merge.real)
+          nothing false d = sym (fine_before.paths (from_way ++ old ∷ word ∷ rest)) ∙ ap (λ x. then_some x merge.real)
               (WholeMovedTree.number_behind fresh stack merge whole f old t new o stands_f stands_t stands_o may vacant
-              (word ∷ rest)
-              ∙ ap (option_and_then (λ n. led merge.files.tree n rest))
+              (word ∷ rest) ∙ ap (option_and_then (λ n. led merge.files.tree n rest))
               (no_entries merge.files.tree o (entries_in-no_directory (merge.files.tree.node o) d) word))
 
       by : (x : Option ℕ) → led merge.upper.tree uo rest ≡ x
@@ -630,13 +579,7 @@ module _ (fresh : Fresh ℕ) (stack : Stack ℕ) (merge : Merge ℕ) (whole : Is
       record { named = may.named; in_directory = may.in_directory; not_under = may.not_under; replaced_empty = may.replaced_empty }
 
   number_is : (path : List (List ℕ)) → number_at_path files path ≡ led files.tree merge.files.tree.root path
-  number_is path = ap (λ r. led files.tree r path)
-      (by (Rattle.vt_spec.specs.Tree.entry_named new (Rattle.vt_spec.specs.Tree.entries_in (merge.files.tree.node t))))
-    where
-      by : (x : Option ℕ) → (Rattle.vt_spec.specs.Language.Changes.without_parent nat_eq merge.files x).tree.root
-          ≡ merge.files.tree.root
-      by None = refl
-      by (Some k) = refl
+  number_is path = grind (arith, common_steps)
 
   paths_later : (path : List (List ℕ)) → then_some (number_at_path files path) merge.real ≡ real_seen stack later path
   paths_later path = by (goes_through before ut new path) refl
@@ -646,17 +589,14 @@ module _ (fresh : Fresh ℕ) (stack : Stack ℕ) (merge : Merge ℕ) (whole : Is
       through to rest is l =
           let there = same_is _ t (same_place stack merge whole t ut real_t ut_directory to ∙ same_holds _ ut l) in
           subst (λ p. then_some (number_at_path files p) merge.real ≡ real_seen stack later p) is
-          (ap (λ x. then_some x merge.real)
-          (number_is (to ++ new ∷ rest)
+          (ap (λ x. then_some x merge.real) (number_is (to ++ new ∷ rest)
           ∙ moved_leads_on merge.files merge.files.tree.root f t o old new whole.tree can to rest there
           ∙ sym (WholeMovedTree.number_behind fresh stack merge whole f old t new o stands_f stands_t stands_o may
-          vacant rest))
-          ∙ fine_before.paths (from_way ++ old ∷ rest) ∙ seen_along to rest l)
+          vacant rest)) ∙ fine_before.paths (from_way ++ old ∷ rest) ∙ seen_along to rest l)
 
       number : goes_through before ut new path ≡ false → (b : Bool) → goes_through before uf old path ≡ b
           → number_at_path files path ≡ cond b None (number_at_path merge.files path)
-      number no_new b e =
-          number_is path ∙ old_leads_nowhere merge.files merge.files.tree.root f t o old new can path
+      number no_new b e = number_is path ∙ old_leads_nowhere merge.files merge.files.tree.root f t o old new can path
           (same_through stack merge whole t ut real_t ut_directory new path ∙ no_new)
           ∙ ap (λ x. cond x None (number_at_path merge.files path))
           (same_through stack merge whole f uf real_f uf_directory old path ∙ e)
@@ -665,8 +605,7 @@ module _ (fresh : Fresh ℕ) (stack : Stack ℕ) (merge : Merge ℕ) (whole : Is
           → then_some (number_at_path files path) merge.real ≡ real_seen stack later path
       else_by no_new true e =
           ap (λ x. then_some x merge.real) (number no_new true e) ∙ sym (ap (real_by path) (none_old path no_new e))
-      else_by no_new false e =
-          ap (λ x. then_some x merge.real) (number no_new false e) ∙ fine_before.paths path
+      else_by no_new false e = ap (λ x. then_some x merge.real) (number no_new false e) ∙ fine_before.paths path
           ∙ sym (ap (real_by path) (shown_old path no_new e))
 
       by : (b : Bool) → goes_through before ut new path ≡ b
@@ -677,8 +616,7 @@ module _ (fresh : Fresh ℕ) (stack : Stack ℕ) (merge : Merge ℕ) (whole : Is
 
   -- behind the new name nothing shows from below
   new_above : (to rest : List (List ℕ)) → led merge.upper.tree stack.directory to ≡ Some ut
-      → (layer : ℕ) (place : List (List ℕ))
-      → real_seen stack later (to ++ new ∷ rest) ≡ Some (Lower layer place) → ⊥
+      → (layer : ℕ) (place : List (List ℕ)) → real_seen stack later (to ++ new ∷ rest) ≡ Some (Lower layer place) → ⊥
   new_above to rest l layer place e = by (led merge.upper.tree uo rest) refl
     where
       white : (u : ℕ) (w : Bool) → real_by (to ++ new ∷ rest) (when (not w) (record { layer = 0; object = u }))
@@ -694,23 +632,18 @@ module _ (fresh : Fresh ℕ) (stack : Stack ℕ) (merge : Merge ℕ) (whole : Is
 
       by : (x : Option ℕ) → led merge.upper.tree uo rest ≡ x → ⊥
       by None f = none rest f e
-      by (Some u) f =
-          white u (is_kind_in White (upper.tree.node u))
-          (sym (ap (real_by (to ++ new ∷ rest))
+      by (Some u) f = white u (is_kind_in White (upper.tree.node u)) (sym (ap (real_by (to ++ new ∷ rest))
           (on_top after lowers (to ++ new ∷ rest) u (is_kind_in White (upper.tree.node u))
           (led_new to rest l ∙ f) refl)) ∙ e)
 
   -- what lies below has the path that it had
   pub below_stays : (path : List (List ℕ)) (n layer : ℕ) (place : List (List ℕ)) → number_at_path files path ≡ Some n
-      → merge.real n ≡ Some (Lower layer place)
-      → number_at_path merge.files path ≡ Some n
+      → merge.real n ≡ Some (Lower layer place) → number_at_path merge.files path ≡ Some n
   below_stays path n layer place e r = by (goes_through before ut new path) refl
     where
       old_by : goes_through before ut new path ≡ false → (b : Bool) → goes_through before uf old path ≡ b
           → number_at_path files path ≡ cond b None (number_at_path merge.files path)
-      old_by no_new b g =
-          number_is path
-          ∙ old_leads_nowhere merge.files merge.files.tree.root f t o old new can path
+      old_by no_new b g = number_is path ∙ old_leads_nowhere merge.files merge.files.tree.root f t o old new can path
           (same_through stack merge whole t ut real_t ut_directory new path ∙ no_new)
           ∙ ap (λ x. cond x None (number_at_path merge.files path))
           (same_through stack merge whole f uf real_f uf_directory old path ∙ g)
@@ -739,8 +672,7 @@ module _ (fresh : Fresh ℕ) (stack : Stack ℕ) (merge : Merge ℕ) (whole : Is
       → SameObject (files.tree.node n) (then_some r (inode_behind stack later))
   objects_later n None r same = alike_objects (merge.files.tree.node n) None (files.tree.node n) None same (others n)
       (record { there = refl; kind = refl; attr = refl; bytes = refl; mark = refl })
-  objects_later n (Some (Upper u)) r same =
-      (own n u r).object (files.tree.node n)
+  objects_later n (Some (Upper u)) r same = (own n u r).object (files.tree.node n)
       (alike_objects (merge.files.tree.node n) (merge.upper.tree.node u) (files.tree.node n)
       (merge.upper.tree.node u) same (others n)
       (record { there = refl; kind = refl; attr = refl; bytes = refl; mark = refl }))

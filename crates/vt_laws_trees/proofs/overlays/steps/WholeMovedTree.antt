@@ -1,5 +1,6 @@
 -- Where names lead in the upper layer after a move, with what is left of the old name and of a replaced directory.
-use Rattle.std.proofs.Common.{◌≡◌, ◌≢◌, refl, sym, ap, subst, ◌∙◌, true≢false, eq-eqb, ne_eqb, ℕ, nat_eq, Bool, true, false, cond, ◌&&◌, List, [], ◌∷◌, ◌++◌, Option, Some, None, is_some, option_and_then}
+use Rattle.std.proofs.Common.{arith, ◌≡◌, ◌≢◌, refl, sym, ap, subst, ◌∙◌, true≢false, eq-eqb, ne_eqb, ℕ, nat_eq, Bool, true, false, cond, ◌&&◌, List, [], ◌∷◌, ◌++◌, Option, Some, None, is_some, option_and_then}
+use Rattle.std.proofs.lemmas.Grind.{common_steps}
 use Rattle.vt_spec.specs.FileTree.{FileTree}
 use Rattle.vt_spec.specs.Language.Changes.{node_with_mark, node_without_entry, with_inode, with_moved}
 use Rattle.vt_spec.specs.Language.Changes.Change.{Move}
@@ -38,8 +39,7 @@ use Rattle.vt_spec.proofs.Options.{none_from_not_some, none_is_some}
 module _ (fresh : Fresh ℕ) (stack : Stack ℕ) (merge : Merge ℕ) (whole : IsWhole stack merge) (f : ℕ) (old : List ℕ)
     (t : ℕ) (new : List ℕ) (o : ℕ)
     (stands_f : StandsInUpper merge f) (stands_t : StandsInUpper merge t) (stands_o : StandsInUpper merge o)
-    (may : MayMove merge.files.tree f old t new o)
-    (vacant : merge.upper.tree.node (fresh 0) ≡ None) where
+    (may : MayMove merge.files.tree f old t new o) (vacant : merge.upper.tree.node (fresh 0) ≡ None) where
   abbrev pub uf : ℕ
   uf = upper_of merge f
 
@@ -94,14 +94,12 @@ module _ (fresh : Fresh ℕ) (stack : Stack ℕ) (merge : Merge ℕ) (whole : Is
   -- names behind the old name, in the overlay and in the upper layer
   pub number_behind : (rest : List (List ℕ))
       → number_at_path merge.files (from_way ++ old ∷ rest) ≡ led merge.files.tree o rest
-  number_behind rest =
-      led_parts merge.files.tree from_way (old ∷ rest) merge.files.tree.root f from_number
+  number_behind rest = led_parts merge.files.tree from_way (old ∷ rest) merge.files.tree.root f from_number
       ∙ ap (option_and_then (λ n. led merge.files.tree n rest)) may.named
 
   pub led_behind : (rest : List (List ℕ))
       → led merge.upper.tree stack.directory (from_way ++ old ∷ rest) ≡ led merge.upper.tree uo rest
-  led_behind rest =
-      led_parts merge.upper.tree from_way (old ∷ rest) stack.directory uf up_from
+  led_behind rest = led_parts merge.upper.tree from_way (old ∷ rest) stack.directory uf up_from
       ∙ ap (option_and_then (λ n. led merge.upper.tree n rest)) named_up
 
   pub not_up : (names : List (List ℕ)) → led merge.upper.tree uo names ≢ Some uf
@@ -122,8 +120,7 @@ module _ (fresh : Fresh ℕ) (stack : Stack ℕ) (merge : Merge ℕ) (whole : Is
       let two = is_that_entry uf old other word b in
       let same : t ≡ f = fine_before.one t f (ap is_some real_t)
       (real_t ∙ ap (λ n. Some (Upper n)) (sym one.0 ∙ two.0) ∙ sym real_f) in
-      may.replaced_other (ap (λ n. entry_at merge.files.tree n new) same
-      ∙ ap (entry_at merge.files.tree f) (sym one.1 ∙ two.1) ∙ may.named)
+      grind (arith, common_steps)
 
   -- what stands under the old name
   abbrev pub value : Bool → Option ℕ
@@ -143,8 +140,7 @@ module _ (fresh : Fresh ℕ) (stack : Stack ℕ) (merge : Merge ℕ) (whole : Is
     final = with_mark nat_eq marks left_base uo
 
     moved_alike : (u : ℕ) → IsAlike (merge.upper.tree.node u) (moved_base.tree.node u)
-    moved_alike u =
-        alike_both (merge.upper.tree.node u) (base.tree.node u) (moved_base.tree.node u) (alike u)
+    moved_alike u = alike_both (merge.upper.tree.node u) (base.tree.node u) (moved_base.tree.node u) (alike u)
         (names_leave_inodes base (Move uf old ut new uo) stack.directory u refl)
 
     moved_vacant : moved_base.tree.node c ≡ None
@@ -157,16 +153,14 @@ module _ (fresh : Fresh ℕ) (stack : Stack ℕ) (merge : Merge ℕ) (whole : Is
     apart = with_inode nat_eq moved_base c (whiteout_of stack.mounter)
 
     uf_apart : IsDirectory apart.tree uf
-    uf_apart =
-        ap is_directory_node (node_other moved_base.tree c (Some (whiteout_of stack.mounter)) uf
+    uf_apart = ap is_directory_node (node_other moved_base.tree c (Some (whiteout_of stack.mounter)) uf
         (not_c uf (Rattle.vt_spec.proofs.Nodes.directory_used merge.upper.tree uf uf_directory)))
         ∙ directory_alike (merge.upper.tree.node uf) (moved_base.tree.node uf) (moved_alike uf) ∙ uf_directory
 
     told_left : (b : Bool) (other : ℕ) (word : List ℕ)
         → entry_at (name_left_by nat_eq b fresh stack moved_base uf old).tree other word
         ≡ cond (is_entry uf old other word) (value b) (entry_at moved_base.tree other word)
-    told_left true other word =
-        given apart uf old c uf_apart other word
+    told_left true other word = given apart uf old c uf_apart other word
         ∙ ap (λ entries. cond (is_entry uf old other word) (Some c) (entry_named word entries))
         (inode_entries moved_base c (whiteout_of stack.mounter) moved_vacant refl other)
     told_left false other word = taken moved_base uf old other word
@@ -180,10 +174,8 @@ module _ (fresh : Fresh ℕ) (stack : Stack ℕ) (merge : Merge ℕ) (whole : Is
     pub told : (other : ℕ) (word : List ℕ) → entry_at final.tree other word
         ≡ cond (is_entry ut new other word) (Some uo)
         (cond (is_entry uf old other word) (value left) (entry_at base.tree other word))
-    told other word =
-        told_marked marks other word ∙ told_left left other word
-        ∙ ap (cond (is_entry uf old other word) (value left))
-        (move_told base uf old ut new uo
+    told other word = told_marked marks other word ∙ told_left left other word
+        ∙ ap (cond (is_entry uf old other word) (value left)) (move_told base uf old ut new uo
         (directory_alike (merge.upper.tree.node ut) (base.tree.node ut) (alike ut) ∙ ut_directory) other word)
         ∙ by (is_entry ut new other word) refl (is_entry uf old other word) refl
       where
@@ -227,21 +219,17 @@ module _ (fresh : Fresh ℕ) (stack : Stack ℕ) (merge : Merge ℕ) (whole : Is
     told_between : (b : Bool) (other : ℕ) (word : List ℕ)
         → entry_at (name_left_by nat_eq b fresh stack merge.upper uf old).tree other word
         ≡ cond (is_entry uf old other word) (value b) (entry_at merge.upper.tree other word)
-    told_between true other word =
-        given apart_upper uf old c
+    told_between true other word = given apart_upper uf old c
         (ap is_directory_node (node_other merge.upper.tree c (Some (whiteout_of stack.mounter)) uf
         (λ same. true≢false (sym (Rattle.vt_spec.proofs.Nodes.directory_used merge.upper.tree uf uf_directory)
-        ∙ ap (λ n. is_some (merge.upper.tree.node n)) same ∙ ap is_some vacant)))
-        ∙ uf_directory) other word
+        ∙ ap (λ n. is_some (merge.upper.tree.node n)) same ∙ ap is_some vacant))) ∙ uf_directory) other word
         ∙ ap (λ entries. cond (is_entry uf old other word) (Some c) (entry_named word entries))
         (inode_entries merge.upper c (whiteout_of stack.mounter) vacant refl other)
     told_between false other word = taken merge.upper uf old other word
 
-    told_moved : (other : ℕ) (word : List ℕ)
-        → entry_at moved.tree other word
+    told_moved : (other : ℕ) (word : List ℕ) → entry_at moved.tree other word
         ≡ cond (is_entry ut new other word) (Some uo) (entry_at between.tree other word)
-    told_moved other word =
-        told merge.upper untouched left marks other word
+    told_moved other word = told merge.upper untouched left marks other word
         ∙ ap (cond (is_entry ut new other word) (Some uo)) (sym (told_between left other word))
 
     leaf : (b : Bool) (k : ℕ) → value b ≡ Some k → (word : List ℕ)
@@ -259,8 +247,7 @@ module _ (fresh : Fresh ℕ) (stack : Stack ℕ) (merge : Merge ℕ) (whole : Is
     between_led : (path : List (List ℕ)) (start : ℕ) → led between.tree start path
         ≡ cond (names_entry (view_in merge.upper start) uf old path) (value left)
         (cond (goes_through (view_in merge.upper start) uf old path) None (led merge.upper.tree start path))
-    between_led path start =
-        entry_over merge.upper.tree between.tree uf old (value left) (told_between left)
+    between_led path start = entry_over merge.upper.tree between.tree uf old (value left) (told_between left)
         (λ k e names. no_way_up merge.upper top_tree uf old k e names) (leaf left) path start
         ∙ sym (λ i. cond (names_it merge.upper.tree uf old path start i) (value left)
         (cond (goes_through_it merge.upper.tree uf old path start i) None (led merge.upper.tree start path)))
@@ -268,28 +255,23 @@ module _ (fresh : Fresh ℕ) (stack : Stack ℕ) (merge : Merge ℕ) (whole : Is
     -- what leads to the new directory then did so before
     to_before : (path : List (List ℕ)) (start : ℕ) → led between.tree start path ≡ Some ut
         → led merge.upper.tree start path ≡ Some ut
-    to_before path start e =
-        by left (names_entry (view_in merge.upper start) uf old path)
+    to_before path start e = by left (names_entry (view_in merge.upper start) uf old path)
         (goes_through (view_in merge.upper start) uf old path) (sym (between_led path start) ∙ e)
       where
         by : (l a b : Bool) → cond a (value l) (cond b None (led merge.upper.tree start path)) ≡ Some ut
             → led merge.upper.tree start path ≡ Some ut
-        by true true b e =
-            absurd (true≢false (sym (Rattle.vt_spec.proofs.Nodes.directory_used merge.upper.tree ut ut_directory)
-            ∙ ap (λ n. is_some (merge.upper.tree.node n)) (sym (same_Some c ut e)) ∙ ap is_some vacant))
+        by true true b e = grind (arith, common_steps, true≢false, ut_directory, same_Some)
         by false true b e = none_is_some ut e
         by l false true e = none_is_some ut e
         by l false false e = e
 
     through_before : (path : List (List ℕ)) (start : ℕ) → goes_through (view_in merge.upper start) ut new path ≡ false
         → goes_through (view_in between start) ut new path ≡ false
-    through_before path start none =
-        fails (goes_through (view_in between start) ut new path)
+    through_before path start none = fails (goes_through (view_in between start) ut new path)
         (λ e. at (through_is_split between start ut new path e))
       where
         at : (to rest : List (List ℕ)) × (to ++ new ∷ rest ≡ path) × (led between.tree start to ≡ Some ut) → ⊥
-        at parts =
-            true≢false (sym (prefix_passes (names_entry (view_in merge.upper start) ut new) path
+        at parts = true≢false (sym (prefix_passes (names_entry (view_in merge.upper start) ut new) path
             (parts.0 ++ new ∷ []) parts.1
             (Rattle.vt_laws_trees.proofs.layers.layers.ShownDirectories.append_assoc parts.0 (new ∷ []) parts.1 ∙ parts.2)
             (Rattle.vt_laws_trees.proofs.layers.layers.ShownDirectories.longer_is_not_empty parts.0 new)
@@ -300,30 +282,24 @@ module _ (fresh : Fresh ℕ) (stack : Stack ℕ) (merge : Merge ℕ) (whole : Is
         → goes_through (view_in merge.upper start) ut new path ≡ false → led moved.tree start path
         ≡ cond (names_entry (view_in merge.upper start) uf old path) (value left)
         (cond (goes_through (view_in merge.upper start) uf old path) None (led merge.upper.tree start path))
-    moved_elsewhere path start none =
-        beside_led between.tree moved.tree ut new (Some uo) told_moved path start
-        (sym (goes_through_it between.tree ut new path start) ∙ through_before path start none)
-        ∙ between_led path start
+    moved_elsewhere path start none = beside_led between.tree moved.tree ut new (Some uo) told_moved path start
+        (sym (goes_through_it between.tree ut new path start) ∙ through_before path start none) ∙ between_led path start
 
     -- names go through neither name from under the object
     not_through : (d : ℕ) (name : List ℕ) (start : ℕ)
         → ((names : List (List ℕ)) → led merge.upper.tree start names ≢ Some d) → (path : List (List ℕ))
         → goes_through (view_in merge.upper start) d name path ≡ false
-    not_through d name start never path =
-        fails (goes_through (view_in merge.upper start) d name path)
+    not_through d name start never path = fails (goes_through (view_in merge.upper start) d name path)
         (λ e. let parts = through_is_split merge.upper start d name path e in never parts.0 parts.3)
 
     not_named : (d : ℕ) (name : List ℕ) (start : ℕ)
         → ((names : List (List ℕ)) → led merge.upper.tree start names ≢ Some d) → (path : List (List ℕ))
         → names_entry (view_in merge.upper start) d name path ≡ false
-    not_named d name start never path =
-        fails (names_entry (view_in merge.upper start) d name path)
+    not_named d name start never path = fails (names_entry (view_in merge.upper start) d name path)
         (λ e. let named = is_named merge.upper start d name path e in never named.0 named.2)
 
     object_led : (rest : List (List ℕ)) → led moved.tree uo rest ≡ led merge.upper.tree uo rest
-    object_led rest =
-        moved_elsewhere rest uo (not_through ut new uo not_under rest)
-        ∙ ap (λ b. cond b (value left)
+    object_led rest = moved_elsewhere rest uo (not_through ut new uo not_under rest) ∙ ap (λ b. cond b (value left)
         (cond (goes_through (view_in merge.upper uo) uf old rest) None (led merge.upper.tree uo rest)))
         (not_named uf old uo not_up rest)
         ∙ ap (λ b. cond b None (led merge.upper.tree uo rest)) (not_through uf old uo not_up rest)
@@ -352,8 +328,7 @@ module _ (fresh : Fresh ℕ) (stack : Stack ℕ) (merge : Merge ℕ) (whole : Is
       where
         at : (first rest : List (List ℕ)) × (first ++ old ∷ rest ≡ to)
             × (led merge.upper.tree stack.directory first ≡ Some uf) → ⊥
-        at parts =
-            not_under parts.1 (sym (ap (option_and_then (λ n. led merge.upper.tree n parts.1)) named_up)
+        at parts = not_under parts.1 (sym (ap (option_and_then (λ n. led merge.upper.tree n parts.1)) named_up)
             ∙ sym (led_parts merge.upper.tree parts.0 (old ∷ parts.1) stack.directory uf parts.3)
             ∙ ap (led merge.upper.tree stack.directory) parts.2 ∙ e)
 
@@ -364,20 +339,16 @@ module _ (fresh : Fresh ℕ) (stack : Stack ℕ) (merge : Merge ℕ) (whole : Is
 
     way_led : (to : List (List ℕ)) → led merge.upper.tree stack.directory to ≡ Some ut
         → led moved.tree stack.directory to ≡ Some ut
-    way_led to e =
-        moved_elsewhere to stack.directory (way_not_new to e)
-        ∙ ap (λ b. cond b (value left)
+    way_led to e = moved_elsewhere to stack.directory (way_not_new to e) ∙ ap (λ b. cond b (value left)
         (cond (goes_through before uf old to) None (led merge.upper.tree stack.directory to)))
         (named_not uf old to (way_not_old to e))
         ∙ ap (λ b. cond b None (led merge.upper.tree stack.directory to)) (way_not_old to e) ∙ e
 
     pub moved_through : (to rest : List (List ℕ)) → led merge.upper.tree stack.directory to ≡ Some ut
         → led moved.tree stack.directory (to ++ new ∷ rest) ≡ led merge.upper.tree uo rest
-    moved_through to rest e =
-        led_parts moved.tree to (new ∷ rest) stack.directory ut (way_led to e)
+    moved_through to rest e = led_parts moved.tree to (new ∷ rest) stack.directory ut (way_led to e)
         ∙ ap (option_and_then (λ n. led moved.tree n rest))
-        (told_moved ut new ∙ ap (λ b. cond b (Some uo) (entry_at between.tree ut new)) itself)
-        ∙ object_led rest
+        (told_moved ut new ∙ ap (λ b. cond b (Some uo) (entry_at between.tree ut new)) itself) ∙ object_led rest
       where
         itself : is_entry ut new ut new ≡ true
         itself = ap (λ b. b && Rattle.std.specs.Str.bytes_eq new new) (eq-eqb ut ut refl)
@@ -401,29 +372,23 @@ module _ (fresh : Fresh ℕ) (stack : Stack ℕ) (merge : Merge ℕ) (whole : Is
 
         -- behind the object
         behind : (rest : List (List ℕ)) → led merge.upper.tree uo rest ≡ Some r → ⊥
-        behind [] l = may.replaced_other
-            (own.1 ∙ ap Some (fine_before.one own.0 o (ap is_some own.2)
+        behind [] l = may.replaced_other (own.1 ∙ ap Some (fine_before.one own.0 o (ap is_some own.2)
             (own.2 ∙ ap (λ n. Some (Upper n)) (sym (same_Some uo r l)) ∙ sym real_o)))
         behind (word ∷ rest) l =
             let named = is_named merge.upper stack.directory ut new (from_way ++ old ∷ word ∷ rest)
             (named_so (from_way ++ old ∷ word ∷ rest) (led_behind (word ∷ rest) ∙ l)) in
             let last = Rattle.vt_laws_trees.proofs.layers.layers.ShownDirectories.last_of (word ∷ rest)
             (Rattle.vt_laws_trees.proofs.layers.layers.ShownPaths.not_empty word rest) in
-            not_under last.0
-            (sym (led_behind last.0)
-            ∙ ap (led merge.upper.tree stack.directory)
+            not_under last.0 (sym (led_behind last.0) ∙ ap (led merge.upper.tree stack.directory)
             (sym (Rattle.vt_laws_trees.proofs.layers.layers.UpperShown.without_last_of_longer (from_way ++ old
-            ∷ last.0) last.1)
-            ∙ ap Rattle.vt_spec.specs.Lists.without_last
+            ∷ last.0) last.1) ∙ ap Rattle.vt_spec.specs.Lists.without_last
             (Rattle.vt_laws_trees.proofs.layers.layers.ShownDirectories.append_assoc from_way (old ∷ last.0) (last.1 ∷ [])
             ∙ ap (λ q. from_way ++ old ∷ q) last.2 ∙ sym named.1)
-            ∙ Rattle.vt_laws_trees.proofs.layers.layers.UpperShown.without_last_of_longer named.0 new)
-            ∙ named.2)
+            ∙ Rattle.vt_laws_trees.proofs.layers.layers.UpperShown.without_last_of_longer named.0 new) ∙ named.2)
 
         at : (l a b : Bool) → names_entry before uf old path ≡ a → goes_through before ut new path ≡ false
             → cond a (value l) (cond b None (led merge.upper.tree stack.directory path)) ≡ Some r → ⊥
-        at true true b n g e = true≢false
-            (sym there ∙ ap (λ k. is_some (merge.upper.tree.node k)) (sym (same_Some c r e)) ∙ ap is_some vacant)
+        at true true b n g e = grind (arith, common_steps, true≢false, there, same_Some)
         at false true b n g e = none_is_some r e
         at l false true n g e = none_is_some r e
         at l false false n g e = true≢false (sym (named_so path e) ∙ named_not ut new path g)
@@ -443,9 +408,7 @@ module _ (fresh : Fresh ℕ) (stack : Stack ℕ) (merge : Merge ℕ) (whole : Is
 
     pub led_emptied : (path : List (List ℕ))
         → led whole_moved.tree stack.directory path ≡ led moved.tree stack.directory path
-    led_emptied path =
-        led_where moved.tree whole_moved.tree path stack.directory
-        (λ to inode l word.
+    led_emptied path = led_where moved.tree whole_moved.tree path stack.directory (λ to inode l word.
         told (without_contents nat_eq merge.upper (upper_directory_named merge t new))
         (emptied_alike merge.upper (upper_directory_named merge t new)) left marks inode word
         ∙ ap (λ x. cond (is_entry ut new inode word) (Some uo) (cond (is_entry uf old inode word) (value left) x))

@@ -1,9 +1,10 @@
 -- Where names lead in the tree of an overlay and in its upper layer.
-use Rattle.std.proofs.Common.{◌≡◌, refl, sym, ap, subst, ◌∙◌, true≢false, eqb-true, eq-eqb, ℕ, zero, suc, nat_eq, Bool, true, false, not, ◌&&◌, List, [], ◌∷◌, ◌++◌, map, Option, Some, None, is_some, option_and_then, slice_get}
+use Rattle.std.proofs.Common.{arith, ◌≡◌, refl, sym, ap, subst, ◌∙◌, true≢false, eqb-true, eq-eqb, ℕ, zero, suc, nat_eq, Bool, true, false, not, ◌&&◌, List, [], ◌∷◌, ◌++◌, map, Option, Some, None, is_some, option_and_then, slice_get}
+use Rattle.std.proofs.lemmas.Grind.{common_steps}
 use Rattle.std.specs.Str.{bytes_eq}
 use Rattle.vt_spec.specs.declared.attributes.Kind.TheVariants.{White}
 use Rattle.vt_spec.specs.FileTree.{FileTree, is_kind_in}
-use Rattle.vt_spec.specs.Lists.{without_last, is_empty_list, last_or, same_option, then_some, when}
+use Rattle.vt_spec.specs.Lists.{without_last, is_empty_list, last_or, same_option, then_some}
 use Rattle.vt_spec.specs.Machine.CopyUp.{Merge, Stack}
 use Rattle.vt_spec.specs.Machine.Layers.{OpenLayer, Shown, at_path, shown, view_of}
 use Rattle.vt_spec.specs.Machine.Merging.{real_object}
@@ -42,19 +43,9 @@ same_holds o n e = ap (λ p. same_option nat_eq p (Some n)) e ∙ eq-eqb n n ref
 
 -- the path of an entry names it
 pub entry_named_so : (files : FileTree ℕ) (top directory : ℕ) (name : List ℕ) (way : List (List ℕ))
-    → led files.tree top way ≡ Some directory
-    → names_entry (view_in files top) directory name (way ++ name ∷ []) ≡ true
+    → led files.tree top way ≡ Some directory → names_entry (view_in files top) directory name (way ++ name ∷ []) ≡ true
 entry_named_so files top directory name way e =
-    ap (λ b. not b && (same_option nat_eq (led files.tree top (without_last (way ++ name ∷ []))) (Some directory)
-    && bytes_eq (last_or [] (way ++ name ∷ [])) name)) (longer way)
-    ∙ ap (λ b. b && bytes_eq (last_or [] (way ++ name ∷ [])) name)
-    (ap (λ p. same_option nat_eq (led files.tree top p) (Some directory)) (without_last_of_longer way name)
-    ∙ same_holds (led files.tree top way) directory e)
-    ∙ ap (λ w. bytes_eq w name) (last_of_longer way name []) ∙ bytes_eq_itself name
-  where
-    longer : (way : List (List ℕ)) → is_empty_list (way ++ name ∷ []) ≡ false
-    longer [] = refl
-    longer (word ∷ way) = refl
+    grind (arith, common_steps, without_last_of_longer, same_holds, last_of_longer, bytes_eq_itself)
 
 -- and leads where the entry does
 pub named_led : (files : FileTree ℕ) (top directory : ℕ) (name : List ℕ) (path : List (List ℕ))
@@ -79,8 +70,7 @@ pub through_bare : (files : FileTree ℕ) (top directory object : ℕ) (name : L
     → entry_at files.tree directory name ≡ Some object
     → ((word : List ℕ) → entry_at files.tree object word ≡ None) → (path : List (List ℕ))
     → goes_through (view_in files top) directory name path ≡ true
-    → names_entry (view_in files top) directory name path ≡ false
-    → led files.tree top path ≡ None
+    → names_entry (view_in files top) directory name path ≡ false → led files.tree top path ≡ None
 through_bare files top directory object name e bare path through other =
     let parts = through_is_split files top directory name path through in
     ap (led files.tree top) (sym parts.2) ∙ led_parts files.tree parts.0 (name ∷ parts.1) top directory parts.3
@@ -88,8 +78,7 @@ through_bare files top directory object name e bare path through other =
   where
     by : (way rest : List (List ℕ)) → way ++ name ∷ rest ≡ path → led files.tree top way ≡ Some directory
         → led files.tree object rest ≡ None
-    by way [] is l =
-        absurd (true≢false (sym (entry_named_so files top directory name way l)
+    by way [] is l = absurd (true≢false (sym (entry_named_so files top directory name way l)
         ∙ ap (names_entry (view_in files top) directory name) is ∙ other))
     by way (word ∷ rest) is l = ap (option_and_then (λ next. led files.tree next rest)) (bare word)
 
@@ -98,16 +87,7 @@ pub over_same : (one other : View ℕ) (lowers : List (View ℕ)) (path : List (
     → ((object : ℕ) → one.leads path ≡ Some object
     → is_kind_in White (other.node object) ≡ is_kind_in White (one.node object))
     → cuts other path ≡ cuts one path → shown_from 0 (other ∷ lowers) path ≡ shown_from 0 (one ∷ lowers) path
-over_same one other lowers path leads white cut =
-    ap (λ b. shown_over other 0 (other.leads path) b (shown_from 1 lowers path)) cut
-    ∙ ap (λ o. shown_over other 0 o (cuts one path) (shown_from 1 lowers path)) leads
-    ∙ by (one.leads path) refl (cuts one path)
-  where
-    by : (o : Option ℕ) → one.leads path ≡ o → (b : Bool)
-        → shown_over other 0 o b (shown_from 1 lowers path) ≡ shown_over one 0 o b (shown_from 1 lowers path)
-    by None e true = refl
-    by None e false = refl
-    by (Some object) e b = ap (λ w. when (not w) (record { layer = 0; object = object })) (white object e)
+over_same one other lowers path leads white cut = grind (arith, common_steps)
 
 pub cut_shows_none : (view : View ℕ) (lowers : List (View ℕ)) (path : List (List ℕ)) → view.leads path ≡ None
     → cuts view path ≡ true → shown_from 0 (view ∷ lowers) path ≡ None
@@ -132,8 +112,7 @@ module _ (stack : Stack ℕ) (merge : Merge ℕ) (whole : IsWhole stack merge) w
 
   -- what names lead to in the overlay they lead to in the upper layer, if it stands there
   pub named_above : (path : List (List ℕ)) (number u : ℕ) → number_at_path merge.files path ≡ Some number
-      → merge.real number ≡ Some (Upper u)
-      → led merge.upper.tree stack.directory path ≡ Some u
+      → merge.real number ≡ Some (Upper u) → led merge.upper.tree stack.directory path ≡ Some u
   named_above path number u e r =
       by (shown layers path) refl (sym r ∙ sym (ap (λ o. then_some o merge.real) e) ∙ is_fine.paths path)
     where
@@ -155,9 +134,7 @@ module _ (stack : Stack ℕ) (merge : Merge ℕ) (whole : IsWhole stack merge) w
   pub above_named : (path : List (List ℕ)) (u : ℕ) → led merge.upper.tree stack.directory path ≡ Some u
       → is_kind_in White (merge.upper.tree.node u) ≡ false
       → (number : ℕ) × (number_at_path merge.files path ≡ Some number) × (merge.real number ≡ Some (Upper u))
-  above_named path u e white =
-      by (number_at_path merge.files path) refl
-      (is_fine.paths path ∙ ap (real_by path)
+  above_named path u e white = by (number_at_path merge.files path) refl (is_fine.paths path ∙ ap (real_by path)
       (on_top (view_in merge.upper stack.directory) (map view_of stack.lowers) path u false e white))
     where
       by : (o : Option ℕ) → number_at_path merge.files path ≡ o → then_some o merge.real ≡ Some (Upper u)
@@ -178,11 +155,9 @@ module _ (stack : Stack ℕ) (merge : Merge ℕ) (whole : IsWhole stack merge) w
 
   module _ (d ud : ℕ) (r : merge.real d ≡ Some (Upper ud))
       (is_directory : is_directory_node (merge.upper.tree.node ud) ≡ true) where
-    pub same_place : (path : List (List ℕ))
-        → same_option nat_eq (number_at_path merge.files path) (Some d)
+    pub same_place : (path : List (List ℕ)) → same_option nat_eq (number_at_path merge.files path) (Some d)
         ≡ same_option nat_eq (led merge.upper.tree stack.directory path) (Some ud)
-    same_place path =
-        by (same_option nat_eq (number_at_path merge.files path) (Some d)) refl
+    same_place path = by (same_option nat_eq (number_at_path merge.files path) (Some d)) refl
         (same_option nat_eq (led merge.upper.tree stack.directory path) (Some ud)) refl
       where
         back : led merge.upper.tree stack.directory path ≡ Some ud → number_at_path merge.files path ≡ Some d
@@ -206,17 +181,13 @@ module _ (stack : Stack ℕ) (merge : Merge ℕ) (whole : IsWhole stack merge) w
     pub same_through : (name : List ℕ) (path : List (List ℕ))
         → goes_through (view_in merge.files merge.files.tree.root) d name path
         ≡ goes_through (view_in merge.upper stack.directory) ud name path
-    same_through name path =
-        prefixes_agree (names_entry (view_in merge.upper stack.directory) ud name)
-        (names_entry (view_in merge.files merge.files.tree.root) d name) path
-        (λ front is. same_entry name front)
+    same_through name path = prefixes_agree (names_entry (view_in merge.upper stack.directory) ud name)
+        (names_entry (view_in merge.files merge.files.tree.root) d name) path (λ front is. same_entry name front)
 
 -- an overlay that is fine is whole, where its trees are
 pub whole_again : (stack : Stack ℕ) (merge later : Merge ℕ) → IsWhole stack merge → IsTree later.files.tree
-    → ListsNumbers nat_eq later.files
-    → IsTree later.upper.tree → IsDirectory later.upper.tree stack.directory
-    → IsReached later.upper.tree stack.directory
-    → IsFine stack later → IsWhole stack later
+    → ListsNumbers nat_eq later.files → IsTree later.upper.tree → IsDirectory later.upper.tree stack.directory
+    → IsReached later.upper.tree stack.directory → IsFine stack later → IsWhole stack later
 whole_again stack merge later whole tree numbers upper directory reached is = record {
   tree = tree;
   numbers = numbers;

@@ -37,8 +37,7 @@ module _ (upper : FileTree ℕ) (top : ℕ) (top_tree : IsTree upper.tree) (top_
 
   pub hides_at : (front : List (List ℕ)) (b : Bool) → names_entry before ud w front ≡ b
       → hides (node_led after front) ≡ cond b (hides (Some new)) (hides (node_led before front))
-  hides_at front b e =
-      by b (subst (λ x. IsAlike (cond x (Some new) (node_led before front)) (node_led after front)) e
+  hides_at front b e = by b (subst (λ x. IsAlike (cond x (Some new) (node_led before front)) (node_led after front)) e
       (make_is_seen upper top ud c w new top_tree top_directory takes vacant bare front))
     where
       by : (b : Bool) → IsAlike (cond b (Some new) (node_led before front)) (node_led after front)

@@ -1,5 +1,6 @@
 -- That the tree of an overlay is what its layers show, as one equation for each path.
-use Rattle.std.proofs.Common.{◌≡◌, refl, sym, ap, subst, ◌∙◌, true≢false, ℕ, zero, suc, true, false, List, Option, Some, None, is_some}
+use Rattle.std.proofs.Common.{arith, ◌≡◌, refl, sym, ap, ◌∙◌, true≢false, ℕ, zero, suc, true, false, List, Option, Some, None, is_some}
+use Rattle.std.proofs.lemmas.Grind.{common_steps}
 use Rattle.std.specs.Prelude.{option_map}
 use Rattle.vt_spec.specs.declared.attributes.Kind.TheVariants.{White}
 use Rattle.vt_spec.specs.FileTree.{is_kind_in, is_opaque_in}
@@ -33,13 +34,11 @@ object_is_not_none (Some node) t same = same
 
 -- what is shown is there
 pub shown_is_there : (layers : List (OpenLayer ℕ)) → AreOpen layers → (path : List (List ℕ)) (seen : Shown ℕ)
-    → shown layers path ≡ Some seen
-    → is_some (layer_node layers seen) ≡ true
+    → shown layers path ≡ Some seen → is_some (layer_node layers seen) ≡ true
 shown_is_there layers are_open path seen e =
     let is = (computed layers path seen).0 e in
     let open_one = are_open seen.layer is.has_uncut.0.0 is.has_uncut.0.1 in
-    ap (λ o. is_some (then_some o (λ layer. layer.tree.node seen.object))) is.has_uncut.0.1
-    ∙ led_is_there is.has_uncut.0.0 open_one.0 open_one.1 path seen.object is.has_uncut.0.2
+    grind (arith, common_steps, led_is_there)
 
 module _ (stack : Stack ℕ) (merge : Merge ℕ) where
   pub record IsFine : Type 0 where
@@ -91,36 +90,9 @@ module _ (stack : Stack ℕ) (merge : Merge ℕ) where
           (record { path = path; seen = record { layer = layer; object = object } }))
           ≡ layer_node layers (record { layer = layer; object = object })
       by zero object is = refl
-      by (suc layer) object is =
-          ap (λ o. then_some o (λ lower. node_at_path lower path)) is.has_uncut.0.1
+      by (suc layer) object is = ap (λ o. then_some o (λ lower. node_at_path lower path)) is.has_uncut.0.1
           ∙ ap (λ o. then_some o is.has_uncut.0.0.tree.node) is.has_uncut.0.2
           ∙ sym (ap (λ o. then_some o (λ lower. lower.tree.node object)) is.has_uncut.0.1)
 
   pub what_is_shown : IsFine → IsWhatIsShown stack merge
-  what_is_shown is = record {
-    shows = λ path. by path (number_at_path merge.files path) (is.paths path);
-    names = λ path number e. sym (ap (λ o. then_some o merge.real) e) ∙ is.paths path;
-    real_objects = is.objects;
-    real_there = is.there;
-    no_whiteout = is.whiteout;
-    no_mark = is.mark;
-    upper_there = is.upper;
-    one_to_one = is.one;
-  }
-    where
-      at : (path : List (List ℕ)) (number : ℕ) (o : Option (Shown ℕ)) → shown layers path ≡ o
-          → merge.real number ≡ real_by path o
-          → SameObject (merge.files.tree.node number) (then_some o (layer_node layers))
-      at path number None e real = subst
-          (λ r. SameObject (merge.files.tree.node number) (then_some r (inode_behind stack merge))) real
-          (is.objects number)
-      at path number (Some seen) e real =
-          subst (SameObject (merge.files.tree.node number)) (behind_shown path seen e)
-          (subst (λ r. SameObject (merge.files.tree.node number) (then_some r (inode_behind stack merge))) real
-          (is.objects number))
-
-      by : (path : List (List ℕ)) (o : Option ℕ) → then_some o merge.real ≡ real_seen stack merge path
-          → SameObject (then_some o merge.files.tree.node) (then_some (shown layers path) (layer_node layers))
-      by path None e = subst (λ o. SameObject None (then_some o (layer_node layers)))
-          (sym (real_by_none path (shown layers path) (sym e))) tt
-      by path (Some number) e = at path number (shown layers path) refl e
+  what_is_shown is = grind (arith, common_steps, behind_shown, real_by_none)

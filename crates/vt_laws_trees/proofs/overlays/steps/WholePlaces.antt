@@ -37,8 +37,7 @@ names_lead tree (suc steps) directory r =
 module _ (files : FileTree ℕ) (tree : IsTree files.tree) (numbers : ListsNumbers nat_eq files) where
   -- the name of a directory in its parent
   own_is : (parent : ℕ) (name : List ℕ) (directory : ℕ) → entry_at files.tree parent name ≡ Some directory
-      → IsDirectory files.tree directory
-      → own_name nat_eq files directory ≡ name
+      → IsDirectory files.tree directory → own_name nat_eq files directory ≡ name
   own_is parent name directory e d =
       ap (λ p. unwrap_or (option_map (λ (n : ℕ × List ℕ). n.1) (name_in nat_eq files directory p)) [])
       (tree.one_parent parent name directory e d)
@@ -81,8 +80,7 @@ module _ (files : FileTree ℕ) (tree : IsTree files.tree) (numbers : ListsNumbe
     ap (is_among nat_eq files.tree.root) (up_at_root files tree most directory r)
         ∙ ap (λ b. b || false) (eq-eqb files.tree.root directory (sym r)),
     ap (λ l. reverse (map (own_name nat_eq files) (before_first (nat_eq files.tree.root) l)))
-        (up_at_root files tree most directory r)
-        ∙ ap (λ l. reverse (map (own_name nat_eq files) l))
+        (up_at_root files tree most directory r) ∙ ap (λ l. reverse (map (own_name nat_eq files) l))
         (take_while-cons (λ a. not (nat_eq files.tree.root a)) directory []
         ∙ ap (λ b. cond (not b) (directory ∷ []) []) (eq-eqb files.tree.root directory (sym r))),
   )
@@ -96,24 +94,21 @@ module _ (files : FileTree ℕ) (tree : IsTree files.tree) (numbers : ListsNumbe
             ∙ ap (λ l. reverse (map (own_name nat_eq files) l))
             (take_while-cons (λ a. not (nat_eq files.tree.root a)) directory above
             ∙ ap (λ b. cond (not b) (directory ∷ before_first (nat_eq files.tree.root) above) [])
-            (not_root r.0 r.1 directory r.3))
-            ∙ reverse-cons (own_name nat_eq files directory)
+            (not_root r.0 r.1 directory r.3)) ∙ reverse-cons (own_name nat_eq files directory)
             (map (own_name nat_eq files) (before_first (nat_eq files.tree.root) above))
             ∙ ap (λ l. l ++ own_name nat_eq files directory ∷ []) rest.1
             ∙ ap (λ n. names_to files.tree steps r.0 r.2 ++ n ∷ []) (own_is r.0 r.1 directory r.3 r.4),
       )
 
   reached_of : (path : List (List ℕ)) (directory : ℕ) → led files.tree files.tree.root path ≡ Some directory
-      → IsDirectory files.tree directory
-      → (steps : ℕ) × ReachedIn files.tree steps directory
+      → IsDirectory files.tree directory → (steps : ℕ) × ReachedIn files.tree steps directory
   reached_of [] directory e d = (zero, sym (same_Some files.tree.root directory e))
   reached_of (word ∷ path) directory e d =
       let last = last_of (word ∷ path) (not_empty word path) in
       by last.1 (led files.tree files.tree.root last.0) refl
       (sym (last_name files.tree files.tree.root last.0 last.1) ∙ ap (led files.tree files.tree.root) last.2 ∙ e)
     where
-      by : (name : List ℕ) (o : Option ℕ) → o ≡ o
-          → option_and_then (λ p. entry_at files.tree p name) o ≡ Some directory
+      by : (name : List ℕ) (o : Option ℕ) → o ≡ o → option_and_then (λ p. entry_at files.tree p name) o ≡ Some directory
           → (steps : ℕ) × ReachedIn files.tree steps directory
       by name None s e = none_is_some directory e
       by name (Some parent) s e =
@@ -122,8 +117,7 @@ module _ (files : FileTree ℕ) (tree : IsTree files.tree) (numbers : ListsNumbe
 
   -- the path of a directory is found
   pub path_down_is : (path : List (List ℕ)) (directory : ℕ) → led files.tree files.tree.root path ≡ Some directory
-      → IsDirectory files.tree directory
-      → path_down nat_eq files files.tree.root directory ≡ Some path
+      → IsDirectory files.tree directory → path_down nat_eq files files.tree.root directory ≡ Some path
   path_down_is path directory e d =
       let reached = reached_of path directory e d in
       let names = up_names (length files.numbers) reached.0 directory reached.1
@@ -154,10 +148,8 @@ shown_longer layers are_open depth (next ∷ rest) path word seen e =
 
 -- a directory that lower layers show is one that all layers show below the first
 pub directory_below_top : (top : OpenLayer ℕ) (lowers : List (OpenLayer ℕ)) (path : List (List ℕ))
-    → ShowsDirectory 1 lowers path
-    → is_directory_shown (top ∷ lowers) (shown_from 1 lowers path) ≡ true
-directory_below_top top lowers path shows =
-    ap (is_directory_shown (top ∷ lowers)) shows.is
+    → ShowsDirectory 1 lowers path → is_directory_shown (top ∷ lowers) (shown_from 1 lowers path) ≡ true
+directory_below_top top lowers path shows = ap (is_directory_shown (top ∷ lowers)) shows.is
     ∙ ap (λ n. holds_of (λ layer. is_directory_node (layer.tree.node shows.object)) (slice_get (top ∷ lowers) n))
     (let h : 1 + shows.place ≡ suc shows.place = omega arith in h)
     ∙ ap (holds_of (λ layer. is_directory_node (layer.tree.node shows.object))) shows.there ∙ shows.directory

@@ -1,5 +1,6 @@
 -- A name is taken away, with a whiteout or without one: the tree is still what the layers show.
-use Rattle.std.proofs.Common.{◌≡◌, ◌≢◌, refl, sym, ap, subst, ◌∙◌, true≢false, ne_eqb, ◌⊎◌, ⊎_elim, inl, inr, ℕ, suc, nat_eq, Bool, true, false, not, cond, ◌||◌, List, [], ◌∷◌, ◌++◌, map, Option, Some, None, is_some, option_and_then}
+use Rattle.std.proofs.Common.{arith, ◌≡◌, ◌≢◌, refl, sym, ap, subst, ◌∙◌, true≢false, ne_eqb, ◌⊎◌, ⊎_elim, inl, inr, ℕ, suc, nat_eq, Bool, true, false, not, cond, ◌||◌, List, [], ◌∷◌, ◌++◌, map, Option, Some, None, is_some, option_and_then}
+use Rattle.std.proofs.lemmas.Grind.{common_steps}
 use Rattle.vt_spec.specs.declared.attributes.Kind.TheVariants.{White}
 use Rattle.vt_spec.specs.FileTree.{FileTree, is_kind, is_kind_in}
 use Rattle.vt_spec.specs.Language.Changes.{changed, changed_node, node_with_parent, node_without_entries, node_without_entry, without_name}
@@ -12,8 +13,8 @@ use Rattle.vt_spec.specs.Machine.World.{Real, upper_object}
 use Rattle.vt_spec.specs.Machine.World.Real.{Lower, Upper}
 use Rattle.vt_spec.specs.Machine.Invariants.{number_at_path}
 use Rattle.vt_spec.specs.Rights.{is_directory}
-use Rattle.vt_spec.specs.Tree.{Content, Node, entries_in, entry_named, is_directory_node, kind_of}
-use Rattle.vt_spec.specs.Tree.Content.{Directory, Regular, Symlink, Whiteout}
+use Rattle.vt_spec.specs.Tree.{Node, entries_in, entry_named, is_directory_node}
+use Rattle.vt_spec.specs.Tree.Content.{Directory}
 use Rattle.vt_spec.specs.TreeInvariant.{IsDirectory, IsTree, entry_at, led}
 use Rattle.vt_spec.proofs.Trees.{led-append}
 use Rattle.vt_laws_trees.specs.Trees.{MayRemove}
@@ -52,19 +53,10 @@ use Rattle.vt_spec.proofs.Options.{none_is_some}
 use Rattle.vt_laws_trees.proofs.overlays.steps.WholeLeft.{emptied_alike}
 
 pub white_hides : (o : Option (Node ℕ)) → is_kind_in White o ≡ true → hides o ≡ true
-white_hides None e = absurd (true≢false (sym e))
-white_hides (Some node) e = by node.content e
-  where
-    by : (c : Content ℕ) → is_kind White (kind_of c) ≡ true
-        → (not (is_directory (kind_of c)) || Rattle.vt_spec.specs.FileTree.opaque_of c) ≡ true
-    by (Directory p n o) e = absurd (true≢false (sym e))
-    by (Regular b) e = refl
-    by (Symlink b) e = refl
-    by Whiteout e = refl
+white_hides o e = grind (arith, common_steps, true≢false)
 
 module _ (stack : Stack ℕ) (merge : Merge ℕ) (whole : IsWhole stack merge) (d : ℕ) (w : List ℕ) (object : ℕ)
-    (stands : StandsInUpper merge d)
-    (may : MayRemove merge.files.tree d w object) where
+    (stands : StandsInUpper merge d) (may : MayRemove merge.files.tree d w object) where
   abbrev ud : ℕ
   ud = upper_of merge d
 
@@ -104,13 +96,11 @@ module _ (stack : Stack ℕ) (merge : Merge ℕ) (whole : IsWhole stack merge) (
 
   -- the way to the directory does not go through the name
   way_elsewhere : (to : List (List ℕ)) → number_at_path merge.files to ≡ Some d → goes_through before ud w to ≡ false
-  way_elsewhere to e =
-      sym (same_through stack merge whole d ud real_d ud_directory w to)
+  way_elsewhere to e = sym (same_through stack merge whole d ud real_d ud_directory w to)
       ∙ way_goes_elsewhere merge.files merge.files.tree.root d w whole.tree object may.named to e
 
   -- The upper layer afterwards
-  module _ (upper : FileTree ℕ) (x : Option ℕ)
-      (led_after : (path : List (List ℕ)) → led upper.tree stack.directory path
+  module _ (upper : FileTree ℕ) (x : Option ℕ) (led_after : (path : List (List ℕ)) → led upper.tree stack.directory path
       ≡ cond (names_entry before ud w path) x
       (cond (goes_through before ud w path) None (led merge.upper.tree stack.directory path)))
       (alike : (u : ℕ) → is_some (merge.upper.tree.node u) ≡ true
@@ -128,23 +118,18 @@ module _ (stack : Stack ℕ) (merge : Merge ℕ) (whole : IsWhole stack merge) (
 
     leads_old : (path : List (List ℕ)) → goes_through before ud w path ≡ false
         → led upper.tree stack.directory path ≡ led merge.upper.tree stack.directory path
-    leads_old path none =
-        led_after path
+    leads_old path none = led_after path
         ∙ ap (λ b. cond b x (cond (goes_through before ud w path) None (led merge.upper.tree stack.directory path)))
-        (names_not path none)
-        ∙ ap (λ b. cond b None (led merge.upper.tree stack.directory path)) none
+        (names_not path none) ∙ ap (λ b. cond b None (led merge.upper.tree stack.directory path)) none
 
     leads_none : (path : List (List ℕ)) → goes_through before ud w path ≡ true → names_entry before ud w path ≡ false
         → led upper.tree stack.directory path ≡ None
-    leads_none path through other =
-        led_after path
-        ∙ ap (λ b. cond b x (cond (goes_through before ud w path) None
+    leads_none path through other = led_after path ∙ ap (λ b. cond b x (cond (goes_through before ud w path) None
         (led merge.upper.tree stack.directory path))) other
         ∙ ap (λ b. cond b None (led merge.upper.tree stack.directory path)) through
 
     leads_here : (path : List (List ℕ)) → names_entry before ud w path ≡ true → led upper.tree stack.directory path ≡ x
-    leads_here path e =
-        led_after path ∙ ap (λ b. cond b x
+    leads_here path e = led_after path ∙ ap (λ b. cond b x
         (cond (goes_through before ud w path) None (led merge.upper.tree stack.directory path))) e
 
     is_there : (path : List (List ℕ)) (k : ℕ) → led merge.upper.tree stack.directory path ≡ Some k
@@ -160,14 +145,12 @@ module _ (stack : Stack ℕ) (merge : Merge ℕ) (whole : IsWhole stack merge) (
         by : (o : Option ℕ) → led merge.upper.tree stack.directory front ≡ o
             → hides (then_some o upper.tree.node) ≡ hides (then_some o merge.upper.tree.node)
         by None l = refl
-        by (Some k) l =
-            hiding_alike (merge.upper.tree.node k) (upper.tree.node k)
+        by (Some k) l = hiding_alike (merge.upper.tree.node k) (upper.tree.node k)
             (hides_so (merge.upper.tree.node k) (upper.tree.node k) (alike k (is_there front k l)))
 
     shown_old : (path : List (List ℕ)) → goes_through before ud w path ≡ false
         → shown_from 0 (after ∷ lowers) path ≡ shown_from 0 (before ∷ lowers) path
-    shown_old path none =
-        over_same before after lowers path (leads_old path none)
+    shown_old path none = over_same before after lowers path (leads_old path none)
         (λ k l. white_alike (merge.upper.tree.node k) (upper.tree.node k) (alike k (is_there path k l)))
         (prefixes_agree (λ front. hides (node_led before front)) (λ front. hides (node_led after front)) path
         (λ front f. hides_old front (prefixes_fail (names_entry before ud w) path front f none)))
@@ -179,8 +162,7 @@ module _ (stack : Stack ℕ) (merge : Merge ℕ) (whole : IsWhole stack merge) (
         fails (cuts before to) (λ cut. found (prefix_found (λ front. hides (node_led before front)) to cut))
       where
         found : (front : List (List ℕ)) × IsFrontOf front to × (hides (node_led before front) ≡ true) → ⊥
-        found f =
-            true≢false (sym (prefix_passes (λ front. hides (node_led after front)) path f.0 (f.1.0 ++ w ∷ rest)
+        found f = true≢false (sym (prefix_passes (λ front. hides (node_led after front)) path f.0 (f.1.0 ++ w ∷ rest)
             (sym (append_assoc f.0 f.1.0 (w ∷ rest)) ∙ ap (λ p. p ++ w ∷ rest) f.1.1 ∙ is) f.1.2
             (hides_old f.0 (prefixes_fail (names_entry before ud w) to f.0 f.1 (way_elsewhere to there)) ∙ f.2))
             ∙ uncut)
@@ -199,21 +181,18 @@ module _ (stack : Stack ℕ) (merge : Merge ℕ) (whole : IsWhole stack merge) (
             absurd (seen parts.0 parts.1 parts.2 parts.3)
           where
             here : (to : List (List ℕ)) (rest : List (List ℕ)) → to ++ w ∷ rest ≡ path
-                → led merge.upper.tree stack.directory to ≡ Some ud
-                → shown_from 1 lowers (to ++ w ∷ []) ≡ None
+                → led merge.upper.tree stack.directory to ≡ Some ud → shown_from 1 lowers (to ++ w ∷ []) ≡ None
             here to rest is l =
                 let there = same_is _ d (same_place stack merge whole d ud real_d ud_directory to
                 ∙ same_holds _ ud l) in
-                sym (below_name stack merge whole d w to there d_directory (uncut_to to rest path is there uncut))
-                ∙ none
+                grind (arith, common_steps, below_name, there, d_directory, uncut_to)
 
             seen : (to rest : List (List ℕ)) → to ++ w ∷ rest ≡ path
                 → led merge.upper.tree stack.directory to ≡ Some ud → ⊥
             seen to [] is l = none_is_some s (sym (here to [] is l) ∙ ap (shown_from 1 lowers) is ∙ e)
             seen to (next ∷ rest) is l =
                 let shows = shown_longer stack.lowers (λ k layer f. whole.layers (suc k) layer f) 1 rest
-                (to ++ w ∷ []) next s
-                (ap (shown_from 1 lowers) (append_assoc to (w ∷ []) (next ∷ rest) ∙ is) ∙ e) in
+                (to ++ w ∷ []) next s (ap (shown_from 1 lowers) (append_assoc to (w ∷ []) (next ∷ rest) ∙ is) ∙ e) in
                 none_is_some _ (sym (here to (next ∷ rest) is l) ∙ shows.is)
 
         plain : (x ≡ None) × (shown_in_lowers_at nat_eq stack merge d w ≡ None)
@@ -229,8 +208,7 @@ module _ (stack : Stack ℕ) (merge : Merge ℕ) (whole : IsWhole stack merge) (
 
             by : (b : Bool) → cuts after path ≡ b → shown_from 0 (after ∷ lowers) path ≡ None
             by true cut = cut_shows_none after lowers path leads cut
-            by false cut =
-                ap (λ o. shown_over after 0 o (cuts after path) (shown_from 1 lowers path)) leads
+            by false cut = ap (λ o. shown_over after 0 o (cuts after path) (shown_from 1 lowers path)) leads
                 ∙ ap (λ b. shown_over after 0 None b (shown_from 1 lowers path)) cut
                 ∙ lower_none p.1 cut (shown_from 1 lowers path) refl
 
@@ -250,8 +228,7 @@ module _ (stack : Stack ℕ) (merge : Merge ℕ) (whole : IsWhole stack merge) (
 
     number_after : (path : List (List ℕ)) (b : Bool) → names_entry before ud w path ≡ b
         → number_at_path files path ≡ cond b None (number_at_path merge.files path)
-    number_after path b e =
-        remove_takes_path merge.files merge.files.tree.root d object w may.named may.empty path
+    number_after path b e = remove_takes_path merge.files merge.files.tree.root d object w may.named may.empty path
         ∙ ap (λ y. cond y None (number_at_path merge.files path))
         (same_entry stack merge whole d ud real_d ud_directory w path ∙ e)
 
@@ -261,8 +238,7 @@ module _ (stack : Stack ℕ) (merge : Merge ℕ) (whole : IsWhole stack merge) (
         none_there : goes_through before ud w path ≡ true → (b : Bool) → names_entry before ud w path ≡ b
             → number_at_path files path ≡ None
         none_there through true e = number_after path true e
-        none_there through false e =
-            number_after path false e
+        none_there through false e = number_after path false e
             ∙ through_bare merge.files merge.files.tree.root d object w may.named
             (no_entries merge.files.tree object may.empty) path
             (same_through stack merge whole d ud real_d ud_directory w path ∙ through)
@@ -270,23 +246,20 @@ module _ (stack : Stack ℕ) (merge : Merge ℕ) (whole : IsWhole stack merge) (
 
         by : (b : Bool) → goes_through before ud w path ≡ b
             → then_some (number_at_path files path) merge.real ≡ real_seen stack later path
-        by true through =
-            ap (λ o. then_some o merge.real) (none_there through (names_entry before ud w path) refl)
+        by true through = ap (λ o. then_some o merge.real) (none_there through (names_entry before ud w path) refl)
             ∙ sym (ap (real_by path) (none_after path through))
         by false none =
             ap (λ o. then_some o merge.real) (number_after path false (names_not path none)) ∙ fine_before.paths path
             ∙ sym (ap (real_by path) (shown_old path none))
 
     pub later_is_fine : IsFine stack later
-    later_is_fine =
-        rearranged_is_fine stack merge fine_before files upper
+    later_is_fine = rearranged_is_fine stack merge fine_before files upper
         (λ n. names_leave_inodes merge.files (Remove d w object) merge.files.tree.root n refl)
         (λ n u r. alike u (fine_before.upper n u r)) paths_later
 
   -- A replaced directory loses its names
   module _ (first : FileTree ℕ) (x : Option ℕ) (new : (k : ℕ) → x ≡ Some k → merge.upper.tree.node k ≡ None)
-      (led_first : (path : List (List ℕ)) → led first.tree stack.directory path
-      ≡ cond (names_entry before ud w path) x
+      (led_first : (path : List (List ℕ)) → led first.tree stack.directory path ≡ cond (names_entry before ud w path) x
       (cond (goes_through before ud w path) None (led merge.upper.tree stack.directory path))) where
     -- the object's own directory is not reached any more
     unreached : (uo : ℕ) → merge.real object ≡ Some (Upper uo) → IsDirectory merge.files.tree object
@@ -297,8 +270,7 @@ module _ (stack : Stack ℕ) (merge : Merge ℕ) (whole : IsWhole stack merge) (
         uo_directory = directory_above stack merge whole object uo r ∙ is_dir
 
         named_in_upper : entry_at merge.upper.tree ud w ≡ Some uo
-        named_in_upper =
-            sym (last_name merge.upper.tree stack.directory way.0 w
+        named_in_upper = sym (last_name merge.upper.tree stack.directory way.0 w
             ∙ ap (option_and_then (λ n. entry_at merge.upper.tree n w)) up_way)
             ∙ named_above stack merge whole (way.0 ++ w ∷ []) object uo
             (led-append merge.files.tree merge.files.tree.root way.0 w d object way.1 may.named) r
@@ -335,18 +307,13 @@ module _ (stack : Stack ℕ) (merge : Merge ℕ) (whole : IsWhole stack merge) (
                 ∙ entry_named_so merge.upper stack.directory ud w front (f ∙ ap Some same)
 
         by : (a : Bool) → names_entry before ud w path ≡ a → (b : Bool) → goes_through before ud w path ≡ b → ⊥
-        by true n b g =
-            true≢false (sym there ∙ ap is_some (new uo
-            (sym (led_first path ∙ ap (λ y.
+        by true n b g = true≢false (sym there ∙ ap is_some (new uo (sym (led_first path ∙ ap (λ y.
             cond y x (cond (goes_through before ud w path) None (led merge.upper.tree stack.directory path))) n) ∙ e)))
-        by false n true g =
-            none_is_some uo (sym (led_first path
+        by false n true g = none_is_some uo (sym (led_first path
             ∙ ap (λ y. cond y x (cond (goes_through before ud w path) None
             (led merge.upper.tree stack.directory path))) n
             ∙ ap (λ y. cond y None (led merge.upper.tree stack.directory path)) g) ∙ e)
-        by false n false g =
-            true≢false (sym (old path (sym
-            (led_first path ∙ ap (λ y. cond y x
+        by false n false g = true≢false (sym (old path (sym (led_first path ∙ ap (λ y. cond y x
             (cond (goes_through before ud w path) None (led merge.upper.tree stack.directory path))) n
             ∙ ap (λ y. cond y None (led merge.upper.tree stack.directory path)) g) ∙ e)) ∙ n)
 
@@ -357,8 +324,7 @@ module _ (stack : Stack ℕ) (merge : Merge ℕ) (whole : IsWhole stack merge) (
         ≡ led first.tree stack.directory path
     emptied_led None is path = refl
     emptied_led (Some uo) is path =
-        led_where first.tree (without_contents nat_eq first (Some uo)).tree path stack.directory
-        (λ to inode l word.
+        led_where first.tree (without_contents nat_eq first (Some uo)).tree path stack.directory (λ to inode l word.
         let differ = ne_eqb inode uo (λ same. unreached uo (is uo refl).0 (is uo refl).1 to (l ∙ ap Some same)) in
         ap (λ n. entry_named word (entries_in n))
         (kept_elsewhere (changed_node nat_eq first uo node_without_entries) uo (node_with_parent uo) inode differ
@@ -367,9 +333,7 @@ module _ (stack : Stack ℕ) (merge : Merge ℕ) (whole : IsWhole stack merge) (
   -- the upper directory that has the name is the object's
   is_own : (uo : ℕ) → upper_directory_named merge d w ≡ Some uo
       → (merge.real object ≡ Some (Upper uo)) × IsDirectory merge.files.tree object
-  is_own uo e =
-      by (is_directory_node (merge.files.tree.node object)) refl
-      (sym (ap (λ o. then_some o (λ k.
+  is_own uo e = by (is_directory_node (merge.files.tree.node object)) refl (sym (ap (λ o. then_some o (λ k.
       cond (is_directory_node (merge.files.tree.node k)) (upper_object (merge.real k)) None)) may.named) ∙ e)
     where
       upper_is : (r : Option (Real ℕ)) → upper_object r ≡ Some uo → r ≡ Some (Upper uo)
@@ -387,12 +351,9 @@ module _ (stack : Stack ℕ) (merge : Merge ℕ) (whole : IsWhole stack merge) (
   plain_led : (path : List (List ℕ)) → led (without_name nat_eq merge.upper ud w).tree stack.directory path
       ≡ cond (names_entry before ud w path) None
       (cond (goes_through before ud w path) None (led merge.upper.tree stack.directory path))
-  plain_led path =
-      entry_gone merge.upper.tree (without_name nat_eq merge.upper ud w).tree ud w
-      (taken merge.upper ud w) path stack.directory
-      ∙ ap (λ b. cond b None (led merge.upper.tree stack.directory path))
-      (sym (goes_through_it merge.upper.tree ud w path stack.directory))
-      ∙ sym (by (names_entry before ud w path) refl)
+  plain_led path = entry_gone merge.upper.tree (without_name nat_eq merge.upper ud w).tree ud w
+      (taken merge.upper ud w) path stack.directory ∙ ap (λ b. cond b None (led merge.upper.tree stack.directory path))
+      (sym (goes_through_it merge.upper.tree ud w path stack.directory)) ∙ sym (by (names_entry before ud w path) refl)
     where
       through : names_entry before ud w path ≡ true → goes_through before ud w path ≡ true
       through n = at path n
@@ -408,22 +369,18 @@ module _ (stack : Stack ℕ) (merge : Merge ℕ) (whole : IsWhole stack merge) (
       by true n = sym (ap (λ b. cond b None (led merge.upper.tree stack.directory path)) (through n))
       by false n = refl
 
-  pub plain_is_fine : shown_in_lowers_at nat_eq stack merge d w ≡ None
-      → IsFine stack (record merge {
-        files = files;
-        upper = without_contents nat_eq (without_name nat_eq merge.upper ud w)
-            (upper_directory_named merge d w);
-      })
+  pub plain_is_fine : shown_in_lowers_at nat_eq stack merge d w ≡ None → IsFine stack (record merge {
+    files = files;
+    upper = without_contents nat_eq (without_name nat_eq merge.upper ud w) (upper_directory_named merge d w);
+  })
   plain_is_fine none =
       let first = without_name nat_eq merge.upper ud w in
       let o = upper_directory_named merge d w in
       let no_new : (k : ℕ) → None ≡ Some k → merge.upper.tree.node k ≡ None = λ k e. none_is_some k e in
       later_is_fine (without_contents nat_eq first o) None
-      (λ path. emptied_led first None no_new plain_led o is_own path ∙ plain_led path)
-      (λ u there.
+      (λ path. emptied_led first None no_new plain_led o is_own path ∙ plain_led path) (λ u there.
       alike_both (merge.upper.tree.node u) (first.tree.node u) _
-      (alike_after merge.upper ud (node_without_entry w) (without_entry_keeps w) u)
-      (emptied_alike first o u))
+      (alike_after merge.upper ud (node_without_entry w) (without_entry_keeps w) u) (emptied_alike first o u))
       (inl (refl, none))
 
   -- with one
@@ -448,29 +405,20 @@ module _ (stack : Stack ℕ) (merge : Merge ℕ) (whole : IsWhole stack merge) (
         let inodes = make_adds_inode merge.upper stack.directory ud c w
         (whiteout_of stack.mounter) ud_directory vacant in
         later_is_fine (without_contents nat_eq whited o) (Some c)
-        (λ path. emptied_led whited (Some c) new_number white_led o is_own path ∙ white_led path)
-        (λ u there.
-        alike_both (merge.upper.tree.node u) (whited.tree.node u) _
-        (inodes.1 u (λ same. true≢false
-        (sym there ∙ ap (λ n. is_some (merge.upper.tree.node n)) same ∙ ap is_some vacant)))
-        (emptied_alike whited o u))
-        (inr (
-          c,
-          refl,
-          white_alike (whited.tree.node c) _ (emptied_alike whited o c)
-              ∙ ap (is_kind_in White) inodes.0,
-        ))
+        (λ path. emptied_led whited (Some c) new_number white_led o is_own path ∙ white_led path) (λ u there.
+        alike_both (merge.upper.tree.node u) (whited.tree.node u) _ (inodes.1 u (λ same. true≢false
+        (sym there ∙ ap (λ n. is_some (merge.upper.tree.node n)) same ∙ ap is_some vacant))) (emptied_alike whited o u))
+        (inr (c, refl, white_alike (whited.tree.node c) _ (emptied_alike whited o c) ∙ ap (is_kind_in White) inodes.0))
 
 pub remove_keeps_shown : RemoveKeepsShown
 remove_keeps_shown fresh stack merge d w object whole stands vacant may =
     what_is_shown stack (merge_without_name nat_eq fresh stack merge d w object) (by
     (shown_in_lowers_at nat_eq stack merge d w) refl)
   where
-    by : (o : Option (Shown ℕ)) → shown_in_lowers_at nat_eq stack merge d w ≡ o
-        → IsFine stack (record merge {
-          files = changed nat_eq merge.files (Remove d w object);
-          upper = without_contents nat_eq (name_left_by nat_eq (is_some o) fresh stack merge.upper (upper_of merge d) w)
-              (upper_directory_named merge d w);
-        })
+    by : (o : Option (Shown ℕ)) → shown_in_lowers_at nat_eq stack merge d w ≡ o → IsFine stack (record merge {
+      files = changed nat_eq merge.files (Remove d w object);
+      upper = without_contents nat_eq (name_left_by nat_eq (is_some o) fresh stack merge.upper (upper_of merge d) w)
+          (upper_directory_named merge d w);
+    })
     by None e = plain_is_fine stack merge whole d w object stands may e
     by (Some seen) e = white_is_fine stack merge whole d w object stands may (fresh 0) vacant

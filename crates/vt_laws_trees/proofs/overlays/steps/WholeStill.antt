@@ -1,5 +1,6 @@
 -- An overlay in which all inodes and their real objects are as they were, but for names.
-use Rattle.std.proofs.Common.{◌≡◌, refl, ◌∙◌, ℕ, List, Option, Some, None}
+use Rattle.std.proofs.Common.{arith, ◌≡◌, ◌∙◌, ℕ, List, Option, Some, None}
+use Rattle.std.proofs.lemmas.Grind.{common_steps}
 use Rattle.vt_spec.specs.FileTree.{FileTree}
 use Rattle.vt_spec.specs.Lists.{then_some}
 use Rattle.vt_spec.specs.Machine.CopyUp.{Merge, Stack}
@@ -34,12 +35,4 @@ module _ (stack : Stack ℕ) (merge : Merge ℕ) (is_fine : IsFine stack merge) 
 
   pub rearranged_is_fine : ((path : List (List ℕ))
       → then_some (number_at_path files path) merge.real ≡ real_seen stack rearranged path) → IsFine stack rearranged
-  rearranged_is_fine paths = record {
-    paths = paths;
-    objects = λ n. object_same n (merge.real n) refl (is_fine.objects n);
-    there = λ n none. is_fine.there n (none_before (merge.files.tree.node n) (files.tree.node n) (others n).there none);
-    whiteout = λ n. white_alike (merge.files.tree.node n) (files.tree.node n) (others n) ∙ is_fine.whiteout n;
-    mark = λ n. (others n).mark ∙ is_fine.mark n;
-    upper = λ n u r. (above n u r).there ∙ is_fine.upper n u r;
-    one = is_fine.one;
-  }
+  rearranged_is_fine paths = grind (arith, common_steps, object_same, none_before, white_alike)

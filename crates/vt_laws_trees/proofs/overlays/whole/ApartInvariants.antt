@@ -41,19 +41,15 @@ pub pair_same : (r : Filesystem ℕ → Filesystem ℕ) (fs : List (Filesystem �
     → any_pair (λ (a b : Filesystem ℕ). nat_eq a.number b.number) (map r fs)
     ≡ any_pair (λ (a b : Filesystem ℕ). nat_eq a.number b.number) fs
 pair_same r [] same = refl
-pair_same r (f ∷ fs) same =
-    ap (λ b. b || any_pair (λ (a b : Filesystem ℕ). nat_eq a.number b.number) (map r fs))
+pair_same r (f ∷ fs) same = ap (λ b. b || any_pair (λ (a b : Filesystem ℕ). nat_eq a.number b.number) (map r fs))
     (any (r f).number f.number (same f) fs)
     ∙ ap (λ b. list_any (λ (g : Filesystem ℕ). nat_eq f.number g.number) fs || b) (pair_same r fs same)
   where
-    any : (a b : ℕ) → a ≡ b → (gs : List (Filesystem ℕ))
-        → list_any (λ (g : Filesystem ℕ). nat_eq a g.number) (map r gs)
+    any : (a b : ℕ) → a ≡ b → (gs : List (Filesystem ℕ)) → list_any (λ (g : Filesystem ℕ). nat_eq a g.number) (map r gs)
         ≡ list_any (λ (g : Filesystem ℕ). nat_eq b g.number) gs
     any a b e [] = refl
-    any a b e (g ∷ gs) =
-        ap (λ x. x || list_any (λ (h : Filesystem ℕ). nat_eq a h.number) (map r gs))
-        (ap (λ n. nat_eq n (r g).number) e ∙ ap (nat_eq b) (same g))
-        ∙ ap (λ x. nat_eq b g.number || x) (any a b e gs)
+    any a b e (g ∷ gs) = ap (λ x. x || list_any (λ (h : Filesystem ℕ). nat_eq a h.number) (map r gs))
+        (ap (λ n. nat_eq n (r g).number) e ∙ ap (nat_eq b) (same g)) ∙ ap (λ x. nat_eq b g.number || x) (any a b e gs)
 
 module _ (fresh : Fresh ℕ) (world : World ℕ) (location : Location ℕ) (change : Change ℕ) (overlay : Overlay ℕ)
     (upper : Layer ℕ) (conditions : IsWorld nat_eq world)
@@ -87,10 +83,8 @@ module _ (fresh : Fresh ℕ) (world : World ℕ) (location : Location ℕ) (chan
   -- the filesystems afterwards
   pub filesystem_then : (f : Filesystem ℕ) → Among f later.filesystems
       → (f ≡ changed) ⊎ ((f ≡ changed_upper) ⊎ Among f world.filesystems)
-  filesystem_then f m =
-      from (among-from_map (replaced_if_numbered nat_eq changed_upper)
-      (map (replaced_if_numbered nat_eq changed) world.filesystems) f
-      (subst (λ w. Among f w.filesystems) later_is m))
+  filesystem_then f m = from (among-from_map (replaced_if_numbered nat_eq changed_upper)
+      (map (replaced_if_numbered nat_eq changed) world.filesystems) f (subst (λ w. Among f w.filesystems) later_is m))
     where
       at : (old : Filesystem ℕ) → Among old world.filesystems → (p q : Bool)
           → f ≡ cond q changed_upper (cond p changed old)
@@ -102,8 +96,7 @@ module _ (fresh : Fresh ℕ) (world : World ℕ) (location : Location ℕ) (chan
       again : (one : Filesystem ℕ) → f ≡ replaced_if_numbered nat_eq changed_upper one
           → (old : Filesystem ℕ) × Among old world.filesystems × (one ≡ replaced_if_numbered nat_eq changed old)
           → (f ≡ changed) ⊎ ((f ≡ changed_upper) ⊎ Among f world.filesystems)
-      again one same (old, o, e) =
-          at old o (nat_eq changed.number old.number)
+      again one same (old, o, e) = at old o (nat_eq changed.number old.number)
           (nat_eq changed_upper.number (replaced_if_numbered nat_eq changed old).number)
           (same ∙ ap (replaced_if_numbered nat_eq changed_upper) e)
 
@@ -120,16 +113,13 @@ module _ (fresh : Fresh ℕ) (world : World ℕ) (location : Location ℕ) (chan
       (eqb_tells n number)
     where
       here : (nat_eq n number ≡ true) × (n ≡ number) → IsMerged nat_eq later (filesystem_numbered nat_eq later n) other
-      here t =
-          subst (λ k. IsMerged nat_eq later (filesystem_numbered nat_eq later k) other) (sym t.1)
+      here t = subst (λ k. IsMerged nat_eq later (filesystem_numbered nat_eq later k) other) (sym t.1)
           (changed_overlay_is_merged fresh world location change overlay other upper conditions is has distinct none
-          asked
-          (ap (λ k. (filesystem_numbered nat_eq later k).overlay) (sym t.1) ∙ e))
+          asked (ap (λ k. (filesystem_numbered nat_eq later k).overlay) (sym t.1) ∙ e))
 
       at_upper : n ≢ number → (nat_eq n upper.filesystem ≡ true) × (n ≡ upper.filesystem)
           → IsMerged nat_eq later (filesystem_numbered nat_eq later n) other
-      at_upper differ t =
-          none_is_some other (sym upper_none ∙ sym (ap (λ f. f.overlay) upper_later)
+      at_upper differ t = none_is_some other (sym upper_none ∙ sym (ap (λ f. f.overlay) upper_later)
           ∙ ap (λ k. (filesystem_numbered nat_eq later k).overlay) (sym t.1) ∙ e)
 
       elsewhere : n ≢ number → (nat_eq n upper.filesystem ≡ false) × (n ≢ upper.filesystem)
@@ -148,15 +138,12 @@ module _ (fresh : Fresh ℕ) (world : World ℕ) (location : Location ℕ) (chan
   -- layers are directories of plain trees
   still_plain : (layer : Layer ℕ)
       → (layer ≡ upper) ⊎ ApartLater.IsOther fresh world location change overlay upper conditions is has distinct none
-      asked layer
-      → is_plain_layer nat_eq later layer ≡ true
-  still_plain layer live =
-      and_from (not (is_overlay (filesystem_numbered nat_eq later layer.filesystem))) _
+      asked layer → is_plain_layer nat_eq later layer ≡ true
+  still_plain layer live = and_from (not (is_overlay (filesystem_numbered nat_eq later layer.filesystem))) _
       (no_overlay (eqb_tells layer.filesystem upper.filesystem)) (directory live)
     where
       was_plain : is_plain_layer nat_eq world layer ≡ true
-      was_plain =
-          ⊎_elim (λ same. ap (is_plain_layer nat_eq world) same
+      was_plain = ⊎_elim (λ same. ap (is_plain_layer nat_eq world) same
           ∙ ApartLater.upper_plain fresh world location change overlay upper conditions is has distinct none asked)
           (λ other. ApartLater.other_plain fresh world location change overlay upper conditions is has distinct none
           asked layer other) live
@@ -164,11 +151,9 @@ module _ (fresh : Fresh ℕ) (world : World ℕ) (location : Location ℕ) (chan
       no_overlay : ((nat_eq layer.filesystem upper.filesystem ≡ true) × (layer.filesystem ≡ upper.filesystem))
           ⊎ ((nat_eq layer.filesystem upper.filesystem ≡ false) × (layer.filesystem ≢ upper.filesystem))
           → not (is_overlay (filesystem_numbered nat_eq later layer.filesystem)) ≡ true
-      no_overlay (inl t) =
-          ap (λ n. not (is_overlay (filesystem_numbered nat_eq later n))) t.1
+      no_overlay (inl t) = ap (λ n. not (is_overlay (filesystem_numbered nat_eq later n))) t.1
           ∙ ap (λ f. not (is_overlay f)) upper_later ∙ ap (λ o. not (is_some o)) upper_none
-      no_overlay (inr t) =
-          ap (λ f. not (is_overlay f))
+      no_overlay (inr t) = ap (λ f. not (is_overlay f))
           (ApartLater.stays fresh world location change overlay upper conditions is has distinct none asked
           layer.filesystem
           (ApartLater.plain_elsewhere fresh world location change overlay upper conditions is has distinct none asked
@@ -184,9 +169,7 @@ module _ (fresh : Fresh ℕ) (world : World ℕ) (location : Location ℕ) (chan
           ∙ ap (λ f. is_directory_node (f.files.tree.node upper.directory)) upper_later
           ∙ (ApartLater.goes fresh world location change overlay upper conditions is has distinct none
           asked).good.directory
-      directory (inr other) =
-          directory_alike _ _
-          (alike_kept _ _
+      directory (inr other) = directory_alike _ _ (alike_kept _ _
           (ApartLater.other_leads fresh world location change overlay upper conditions is has distinct none asked layer
           other []).1)
           ∙ and_true_right (not (is_overlay (filesystem_numbered nat_eq world layer.filesystem))) _ was_plain
@@ -195,18 +178,15 @@ module _ (fresh : Fresh ℕ) (world : World ℕ) (location : Location ℕ) (chan
       → Among layer (layers_of v)
       → (layer ≡ upper) ⊎ ApartLater.IsOther fresh world location change overlay upper conditions is has distinct none
       asked layer
-  live n v e layer m =
-      ⊎_elim
+  live n v e layer m = ⊎_elim
       (λ up. ⊎_elim inl (λ differ. inr (inl (layer_among world upper_and_work n v e layer up, differ)))
       (ApartLater.same_layer fresh world location change overlay upper conditions is has distinct none asked layer
-      upper))
-      (λ low. inr (inr (layer_among world (λ o. o.lowers) n v e layer low)))
+      upper)) (λ low. inr (inr (layer_among world (λ o. o.lowers) n v e layer low)))
       (among-append (upper_and_work v) v.lowers layer m)
 
   -- names lead to the directories of upper layers
   upper_reached : IsReached (filesystem_numbered nat_eq later upper.filesystem).files.tree upper.directory
-  upper_reached =
-      subst (λ (f : Filesystem ℕ). IsReached f.files.tree upper.directory) (sym upper_later)
+  upper_reached = subst (λ (f : Filesystem ℕ). IsReached f.files.tree upper.directory) (sym upper_later)
       (ApartLater.goes fresh world location change overlay upper conditions is has distinct none asked).good.reached
 
   other_reached : (layer : Layer ℕ)
@@ -217,16 +197,14 @@ module _ (fresh : Fresh ℕ) (world : World ℕ) (location : Location ℕ) (chan
     where
       beside : (nat_eq layer.filesystem upper.filesystem ≡ true) × (layer.filesystem ≡ upper.filesystem)
           → IsReached (filesystem_numbered nat_eq later layer.filesystem).files.tree layer.directory
-      beside t =
-          subst (λ n. IsReached (filesystem_numbered nat_eq later n).files.tree layer.directory) (sym t.1)
+      beside t = subst (λ n. IsReached (filesystem_numbered nat_eq later n).files.tree layer.directory) (sym t.1)
           (subst (λ (f : Filesystem ℕ). IsReached f.files.tree layer.directory) (sym upper_later)
           (still_reached fresh world location change overlay upper conditions is has distinct none asked layer other t.1
           (subst (λ n. IsReached (filesystem_numbered nat_eq world n).files.tree layer.directory) t.1 was)))
 
       elsewhere : (nat_eq layer.filesystem upper.filesystem ≡ false) × (layer.filesystem ≢ upper.filesystem)
           → IsReached (filesystem_numbered nat_eq later layer.filesystem).files.tree layer.directory
-      elsewhere t =
-          subst (λ (f : Filesystem ℕ). IsReached f.files.tree layer.directory)
+      elsewhere t = subst (λ (f : Filesystem ℕ). IsReached f.files.tree layer.directory)
           (sym (ApartLater.stays fresh world location change overlay upper conditions is has distinct none asked
           layer.filesystem
           (ApartLater.plain_elsewhere fresh world location change overlay upper conditions is has distinct none asked
@@ -235,8 +213,7 @@ module _ (fresh : Fresh ℕ) (world : World ℕ) (location : Location ℕ) (chan
           other)) t.1)) was
 
   uppers_later : (n : ℕ) (v : Overlay ℕ) (u : Layer ℕ) → (filesystem_numbered nat_eq later n).overlay ≡ Some v
-      → v.upper ≡ Some u
-      → IsReached (filesystem_numbered nat_eq later u.filesystem).files.tree u.directory
+      → v.upper ≡ Some u → IsReached (filesystem_numbered nat_eq later u.filesystem).files.tree u.directory
   uppers_later n v u e f = ⊎_elim here (λ t. ⊎_elim (at_upper t.1) (elsewhere t.1) (eqb_tells n upper.filesystem))
       (eqb_tells n number)
     where
@@ -247,8 +224,7 @@ module _ (fresh : Fresh ℕ) (world : World ℕ) (location : Location ℕ) (chan
 
       here : (nat_eq n number ≡ true) × (n ≡ number)
           → IsReached (filesystem_numbered nat_eq later u.filesystem).files.tree u.directory
-      here t =
-          as_upper (same_Some u upper (sym f ∙ ap (λ (o : Overlay ℕ). o.upper)
+      here t = as_upper (same_Some u upper (sym f ∙ ap (λ (o : Overlay ℕ). o.upper)
           (sym (same_Some _ v (sym (ap (λ (x : Filesystem ℕ). x.overlay)
           (ap (λ w. filesystem_numbered nat_eq w number) later_is
           ∙ WholeLater.overlay_later fresh world location change overlay upper conditions is has distinct none asked))
@@ -256,8 +232,7 @@ module _ (fresh : Fresh ℕ) (world : World ℕ) (location : Location ℕ) (chan
 
       at_upper : n ≢ number → (nat_eq n upper.filesystem ≡ true) × (n ≡ upper.filesystem)
           → IsReached (filesystem_numbered nat_eq later u.filesystem).files.tree u.directory
-      at_upper differ t =
-          none_is_some v (sym upper_none ∙ sym (ap (λ (x : Filesystem ℕ). x.overlay) upper_later)
+      at_upper differ t = none_is_some v (sym upper_none ∙ sym (ap (λ (x : Filesystem ℕ). x.overlay) upper_later)
           ∙ ap (λ k. (filesystem_numbered nat_eq later k).overlay) (sym t.1) ∙ e)
 
       elsewhere : n ≢ number → (nat_eq n upper.filesystem ≡ false) × (n ≢ upper.filesystem)
@@ -280,8 +255,7 @@ module _ (fresh : Fresh ℕ) (world : World ℕ) (location : Location ℕ) (chan
       old : (f : Filesystem ℕ) → Among f world.filesystems → (o : Option (Overlay ℕ)) → f.overlay ≡ o
           → overlay_or true test o ≡ true
       old f m None e = refl
-      old f m (Some v) e =
-          holds f.number v (ap (λ x. x.overlay)
+      old f m (Some v) e = holds f.number v (ap (λ x. x.overlay)
           (ApartLater.own_number fresh world location change overlay upper conditions is has distinct none asked f m)
           ∙ e)
 
@@ -307,8 +281,7 @@ module _ (fresh : Fresh ℕ) (world : World ℕ) (location : Location ℕ) (chan
       }
     where
       fit : (n : ℕ) (v : Overlay ℕ) → (filesystem_numbered nat_eq world n).overlay ≡ Some v → has_fit_layers v ≡ true
-      fit n v e =
-          sym (ap (overlay_or true has_fit_layers) e)
+      fit n v e = sym (ap (overlay_or true has_fit_layers) e)
           ∙ among_from_list_all (of_overlay true has_fit_layers) world.filesystems conditions.overlays.fit_layers
           (filesystem_numbered nat_eq world n)
           (Rattle.vt_spec.proofs.Lists.among-from_filter is_overlay world.filesystems
@@ -329,9 +302,7 @@ module _ (fresh : Fresh ℕ) (world : World ℕ) (location : Location ℕ) (chan
   found : (n : ℕ) (directory : ℕ)
       → is_directory_node ((filesystem_numbered nat_eq world n).files.tree.node directory) ≡ true
       → IsFileTree (filesystem_numbered nat_eq world n).files
-  found n directory d =
-      ⊎_elim (λ tree. tree)
-      (λ missing. absurd (true≢false
+  found n directory d = ⊎_elim (λ tree. tree) (λ missing. absurd (true≢false
       (sym d ∙ ap (λ (f : Filesystem ℕ). is_directory_node (f.files.tree.node directory)) missing.0)))
       (Rattle.vt_laws_trees.proofs.trees.TreesOfWorlds.numbered_all
       (λ (f : Filesystem ℕ). IsFileTree f.files) n world.filesystems
@@ -345,24 +316,19 @@ module _ (fresh : Fresh ℕ) (world : World ℕ) (location : Location ℕ) (chan
       let before = merge_of nat_eq world (filesystem_at nat_eq world location) overlay upper in
       record {
         trees = all_from_among (λ (f : Filesystem ℕ). IsFileTree f.files) later.filesystems (λ f m.
-            ⊎_elim
-            (λ same. subst (λ x. IsFileTree x.files) (sym same)
+            ⊎_elim (λ same. subst (λ x. IsFileTree x.files) (sym same)
             (merged_trees_stay fresh stack before change whole new asked
-            (found number before.files.tree.root whole.tree.root_directory)))
-            (⊎_elim
+            (found number before.files.tree.root whole.tree.root_directory))) (⊎_elim
             (λ same. subst (λ x. IsFileTree x.files) (sym same)
-            (upper_trees_stay fresh stack before change whole new asked
-            (found upper.filesystem upper.directory
+            (upper_trees_stay fresh stack before change whole new asked (found upper.filesystem upper.directory
             (whole.layers 0 (record { tree = before.upper.tree; directory = upper.directory }) refl).1)))
-            (λ old. was_tree f old))
-            (filesystem_then f m));
+            (λ old. was_tree f old)) (filesystem_then f m));
         one_filesystem = ap (λ w. any_pair (λ (a b : Filesystem ℕ). nat_eq a.number b.number) w.filesystems) later_is
             ∙ pair_same (replaced_if_numbered nat_eq changed_upper)
             (map (replaced_if_numbered nat_eq changed) world.filesystems)
             (λ f. number-replaced_if_numbered changed_upper f)
             ∙ pair_same (replaced_if_numbered nat_eq changed) world.filesystems
-            (λ f. number-replaced_if_numbered changed f)
-            ∙ conditions.files.one_filesystem;
+            (λ f. number-replaced_if_numbered changed f) ∙ conditions.files.one_filesystem;
         reached = upper_reached;
       }
 
@@ -392,8 +358,7 @@ tree_invariants_stay fresh world location change overlay upper conditions is has
     }
   where
     fit_numbered : (n : ℕ) → is_fit_tree (filesystem_numbered nat_eq world n).files ≡ true
-    fit_numbered n =
-        numbered_anyhow (λ (f : Filesystem ℕ). is_fit_filesystem f ≡ true) n world.filesystems
+    fit_numbered n = numbered_anyhow (λ (f : Filesystem ℕ). is_fit_filesystem f ≡ true) n world.filesystems
         (all_from_among (λ (f : Filesystem ℕ). is_fit_filesystem f ≡ true) world.filesystems
         (λ f m. among_from_list_all is_fit_filesystem world.filesystems conditions.files.fit_filesystems f m)) refl
 
@@ -401,8 +366,7 @@ tree_invariants_stay fresh world location change overlay upper conditions is has
         (ApartLater.merge fresh world location change overlay upper conditions is has distinct none asked).files ≡ true)
         × (is_fit_tree
         (ApartLater.merge fresh world location change overlay upper conditions is has distinct none asked).upper ≡ true)
-    sizes =
-        sizes_stay fresh (stack_of nat_eq world overlay upper)
+    sizes = sizes_stay fresh (stack_of nat_eq world overlay upper)
         (merge_of nat_eq world (filesystem_at nat_eq world location) overlay upper) change
         (ApartLater.whole fresh world location change overlay upper conditions is has distinct none asked)
         (ApartLater.new fresh world location change overlay upper conditions is has distinct none asked) asked fit
@@ -411,8 +375,7 @@ tree_invariants_stay fresh world location change overlay upper conditions is has
     by : (f : Filesystem ℕ)
         → (f ≡ ApartLater.changed fresh world location change overlay upper conditions is has distinct none asked)
         ⊎ ((f ≡ ApartLater.changed_upper fresh world location change overlay upper conditions is has distinct none
-        asked) ⊎ Among f world.filesystems)
-        → is_fit_filesystem f ≡ true
+        asked) ⊎ Among f world.filesystems) → is_fit_filesystem f ≡ true
     by f (inl same) = ap is_fit_filesystem same ∙ sizes.0
     by f (inr (inl same)) = ap is_fit_filesystem same ∙ sizes.1
     by f (inr (inr m)) = among_from_list_all is_fit_filesystem world.filesystems conditions.files.fit_filesystems f m

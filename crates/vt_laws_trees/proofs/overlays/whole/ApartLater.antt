@@ -1,5 +1,6 @@
 -- Layers stand apart after a change of an overlay.
-use Rattle.std.proofs.Common.{◌≡◌, ◌≢◌, refl, sym, ap, subst, ◌∙◌, true≢false, eqb-true, eq-eqb, ne_eqb, ◌⊎◌, ⊎_elim, inl, inr, ℕ, nat_eq, Bool, true, false, not, cond, ◌&&◌, ◌||◌, List, [], ◌∷◌, ◌++◌, map, Option, Some, None, is_some}
+use Rattle.std.proofs.Common.{arith, ◌≡◌, ◌≢◌, refl, sym, ap, subst, ◌∙◌, true≢false, eqb-true, eq-eqb, ne_eqb, ◌⊎◌, ⊎_elim, inl, inr, ℕ, nat_eq, Bool, true, false, not, cond, ◌&&◌, ◌||◌, List, [], ◌∷◌, ◌++◌, map, Option, Some, None, is_some}
+use Rattle.std.proofs.lemmas.Grind.{common_steps}
 use Rattle.std.proofs.lemmas.Bool.Decides.{eqb_tells}
 use Rattle.std.specs.List.{list_any}
 use Rattle.std.specs.Prelude.{flat_map, option_to_list}
@@ -83,8 +84,7 @@ module _ (fresh : Fresh ℕ) (world : World ℕ) (location : Location ℕ) (chan
   apart = WholeLater.apart fresh world location change overlay upper conditions is has distinct none asked
 
   pub upper_later : filesystem_numbered nat_eq later upper.filesystem ≡ changed_upper
-  upper_later =
-      ap (λ w. filesystem_numbered nat_eq w upper.filesystem) later_is
+  upper_later = ap (λ w. filesystem_numbered nat_eq w upper.filesystem) later_is
       ∙ WholeLater.upper_later fresh world location change overlay upper conditions is has distinct none asked
 
   pub new : AreNew fresh before
@@ -106,13 +106,11 @@ module _ (fresh : Fresh ℕ) (world : World ℕ) (location : Location ℕ) (chan
   IsOther layer = (Among layer (live_upper_and_work world) × (layer ≢ upper)) ⊎ Among layer (live_lowers nat_eq world)
 
   pub upper_live : Among upper (live_upper_and_work world)
-  upper_live =
-      layer_among world upper_and_work number overlay is upper
+  upper_live = layer_among world upper_and_work number overlay is upper
       (upper_is_layer world conditions number overlay is upper has)
 
   pub upper_plain : is_plain_layer nat_eq world upper ≡ true
-  upper_plain =
-      layer_plain world conditions number overlay is upper
+  upper_plain = layer_plain world conditions number overlay is upper
       (upper_in_layers world conditions number overlay is upper has)
 
   -- layers are directories of plain trees
@@ -122,8 +120,7 @@ module _ (fresh : Fresh ℕ) (world : World ℕ) (location : Location ℕ) (chan
       → is_plain_layer nat_eq world layer ≡ true
   plain_of some_layers of layer m =
       let found = among-from_flat_map (of_overlay [] some_layers) (overlays world) layer m in
-      by found.0.overlay found.2
-      (among_from_list_all
+      by found.0.overlay found.2 (among_from_list_all
       (of_overlay true (λ o. Rattle.std.specs.List.list_all (is_plain_layer nat_eq world) (layers_of o)))
       world.filesystems
       conditions.overlays.plain_layers found.0 (among-from_filter is_overlay world.filesystems found.0 found.1).0)
@@ -153,45 +150,28 @@ module _ (fresh : Fresh ℕ) (world : World ℕ) (location : Location ℕ) (chan
   Lies layer n object = lies_or_counts_under nat_eq world n object layer ≡ true
 
   overlap_of : (a b : Layer ℕ) (n object : ℕ) → n ≡ a.filesystem → is_some (inode_in world n object) ≡ true
-      → Lies a n object → Lies b n object
-      → overlap nat_eq world a b ≡ true
-  overlap_of a b n object same there in_a in_b =
-      subst (λ m. list_any
-      (λ (o : ℕ). lies_or_counts_under nat_eq world m o a && list_any (lies_or_counts_under nat_eq world m o) (b ∷ []))
-      (filesystem_numbered nat_eq world m).files.numbers ≡ true) same
-      (any_from_among
-      (λ (o : ℕ). lies_or_counts_under nat_eq world n o a && list_any (lies_or_counts_under nat_eq world n o) (b ∷ []))
-      (filesystem_numbered nat_eq world n).files.numbers object (listed n object there)
-      (and_from _ _ in_a (or_left _ false in_b)))
+      → Lies a n object → Lies b n object → overlap nat_eq world a b ≡ true
+  overlap_of a b n object same there in_a in_b = grind (arith, common_steps, any_from_among, listed, and_from, or_left)
 
   pub clash : (layer : Layer ℕ) → IsOther layer → (n object : ℕ) → is_some (inode_in world n object) ≡ true
       → Lies upper n object → Lies layer n object → ⊥
-  clash layer (inl m) n object there in_upper in_layer =
-      ⊎_elim
-      (λ e. true≢false
-      (sym (overlap_of layer upper n object (lies_there world object n layer in_layer) there in_layer in_upper) ∙ e))
-      (λ e. true≢false
-      (sym (overlap_of upper layer n object (lies_there world object n upper in_upper) there in_upper in_layer) ∙ e))
-      (two_apart (overlap nat_eq world) (live_upper_and_work world) conditions.overlays.changed_apart layer upper m.0
-      upper_live m.1)
-  clash layer (inr m) n object there in_upper in_layer =
-      let same = lies_there world object n upper in_upper in
-      never_both _ _
-      (none_among (λ (o : ℕ). lies_or_counts_under nat_eq world upper.filesystem o upper
-      && list_any (lies_or_counts_under nat_eq world upper.filesystem o) (live_lowers nat_eq world))
-      (filesystem_numbered nat_eq world upper.filesystem).files.numbers
-      (none_among (overlaps_one_of nat_eq world (live_lowers nat_eq world)) (live_upper_and_work world)
-      conditions.overlays.lowers_apart upper upper_live)
-      object (listed upper.filesystem object (subst (λ k. is_some (inode_in world k object) ≡ true) same there)))
-      (subst (λ k. Lies upper k object) same in_upper)
-      (any_from_among (lies_or_counts_under nat_eq world upper.filesystem object) (live_lowers nat_eq world) layer m
-      (subst (λ k. Lies layer k object) same in_layer))
+  clash layer known n object there in_upper in_layer = grind (
+    arith,
+    common_steps,
+    true≢false,
+    overlap_of,
+    lies_there,
+    two_apart,
+    upper_live,
+    never_both,
+    none_among,
+    listed,
+    any_from_among,
+  )
 
   -- paths from the others lead where they led
   pub other_leads : (layer : Layer ℕ) → IsOther layer → LeadsAsBefore world later layer
-  other_leads layer other =
-      leads_as_before world conditions layer (other_plain layer other) later
-      (λ inode lies there.
+  other_leads layer other = leads_as_before world conditions layer (other_plain layer other) later (λ inode lies there.
       inode_kept fresh world location change overlay upper conditions is has none
       (WholeLater.spoken stack before change whole.tree asked) layer (other_plain layer other) inode there
       (λ same object.
@@ -201,8 +181,7 @@ module _ (fresh : Fresh ℕ) (world : World ℕ) (location : Location ℕ) (chan
 
   -- The trees afterwards
   pub plain_elsewhere : (layer : Layer ℕ) → is_plain_layer nat_eq world layer ≡ true → layer.filesystem ≢ number
-  plain_elsewhere layer plain same =
-      none_is_some overlay
+  plain_elsewhere layer plain same = none_is_some overlay
       (sym (no_overlay_in world conditions layer plain) ∙ ap (λ n. (filesystem_numbered nat_eq world n).overlay) same
       ∙ is)
 
@@ -220,25 +199,21 @@ module _ (fresh : Fresh ℕ) (world : World ℕ) (location : Location ℕ) (chan
     where
       here : (nat_eq layer.filesystem upper.filesystem ≡ true) × (layer.filesystem ≡ upper.filesystem)
           → IsTree (filesystem_numbered nat_eq later layer.filesystem).files.tree
-      here t =
-          subst (λ n. IsTree (filesystem_numbered nat_eq later n).files.tree) (sym t.1)
+      here t = subst (λ n. IsTree (filesystem_numbered nat_eq later n).files.tree) (sym t.1)
           (subst (λ f. IsTree f.files.tree) (sym upper_later) goes.good.tree)
 
       other : (nat_eq layer.filesystem upper.filesystem ≡ false) × (layer.filesystem ≢ upper.filesystem)
           → IsTree (filesystem_numbered nat_eq later layer.filesystem).files.tree
-      other t =
-          subst (λ f. IsTree f.files.tree) (sym (stays layer.filesystem (plain_elsewhere layer plain) t.1))
+      other t = subst (λ f. IsTree f.files.tree) (sym (stays layer.filesystem (plain_elsewhere layer plain) t.1))
           (layer_tree world conditions layer plain)
 
   -- what lies under a layer, by paths
   abbrev pub LedIn : World ℕ → Layer ℕ → ℕ → Type 0
-  LedIn w layer object =
-      (path : List (List ℕ)) ×
+  LedIn w layer object = (path : List (List ℕ)) ×
       (led (filesystem_numbered nat_eq w layer.filesystem).files.tree layer.directory path ≡ Some object)
 
   lies_later : (layer : Layer ℕ) → is_plain_layer nat_eq world layer ≡ true → (n object : ℕ)
-      → lies_in_layer nat_eq later n object layer ≡ true
-      → (n ≡ layer.filesystem) × LedIn later layer object
+      → lies_in_layer nat_eq later n object layer ≡ true → (n ≡ layer.filesystem) × LedIn later layer object
   lies_later layer plain n object e =
       let same = eqb-true n layer.filesystem (and_true_left (nat_eq n layer.filesystem) _ e) in (
         same,
@@ -249,14 +224,11 @@ module _ (fresh : Fresh ℕ) (world : World ℕ) (location : Location ℕ) (chan
       )
 
   pub led_lies : (layer : Layer ℕ) → is_plain_layer nat_eq world layer ≡ true → (n object : ℕ) → n ≡ layer.filesystem
-      → LedIn world layer object
-      → lies_in_layer nat_eq world n object layer ≡ true
-  led_lies layer plain n object same way =
-      and_from _ _ (eq-eqb n layer.filesystem same)
+      → LedIn world layer object → lies_in_layer nat_eq world n object layer ≡ true
+  led_lies layer plain n object same way = and_from _ _ (eq-eqb n layer.filesystem same)
       (subst (λ k. is_under nat_eq (filesystem_numbered nat_eq world k).files layer.directory object ≡ true) (sym same)
       (led_under (filesystem_numbered nat_eq world layer.filesystem).files (layer_tree world conditions layer plain)
-      layer.directory
-      (numbers_in layer.filesystem)
+      layer.directory (numbers_in layer.filesystem)
       (and_true_right (not (is_overlay (filesystem_numbered nat_eq world layer.filesystem))) _ plain) object way))
 
   pub lies_first : (layer : Layer ℕ) (n object : ℕ) → lies_in_layer nat_eq world n object layer ≡ true
@@ -273,8 +245,7 @@ module _ (fresh : Fresh ℕ) (world : World ℕ) (location : Location ℕ) (chan
 
   -- under the upper layer lies what lay or counted there, or is new
   IsPlaced : ℕ → Type 0
-  IsPlaced object =
-      LedIn world upper object ⊎
+  IsPlaced object = LedIn world upper object ⊎
       ((IsUpperObject overlay object × (is_directory_node (before.upper.tree.node object) ≡ false)) ⊎ IsNewBy fresh
       object)
 
@@ -285,30 +256,20 @@ module _ (fresh : Fresh ℕ) (world : World ℕ) (location : Location ℕ) (chan
   placed_on : (object : ℕ) (name : List ℕ) (next : ℕ) → IsPlaced object
       → entry_at merge.upper.tree object name ≡ Some next → IsPlaced next
   unfolding IsPlaced
-  placed_on object name next placed e =
-      ⊎_elim
-      (λ old. ⊎_elim
-      (λ way. inl (
-        way.0
-            ++ name ∷ [],
-        Rattle.vt_spec.proofs.Trees.led-append before.upper.tree upper.directory way.0 name object next
-            way.1 old,
-      ))
-      (λ leaf. absurd (⊎_elim (λ own. has_no_entry object name next own.1 old)
-      (λ fresh_one. has_no_entry object name next
-      (ap (λ n. is_directory_node (before.upper.tree.node n)) fresh_one.1
-      ∙ ap is_directory_node (none upper.filesystem fresh_one.0)) old) leaf)) placed)
-      (⊎_elim
+  placed_on object name next placed e = ⊎_elim (λ old. ⊎_elim (λ way. inl (
+    way.0 ++ name ∷ [],
+    Rattle.vt_spec.proofs.Trees.led-append before.upper.tree upper.directory way.0 name object next way.1 old,
+  )) (λ leaf. absurd (⊎_elim (λ own. has_no_entry object name next own.1 old)
+      (λ fresh_one. has_no_entry object name next (ap (λ n. is_directory_node (before.upper.tree.node n)) fresh_one.1
+      ∙ ap is_directory_node (none upper.filesystem fresh_one.0)) old) leaf)) placed) (⊎_elim
       (λ own. ⊎_elim (λ file. inr (inl ((own.0, own.1), file))) (λ way. inl way) own.2)
-      (λ fresh_one. inr (inr fresh_one)))
-      (UpperOwn.told fresh stack before whole new change asked object name next e)
+      (λ fresh_one. inr (inr fresh_one))) (UpperOwn.told fresh stack before whole new change asked object name next e)
 
   placed_along : (path : List (List ℕ)) (from object : ℕ) → IsPlaced from → led merge.upper.tree from path ≡ Some object
       → IsPlaced object
   placed_along [] from object placed e = subst IsPlaced (same_Some from object e) placed
   placed_along (name ∷ path) from object placed e =
-      let step =
-      Rattle.vt_spec.proofs.Trees.found (λ next. led merge.upper.tree next path)
+      let step = Rattle.vt_spec.proofs.Trees.found (λ next. led merge.upper.tree next path)
       (entry_at merge.upper.tree from name) object e in
       placed_along path step.0 object (placed_on from name step.0 placed step.1) step.2
 
@@ -322,21 +283,17 @@ module _ (fresh : Fresh ℕ) (world : World ℕ) (location : Location ℕ) (chan
       let found = lies_later upper upper_plain n object e in
       ⊎_elim (λ way. inl (lies_first upper n object (led_lies upper upper_plain n object found.0 way)))
       (⊎_elim (λ own. inl (subst (λ k. Lies upper k object) (sym found.0) (upper_counts object own.0)))
-      (λ fresh_one. inr fresh_one))
-      (placed_along found.1.0 upper.directory object (inl ([], refl))
+      (λ fresh_one. inr fresh_one)) (placed_along found.1.0 upper.directory object (inl ([], refl))
       (sym (ap (λ f. led f.files.tree upper.directory found.1.0) upper_later) ∙ found.1.1))
 
   -- The overlays afterwards
   overlay_then : (f : Filesystem ℕ) → Among f (overlays later)
       → (f ≡ changed) ⊎ (Among f (overlays world) × (f.number ≢ number))
   overlay_then f m =
-      let kept =
-      among-from_filter is_overlay
-      (WholeLater.later fresh world location change overlay upper conditions is has distinct none asked).filesystems
-      f
+      let kept = among-from_filter is_overlay
+      (WholeLater.later fresh world location change overlay upper conditions is has distinct none asked).filesystems f
       (subst (λ w. Among f (overlays w)) later_is m) in
-      let one =
-      among-from_map (replaced_if_numbered nat_eq changed_upper)
+      let one = among-from_map (replaced_if_numbered nat_eq changed_upper)
       (map (replaced_if_numbered nat_eq changed) world.filesystems) f kept.0 in
       let two = among-from_map (replaced_if_numbered nat_eq changed) world.filesystems one.0 one.1 in
       by two.0 two.1 kept.1 (nat_eq changed.number two.0.number) refl
@@ -345,24 +302,19 @@ module _ (fresh : Fresh ℕ) (world : World ℕ) (location : Location ℕ) (chan
     where
       by : (old : Filesystem ℕ) → Among old world.filesystems → is_overlay f ≡ true
           → (p : Bool) → nat_eq changed.number old.number ≡ p → (q : Bool)
-          → nat_eq changed_upper.number (cond p changed old).number ≡ q
-          → f ≡ cond q changed_upper (cond p changed old)
+          → nat_eq changed_upper.number (cond p changed old).number ≡ q → f ≡ cond q changed_upper (cond p changed old)
           → (f ≡ changed) ⊎ (Among f (overlays world) × (f.number ≢ number))
       by old o over true e false g same = inl same
-      by old o over true e true g same =
-          absurd (apart
+      by old o over true e true g same = absurd (apart
           (sym (number_of_filesystem world upper.filesystem) ∙ eqb-true _ _ g ∙ number_of_filesystem world number))
-      by old o over false e true g same =
-          absurd (true≢false
+      by old o over false e true g same = absurd (true≢false
           (sym over ∙ ap (λ x. is_overlay x) same ∙ ap is_some (no_overlay_in world conditions upper upper_plain)))
-      by old o over false e false g same =
-          inr (
-            subst (λ x. Among x (overlays world)) (sym same)
-                (among-filter is_overlay world.filesystems old o (ap is_overlay (sym same) ∙ over)),
-            λ at. true≢false
-                (sym (eq-eqb changed.number old.number
-                (number_of_filesystem world number ∙ sym at ∙ ap (λ x. x.number) same)) ∙ e),
-          )
+      by old o over false e false g same = inr (
+        subst (λ x. Among x (overlays world)) (sym same)
+            (among-filter is_overlay world.filesystems old o (ap is_overlay (sym same) ∙ over)),
+        λ at. true≢false (sym (eq-eqb changed.number old.number
+            (number_of_filesystem world number ∙ sym at ∙ ap (λ x. x.number) same)) ∙ e),
+      )
 
   -- one filesystem has a number
   pub own_number : (f : Filesystem ℕ) → Among f world.filesystems → filesystem_numbered nat_eq world f.number ≡ f
@@ -371,21 +323,11 @@ module _ (fresh : Fresh ℕ) (world : World ℕ) (location : Location ℕ) (chan
       (by world.filesystems conditions.files.one_filesystem m)
     where
       by : (fs : List (Filesystem ℕ)) → any_pair (λ (a b : Filesystem ℕ). nat_eq a.number b.number) fs ≡ false
-          → Among f fs
-          → Rattle.std.specs.Prelude.find (λ (g : Filesystem ℕ). nat_eq f.number g.number) fs ≡ Some f
+          → Among f fs → Rattle.std.specs.Prelude.find (λ (g : Filesystem ℕ). nat_eq f.number g.number) fs ≡ Some f
       by [] e m = absurd m
-      by (x ∷ fs) e (inl same) =
-          ap (λ b. cond b (Some x) (Rattle.std.specs.Prelude.find (λ (g : Filesystem ℕ). nat_eq f.number g.number) fs))
-          (eq-eqb f.number x.number (ap (λ g. g.number) same)) ∙ ap Some (sym same)
+      by (x ∷ fs) e (inl same) = grind (arith, common_steps, eq-eqb)
       by (x ∷ fs) e (inr l) =
-          ap (λ b. cond b (Some x) (Rattle.std.specs.Prelude.find (λ (g : Filesystem ℕ). nat_eq f.number g.number) fs))
-          (ne_eqb f.number x.number (λ same.
-          true≢false (sym (eq-eqb x.number f.number (sym same))
-          ∙ none_among (λ (g : Filesystem ℕ). nat_eq x.number g.number) fs
-          (or_false_left (list_any (λ (g : Filesystem ℕ). nat_eq x.number g.number) fs)
-          (any_pair (λ (a b : Filesystem ℕ). nat_eq a.number b.number) fs) e) f l)))
-          ∙ by fs (or_false_right (list_any (λ (g : Filesystem ℕ). nat_eq x.number g.number) fs)
-          (any_pair (λ (a b : Filesystem ℕ). nat_eq a.number b.number) fs) e) l
+          grind (arith, common_steps, ne_eqb, true≢false, eq-eqb, none_among, or_false_left, or_false_right, by fs)
 
   -- What counts under a layer: the parts of it
   record Counts (w : World ℕ) (layer : Layer ℕ) (n object : ℕ) (g : Filesystem ℕ) : Type 0 where
@@ -398,44 +340,15 @@ module _ (fresh : Fresh ℕ) (world : World ℕ) (location : Location ℕ) (chan
 
   counts_parts : (w : World ℕ) (layer : Layer ℕ) (n object : ℕ) (g : Filesystem ℕ)
       → counts_in_layer nat_eq w n object layer g ≡ true → Counts w layer n object g
-  counts_parts w layer n object g e = by g.overlay refl e
-    where
-      at : (v : Overlay ℕ) → g.overlay ≡ Some v → (o : Option (Layer ℕ)) → v.upper ≡ o
-          → (holds_of (λ u. lies_in_layer nat_eq w u.filesystem u.directory layer) o
-          && is_object_of nat_eq n object g v) ≡ true → Counts w layer n object g
-      at v f None u e = absurd (true≢false (sym e))
-      at v f (Some u) k e = record {
-        overlay_of = v;
-        is_of = f;
-        upper_of_it = u;
-        has_it = k;
-        lies = and_true_left (lies_in_layer nat_eq w u.filesystem u.directory layer) _ e;
-        object_of = and_true_right (lies_in_layer nat_eq w u.filesystem u.directory layer) _ e;
-      }
-
-      by : (o : Option (Overlay ℕ)) → g.overlay ≡ o
-          → overlay_or false
-          (λ v. holds_of (λ u. lies_in_layer nat_eq w u.filesystem u.directory layer) v.upper
-          && is_object_of nat_eq n object g v) o ≡ true
-          → Counts w layer n object g
-      by None f e = absurd (true≢false (sym e))
-      by (Some v) f e = at v f v.upper refl e
+  counts_parts w layer n object g e = grind (arith, common_steps, true≢false, and_true_left, and_true_right)
 
   counts_again : (layer : Layer ℕ) (n object : ℕ) (g : Filesystem ℕ) → Among g (overlays world)
       → Counts world layer n object g → Lies layer n object
-  counts_again layer n object g m parts =
-      or_right (lies_in_layer nat_eq world n object layer) _
-      (any_from_among (counts_in_layer nat_eq world n object layer) (overlays world) g m
-      (ap (overlay_or false
-      (λ v. holds_of (λ u. lies_in_layer nat_eq world u.filesystem u.directory layer) v.upper
-      && is_object_of nat_eq n object g v)) parts.is_of
-      ∙ and_from _ _ (ap (holds_of (λ u. lies_in_layer nat_eq world u.filesystem u.directory layer)) parts.has_it
-      ∙ parts.lies) parts.object_of))
+  counts_again layer n object g m parts = grind (arith, common_steps, or_right, any_from_among, and_from)
 
   -- the object of which it is said is one of the upper layer
   real_of_object : (g : Filesystem ℕ) (v : Overlay ℕ) (u : Layer ℕ) → v.upper ≡ Some u → (n object : ℕ)
-      → is_object_of nat_eq n object g v ≡ true
-      → (n ≡ u.filesystem) × ((k : ℕ) × (v.real k ≡ Some (Upper object)))
+      → is_object_of nat_eq n object g v ≡ true → (n ≡ u.filesystem) × ((k : ℕ) × (v.real k ≡ Some (Upper object)))
   real_of_object g v u has_u n object e =
       let first = and_true_left (holds_of (λ l. nat_eq n l.filesystem) v.upper) _ e in
       let found = any_among (is_real_upper nat_eq v object) g.files.numbers
@@ -463,8 +376,7 @@ module _ (fresh : Fresh ℕ) (world : World ℕ) (location : Location ℕ) (chan
           (subst (λ k. is_under nat_eq (filesystem_numbered nat_eq world k).files layer.directory object ≡ true) same
           (and_true_right (nat_eq n layer.filesystem) _ f)) in
           subst (λ k. is_some (inode_in world k object) ≡ true) (sym same)
-          (led_is_there (open_layer nat_eq world layer) tree
-          (and_true_right (not
+          (led_is_there (open_layer nat_eq world layer) tree (and_true_right (not
           (is_overlay (filesystem_numbered nat_eq world layer.filesystem))) _ plain) way.0 object way.1)
 
       counted : list_any (counts_in_layer nat_eq world n object layer) (overlays world) ≡ true
@@ -511,15 +423,14 @@ module _ (fresh : Fresh ℕ) (world : World ℕ) (location : Location ℕ) (chan
       (lies_first upper upper.filesystem upper.directory upper_itself)
       (lies_first layer upper.filesystem upper.directory
       (other_lies layer other upper.filesystem upper.directory own.0)))
-  counted_other layer other n object g parts (inr old) =
-      counts_again layer n object g old.0 (record {
-        overlay_of = parts.overlay_of;
-        is_of = parts.is_of;
-        upper_of_it = parts.upper_of_it;
-        has_it = parts.has_it;
-        lies = other_lies layer other parts.upper_of_it.filesystem parts.upper_of_it.directory parts.lies;
-        object_of = parts.object_of;
-      })
+  counted_other layer other n object g parts (inr old) = counts_again layer n object g old.0 (record {
+    overlay_of = parts.overlay_of;
+    is_of = parts.is_of;
+    upper_of_it = parts.upper_of_it;
+    has_it = parts.has_it;
+    lies = other_lies layer other parts.upper_of_it.filesystem parts.upper_of_it.directory parts.lies;
+    object_of = parts.object_of;
+  })
 
   later_other : (layer : Layer ℕ) → IsOther layer → (n object : ℕ)
       → lies_or_counts_under nat_eq later n object layer ≡ true → Lies layer n object
@@ -536,9 +447,7 @@ module _ (fresh : Fresh ℕ) (world : World ℕ) (location : Location ℕ) (chan
       counted f = found_of (any_among (counts_in_layer nat_eq later n object layer) (overlays later) f)
 
   pub same_layer : (a b : Layer ℕ) → (a ≡ b) ⊎ (a ≢ b)
-  same_layer a b =
-      ⊎_elim
-      (λ f. ⊎_elim (λ d. inl (λ i. record { filesystem = f.1 i; directory = d.1 i }))
+  same_layer a b = ⊎_elim (λ f. ⊎_elim (λ d. inl (λ i. record { filesystem = f.1 i; directory = d.1 i }))
       (λ d. inr (λ e. d.1 (ap (λ l. l.directory) e))) (eqb_tells a.directory b.directory))
       (λ f. inr (λ e. f.1 (ap (λ l. l.filesystem) e))) (eqb_tells a.filesystem b.filesystem)
 
@@ -549,19 +458,14 @@ module _ (fresh : Fresh ℕ) (world : World ℕ) (location : Location ℕ) (chan
       let own = changed_parts later upper n object (subst (λ x. Counts later upper n object x) same parts) in
       ⊎_elim (λ was. inl (subst (λ k. Lies upper k object) (sym own.1.0) (upper_counts object (own.1.1.0, was)))) inr
       (UpperOwn.objects fresh stack before whole new change asked own.1.1.0 object own.1.1.1)
-  counted_upper n object g parts (inr old) =
-      ⊎_elim
-      (λ same. inl (counts_again upper n object g old.0 (record {
-        overlay_of = parts.overlay_of;
-        is_of = parts.is_of;
-        upper_of_it = parts.upper_of_it;
-        has_it = parts.has_it;
-        lies = subst (λ x. lies_in_layer nat_eq world x.filesystem x.directory upper ≡ true) (sym same) upper_itself;
-        object_of = parts.object_of;
-      })))
-      (λ differ.
-      ⊎_elim
-      (λ under. absurd
+  counted_upper n object g parts (inr old) = ⊎_elim (λ same. inl (counts_again upper n object g old.0 (record {
+    overlay_of = parts.overlay_of;
+    is_of = parts.is_of;
+    upper_of_it = parts.upper_of_it;
+    has_it = parts.has_it;
+    lies = subst (λ x. lies_in_layer nat_eq world x.filesystem x.directory upper ≡ true) (sym same) upper_itself;
+    object_of = parts.object_of;
+  }))) (λ differ. ⊎_elim (λ under. absurd
       (clash parts.upper_of_it (inl (live, differ)) parts.upper_of_it.filesystem parts.upper_of_it.directory
       (directory_there parts.upper_of_it (changed_plain parts.upper_of_it live)) under
       (lies_first parts.upper_of_it parts.upper_of_it.filesystem parts.upper_of_it.directory
@@ -574,8 +478,7 @@ module _ (fresh : Fresh ℕ) (world : World ℕ) (location : Location ℕ) (chan
       (same_layer parts.upper_of_it upper)
     where
       live : Among parts.upper_of_it (live_upper_and_work world)
-      live =
-          among-flat_map (of_overlay [] upper_and_work) (overlays world) g parts.upper_of_it old.0
+      live = among-flat_map (of_overlay [] upper_and_work) (overlays world) g parts.upper_of_it old.0
           (subst (λ o. Among parts.upper_of_it (overlay_or [] upper_and_work o)) (sym parts.is_of)
           (subst (λ o. Among parts.upper_of_it (option_to_list o ++ option_to_list parts.overlay_of.work))
           (sym parts.has_it) (inl refl)))
@@ -637,11 +540,9 @@ module _ (fresh : Fresh ℕ) (world : World ℕ) (location : Location ℕ) (chan
       → lies_or_counts_under nat_eq later n object a ≡ true
       → lies_or_counts_under nat_eq later n object b ≡ true → overlap nat_eq world a b ≡ true
   overlap_before a b live_a live_b n object same p q =
-      ⊎_elim (λ one. subst (λ x. overlap nat_eq world a x ≡ true) one (overlap_itself a live_a))
-      (λ differ.
+      ⊎_elim (λ one. subst (λ x. overlap nat_eq world a x ≡ true) one (overlap_itself a live_a)) (λ differ.
       let lie = both_lie a b live_a live_b differ n object p q in
-      overlap_of a b n object same (is_there_if a (live_plain a live_a) n object lie.0) lie.0 lie.1)
-      (same_layer a b)
+      overlap_of a b n object same (is_there_if a (live_plain a live_a) n object lie.0) lie.0 lie.1) (same_layer a b)
 
   -- The layers afterwards are those that were
   abbrev IgnoresReal : (Overlay ℕ → List (Layer ℕ)) → Type 0
@@ -651,24 +552,13 @@ module _ (fresh : Fresh ℕ) (world : World ℕ) (location : Location ℕ) (chan
       → ((f : Filesystem ℕ) → Among f fs → of_overlay [] layers (r f) ≡ of_overlay [] layers f)
       → flat_map (of_overlay [] layers) (map r fs) ≡ flat_map (of_overlay [] layers) fs
   mapped_same layers r [] h = refl
-  mapped_same layers r (f ∷ fs) h =
-      ap (λ l. l ++ flat_map (of_overlay [] layers) (map r fs)) (h f (inl refl))
+  mapped_same layers r (f ∷ fs) h = ap (λ l. l ++ flat_map (of_overlay [] layers) (map r fs)) (h f (inl refl))
       ∙ ap (λ l. of_overlay [] layers f ++ l) (mapped_same layers r fs (λ g m. h g (inr m)))
 
   first_same : (layers : Overlay ℕ → List (Layer ℕ)) → IgnoresReal layers → (f : Filesystem ℕ)
       → Among f world.filesystems
       → of_overlay [] layers (replaced_if_numbered nat_eq changed f) ≡ of_overlay [] layers f
-  first_same layers ignores f m = by (nat_eq changed.number f.number) refl
-    where
-      by : (b : Bool) → nat_eq changed.number f.number ≡ b
-          → of_overlay [] layers (cond b changed f) ≡ of_overlay [] layers f
-      by true e =
-          ignores overlay merge.real
-          ∙ sym (ap (overlay_or [] layers) is)
-          ∙ ap (λ n. of_overlay [] layers (filesystem_numbered nat_eq world n))
-          (sym (number_of_filesystem world number) ∙ eqb-true changed.number f.number e)
-          ∙ ap (of_overlay [] layers) (own_number f m)
-      by false e = refl
+  first_same layers ignores f m = grind (arith, common_steps, number_of_filesystem, eqb-true, own_number)
 
   second_same : (layers : Overlay ℕ → List (Layer ℕ)) (f : Filesystem ℕ)
       → Among f (map (replaced_if_numbered nat_eq changed) world.filesystems)
@@ -676,18 +566,9 @@ module _ (fresh : Fresh ℕ) (world : World ℕ) (location : Location ℕ) (chan
   second_same layers f m = from (among-from_map (replaced_if_numbered nat_eq changed) world.filesystems f m)
     where
       at : (old : Filesystem ℕ) → Among old world.filesystems → (b : Bool) → nat_eq changed.number old.number ≡ b
-          → f ≡ cond b changed old
-          → (c : Bool) → nat_eq changed_upper.number f.number ≡ c
+          → f ≡ cond b changed old → (c : Bool) → nat_eq changed_upper.number f.number ≡ c
           → of_overlay [] layers (cond c changed_upper f) ≡ of_overlay [] layers f
-      at old o b e same false g = refl
-      at old o true e same true g =
-          absurd (apart (sym (number_of_filesystem world upper.filesystem) ∙ eqb-true changed_upper.number f.number g
-          ∙ ap (λ x. x.number) same ∙ number_of_filesystem world number))
-      at old o false e same true g =
-          ap (λ n. of_overlay [] layers (filesystem_numbered nat_eq world n))
-          (sym (number_of_filesystem world upper.filesystem) ∙ eqb-true changed_upper.number f.number g
-          ∙ ap (λ x. x.number) same)
-          ∙ ap (of_overlay [] layers) (own_number old o) ∙ sym (ap (of_overlay [] layers) same)
+      at old o b e same c g = grind (arith, common_steps, apart, number_of_filesystem, eqb-true, own_number)
 
       from : (old : Filesystem ℕ) × Among old world.filesystems × (f ≡ replaced_if_numbered nat_eq changed old)
           → of_overlay [] layers (replaced_if_numbered nat_eq changed_upper f) ≡ of_overlay [] layers f
@@ -696,9 +577,7 @@ module _ (fresh : Fresh ℕ) (world : World ℕ) (location : Location ℕ) (chan
 
   layers_same : (layers : Overlay ℕ → List (Layer ℕ)) → IgnoresReal layers
       → flat_map (of_overlay [] layers) (overlays later) ≡ flat_map (of_overlay [] layers) (overlays world)
-  layers_same layers ignores =
-      ap (λ w. flat_map (of_overlay [] layers) (overlays w)) later_is
-      ∙ layers_of_all layers
+  layers_same layers ignores = ap (λ w. flat_map (of_overlay [] layers) (overlays w)) later_is ∙ layers_of_all layers
       (map (replaced_if_numbered nat_eq changed_upper) (map (replaced_if_numbered nat_eq changed) world.filesystems))
       ∙ mapped_same layers (replaced_if_numbered nat_eq changed_upper)
       (map (replaced_if_numbered nat_eq changed) world.filesystems) (second_same layers)
@@ -717,30 +596,15 @@ module _ (fresh : Fresh ℕ) (world : World ℕ) (location : Location ℕ) (chan
   overlap_then : (a b : Layer ℕ) → IsLive a → IsLive b → overlap nat_eq later a b ≡ true
       → overlap nat_eq world a b ≡ true
   overlap_then a b live_a live_b e =
-      from (any_among
-      (λ (o : ℕ). lies_or_counts_under nat_eq later a.filesystem o a
-      && list_any (lies_or_counts_under nat_eq later a.filesystem o) (b ∷ []))
-      (filesystem_numbered nat_eq later a.filesystem).files.numbers e)
-    where
-      from : (o : ℕ) × Among o (filesystem_numbered nat_eq later a.filesystem).files.numbers
-          × ((lies_or_counts_under nat_eq later a.filesystem o a
-          && (lies_or_counts_under nat_eq later a.filesystem o b || false)) ≡ true)
-          → overlap nat_eq world a b ≡ true
-      from (o, m, f) =
-          overlap_before a b live_a live_b a.filesystem o refl
-          (and_true_left (lies_or_counts_under nat_eq later a.filesystem o a) _ f)
-          (or_false_alone (lies_or_counts_under nat_eq later a.filesystem o b)
-          (and_true_right (lies_or_counts_under nat_eq later a.filesystem o a) _ f))
+      grind (arith, common_steps, any_among, overlap_before, and_true_left, or_false_alone, and_true_right)
 
   changed_stay : any_pair (overlap nat_eq later) (live_upper_and_work later) ≡ false
-  changed_stay =
-      ap (any_pair (overlap nat_eq later)) (layers_same upper_and_work (λ o real. refl))
+  changed_stay = ap (any_pair (overlap nat_eq later)) (layers_same upper_and_work (λ o real. refl))
       ∙ no_pair_later (overlap nat_eq world) (overlap nat_eq later) (live_upper_and_work world)
       (λ a b m n e. overlap_then a b (live_of a m) (live_of b n) e) conditions.overlays.changed_apart
 
   lowers_stay : list_any (overlaps_one_of nat_eq later (live_lowers nat_eq later)) (live_upper_and_work later) ≡ false
-  lowers_stay =
-      ap (list_any (overlaps_one_of nat_eq later (live_lowers nat_eq later)))
+  lowers_stay = ap (list_any (overlaps_one_of nat_eq later (live_lowers nat_eq later)))
       (layers_same upper_and_work (λ o real. refl))
       ∙ ap (λ l. list_any (overlaps_one_of nat_eq later l) (live_upper_and_work world))
       (layers_same (λ o. o.lowers) (λ o real. refl))
@@ -751,9 +615,7 @@ module _ (fresh : Fresh ℕ) (world : World ℕ) (location : Location ℕ) (chan
           → lies_or_counts_under nat_eq later a.filesystem o a ≡ true
           → (b : Layer ℕ) × Among b (live_lowers nat_eq world) ×
           (lies_or_counts_under nat_eq later a.filesystem o b ≡ true) → ⊥
-      inner a m o p (b, n, q) =
-          found (any_among
-          (λ (x : ℕ). lies_or_counts_under nat_eq world a.filesystem x a
+      inner a m o p (b, n, q) = found (any_among (λ (x : ℕ). lies_or_counts_under nat_eq world a.filesystem x a
           && list_any (lies_or_counts_under nat_eq world a.filesystem x) (b ∷ []))
           (filesystem_numbered nat_eq world a.filesystem).files.numbers
           (overlap_before a b (live_of a m) (low_of b n) a.filesystem o refl p q))
@@ -761,9 +623,7 @@ module _ (fresh : Fresh ℕ) (world : World ℕ) (location : Location ℕ) (chan
           found : (x : ℕ) × Among x (filesystem_numbered nat_eq world a.filesystem).files.numbers
               × ((lies_or_counts_under nat_eq world a.filesystem x a
               && (lies_or_counts_under nat_eq world a.filesystem x b || false)) ≡ true) → ⊥
-          found (x, l, f) =
-              never_both _ _
-              (none_among (λ (y : ℕ). lies_or_counts_under nat_eq world a.filesystem y a
+          found (x, l, f) = never_both _ _ (none_among (λ (y : ℕ). lies_or_counts_under nat_eq world a.filesystem y a
               && list_any (lies_or_counts_under nat_eq world a.filesystem y) (live_lowers nat_eq world))
               (filesystem_numbered nat_eq world a.filesystem).files.numbers
               (none_among (overlaps_one_of nat_eq world (live_lowers nat_eq world)) (live_upper_and_work world)
@@ -777,8 +637,7 @@ module _ (fresh : Fresh ℕ) (world : World ℕ) (location : Location ℕ) (chan
           → (o : ℕ) × Among o (filesystem_numbered nat_eq later a.filesystem).files.numbers
           × ((lies_or_counts_under nat_eq later a.filesystem o a
           && list_any (lies_or_counts_under nat_eq later a.filesystem o) (live_lowers nat_eq world)) ≡ true) → ⊥
-      from a m (o, l, f) =
-          inner a m o (and_true_left (lies_or_counts_under nat_eq later a.filesystem o a) _ f)
+      from a m (o, l, f) = inner a m o (and_true_left (lies_or_counts_under nat_eq later a.filesystem o a) _ f)
           (any_among (lies_or_counts_under nat_eq later a.filesystem o) (live_lowers nat_eq world)
           (and_true_right (lies_or_counts_under nat_eq later a.filesystem o a) _ f))
 
@@ -786,9 +645,7 @@ module _ (fresh : Fresh ℕ) (world : World ℕ) (location : Location ℕ) (chan
           → overlaps_one_of nat_eq later (live_lowers nat_eq world) a ≡ b
           → overlaps_one_of nat_eq later (live_lowers nat_eq world) a ≡ false
       by a m false e = e
-      by a m true e =
-          absurd (from a m
-          (any_among (λ (o : ℕ). lies_or_counts_under nat_eq later a.filesystem o a
+      by a m true e = absurd (from a m (any_among (λ (o : ℕ). lies_or_counts_under nat_eq later a.filesystem o a
           && list_any (lies_or_counts_under nat_eq later a.filesystem o) (live_lowers nat_eq world))
           (filesystem_numbered nat_eq later a.filesystem).files.numbers e))
 

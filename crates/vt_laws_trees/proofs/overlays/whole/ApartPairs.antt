@@ -1,5 +1,6 @@
 -- Of some, no pair passes a test.
-use Rattle.std.proofs.Common.{◌≡◌, ◌≢◌, refl, sym, ap, ◌∙◌, true≢false, ◌⊎◌, ⊎_elim, inl, inr, Bool, true, false, ◌||◌, List, [], ◌∷◌}
+use Rattle.std.proofs.Common.{arith, ◌≡◌, ◌≢◌, refl, sym, ap, ◌∙◌, true≢false, ◌⊎◌, ⊎_elim, inl, inr, Bool, true, false, ◌||◌, List, [], ◌∷◌}
+use Rattle.std.proofs.lemmas.Grind.{common_steps}
 use Rattle.std.specs.List.{list_any}
 use Rattle.vt_spec.specs.Lists.{any_pair}
 use Rattle.vt_spec.proofs.Lists.{Among, any_among, any_from_among, none_among}
@@ -7,13 +8,10 @@ use Rattle.vt_spec.proofs.Truths.{or_false_left, or_false_right}
 
 -- of two that differ in a list of which no pair passes
 pub two_apart : {A : Type 0} (test : A → A → Bool) (xs : List A) → any_pair test xs ≡ false → (a b : A) → Among a xs
-    → Among b xs → a ≢ b
-    → (test a b ≡ false) ⊎ (test b a ≡ false)
+    → Among b xs → a ≢ b → (test a b ≡ false) ⊎ (test b a ≡ false)
 two_apart test [] e a b m n differ = absurd m
-two_apart test (x ∷ xs) e a b m n differ =
-    ⊎_elim
-    (λ (ax : a ≡ x). ⊎_elim (λ (bx : b ≡ x). absurd (differ (ax ∙ sym bx)))
-    (λ l. inl (ap (λ y. test y b) ax
+two_apart test (x ∷ xs) e a b m n differ = ⊎_elim
+    (λ (ax : a ≡ x). ⊎_elim (λ (bx : b ≡ x). absurd (differ (ax ∙ sym bx))) (λ l. inl (ap (λ y. test y b) ax
     ∙ none_among (test x) xs (or_false_left (list_any (test x) xs) (any_pair test xs) e) b l)) n)
     (λ k. ⊎_elim (λ (bx : b ≡ x). inr (ap (λ y. test y a) bx
     ∙ none_among (test x) xs (or_false_left (list_any (test x) xs) (any_pair test xs) e) a k))
@@ -29,11 +27,5 @@ no_pair_later test later (x ∷ xs) h e =
     (λ f. no_pair_later test later xs (λ a b m n. h a b (inr m) (inr n)) f)
   where
     by : (p : Bool) → list_any (later x) xs ≡ p → (q r : Bool) → list_any (test x) xs ≡ q → any_pair test xs ≡ r
-        → (q || r) ≡ false
-        → (any_pair test xs ≡ false → any_pair later xs ≡ false) → (p || any_pair later xs) ≡ false
-    by p f true r g k e rest = absurd (true≢false e)
-    by false f false r g k e rest = rest (k ∙ e)
-    by true f false r g k e rest =
-        let found = any_among (later x) xs f in
-        absurd (true≢false
-        (sym (any_from_among (test x) xs found.0 found.1 (h x found.0 (inl refl) (inr found.1) found.2)) ∙ g))
+        → (q || r) ≡ false → (any_pair test xs ≡ false → any_pair later xs ≡ false) → (p || any_pair later xs) ≡ false
+    by p f q r g k e rest = grind (arith, common_steps, true≢false, any_among, any_from_among)

@@ -48,8 +48,7 @@ module _ (files : FileTree ℕ) (tree : IsTree files.tree) (top : ℕ) where
           → ((b : ℕ) → is_among nat_eq top (chain most (named_parent nat_eq files.tree) b) ≡ true → Led b) → Led d
       by None e h rest = ⊎_elim (λ f. ([], ap Some (eqb-true top d f))) (λ f. absurd (true≢false (sym f)))
           (or_cases (nat_eq top d) false h)
-      by (Some b) e h rest =
-          ⊎_elim (λ f. ([], ap Some (eqb-true top d f)))
+      by (Some b) e h rest = ⊎_elim (λ f. ([], ap Some (eqb-true top d f)))
           (λ f. let name = entry_from files.tree tree b d (parent_entry d b e) in led_on b name.0 d (rest b f) name.1)
           (or_cases (nat_eq top d) (is_among nat_eq top (chain most (named_parent nat_eq files.tree) b)) h)
 
@@ -64,14 +63,12 @@ module _ (files : FileTree ℕ) (tree : IsTree files.tree) (top : ℕ) where
           && is_directory_under nat_eq files top directory) files.numbers e in
           let name = entry_from files.tree tree found.0 object
           (and_true_left (has_entry_to nat_eq files.tree found.0 object) _ found.2) in
-          led_on found.0 name.0 object
-          (by_chain (length files.numbers) found.0
+          led_on found.0 name.0 object (by_chain (length files.numbers) found.0
           (and_true_right (has_entry_to nat_eq files.tree found.0 object) _ found.2)) name.1
 
   -- and what is led to lies under it
   pub led_under : ListsNumbers nat_eq files → IsDirectory files.tree top → (object : ℕ) → Led object
       → is_under nat_eq files top object ≡ true
-  led_under numbers is object way =
-      led_below files tree numbers top top way.0 object
+  led_under numbers is object way = led_below files tree numbers top top way.0 object
       (sym (ap (λ b. cond b (is_directory_under nat_eq files top top) (is_file_under nat_eq files top top)) is)
       ∙ under_itself files top is) is way.1

@@ -56,21 +56,18 @@ stays_named before after was conditions own number directory same named =
     by true e =
         let entry = entry_from after.tree conditions above number e in
         conditions.reached number still (above, entry.0, entry.1)
-    by false e =
-        absurd (no_way_up before was named.0 named.1 number named.2 []
+    by false e = absurd (no_way_up before was named.0 named.1 number named.2 []
         (ap Some (sym (own number still (λ again.
         true≢false (sym (entry_to after.tree above again.1 number
         (ap (λ d. entry_at after.tree d again.1) (conditions.one_parent again.0 again.1 number again.2 still)
-        ∙ again.2)) ∙ e)))
-        ∙ from)))
+        ∙ again.2)) ∙ e))) ∙ from)))
 
 module _ (fresh : Fresh ℕ) (world : World ℕ) (location : Location ℕ) (change : Change ℕ) (overlay : Overlay ℕ)
     (upper : Layer ℕ) (conditions : IsWorld nat_eq world)
     (is : (filesystem_at nat_eq world location).overlay ≡ Some overlay) (has : overlay.upper ≡ Some upper)
     (distinct : (j k : ℕ) → fresh j ≡ fresh k → j ≡ k) (none : (filesystem : ℕ) → AreNoInodes fresh world filesystem)
     (asked : IsAskedWell (stack_of nat_eq world overlay upper)
-    (merge_of nat_eq world (filesystem_at nat_eq world location) overlay upper) change)
-    (layer : Layer ℕ)
+    (merge_of nat_eq world (filesystem_at nat_eq world location) overlay upper) change) (layer : Layer ℕ)
     (other : ApartLater.IsOther fresh world location change overlay upper conditions is has distinct none asked layer)
     (same : layer.filesystem ≡ upper.filesystem) where
   abbrev number : ℕ
@@ -93,8 +90,7 @@ module _ (fresh : Fresh ℕ) (world : World ℕ) (location : Location ℕ) (chan
       ApartLater.other_plain fresh world location change overlay upper conditions is has distinct none asked layer other
 
   directory : IsDirectory before.upper.tree layer.directory
-  directory =
-      subst (λ n. IsDirectory (filesystem_numbered nat_eq world n).files.tree layer.directory) same
+  directory = subst (λ n. IsDirectory (filesystem_numbered nat_eq world n).files.tree layer.directory) same
       (and_true_right _ _ plain)
 
   was_tree : IsTree before.upper.tree
@@ -112,8 +108,7 @@ module _ (fresh : Fresh ℕ) (world : World ℕ) (location : Location ℕ) (chan
         (ApartLater.lies_first fresh world location change overlay upper conditions is has distinct none asked upper
         upper.filesystem inode
         (ApartLater.led_lies fresh world location change overlay upper conditions is has distinct none asked upper
-        upper_plain upper.filesystem inode refl way))
-        lies
+        upper_plain upper.filesystem inode refl way)) lies
 
     -- it is no object of the overlay, and is no new inode
     apart : (n : ℕ) → upper_object (overlay.real n) ≢ Some inode
@@ -123,10 +118,8 @@ module _ (fresh : Fresh ℕ) (world : World ℕ) (location : Location ℕ) (chan
         by None r f = none_is_some inode f
         by (Some (Upper object)) r f =
             ApartLater.clash fresh world location change overlay upper conditions is has distinct none asked layer other
-            upper.filesystem inode there
-            (object_counts world conditions number overlay is upper has inode
-            (n, r ∙ ap (λ o. Some (Upper o)) (same_Some object inode f)))
-            lies
+            upper.filesystem inode there (object_counts world conditions number overlay is upper has inode
+            (n, r ∙ ap (λ o. Some (Upper o)) (same_Some object inode f))) lies
         by (Some (Lower depth path)) r f = none_is_some inode f
 
     new : (k : ℕ) → inode ≢ fresh k
@@ -150,17 +143,12 @@ module _ (fresh : Fresh ℕ) (world : World ℕ) (location : Location ℕ) (chan
         placed_on : (object : ℕ) (name : List ℕ) (next : ℕ) → IsPlaced object
             → entry_at two.upper.tree object name ≡ Some next → IsPlaced next
         unfolding IsPlaced
-        placed_on object name next placed e =
-            ⊎_elim
-            (λ was. ⊎_elim (λ way. inl (
-              way.0
-                  ++ name ∷ [],
-              led-append before.upper.tree upper.directory way.0 name object next way.1 was,
-            ))
-            (λ fresh_one. absurd (true≢false (sym (has_entries before.upper.tree object name next was)
+        placed_on object name next placed e = ⊎_elim (λ was. ⊎_elim (λ way. inl (
+          way.0 ++ name ∷ [],
+          led-append before.upper.tree upper.directory way.0 name object next way.1 was,
+        )) (λ fresh_one. absurd (true≢false (sym (has_entries before.upper.tree object name next was)
             ∙ ap (λ n. is_directory_node (before.upper.tree.node n)) fresh_one.1
-            ∙ ap is_directory_node (none upper.filesystem fresh_one.0)))) placed)
-            inr (told object name next e)
+            ∙ ap is_directory_node (none upper.filesystem fresh_one.0)))) placed) inr (told object name next e)
 
         placed_along : (path : List (List ℕ)) (from object : ℕ) → IsPlaced from
             → led two.upper.tree from path ≡ Some object → IsPlaced object
@@ -183,29 +171,24 @@ module _ (fresh : Fresh ℕ) (world : World ℕ) (location : Location ℕ) (chan
           (led-append two.upper.tree upper.directory way.0 to (upper_of two t) inode
           (up_there stack two ready.whole t (upper_of two t) (upper_real two t ready.to) way.0 way.1) e))
 
-      spared : (m : Merge ℕ) → two ≡ m
-          → Rattle.vt_spec.specs.Tree.entry_named to
+      spared : (m : Merge ℕ) → two ≡ m → Rattle.vt_spec.specs.Tree.entry_named to
           (entries_in ((without_contents nat_eq m.upper (upper_directory_named m t to)).tree.node
           (upper_of m t))) ≢ Some inode
       spared m copied e =
           ⊎_elim (λ entry. not_there (ap (λ (x : Merge ℕ). entry_at x.upper.tree (upper_of x t) to) copied ∙ entry))
-          (λ nothing. nothing)
-          (told_emptied (λ y. ⊥) m.upper (upper_directory_named m t to) (upper_of m t) to inode e)
+          (λ nothing. nothing) (told_emptied (λ y. ⊥) m.upper (upper_directory_named m t to) (upper_of m t) to inode e)
 
     -- so nothing of its inode changes
     pub inode_stays : merge.upper.tree.node inode ≡ before.upper.tree.node inode
-    inode_stays =
-        changes_keep_so before.files (overlay_tree world conditions number overlay is)
+    inode_stays = changes_keep_so before.files (overlay_tree world conditions number overlay is)
         (overlay_numbers world conditions number overlay is)
         inode (before.upper.tree.node inode) fresh new stack overlay.real before.upper
         (record { here = refl; apart = apart; root = root_is_upper world conditions number overlay is upper has })
         (λ x. x ≡ before.upper.tree.node inode) (λ x e. e) change
         (λ f old t to o moves moved_real moved_upper copied fine from_up to_up object_up.
         moved_leaves before.files (overlay_tree world conditions number overlay is)
-        (overlay_numbers world conditions number overlay is)
-        inode (before.upper.tree.node inode) (odds (odds fresh))
-        (λ k. new (2 * (2 * k + 1) + 1)) stack moved_real moved_upper fine
-        f old t to o from_up to_up object_up
+        (overlay_numbers world conditions number overlay is) inode (before.upper.tree.node inode) (odds (odds fresh))
+        (λ k. new (2 * (2 * k + 1) + 1)) stack moved_real moved_upper fine f old t to o from_up to_up object_up
         (spared f old t to o moves (record { files = before.files; real = moved_real; upper = moved_upper }) copied))
         (WholeLater.spoken stack before change (overlay_tree world conditions number overlay is) asked)
         (from_too world conditions number overlay is upper has)
@@ -218,15 +201,12 @@ module _ (fresh : Fresh ℕ) (world : World ℕ) (location : Location ℕ) (chan
 
       -- it lies under itself
       lies_itself : ApartLater.Lies fresh world location change overlay upper conditions is has distinct none asked
-          layer
-          upper.filesystem layer.directory
+          layer upper.filesystem layer.directory
       lies_itself =
           ApartLater.lies_first fresh world location change overlay upper conditions is has distinct none asked layer
           upper.filesystem layer.directory
           (ApartLater.led_lies fresh world location change overlay upper conditions is has distinct none asked layer
-          plain
-          upper.filesystem layer.directory (sym same)
-          ([], refl))
+          plain upper.filesystem layer.directory (sym same) ([], refl))
 
       -- the upper layer's directory does not lie under it, so it is not the root
       no_root : before.upper.tree.root ≢ layer.directory
@@ -234,16 +214,14 @@ module _ (fresh : Fresh ℕ) (world : World ℕ) (location : Location ℕ) (chan
           ApartLater.clash fresh world location change overlay upper conditions is has distinct none asked layer other
           upper.filesystem upper.directory
           (ApartLater.directory_there fresh world location change overlay upper conditions is has distinct none asked
-          upper
-          upper_plain)
+          upper upper_plain)
           (ApartLater.lies_first fresh world location change overlay upper conditions is has distinct none asked upper
           upper.filesystem upper.directory
           (ApartLater.upper_itself fresh world location change overlay upper conditions is has distinct none asked))
           (ApartLater.lies_first fresh world location change overlay upper conditions is has distinct none asked layer
           upper.filesystem upper.directory
           (ApartLater.led_lies fresh world location change overlay upper conditions is has distinct none asked layer
-          plain
-          upper.filesystem upper.directory (sym same) (
+          plain upper.filesystem upper.directory (sym same) (
             upper_reached.0,
             subst (λ n. led (filesystem_numbered nat_eq world n).files.tree layer.directory upper_reached.0
                 ≡ Some upper.directory) (sym same)
@@ -256,16 +234,12 @@ module _ (fresh : Fresh ℕ) (world : World ℕ) (location : Location ℕ) (chan
       pub still_reached : IsReached merge.upper.tree layer.directory
       still_reached =
           let goes = ApartLater.goes fresh world location change overlay upper conditions is has distinct none asked in
-          ⊎_elim (λ root. absurd (no_root root))
-          (λ named. stays_named before.upper merge.upper was_tree goes.good.tree
-          (goes.own_parents own) layer.directory directory
-          (inode_stays layer.directory there_itself lies_itself) named)
+          ⊎_elim (λ root. absurd (no_root root)) (λ named. stays_named before.upper merge.upper was_tree goes.good.tree
+          (goes.own_parents own) layer.directory directory (inode_stays layer.directory there_itself lies_itself) named)
           (reached_named before.upper.tree layer.directory layer_reached)
         where
           own : HasOwnParents before.upper.tree
-          own =
-              ⊎_elim (λ parents. parents)
-              (λ missing. absurd (true≢false
+          own = ⊎_elim (λ parents. parents) (λ missing. absurd (true≢false
               (sym there_itself ∙ ap (λ (x : Filesystem ℕ). is_some (x.files.tree.node layer.directory)) missing.0)))
               (numbered_all (λ (x : Filesystem ℕ). HasOwnParents x.files.tree) upper.filesystem world.filesystems
               conditions.files.own_parents)

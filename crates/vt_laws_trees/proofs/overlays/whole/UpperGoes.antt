@@ -1,6 +1,7 @@
 -- A plain tree after a change that its call's rules let pass: it is a tree, and the directory of a layer in it is still
 -- reached.
-use Rattle.std.proofs.Common.{◌≡◌, ◌≢◌, refl, sym, ap, subst, ◌∙◌, true≢false, ℕ, nat_eq, false, List, [], ⊎_elim, inl, inr, Option, Some, None, is_some}
+use Rattle.std.proofs.Common.{arith, ◌≡◌, ◌≢◌, refl, sym, ap, subst, ◌∙◌, true≢false, ℕ, nat_eq, false, List, [], ⊎_elim, inl, inr, Option, Some, is_some}
+use Rattle.std.proofs.lemmas.Grind.{common_steps}
 use Rattle.std.proofs.lemmas.Bool.Decides.{eqb_tells}
 use Rattle.std.specs.FinMap.Entries.{is_sorted}
 use Rattle.std.specs.Prelude.{⊤}
@@ -8,8 +9,8 @@ use Rattle.vt_spec.specs.FileTree.{FileTree}
 use Rattle.vt_spec.specs.Language.Changes.{Change, changed, changed_node, node_with_attr, node_with_mark, node_without_entries}
 use Rattle.vt_spec.specs.Language.Changes.Change.{AddName, CopyUp, Make, Move, Remove, SetAttr, SetBytes, SetMark}
 use Rattle.vt_spec.specs.Machine.Invariants.{ListsNumbers}
-use Rattle.vt_spec.specs.Tree.{Content, Node, Tree, entries_in, entry_named, is_directory_node, name_cmp, node_with_bytes, parent_in, parent_of, with_entries}
-use Rattle.vt_spec.specs.Tree.Content.{Directory, Regular, Symlink, Whiteout}
+use Rattle.vt_spec.specs.Tree.{Node, Tree, entries_in, entry_named, is_directory_node, name_cmp, node_with_bytes, parent_in}
+use Rattle.vt_spec.specs.Tree.Content.{Directory}
 use Rattle.vt_spec.specs.TreeInvariant.{HasName, HasOwnParents, IsDirectory, IsReached, IsTree, entry_at}
 use Rattle.vt_spec.proofs.Nodes.{directory_used}
 use Rattle.vt_spec.proofs.Trees.{directory_kept, entry_kept, reached_named, used_differs}
@@ -71,17 +72,14 @@ Spares number files (Move from old to new object) = (number ≢ object) × (entr
 Spares number files change = ⊤
 
 made_reached : (files : FileTree ℕ) (d : ℕ) (w : List ℕ) (c : ℕ) (node : Node ℕ) → IsTree files.tree
-    → (may : MayMake files.tree d w c node)
-    → (number : ℕ) → IsDirectory files.tree number → IsReached files.tree number
+    → (may : MayMake files.tree d w c node) → (number : ℕ) → IsDirectory files.tree number → IsReached files.tree number
     → IsDirectory (changed nat_eq files (Make d w c node)).tree number
     × IsReached (changed nat_eq files (Make d w c node)).tree number
 made_reached files d w c node conditions may number is reached =
     subst (λ t. IsDirectory t number × IsReached t number) (made_alike files d w c node differ) (
       still,
-      stays_reached files.tree (with_it) number
-          (subst IsTree (sym (made_alike files d w c node differ))
-          (changes_keep_trees files (Make d w c node) conditions may)) refl still reached
-          (λ e n f. (
+      stays_reached files.tree (with_it) number (subst IsTree (sym (made_alike files d w c node differ))
+          (changes_keep_trees files (Make d w c node) conditions may)) refl still reached (λ e n f. (
             e,
             n,
             entry_kept files.tree d w c node conditions may.name_is_free.in_directory
@@ -97,13 +95,11 @@ made_reached files d w c node conditions may number is reached =
         may.name_is_free.free may.number_is_new may.fits d (directory_used files.tree d may.name_is_free.in_directory)
 
     still : IsDirectory with_it number
-    still =
-        directory_kept files.tree d w c node conditions may.name_is_free.in_directory may.name_is_free.reached
+    still = directory_kept files.tree d w c node conditions may.name_is_free.in_directory may.name_is_free.reached
         may.name_is_free.free may.number_is_new may.fits number is
 
 still_reached : (files : FileTree ℕ) (object : ℕ) (change : Option (Node ℕ) → Option (Node ℕ)) → KeepsPlace change
-    → IsTree files.tree
-    → IsTree (changed_node nat_eq files object change).tree
+    → IsTree files.tree → IsTree (changed_node nat_eq files object change).tree
     → (number : ℕ) → IsDirectory files.tree number → IsReached files.tree number
     → IsDirectory (changed_node nat_eq files object change).tree number
     × IsReached (changed_node nat_eq files object change).tree number
@@ -137,8 +133,7 @@ change_reaches files (Move from old to new object) conditions may number spares 
       moves.directories number ∙ is,
       rearranged_reached files.tree (changed nat_eq files (Move from old to new object)).tree _ _ moves
           (changes_keep_trees files (Move from old to new object) conditions may)
-          (root-without_parent files (entry_at files.tree to new)) number
-          (⊎_elim spares.0 spares.1) is reached,
+          (root-without_parent files (entry_at files.tree to new)) number (⊎_elim spares.0 spares.1) is reached,
     )
 change_reaches files (SetBytes file bytes) conditions may number spares is reached =
     still_reached files file (node_with_bytes bytes) (bytes_keep_place bytes) conditions
@@ -153,8 +148,7 @@ change_reaches files (CopyUp object) conditions may number spares is reached = (
 
 -- so such a tree goes on to be one
 pub goes_by : (top : ℕ) (files : FileTree ℕ) (change : Change ℕ) → IsGood top files → IsProper files.tree change
-    → Spares top files change
-    → Goes top files (changed nat_eq files change)
+    → Spares top files change → Goes top files (changed nat_eq files change)
 goes_by top files change is may spares =
     let kept = change_reaches files change is.tree may top spares is.directory is.reached in
     record {
@@ -171,18 +165,10 @@ module _ (files : FileTree ℕ) (r : ℕ) (conditions : IsTree files.tree)
   bare = changed_node nat_eq files r node_without_entries
 
   parent_same : (own : ℕ) (o : Option (Node ℕ)) → parent_in own (node_without_entries o) ≡ parent_in own o
-  parent_same own None = refl
-  parent_same own (Some node) = by node.content
-    where
-      by : (content : Content ℕ) → parent_of own (with_entries content []) ≡ parent_of own content
-      by (Directory parent entries opaque) = refl
-      by (Regular bytes) = refl
-      by (Symlink text) = refl
-      by Whiteout = refl
+  parent_same own o = grind (arith, common_steps)
 
   pub bare_there : entries_in (bare.tree.node r) ≡ []
-  bare_there =
-      ap entries_in (changed_node_there files r node_without_entries)
+  bare_there = ap entries_in (changed_node_there files r node_without_entries)
       ∙ entries-node_without_entries (files.tree.node r)
 
   pub bare_elsewhere : (d : ℕ) → d ≢ r → bare.tree.node d ≡ files.tree.node d
@@ -191,11 +177,9 @@ module _ (files : FileTree ℕ) (r : ℕ) (conditions : IsTree files.tree)
   -- what is left was there, elsewhere
   pub bare_told : (d : ℕ) (n : List ℕ) (k : ℕ) → entry_at bare.tree d n ≡ Some k
       → (d ≢ r) × (entry_at files.tree d n ≡ Some k)
-  bare_told d n k e =
-      ⊎_elim
+  bare_told d n k e = ⊎_elim
       (λ t. none_is_some k (sym (ap (λ m. entry_at bare.tree m n) t.1 ∙ ap (entry_named n) bare_there) ∙ e))
-      (λ t. (t.1, sym (ap (λ o. entry_named n (entries_in o)) (bare_elsewhere d t.1)) ∙ e))
-      (eqb_tells d r)
+      (λ t. (t.1, sym (ap (λ o. entry_named n (entries_in o)) (bare_elsewhere d t.1)) ∙ e)) (eqb_tells d r)
 
   pub bare_kept : (d : ℕ) (n : List ℕ) (k : ℕ) → d ≢ r → entry_at files.tree d n ≡ Some k
       → entry_at bare.tree d n ≡ Some k
@@ -210,17 +194,14 @@ module _ (files : FileTree ℕ) (r : ℕ) (conditions : IsTree files.tree)
   bare_rearranged : IsRearranged files.tree bare.tree.node Nobody Nowhere
   bare_rearranged = record {
     directories = bare_kind;
-    in_order = λ d.
-        ⊎_elim
+    in_order = λ d. ⊎_elim
         (λ t. ap (λ m. is_sorted name_cmp (entries_in (bare.tree.node m))) t.1 ∙ ap (is_sorted name_cmp) bare_there)
         (λ t. ap (λ o. is_sorted name_cmp (entries_in o)) (bare_elsewhere d t.1) ∙ conditions.in_order d)
         (eqb_tells d r);
     alive = λ d n k e. bare_used k ∙ conditions.alive d n k (bare_told d n k e).1;
-    kept = λ d n k e is.
-        ⊎_elim
+    kept = λ d n k e is. ⊎_elim
         (λ t. absurd (true≢false (sym is ∙ leaves n k (ap (λ m. entry_at files.tree m n) (sym t.1) ∙ e))))
-        (λ t. inr (bare_kept d n k t.1 e))
-        (eqb_tells d r);
+        (λ t. inr (bare_kept d n k t.1 e)) (eqb_tells d r);
     told = λ d n k e is. inr ((bare_told d n k e).1, λ nobody. nobody);
     decided = λ k. inr (λ nobody. nobody);
     arrives_entry = λ d n k nobody. absurd nobody;
@@ -231,11 +212,8 @@ module _ (files : FileTree ℕ) (r : ℕ) (conditions : IsTree files.tree)
     stays_parent = λ k is stays. part_stays files r node_without_entries (parent_in k) (parent_same k) k;
     leaves_how = λ k is nobody. absurd nobody;
     root_stays = λ nobody. nobody;
-    fills = λ k empty.
-        ⊎_elim
-        (λ t. inl (ap (λ m. entries_in (bare.tree.node m)) t.1 ∙ bare_there))
-        (λ t. inl (ap entries_in (bare_elsewhere k t.1) ∙ empty))
-        (eqb_tells k r);
+    fills = λ k empty. ⊎_elim (λ t. inl (ap (λ m. entries_in (bare.tree.node m)) t.1 ∙ bare_there))
+        (λ t. inl (ap entries_in (bare_elsewhere k t.1) ∙ empty)) (eqb_tells k r);
   }
 
   pub bare_tree : IsTree bare.tree
@@ -251,8 +229,7 @@ module _ (files : FileTree ℕ) (r : ℕ) (conditions : IsTree files.tree)
   bare_goes top is = record {
     good = record {
       tree = bare_tree;
-      directory = bare_kind top
-          ∙ is.directory;
+      directory = bare_kind top ∙ is.directory;
       reached = bare_reached top is.directory is.reached;
     };
     numbers = numbers_stay files r node_without_entries without_entries_keeps.there;

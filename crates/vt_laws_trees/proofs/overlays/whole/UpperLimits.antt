@@ -27,28 +27,24 @@ module _ (fresh : Fresh ℕ) (stack : Stack ℕ) (merge : Merge ℕ) (h : is_fit
       let inode : Node ℕ = record { attr = node.attr; content = content_with_parent (upper_of merge d) node.content } in
       let first = with_inode nat_eq merge.upper (fresh 0) inode in
       marked_sized (changed nat_eq merge.upper (Make (upper_of merge d) w (fresh 0) inode))
-      (hides_directory nat_eq stack merge d w) (fresh 0)
-      (name_sized first (upper_of merge d) w (fresh 0) name
+      (hides_directory nat_eq stack merge d w) (fresh 0) (name_sized first (upper_of merge d) w (fresh 0) name
       (inode_fits merge.upper (fresh 0) inode (above_fits_limits (upper_of merge d) node small) h))
 
   removed_sized : (d : ℕ) (w : List ℕ) (object : ℕ) → is_fit_name w ≡ true
       → is_fit_tree (merge_without_name nat_eq fresh stack merge d w object).upper ≡ true
   removed_sized d w object name =
       emptied_sized (name_left_by nat_eq (is_some (shown_in_lowers_at nat_eq stack merge d w)) fresh stack merge.upper
-      (upper_of merge d) w)
-      (upper_directory_named merge d w)
+      (upper_of merge d) w) (upper_directory_named merge d w)
       (left_sized fresh stack merge.upper (upper_of merge d) w (is_some
       (shown_in_lowers_at nat_eq stack merge d w)) name h)
 
   move_sized : (f : ℕ) (old : List ℕ) (t : ℕ) (to : List ℕ) (object : ℕ) → is_fit_name old ≡ true
-      → is_fit_name to ≡ true
-      → is_fit_tree (merge_with_moved nat_eq fresh stack merge f old t to object).upper ≡ true
+      → is_fit_name to ≡ true → is_fit_tree (merge_with_moved nat_eq fresh stack merge f old t to object).upper ≡ true
   move_sized f old t to object name new =
       let base = without_contents nat_eq merge.upper (upper_directory_named merge t to) in
       let gone = with_moved nat_eq base (upper_of merge f) old (upper_of merge t) to (upper_of merge object) in
       marked_sized (name_left_by nat_eq (is_some (shown_in_lowers_at nat_eq stack merge f old)) fresh stack gone
-      (upper_of merge f) old)
-      (hides_directory nat_eq stack merge t to) (upper_of merge object)
+      (upper_of merge f) old) (hides_directory nat_eq stack merge t to) (upper_of merge object)
       (left_sized fresh stack gone (upper_of merge f) old (is_some (shown_in_lowers_at nat_eq stack merge f old)) name
       (moved_sized base (upper_of merge f) old (upper_of merge t) to (upper_of merge object) new
       (emptied_sized merge.upper (upper_directory_named merge t to) h)))
@@ -86,8 +82,7 @@ module _ (fresh : Fresh ℕ) (stack : Stack ℕ) (merge : Merge ℕ) (whole : Is
   upper_sized (Move from old t to object) asked fit =
       let m = twice fresh stack merge whole distinct unused from old t to object asked.0 in
       move_sized (odds (odds fresh)) stack (both_copied fresh stack merge from old t to object)
-      (m.sizes f h) from old t to object
-      (name_fits merge.files whole.numbers f from old object asked.0.named) fit
+      (m.sizes f h) from old t to object (name_fits merge.files whole.numbers f from old object asked.0.named) fit
   upper_sized (SetBytes file bytes) there fit =
       let one = copied_up nat_eq fresh merge file in
       changes_keep_sizes one.upper (SetBytes (upper_of one file) bytes)

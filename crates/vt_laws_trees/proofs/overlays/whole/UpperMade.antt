@@ -1,5 +1,6 @@
 -- A new name in the upper layer: its tree goes on to be one.
-use Rattle.std.proofs.Common.{◌≡◌, ◌≢◌, refl, sym, ap, subst, ◌∙◌, true≢false, inl, inr, ℕ, nat_eq, Bool, true, false, List, [], ◌∷◌, ◌++◌, Some, None, is_some, option_and_then}
+use Rattle.std.proofs.Common.{arith, ◌≡◌, ◌≢◌, refl, sym, ap, subst, ◌∙◌, true≢false, ℕ, nat_eq, Bool, true, false, List, [], ◌∷◌, ◌++◌, Some, None, is_some, option_and_then}
+use Rattle.std.proofs.lemmas.Grind.{common_steps}
 use Rattle.vt_spec.specs.declared.attributes.Kind.TheVariants.{White}
 use Rattle.vt_spec.specs.FileTree.{FileTree, is_kind_in}
 use Rattle.vt_spec.specs.Language.Changes.{changed, content_with_parent}
@@ -10,8 +11,8 @@ use Rattle.vt_spec.specs.Machine.CopyUp.{Merge, Stack, hides_directory, merge_wi
 use Rattle.vt_spec.specs.Machine.World.Real.{Upper}
 use Rattle.vt_spec.specs.Machine.Invariants.{number_at_path}
 use Rattle.vt_spec.specs.Rights.{is_directory}
-use Rattle.vt_spec.specs.Tree.{Content, Node, is_directory_node, kind_of}
-use Rattle.vt_spec.specs.Tree.Content.{Directory, Regular, Symlink, Whiteout}
+use Rattle.vt_spec.specs.Tree.{Node, is_directory_node}
+use Rattle.vt_spec.specs.Tree.Content.{Directory}
 use Rattle.vt_spec.specs.TreeInvariant.{IsDirectory, IsReached, entry_at, led}
 use Rattle.vt_spec.proofs.Nodes.{directory_used}
 use Rattle.vt_spec.proofs.Trees.{led-append}
@@ -68,14 +69,7 @@ module _ (stack : Stack ℕ) (merge : Merge ℕ) (whole : IsWhole stack merge) (
 -- a new inode fits into the directory of the upper layer
 fits_above : (d ud : ℕ) (node : Node ℕ) → IsNewIn d node
     → IsNewIn ud (record { attr = node.attr; content = content_with_parent ud node.content })
-fits_above d ud node (inl e) = inl (ap (content_with_parent ud) e)
-fits_above d ud node (inr e) = inr (by node.content e)
-  where
-    by : (c : Content ℕ) → is_directory (kind_of c) ≡ false → is_directory (kind_of (content_with_parent ud c)) ≡ false
-    by (Directory p n o) e = absurd (true≢false e)
-    by (Regular b) e = refl
-    by (Symlink b) e = refl
-    by Whiteout e = refl
+fits_above d ud node known = grind (arith, common_steps, true≢false)
 
 -- A new inode under a name that no directory has
 pub make_over : (top : ℕ) (files : FileTree ℕ) (d : ℕ) (w : List ℕ) (c : ℕ) (node : Node ℕ) → IsGood top files
@@ -83,10 +77,8 @@ pub make_over : (top : ℕ) (files : FileTree ℕ) (d : ℕ) (w : List ℕ) (c :
     → ((r : ℕ) → entry_at files.tree d w ≡ Some r → is_directory_node (files.tree.node r) ≡ false)
     → files.tree.node c ≡ None → IsNewIn d node → Goes top files (changed nat_eq files (Make d w c node))
 make_over top files d w c node good is reached plain vacant fits =
-    subst (Goes top files) (freed_made files d w (good.tree.in_order d) c node differ)
-    (goes_both top files free _ first
-    (goes_by top free (Make d w c node) first.good
-    (record {
+    subst (Goes top files) (freed_made files d w (good.tree.in_order d) c node differ) (goes_both top files free _ first
+    (goes_by top free (Make d w c node) first.good (record {
       name_is_free = record {
         in_directory = freed_kind top files good d w plain d ∙ is;
         reached = freed_reached top files good d w plain d is reached;
@@ -145,8 +137,7 @@ linked_goes stack merge d w object whole stands own may =
     let free = freed stack.directory merge.upper good ud w plain in
     let first = freed_goes stack.directory merge.upper good ud w plain in
     subst (Goes stack.directory merge.upper) (freed_named merge.upper ud w (good.tree.in_order ud) uo)
-    (goes_both stack.directory merge.upper free _ first
-    (goes_by stack.directory free (AddName ud w uo) first.good
+    (goes_both stack.directory merge.upper free _ first (goes_by stack.directory free (AddName ud w uo) first.good
     (record {
       name_is_free = record {
         in_directory = freed_kind stack.directory merge.upper good ud w plain ud ∙ is;

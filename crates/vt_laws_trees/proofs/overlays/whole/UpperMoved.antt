@@ -1,13 +1,14 @@
 -- An object is moved in the upper layer: its tree goes on to be one.
-use Rattle.std.proofs.Common.{◌≡◌, ◌≢◌, refl, sym, ap, subst, ◌∙◌, true≢false, inr, ℕ, nat_eq, Bool, true, false, cond, List, [], ◌∷◌, Option, Some, None, is_some}
+use Rattle.std.proofs.Common.{arith, ◌≡◌, ◌≢◌, refl, sym, ap, subst, ◌∙◌, true≢false, inr, ℕ, nat_eq, Bool, true, false, cond, List, [], ◌∷◌, Option, Some, None, is_some}
+use Rattle.std.proofs.lemmas.Grind.{common_steps}
 use Rattle.vt_spec.specs.FileTree.{FileTree}
-use Rattle.vt_spec.specs.Language.Changes.{changed, changed_node, content_with_parent, node_with_parent, with_moved, with_name, without_name, without_parent}
+use Rattle.vt_spec.specs.Language.Changes.{changed, changed_node, node_with_parent, with_moved, with_name, without_name, without_parent}
 use Rattle.vt_spec.specs.Language.Changes.Change.{Move}
 use Rattle.vt_spec.specs.Lists.{Fresh}
 use Rattle.vt_spec.specs.Machine.CopyUp.{Merge, Stack, hides_directory, merge_with_moved, name_left_by, shown_in_lowers_at, upper_directory_named, upper_of, whiteout_of, with_mark, without_contents}
 use Rattle.vt_spec.specs.Machine.World.Real.{Upper}
-use Rattle.vt_spec.specs.Tree.{Content, Node, entries_in, entry_named, is_directory_node}
-use Rattle.vt_spec.specs.Tree.Content.{Directory, Regular, Symlink, Whiteout}
+use Rattle.vt_spec.specs.Tree.{Node, entries_in, entry_named, is_directory_node}
+use Rattle.vt_spec.specs.Tree.Content.{Directory}
 use Rattle.vt_spec.specs.TreeInvariant.{IsDirectory, IsReached, entry_at}
 use Rattle.vt_spec.proofs.Trees.{led_kept}
 use Rattle.vt_laws_trees.specs.Trees.{MayMove}
@@ -30,14 +31,7 @@ use Rattle.vt_spec.proofs.Options.{none_from_not_some, none_is_some}
 
 -- with itself as the parent once more
 parent_twice : (k : ℕ) (o : Option (Node ℕ)) → node_with_parent k (node_with_parent k o) ≡ node_with_parent k o
-parent_twice k None = refl
-parent_twice k (Some node) = ap (λ c. Some (record { attr = node.attr; content = c })) (by node.content)
-  where
-    by : (c : Content ℕ) → content_with_parent k (content_with_parent k c) ≡ content_with_parent k c
-    by (Directory p n o) = refl
-    by (Regular b) = refl
-    by (Symlink b) = refl
-    by Whiteout = refl
+parent_twice k o = grind (arith, common_steps)
 
 -- What a move takes the place of may have lost its parent already
 moved_twice : (files : FileTree ℕ) (from : ℕ) (old : List ℕ) (to : ℕ) (new : List ℕ) (object r : ℕ)
@@ -46,9 +40,7 @@ moved_twice : (files : FileTree ℕ) (from : ℕ) (old : List ℕ) (to : ℕ) (n
     ≡ with_moved nat_eq files from old to new object
 moved_twice files from old to new object r named =
     ap (λ x. changed_node nat_eq (with_name nat_eq (without_name nat_eq x from old) to new object) object
-    (node_with_parent to))
-    (ap (without_parent nat_eq once) still
-    ∙ unchanged_node once r (node_with_parent r)
+    (node_with_parent to)) (ap (without_parent nat_eq once) still ∙ unchanged_node once r (node_with_parent r)
     (ap (node_with_parent r) there ∙ parent_twice r (files.tree.node r) ∙ sym there)
     ∙ sym (ap (without_parent nat_eq files) named))
   where
@@ -59,17 +51,14 @@ moved_twice files from old to new object r named =
     there = Rattle.vt_laws_trees.proofs.trees.ChangesNodes.changed_node_there files r (node_with_parent r)
 
     still : entry_at (without_parent nat_eq files (Some r)).tree to new ≡ Some r
-    still =
-        ap (entry_named new)
+    still = ap (entry_named new)
         (Rattle.vt_laws_trees.proofs.trees.ChangesNodes.part_stays files r (node_with_parent r) entries_in
-        (Rattle.vt_spec.proofs.NodeChanges.entries-node_with_parent r) to)
-        ∙ named
+        (Rattle.vt_spec.proofs.NodeChanges.entries-node_with_parent r) to) ∙ named
 
 module _ (fresh : Fresh ℕ) (stack : Stack ℕ) (merge : Merge ℕ) (whole : IsWhole stack merge) (f : ℕ) (old : List ℕ)
     (t : ℕ) (new : List ℕ) (o : ℕ)
     (stands_f : StandsInUpper merge f) (stands_t : StandsInUpper merge t) (stands_o : StandsInUpper merge o)
-    (may : MayMove merge.files.tree f old t new o)
-    (vacant : merge.upper.tree.node (fresh 0) ≡ None) where
+    (may : MayMove merge.files.tree f old t new o) (vacant : merge.upper.tree.node (fresh 0) ≡ None) where
   abbrev uf : ℕ
   uf = upper_of merge f
 
@@ -104,8 +93,7 @@ module _ (fresh : Fresh ℕ) (stack : Stack ℕ) (merge : Merge ℕ) (whole : Is
   named_up = WholeMovedTree.named_up fresh stack merge whole f old t new o stands_f stands_t stands_o may vacant
 
   uf_reached : IsReached merge.upper.tree uf
-  uf_reached =
-      up_reached stack merge whole f uf real_f
+  uf_reached = up_reached stack merge whole f uf real_f
       (WholeMovedTree.from_way fresh stack merge whole f old t new o stands_f stands_t stands_o may vacant)
       (WholeMovedTree.from_number fresh stack merge whole f old t new o stands_f stands_t stands_o may vacant)
 
@@ -151,25 +139,19 @@ module _ (fresh : Fresh ℕ) (stack : Stack ℕ) (merge : Merge ℕ) (whole : Is
     moves = goes_by top base (Move uf old ut new uo) to_base.good may_up (top_differs, no_top)
 
     uf_there : IsDirectory moved_up.tree uf × IsReached moved_up.tree uf
-    uf_there =
-        change_reaches base (Move uf old ut new uo) to_base.good.tree may_up uf (
-          λ same. WholeMovedTree.not_up fresh stack merge whole f old t new o stands_f stands_t stands_o may vacant []
-              (ap Some (sym same)),
-          λ e. none_is_some uo (sym (no_entries base.tree uf (empty uf e) old) ∙ named),
-        )
-        (kind uf ∙ uf_directory) from
+    uf_there = change_reaches base (Move uf old ut new uo) to_base.good.tree may_up uf (
+      λ same. WholeMovedTree.not_up fresh stack merge whole f old t new o stands_f stands_t stands_o may vacant []
+          (ap Some (sym same)),
+      λ e. none_is_some uo (sym (no_entries base.tree uf (empty uf e) old) ∙ named),
+    ) (kind uf ∙ uf_directory) from
 
     old_free : entry_at moved_up.tree uf old ≡ None
-    old_free =
-        move_told base uf old ut new uo (kind ut ∙ ut_directory) uf old
-        ∙ by (is_entry ut new uf old) refl
+    old_free = move_told base uf old ut new uo (kind ut ∙ ut_directory) uf old ∙ by (is_entry ut new uf old) refl
         ∙ ap (λ b. cond b None (entry_at base.tree uf old)) itself
       where
         itself : is_entry uf old uf old ≡ true
-        itself =
-            ap (λ b. Rattle.std.proofs.Common.◌&&◌ b (Rattle.std.specs.Str.bytes_eq old old))
-            (Rattle.std.proofs.Common.eq-eqb uf uf refl)
-            ∙ Rattle.vt_spec.proofs.Truths.bytes_eq_itself old
+        itself = ap (λ b. Rattle.std.proofs.Common.◌&&◌ b (Rattle.std.specs.Str.bytes_eq old old))
+            (Rattle.std.proofs.Common.eq-eqb uf uf refl) ∙ Rattle.vt_spec.proofs.Truths.bytes_eq_itself old
 
         by : (b : Bool) → is_entry ut new uf old ≡ b
             → cond b (Some uo) (cond (is_entry uf old uf old) None (entry_at base.tree uf old))
@@ -183,8 +165,7 @@ module _ (fresh : Fresh ℕ) (stack : Stack ℕ) (merge : Merge ℕ) (whole : Is
     plain r e = none_is_some r (sym old_free ∙ e)
 
     moved_vacant : moved_up.tree.node (fresh 0) ≡ None
-    moved_vacant =
-        none_from_not_some (moved_up.tree.node (fresh 0))
+    moved_vacant = none_from_not_some (moved_up.tree.node (fresh 0))
         ((names_leave_inodes base (Move uf old ut new uo) top (fresh 0) refl).there ∙ used (fresh 0)
         ∙ ap is_some vacant)
 
@@ -197,8 +178,7 @@ module _ (fresh : Fresh ℕ) (stack : Stack ℕ) (merge : Merge ℕ) (whole : Is
         → Goes top merge.upper (with_mark nat_eq marks (name_left_by nat_eq left fresh stack moved_up uf old) uo)
     moved_up_goes left marks =
         let last = name_left_by nat_eq left fresh stack moved_up uf old in
-        goes_both top merge.upper base _ to_base
-        (goes_both top base moved_up _ moves
+        goes_both top merge.upper base _ to_base (goes_both top base moved_up _ moves
         (goes_both top moved_up last _ (leaves left) (mark_goes top last marks uo (leaves left).good)))
 
   pub moved_goes : Goes top merge.upper (merge_with_moved nat_eq fresh stack merge f old t new o).upper
@@ -206,8 +186,7 @@ module _ (fresh : Fresh ℕ) (stack : Stack ℕ) (merge : Merge ℕ) (whole : Is
       (hides_directory nat_eq stack merge t new)
     where
       by : (x : Option ℕ) → upper_directory_named merge t new ≡ x → (left marks : Bool)
-          → Goes top merge.upper (with_mark nat_eq marks
-          (name_left_by nat_eq left fresh stack
+          → Goes top merge.upper (with_mark nat_eq marks (name_left_by nat_eq left fresh stack
           (with_moved nat_eq (without_contents nat_eq merge.upper x) uf old ut new uo) uf old) uo)
       by None e left marks =
           let plain = none_named stack merge whole t ut real_t may.reached.0 may.reached.1 new e in

@@ -1,5 +1,6 @@
 -- A name of a plain tree that is given to something else: as if it had been taken away first.
-use Rattle.std.proofs.Common.{◌≡◌, ◌≢◌, refl, sym, ap, subst, ◌∙◌, true≢false, eqb-true, eq-eqb, ne_eqb, ℕ, nat_eq, Bool, true, false, not, cond, List, ⊎_elim, Option, Some, None, is_some}
+use Rattle.std.proofs.Common.{arith, ◌≡◌, ◌≢◌, refl, sym, ap, subst, ◌∙◌, true≢false, eqb-true, eq-eqb, ne_eqb, ℕ, nat_eq, Bool, true, false, not, cond, List, ⊎_elim, Option, Some, None, is_some}
+use Rattle.std.proofs.lemmas.Grind.{common_steps}
 use Rattle.std.proofs.lemmas.Bool.Decides.{eqb_tells}
 use Rattle.std.proofs.lemmas.Float.{T_from_true}
 use Rattle.std.specs.FinMap.Entries.{is_sorted, is_sorted-put, is_sorted-where_key, same_entries}
@@ -10,8 +11,8 @@ use Rattle.std.specs.Str.{bytes_eq}
 use Rattle.vt_spec.specs.FileTree.{FileTree}
 use Rattle.vt_spec.specs.Language.Changes.{changed, changed_node, node_with_parent, node_without_entry, with_inode, with_name, without_entry, without_name}
 use Rattle.vt_spec.specs.Language.Changes.Change.{Remove}
-use Rattle.vt_spec.specs.Tree.{Content, Entries, Node, entries_in, entries_of, entry_named, is_directory_node, name_cmp, node_with_entry, with_entries, with_entry}
-use Rattle.vt_spec.specs.Tree.Content.{Directory, Regular, Symlink, Whiteout}
+use Rattle.vt_spec.specs.Tree.{Entries, Node, entries_in, entry_named, is_directory_node, name_cmp, node_with_entry, with_entry}
+use Rattle.vt_spec.specs.Tree.Content.{Directory}
 use Rattle.vt_spec.specs.TreeInvariant.{IsDirectory, IsReached, entry_at}
 use Rattle.vt_spec.proofs.Nodes.{entry_named-with_entry, entry_named-without_entry}
 use Rattle.vt_laws_trees.proofs.overlays.whole.UpperGoes.{Goes, IsGood, change_reaches, goes_by, goes_none}
@@ -24,8 +25,7 @@ sorted_without w es h = is_sorted-where_key name_cmp (λ x. not (bytes_eq x w)) 
 -- an entry in the place of another
 pub with_over_without : (w : List ℕ) (k : ℕ) (es : Entries ℕ) → is_sorted name_cmp es ≡ true
     → with_entry w k (without_entry w es) ≡ with_entry w k es
-with_over_without w k es h =
-    same_entries name_cmp nat_list_cmp_total same_name-Equal _ _
+with_over_without w k es h = same_entries name_cmp nat_list_cmp_total same_name-Equal _ _
     (is_sorted-put name_cmp nat_list_cmp_total w k (without_entry w es) (sorted_without w es h))
     (is_sorted-put name_cmp nat_list_cmp_total w k es (T_from_true _ h))
     (λ q. entry_named-with_entry q w k (without_entry w es) ∙ by q (eq_by_cmp name_cmp q w) refl
@@ -34,13 +34,11 @@ with_over_without w k es h =
     by : (q : List ℕ) (b : Bool) → eq_by_cmp name_cmp q w ≡ b
         → cond b (Some k) (entry_named q (without_entry w es)) ≡ cond b (Some k) (entry_named q es)
     by q true e = refl
-    by q false e =
-        entry_named-without_entry q w es
+    by q false e = entry_named-without_entry q w es
         ∙ ap (λ b. cond (not b) (entry_named q es) None) (other (bytes_eq q w) refl)
       where
         other : (b : Bool) → bytes_eq q w ≡ b → bytes_eq q w ≡ false
-        other true f =
-            absurd (true≢false (sym (ap (λ x. eq_by_cmp name_cmp x w) ((bytes_decides q w).0 f)
+        other true f = absurd (true≢false (sym (ap (λ x. eq_by_cmp name_cmp x w) ((bytes_decides q w).0 f)
             ∙ ap is_eq (tied_itself nat_list_cmp_total w)) ∙ e))
         other false f = f
 
@@ -58,31 +56,11 @@ without_none w es h none =
 -- of inodes
 pub node_with_over_without : (w : List ℕ) (k : ℕ) (o : Option (Node ℕ)) → is_sorted name_cmp (entries_in o) ≡ true
     → node_with_entry w k (node_without_entry w o) ≡ node_with_entry w k o
-node_with_over_without w k None h = refl
-node_with_over_without w k (Some node) h = ap (λ c. Some (record { attr = node.attr; content = c })) (by node.content h)
-  where
-    by : (c : Content ℕ) → is_sorted name_cmp (entries_of c) ≡ true
-        → with_entries (with_entries c (without_entry w (entries_of c)))
-        (with_entry w k (entries_of (with_entries c (without_entry w (entries_of c)))))
-        ≡ with_entries c (with_entry w k (entries_of c))
-    by (Directory p n o) h = ap (λ es. Directory p es o) (with_over_without w k n h)
-    by (Regular b) h = refl
-    by (Symlink b) h = refl
-    by Whiteout h = refl
+node_with_over_without w k o h = grind (arith, common_steps, with_over_without)
 
 pub node_without_none : (w : List ℕ) (o : Option (Node ℕ)) → is_sorted name_cmp (entries_in o) ≡ true
-    → entry_named w (entries_in o) ≡ None
-    → node_without_entry w o ≡ o
-node_without_none w None h none = refl
-node_without_none w (Some node) h none =
-    ap (λ c. Some (record { attr = node.attr; content = c })) (by node.content h none)
-  where
-    by : (c : Content ℕ) → is_sorted name_cmp (entries_of c) ≡ true → entry_named w (entries_of c) ≡ None
-        → with_entries c (without_entry w (entries_of c)) ≡ c
-    by (Directory p n o) h none = ap (λ es. Directory p es o) (without_none w n h none)
-    by (Regular b) h none = refl
-    by (Symlink b) h none = refl
-    by Whiteout h none = refl
+    → entry_named w (entries_in o) ≡ None → node_without_entry w o ≡ o
+node_without_none w o h none = grind (arith, common_steps, without_none)
 
 -- trees with the same inodes are the same
 pub same_tree : (one other : FileTree ℕ) → one.tree.root ≡ other.tree.root → one.numbers ≡ other.numbers
@@ -92,14 +70,10 @@ same_tree one other root numbers nodes =
 
 -- a change that leaves an inode as it is changes nothing
 pub unchanged_node : (files : FileTree ℕ) (number : ℕ) (change : Option (Node ℕ) → Option (Node ℕ))
-    → change (files.tree.node number) ≡ files.tree.node number
-    → changed_node nat_eq files number change ≡ files
-unchanged_node files number change same =
-    same_tree (changed_node nat_eq files number change) files refl refl
-    (λ k. ⊎_elim
-    (λ t. ap (λ b. cond b (change (files.tree.node number)) (files.tree.node k)) t.0 ∙ same
-    ∙ ap files.tree.node (sym t.1))
-    (λ t. ap (λ b. cond b (change (files.tree.node number)) (files.tree.node k)) t.0)
+    → change (files.tree.node number) ≡ files.tree.node number → changed_node nat_eq files number change ≡ files
+unchanged_node files number change same = same_tree (changed_node nat_eq files number change) files refl refl
+    (λ k. ⊎_elim (λ t. ap (λ b. cond b (change (files.tree.node number)) (files.tree.node k)) t.0 ∙ same
+    ∙ ap files.tree.node (sym t.1)) (λ t. ap (λ b. cond b (change (files.tree.node number)) (files.tree.node k)) t.0)
     (eqb_tells k number))
 
 -- A name given is the name given in exchange
@@ -115,22 +89,12 @@ module _ (files : FileTree ℕ) (d : ℕ) (w : List ℕ)
   elsewhere k differ = Rattle.vt_laws_trees.proofs.trees.ChangesNodes.elsewhere files d (node_without_entry w) k differ
 
   pub freed_named : (k : ℕ) → with_name nat_eq free d w k ≡ with_name nat_eq files d w k
-  freed_named k =
-      same_tree (with_name nat_eq free d w k) (with_name nat_eq files d w k) refl refl
-      (λ j. ⊎_elim
-      (λ t. ap (λ b. cond b (node_with_entry w k (free.tree.node d)) (free.tree.node j)) t.0
-      ∙ ap (node_with_entry w k) there ∙ node_with_over_without w k (files.tree.node d) in_order
-      ∙ sym (ap (λ b. cond b (node_with_entry w k (files.tree.node d)) (files.tree.node j)) t.0))
-      (λ t. ap (λ b. cond b (node_with_entry w k (free.tree.node d)) (free.tree.node j)) t.0
-      ∙ elsewhere j t.1
-      ∙ sym (ap (λ b. cond b (node_with_entry w k (files.tree.node d)) (files.tree.node j)) t.0))
-      (eqb_tells j d))
+  freed_named k = grind (arith, common_steps, same_tree, there, node_with_over_without, in_order, elsewhere, eqb_tells)
 
   -- so it is with a new inode
   pub freed_made : (c : ℕ) (node : Node ℕ) → d ≢ c
       → with_name nat_eq (with_inode nat_eq free c node) d w c ≡ with_name nat_eq (with_inode nat_eq files c node) d w c
-  freed_made c node differ =
-      same_tree (with_name nat_eq (with_inode nat_eq free c node) d w c)
+  freed_made c node differ = same_tree (with_name nat_eq (with_inode nat_eq free c node) d w c)
       (with_name nat_eq (with_inode nat_eq files c node) d w c) refl refl
       (λ j. by j (nat_eq j d) refl (nat_eq j c) refl)
     where
@@ -142,18 +106,14 @@ module _ (files : FileTree ℕ) (d : ℕ) (w : List ℕ)
           (cond b (Some node) (free.tree.node j))
           ≡ cond a (node_with_entry w c (cond (nat_eq d c) (Some node) (files.tree.node d)))
           (cond b (Some node) (files.tree.node j))
-      by j true e b f =
-          ap (node_with_entry w c) (at_d (free.tree.node d) ∙ there)
-          ∙ node_with_over_without w c (files.tree.node d) in_order
-          ∙ sym (ap (node_with_entry w c) (at_d (files.tree.node d)))
+      by j true e b f = grind (arith, common_steps, at_d, there, node_with_over_without, in_order)
       by j false e true f = refl
       by j false e false f = elsewhere j (λ same. true≢false (sym (eq-eqb j d same) ∙ e))
 
 -- a name that is taken away is free
 pub without_name_free : (files : FileTree ℕ) (d : ℕ) (w : List ℕ)
     → entry_at (without_name nat_eq files d w).tree d w ≡ None
-without_name_free files d w =
-    ap (entry_named w)
+without_name_free files d w = ap (entry_named w)
     (ap entries_in (Rattle.vt_laws_trees.proofs.trees.ChangesNodes.changed_node_there files d (node_without_entry w))
     ∙ Rattle.vt_spec.proofs.NodeChanges.entries-node_without_entry w (files.tree.node d))
     ∙ entry_named-without_entry w w (entries_in (files.tree.node d))
@@ -162,38 +122,13 @@ without_name_free files d w =
 -- changes of two inodes in one order and in the other
 pub two_changed : (files : FileTree ℕ) (a b : ℕ) (f g : Option (Node ℕ) → Option (Node ℕ)) → a ≢ b
     → changed_node nat_eq (changed_node nat_eq files a f) b g ≡ changed_node nat_eq (changed_node nat_eq files b g) a f
-two_changed files a b f g differ =
-    same_tree (changed_node nat_eq (changed_node nat_eq files a f) b g)
-    (changed_node nat_eq (changed_node nat_eq files b g) a f) refl refl
-    (λ j. by j (nat_eq j a) refl (nat_eq j b) refl)
-  where
-    by : (j : ℕ) (p : Bool) → nat_eq j a ≡ p → (q : Bool) → nat_eq j b ≡ q
-        → cond q (g (cond (nat_eq b a) (f (files.tree.node a)) (files.tree.node b)))
-        (cond p (f (files.tree.node a)) (files.tree.node j))
-        ≡ cond p (f (cond (nat_eq a b) (g (files.tree.node b)) (files.tree.node a)))
-        (cond q (g (files.tree.node b)) (files.tree.node j))
-    by j true e true h = absurd (differ (sym (eqb-true j a e) ∙ eqb-true j b h))
-    by j true e false h = sym (ap (λ x. f (cond x (g (files.tree.node b)) (files.tree.node a))) (ne_eqb a b differ))
-    by j false e true h = ap (λ x. g (cond x (f (files.tree.node a)) (files.tree.node b)))
-        (ne_eqb b a (λ same. differ (sym same)))
-    by j false e false h = refl
+two_changed files a b f g differ = grind (arith, common_steps, same_tree, eqb-true, ne_eqb)
 
 -- a new inode beside the change of another
 pub inode_changed : (files : FileTree ℕ) (c : ℕ) (node : Node ℕ) (b : ℕ) (g : Option (Node ℕ) → Option (Node ℕ)) → c ≢ b
     → changed_node nat_eq (with_inode nat_eq files c node) b g
     ≡ with_inode nat_eq (changed_node nat_eq files b g) c node
-inode_changed files c node b g differ =
-    same_tree (changed_node nat_eq (with_inode nat_eq files c node) b g)
-    (with_inode nat_eq (changed_node nat_eq files b g) c node) refl refl
-    (λ j. by j (nat_eq j c) refl (nat_eq j b) refl)
-  where
-    by : (j : ℕ) (p : Bool) → nat_eq j c ≡ p → (q : Bool) → nat_eq j b ≡ q
-        → cond q (g (cond (nat_eq b c) (Some node) (files.tree.node b))) (cond p (Some node) (files.tree.node j))
-        ≡ cond p (Some node) (cond q (g (files.tree.node b)) (files.tree.node j))
-    by j true e true h = absurd (differ (sym (eqb-true j c e) ∙ eqb-true j b h))
-    by j true e false h = refl
-    by j false e true h = ap (λ x. g (cond x (Some node) (files.tree.node b))) (ne_eqb b c (λ same. differ (sym same)))
-    by j false e false h = refl
+inode_changed files c node b g differ = grind (arith, common_steps, same_tree, eqb-true, ne_eqb)
 
 -- The tree in which a name is taken from what is no directory, if something has it
 module _ (top : ℕ) (files : FileTree ℕ) (good : IsGood top files) (d : ℕ) (w : List ℕ)
@@ -210,8 +145,7 @@ module _ (top : ℕ) (files : FileTree ℕ) (good : IsGood top files) (d : ℕ) 
       (Rattle.vt_spec.proofs.NodeChanges.is_directory-node_without_entry w) k
 
   pub freed_used : (k : ℕ) → is_some (freed.tree.node k) ≡ is_some (files.tree.node k)
-  freed_used k =
-      Rattle.vt_laws_trees.proofs.trees.ChangesNodes.part_stays files d (node_without_entry w) is_some
+  freed_used k = Rattle.vt_laws_trees.proofs.trees.ChangesNodes.part_stays files d (node_without_entry w) is_some
       (Rattle.vt_spec.proofs.NodeChanges.is_some-node_without_entry w) k
 
   -- it is a removal, or nothing
@@ -228,9 +162,7 @@ module _ (top : ℕ) (files : FileTree ℕ) (good : IsGood top files) (d : ℕ) 
     where
       by : (o : Option ℕ) → entry_at files.tree d w ≡ o → Goes top files freed
       by None e = subst (Goes top files) (sym (as_before e)) (goes_none top files good)
-      by (Some r) e =
-          subst (Goes top files) (as_removed r e)
-          (goes_by top files (Remove d w r) good
+      by (Some r) e = subst (Goes top files) (as_removed r e) (goes_by top files (Remove d w r) good
           (record { named = e; empty = entries_in-no_directory (files.tree.node r) (plain r e) })
           (λ same. true≢false (sym good.directory ∙ ap (λ n. is_directory_node (files.tree.node n)) same ∙ plain r e)))
 
@@ -241,8 +173,7 @@ module _ (top : ℕ) (files : FileTree ℕ) (good : IsGood top files) (d : ℕ) 
     where
       by : (o : Option ℕ) → entry_at files.tree d w ≡ o → IsReached freed.tree number
       by None e = subst (λ f. IsReached f.tree number) (sym (as_before e)) reached
-      by (Some r) e =
-          subst (λ f. IsReached f.tree number) (as_removed r e)
+      by (Some r) e = subst (λ f. IsReached f.tree number) (as_removed r e)
           ((change_reaches files (Remove d w r) good.tree
           (record { named = e; empty = entries_in-no_directory (files.tree.node r) (plain r e) }) number
           (λ same. true≢false (sym is ∙ ap (λ n. is_directory_node (files.tree.node n)) same

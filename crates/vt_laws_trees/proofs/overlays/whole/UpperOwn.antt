@@ -54,10 +54,8 @@ module _ (P : ℕ → Type 0) (fresh : Fresh ℕ) (stack : Stack ℕ) (merge : M
       let last = (merge_without_name nat_eq fresh stack merge d w object).upper in
       let left = name_left_by nat_eq (is_some (shown_in_lowers_at nat_eq stack merge d w)) fresh stack merge.upper
       (upper_of merge d) w in
-      told_both P merge.upper left last
-      (told_left P fresh stack merge.upper (upper_of merge d) w (is_some
-      (shown_in_lowers_at nat_eq stack merge d w)) new)
-      (told_emptied P left (upper_directory_named merge d w))
+      told_both P merge.upper left last (told_left P fresh stack merge.upper (upper_of merge d) w (is_some
+      (shown_in_lowers_at nat_eq stack merge d w)) new) (told_emptied P left (upper_directory_named merge d w))
 
   moved_told : (f : ℕ) (old : List ℕ) (t : ℕ) (to : List ℕ) (object : ℕ) → P (upper_of merge object)
       → Told P merge.upper (merge_with_moved nat_eq fresh stack merge f old t to object).upper
@@ -69,8 +67,7 @@ module _ (P : ℕ → Type 0) (fresh : Fresh ℕ) (stack : Stack ℕ) (merge : M
       (upper_of merge f) old in
       told_both P merge.upper base last (told_emptied P merge.upper (upper_directory_named merge t to))
       (told_both P base gone last (told_moved P base (upper_of merge f) old (upper_of merge t) to
-      (upper_of merge object) own)
-      (told_both P gone left last (told_left P fresh stack gone (upper_of merge f) old
+      (upper_of merge object) own) (told_both P gone left last (told_left P fresh stack gone (upper_of merge f) old
       (is_some (shown_in_lowers_at nat_eq stack merge f old)) new)
       (told_marked P left (hides_directory nat_eq stack merge t to) (upper_of merge object))))
 
@@ -87,17 +84,14 @@ module _ (fresh : Fresh ℕ) (stack : Stack ℕ) (merge : Merge ℕ) (whole : Is
   Own y = IsOwnPlaced stack merge y ⊎ IsNewBy fresh y
 
   new_own : (supply : Fresh ℕ) → ((y : ℕ) → IsNewBy supply y → IsNewBy fresh y) → (one two : Merge ℕ)
-      → Told (IsNewBy supply) one.upper two.upper
-      → Told Own one.upper two.upper
+      → Told (IsNewBy supply) one.upper two.upper → Told Own one.upper two.upper
   new_own supply wider one two names =
       told_wider (IsNewBy supply) Own one.upper two.upper (λ y n. inr (wider y n)) names
 
   -- what stands in the upper layer after the copies, and is placed
-  placed : (one : Merge ℕ) (n : ℕ)
-      → ((n object : ℕ) → one.real n ≡ Some (Upper object)
+  placed : (one : Merge ℕ) (n : ℕ) → ((n object : ℕ) → one.real n ≡ Some (Upper object)
       → (merge.real n ≡ Some (Upper object)) ⊎ IsNewBy fresh object)
-      → ((object : ℕ) → merge.real n ≡ Some (Upper object)
-      → (is_directory_node (merge.upper.tree.node object) ≡ false)
+      → ((object : ℕ) → merge.real n ≡ Some (Upper object) → (is_directory_node (merge.upper.tree.node object) ≡ false)
       ⊎ ((path : List (List ℕ)) × (led merge.upper.tree stack.directory path ≡ Some object)))
       → StandsInUpper one n → Own (upper_of one n)
   placed one n objects is stands =
@@ -109,8 +103,7 @@ module _ (fresh : Fresh ℕ) (stack : Stack ℕ) (merge : Merge ℕ) (whole : Is
       let last = (merge_changed nat_eq fresh stack merge (Make d w number node)).upper in
       let there = directory_used merge.files.tree d asked.0.name_is_free.in_directory in
       let one = copied fresh stack merge whole distinct unused d there in
-      told_both Own merge.upper one.upper last
-      (new_own (evens fresh) (new_of_evens fresh) merge one
+      told_both Own merge.upper one.upper last (new_own (evens fresh) (new_of_evens fresh) merge one
       (is_copied fresh stack merge whole distinct unused d there).names)
       (made_told Own (odds fresh) stack one (inr (1, refl)) d w number node (new_bare d node asked.0.fits))
   told (AddName d w object) may =
@@ -140,8 +133,7 @@ module _ (fresh : Fresh ℕ) (stack : Stack ℕ) (merge : Merge ℕ) (whole : Is
       let last = (merge_changed nat_eq fresh stack merge (Remove d w object)).upper in
       let there = directory_used merge.files.tree d (has_entries merge.files.tree d w object may.named) in
       let one = copied fresh stack merge whole distinct unused d there in
-      told_both Own merge.upper one.upper last
-      (new_own (evens fresh) (new_of_evens fresh) merge one
+      told_both Own merge.upper one.upper last (new_own (evens fresh) (new_of_evens fresh) merge one
       (is_copied fresh stack merge whole distinct unused d there).names)
       (removed_told Own (odds fresh) stack one (inr (1, refl)) d w object)
   told (Move f old t to object) asked =
@@ -151,8 +143,7 @@ module _ (fresh : Fresh ℕ) (stack : Stack ℕ) (merge : Merge ℕ) (whole : Is
       let steps = is_reached_in merge.files whole.tree f old object asked.0.named in
       let way = way_to merge.files.tree steps.0 f steps.1 in
       told_both Own merge.upper two.upper last (new_own fresh (λ y n. n) merge two m.names)
-      (moved_told Own (odds (odds fresh)) stack two (inr (3, refl)) f old t to object
-      (placed two object m.objects
+      (moved_told Own (odds (odds fresh)) stack two (inr (3, refl)) f old t to object (placed two object m.objects
       (λ o e. inr (
         way.0 ++ old ∷ [],
         named_above stack merge whole (way.0 ++ old ∷ []) object o
@@ -171,8 +162,7 @@ module _ (fresh : Fresh ℕ) (stack : Stack ℕ) (merge : Merge ℕ) (whole : Is
       told_both Own merge.upper one.upper last (new_own fresh (λ y n. n) merge one is.names)
       (told_stay Own one.upper (upper_of one object) (node_with_attr attr) (attr_keeps_place attr).entries)
   told (SetMark d opaque) asked = absurd asked
-  told (CopyUp object) there =
-      new_own fresh (λ y n. n) merge (copied_up nat_eq fresh merge object)
+  told (CopyUp object) there = new_own fresh (λ y n. n) merge (copied_up nat_eq fresh merge object)
       (object_copied stack fresh distinct merge object whole unused there).copied.names
 
   pub objects : (change : Change ℕ) → IsAskedWell stack merge change → (n object : ℕ)
@@ -184,8 +174,7 @@ module _ (fresh : Fresh ℕ) (stack : Stack ℕ) (merge : Merge ℕ) (whole : Is
           → cond b (Some (Upper (odds fresh 0))) ((copied_up nat_eq (evens fresh) merge d).real n) ≡ Some (Upper object)
           → (merge.real n ≡ Some (Upper object)) ⊎ IsNewBy fresh object
       by true e = inr (1, sym (same_Some (odds fresh 0) object (ap upper_object e)))
-      by false e =
-          ⊎_elim inl (λ g. inr (new_of_evens fresh object g))
+      by false e = ⊎_elim inl (λ g. inr (new_of_evens fresh object g))
           ((is_copied fresh stack merge whole distinct unused d
           (directory_used merge.files.tree d asked.0.name_is_free.in_directory)).objects n object e)
   objects (AddName d w o) may n object e =
@@ -196,10 +185,8 @@ module _ (fresh : Fresh ℕ) (stack : Stack ℕ) (merge : Merge ℕ) (whole : Is
       let second = object_copied stack (odds fresh) (odds-distinct fresh distinct) one d first.whole
       (still_unused fresh stack merge whole distinct unused o may.is_there) there in
       ⊎_elim (λ f. ⊎_elim inl (λ g. inr (new_of_evens fresh object g)) (first.objects n object f))
-      (λ g. inr (new_of_odds fresh object g))
-      (second.copied.objects n object e)
-  objects (Remove d w o) may n object e =
-      ⊎_elim inl (λ g. inr (new_of_evens fresh object g))
+      (λ g. inr (new_of_odds fresh object g)) (second.copied.objects n object e)
+  objects (Remove d w o) may n object e = ⊎_elim inl (λ g. inr (new_of_evens fresh object g))
       ((is_copied fresh stack merge whole distinct unused d
       (directory_used merge.files.tree d (has_entries merge.files.tree d w o may.named))).objects n object e)
   objects (Move f old t to o) asked n object e =

@@ -1,11 +1,11 @@
 -- A name is taken away in the upper layer, or exchanged: its tree goes on to be one.
-use Rattle.std.proofs.Common.{◌≡◌, ◌≢◌, refl, sym, ap, subst, ◌∙◌, true≢false, inr, ℕ, nat_eq, Bool, true, false, cond, List, [], ◌∷◌, ◌++◌, Option, Some, None, is_some}
+use Rattle.std.proofs.Common.{arith, ◌≡◌, ◌≢◌, refl, sym, ap, subst, ◌∙◌, true≢false, inr, ℕ, nat_eq, Bool, true, false, List, [], ◌∷◌, ◌++◌, Option, Some, None, is_some}
+use Rattle.std.proofs.lemmas.Grind.{common_steps}
 use Rattle.vt_spec.specs.FileTree.{FileTree}
 use Rattle.vt_spec.specs.Language.Changes.{changed, changed_node, node_with_parent, node_without_entries, node_without_entry, with_inode, with_name, without_name, without_parent}
 use Rattle.vt_spec.specs.Language.Changes.Change.{Make, Remove}
-use Rattle.vt_spec.specs.Lists.{Fresh, then_some}
+use Rattle.vt_spec.specs.Lists.{Fresh}
 use Rattle.vt_spec.specs.Machine.CopyUp.{Merge, Stack, merge_without_name, name_left_by, shown_in_lowers_at, upper_directory_named, upper_of, whiteout_of, without_contents}
-use Rattle.vt_spec.specs.Machine.World.{upper_object}
 use Rattle.vt_spec.specs.Machine.World.Real.{Upper}
 use Rattle.vt_spec.specs.Machine.Invariants.{number_at_path}
 use Rattle.vt_spec.specs.Tree.{Node, entries_in, entry_named, is_directory_node, node_with_entry}
@@ -51,11 +51,7 @@ module _ (stack : Stack ℕ) (merge : Merge ℕ) (whole : IsWhole stack merge) (
   own_named k e is =
       let found = named_below stack merge whole d ud real_d way there w k e
       (directory_no_whiteout (merge.upper.tree.node k) is) in
-      ap (λ o. then_some o (λ n. cond (is_directory_node (merge.files.tree.node n))
-      (upper_object (merge.real n)) None)) found.1
-      ∙ ap (λ b. cond b (upper_object (merge.real found.0)) None)
-      (sym (directory_above stack merge whole found.0 k found.2) ∙ is)
-      ∙ ap upper_object found.2
+      grind (arith, common_steps, directory_above, is)
 
   -- where there is none, what has it is no directory
   pub none_named : upper_directory_named merge d w ≡ None
@@ -98,8 +94,7 @@ module _ (stack : Stack ℕ) (merge : Merge ℕ) (whole : IsWhole stack merge) (
 
 -- A directory loses its whiteouts and then its name
 module _ (top : ℕ) (files : FileTree ℕ) (good : IsGood top files) (d : ℕ) (w : List ℕ) (r : ℕ)
-    (named : entry_at files.tree d w ≡ Some r)
-    (leaves : (word : List ℕ) (k : ℕ) → entry_at files.tree r word ≡ Some k
+    (named : entry_at files.tree d w ≡ Some r) (leaves : (word : List ℕ) (k : ℕ) → entry_at files.tree r word ≡ Some k
     → is_directory_node (files.tree.node k) ≡ false)
     (apart : d ≢ r) (no_top : top ≢ r) (reached : IsReached files.tree d) where
   is : IsDirectory files.tree d
@@ -112,12 +107,10 @@ module _ (top : ℕ) (files : FileTree ℕ) (good : IsGood top files) (d : ℕ) 
   first = bare_goes files r good.tree leaves top good
 
   may : MayRemove emptied_first.tree d w r
-  may =
-      record {
-        named = bare_kept files r good.tree leaves d w r apart named;
-        empty = bare_there files r good.tree
-            leaves;
-      }
+  may = record {
+    named = bare_kept files r good.tree leaves d w r apart named;
+    empty = bare_there files r good.tree leaves;
+  }
 
   abbrev gone : FileTree ℕ
   gone = changed nat_eq emptied_first (Remove d w r)
@@ -148,47 +141,38 @@ module _ (top : ℕ) (files : FileTree ℕ) (good : IsGood top files) (d : ℕ) 
         ∙ ap is_some vacant)
 
     d_gone : IsDirectory gone.tree d × IsReached gone.tree d
-    d_gone =
-        change_reaches emptied_first (Remove d w r) first.good.tree may d apart
-        (bare_kind files r good.tree leaves d ∙ is)
-        (bare_reached files r good.tree leaves d is reached)
+    d_gone = change_reaches emptied_first (Remove d w r) first.good.tree may d apart
+        (bare_kind files r good.tree leaves d ∙ is) (bare_reached files r good.tree leaves d is reached)
 
     gone_vacant : gone.tree.node c ≡ None
-    gone_vacant =
-        none_from_not_some (gone.tree.node c)
+    gone_vacant = none_from_not_some (gone.tree.node c)
         (Rattle.vt_laws_trees.proofs.trees.ChangesNodes.part_stays (without_name nat_eq emptied_first d w) r
-        (node_with_parent r) is_some
-        (Rattle.vt_spec.proofs.NodeChanges.is_some-node_with_parent r) c
+        (node_with_parent r) is_some (Rattle.vt_spec.proofs.NodeChanges.is_some-node_with_parent r) c
         ∙ Rattle.vt_laws_trees.proofs.trees.ChangesNodes.part_stays emptied_first d (node_without_entry w) is_some
         (Rattle.vt_spec.proofs.NodeChanges.is_some-node_without_entry w) c
         ∙ bare_used files r good.tree leaves c ∙ ap is_some vacant)
 
     gone_free : (k : ℕ) → entry_at gone.tree d w ≡ Some k → is_directory_node (gone.tree.node k) ≡ false
-    gone_free k e =
-        none_is_some k (sym (ap (entry_named w)
+    gone_free k e = none_is_some k (sym (ap (entry_named w)
         (Rattle.vt_laws_trees.proofs.trees.ChangesNodes.part_stays (without_name nat_eq emptied_first d w) r
-        (node_with_parent r) entries_in
-        (Rattle.vt_spec.proofs.NodeChanges.entries-node_with_parent r) d)
+        (node_with_parent r) entries_in (Rattle.vt_spec.proofs.NodeChanges.entries-node_with_parent r) d)
         ∙ Rattle.vt_laws_trees.proofs.overlays.whole.UpperNames.without_name_free emptied_first d w) ∙ e)
 
     abbrev whited : FileTree ℕ → FileTree ℕ
     whited f = changed nat_eq f (Make d w c white)
 
     both_goes : Goes top files (whited gone)
-    both_goes =
-        goes_both top files gone (whited gone) gone_goes
+    both_goes = goes_both top files gone (whited gone) gone_goes
         (make_over top gone d w c white gone_goes.good d_gone.0 d_gone.1 gone_free gone_vacant fits)
 
     -- what is emptied beside it
     aside : (f : FileTree ℕ) (g : Option (Node ℕ) → Option (Node ℕ))
         → whited (changed_node nat_eq f r g) ≡ changed_node nat_eq (whited f) r g
-    aside f g =
-        ap (λ x. with_name nat_eq x d w c) (sym (inode_changed f c white r g r_differs))
+    aside f g = ap (λ x. with_name nat_eq x d w c) (sym (inode_changed f c white r g r_differs))
         ∙ two_changed (with_inode nat_eq f c white) r d g (node_with_entry w c) (λ same. apart (sym same))
 
     whited_is : whited gone ≡ without (whited files)
-    whited_is =
-        ap whited gone_is
+    whited_is = ap whited gone_is
         ∙ aside (changed_node nat_eq (without_name nat_eq files d w) r node_without_entries) (node_with_parent r)
         ∙ ap (λ f. changed_node nat_eq f r (node_with_parent r))
         (aside (without_name nat_eq files d w) node_without_entries)
@@ -227,22 +211,19 @@ removed_goes fresh stack merge d w object whole stands vacant may =
     empty : (n : ℕ) → entry_at merge.files.tree d w ≡ Some n → entries_in (merge.files.tree.node n) ≡ []
     empty n e = ap (λ k. entries_in (merge.files.tree.node k)) (same_Some n object (sym e ∙ may.named)) ∙ may.empty
 
-    by : (o : Option ℕ) → upper_directory_named merge d w ≡ o → (b : Bool)
-        → Goes stack.directory merge.upper
+    by : (o : Option ℕ) → upper_directory_named merge d w ≡ o → (b : Bool) → Goes stack.directory merge.upper
         (without_contents nat_eq (name_left_by nat_eq b fresh stack merge.upper (upper_of merge d) w) o)
     by None e false = freed_goes stack.directory merge.upper good (upper_of merge d) w
         (none_named stack merge whole d (upper_of merge d) real_d way.0 way.1 w e)
     by None e true =
         make_over stack.directory merge.upper (upper_of merge d) w (fresh 0) (whiteout_of stack.mounter) good is reached
         (none_named stack merge whole d (upper_of merge d) real_d way.0 way.1 w e) vacant (inr refl)
-    by (Some r) e false =
-        left_bare stack.directory merge.upper good (upper_of merge d) w r
+    by (Some r) e false = left_bare stack.directory merge.upper good (upper_of merge d) w r
         (own_entry stack merge whole d (upper_of merge d) real_d way.0 way.1 w r e empty)
         (own_leaves stack merge whole d (upper_of merge d) real_d way.0 way.1 w r e empty)
         (own_apart stack merge whole d (upper_of merge d) real_d way.0 way.1 w r e empty)
         (own_no_top stack merge whole d (upper_of merge d) real_d way.0 way.1 w r e empty) reached
-    by (Some r) e true =
-        left_white stack.directory merge.upper good (upper_of merge d) w r
+    by (Some r) e true = left_white stack.directory merge.upper good (upper_of merge d) w r
         (own_entry stack merge whole d (upper_of merge d) real_d way.0 way.1 w r e empty)
         (own_leaves stack merge whole d (upper_of merge d) real_d way.0 way.1 w r e empty)
         (own_apart stack merge whole d (upper_of merge d) real_d way.0 way.1 w r e empty)

@@ -1,16 +1,15 @@
 -- Names, texts and files of a plain tree stay within their limits in each part of a change.
-use Rattle.std.proofs.Common.{◌≡◌, refl, ap, ◌∙◌, ℕ, nat_eq, Bool, true, false, cond, ◌&&◌, List, [], ◌∷◌, map, Option, Some, None, is_some}
+use Rattle.std.proofs.Common.{arith, ◌≡◌, refl, ap, ◌∙◌, ℕ, nat_eq, Bool, true, false, cond, ◌&&◌, List, [], ◌∷◌, map, Option, Some, None, is_some}
+use Rattle.std.proofs.lemmas.Grind.{common_steps}
 use Rattle.std.specs.List.{list_all}
 use Rattle.std.specs.Ordering.{eq_by_cmp}
-use Rattle.vt_spec.specs.declared.attributes.Attr.{Attr}
 use Rattle.vt_spec.specs.FileTree.{FileTree}
 use Rattle.vt_spec.specs.Language.Changes.{changed_node, content_with_parent, node_with_parent, node_without_entries, node_without_entry, with_inode, with_moved, with_name, without_name}
 use Rattle.vt_spec.specs.Language.Changes.Change.{AddName, Move, SetMark}
 use Rattle.vt_spec.specs.Lists.{Fresh}
 use Rattle.vt_spec.specs.Machine.CopyUp.{Stack, copied_content, name_left_by, whiteout_of, with_mark, without_contents}
 use Rattle.vt_spec.specs.Machine.Invariants.{ListsNumbers, has_fit_names, has_fit_text, is_no_larger}
-use Rattle.vt_spec.specs.Tree.{Content, Entries, Node, entries_in, entry_named, name_cmp}
-use Rattle.vt_spec.specs.Tree.Content.{Directory, Regular, Symlink, Whiteout}
+use Rattle.vt_spec.specs.Tree.{Entries, Node, entries_in, entry_named, name_cmp}
 use Rattle.vt_spec.specs.TreeInvariant.{entry_at}
 use Rattle.vt_spec.proofs.Lists.{among_from_list_all, among_numbers}
 use Rattle.vt_spec.proofs.Nodes.{directory_used, same_name}
@@ -22,18 +21,14 @@ use Rattle.vt_spec.proofs.Truths.{and_true_left, and_true_right}
 
 -- one that is there
 pub fits_here : (files : FileTree ℕ) → ListsNumbers nat_eq files → is_fit_tree files ≡ true → (n : ℕ)
-    → is_some (files.tree.node n) ≡ true
-    → fits (files.tree.node n) ≡ true
-fits_here files numbers h n there =
-    among_from_list_all (λ m. fits (files.tree.node m)) files.numbers h n
+    → is_some (files.tree.node n) ≡ true → fits (files.tree.node n) ≡ true
+fits_here files numbers h n there = among_from_list_all (λ m. fits (files.tree.node m)) files.numbers h n
     (among_numbers files.numbers n (numbers n ∙ there))
 
 -- each name of a directory
 pub name_fits : (files : FileTree ℕ) → ListsNumbers nat_eq files → is_fit_tree files ≡ true
-    → (d : ℕ) (w : List ℕ) (object : ℕ)
-    → entry_at files.tree d w ≡ Some object → is_fit_name w ≡ true
-name_fits files numbers h d w object e =
-    by (entries_in (files.tree.node d))
+    → (d : ℕ) (w : List ℕ) (object : ℕ) → entry_at files.tree d w ≡ Some object → is_fit_name w ≡ true
+name_fits files numbers h d w object e = by (entries_in (files.tree.node d))
     (of_node (files.tree.node d) (fits_here files numbers h d
     (directory_used files.tree d (has_entries files.tree d w object e)))) e
   where
@@ -74,15 +69,7 @@ pub without_sized : (files : FileTree ℕ) (d : ℕ) (w : List ℕ) → is_fit_t
 without_sized files d w h = changed_fits_there files d (node_without_entry w) (no_entry_fits w (files.tree.node d)) h
 
 bare_fits : (o : Option (Node ℕ)) → fits o ≡ true → fits (node_without_entries o) ≡ true
-bare_fits None k = k
-bare_fits (Some node) k = by node.attr node.content k
-  where
-    by : (attr : Attr) (content : Content ℕ) → fits (Some (record { attr = attr; content = content })) ≡ true
-        → fits (node_without_entries (Some (record { attr = attr; content = content }))) ≡ true
-    by attr (Directory q n o) g = refl
-    by attr (Regular b) g = g
-    by attr (Symlink b) g = g
-    by attr Whiteout g = g
+bare_fits o k = grind (arith, common_steps, fits)
 
 pub emptied_sized : (files : FileTree ℕ) (o : Option ℕ) → is_fit_tree files ≡ true
     → is_fit_tree (without_contents nat_eq files o) ≡ true
@@ -93,8 +80,7 @@ emptied_sized files (Some r) h =
     (changed_fits_there files r node_without_entries (bare_fits (files.tree.node r)) h)
 
 pub left_sized : (fresh : Fresh ℕ) (stack : Stack ℕ) (files : FileTree ℕ) (d : ℕ) (w : List ℕ) (b : Bool)
-    → is_fit_name w ≡ true → is_fit_tree files ≡ true
-    → is_fit_tree (name_left_by nat_eq b fresh stack files d w) ≡ true
+    → is_fit_name w ≡ true → is_fit_tree files ≡ true → is_fit_tree (name_left_by nat_eq b fresh stack files d w) ≡ true
 left_sized fresh stack files d w true fit h =
     let white = with_inode nat_eq files (fresh 0) (whiteout_of stack.mounter) in
     name_sized white d w (fresh 0) fit (inode_fits files (fresh 0) (whiteout_of stack.mounter) refl h)
@@ -103,22 +89,8 @@ left_sized fresh stack files d w false fit h = without_sized files d w h
 -- a copy, and an inode in another directory
 pub copy_fits_limits : (p : ℕ) (node : Node ℕ) → fits (Some node) ≡ true
     → is_fit_node (record { attr = node.attr; content = copied_content p node.content }) ≡ true
-copy_fits_limits p node k = by node.attr node.content k
-  where
-    by : (attr : Attr) (content : Content ℕ) → fits (Some (record { attr = attr; content = content })) ≡ true
-        → is_fit_node (record { attr = attr; content = copied_content p content }) ≡ true
-    by attr (Directory q n o) g = refl
-    by attr (Regular b) g = g
-    by attr (Symlink b) g = g
-    by attr Whiteout g = g
+copy_fits_limits p node k = grind (arith, common_steps, fits)
 
 pub above_fits_limits : (p : ℕ) (node : Node ℕ) → is_fit_node node ≡ true
     → is_fit_node (record { attr = node.attr; content = content_with_parent p node.content }) ≡ true
-above_fits_limits p node k = by node.attr node.content k
-  where
-    by : (attr : Attr) (content : Content ℕ) → fits (Some (record { attr = attr; content = content })) ≡ true
-        → is_fit_node (record { attr = attr; content = content_with_parent p content }) ≡ true
-    by attr (Directory q n o) g = g
-    by attr (Regular b) g = g
-    by attr (Symlink b) g = g
-    by attr Whiteout g = g
+above_fits_limits p node k = grind (arith, common_steps, fits)

@@ -1,11 +1,12 @@
 -- Where the names of a plain tree lead after each part of a change.
-use Rattle.std.proofs.Common.{◌≡◌, ◌≢◌, refl, sym, ap, ◌∙◌, ⊎_elim, inl, inr, ◌⊎◌, ℕ, nat_eq, Bool, true, false, List, [], Option, Some, None}
+use Rattle.std.proofs.Common.{arith, ◌≡◌, ◌≢◌, refl, sym, ap, ◌∙◌, ⊎_elim, inl, inr, ◌⊎◌, ℕ, nat_eq, Bool, true, false, List, [], Option, Some, None}
+use Rattle.std.proofs.lemmas.Grind.{common_steps}
 use Rattle.std.proofs.lemmas.Bool.Decides.{eqb_tells}
 use Rattle.vt_spec.specs.FileTree.{FileTree}
 use Rattle.vt_spec.specs.Language.Changes.{changed_node, node_with_mark, node_with_parent, node_without_entries, with_inode, with_moved, with_name, without_name, without_parent}
 use Rattle.vt_spec.specs.Lists.{Fresh}
 use Rattle.vt_spec.specs.Machine.CopyUp.{Stack, name_left_by, whiteout_of, with_mark, without_contents}
-use Rattle.vt_spec.specs.Tree.{Node, entries_in, entries_of, entry_named, is_directory_node, node_with_entry}
+use Rattle.vt_spec.specs.Tree.{Node, entries_in, entries_of, entry_named, node_with_entry}
 use Rattle.vt_spec.specs.TreeInvariant.{entry_at}
 use Rattle.vt_spec.proofs.Nodes.{is_directory-node_with_entry, node_other, node_set}
 use Rattle.vt_laws_trees.proofs.trees.ChangesNames.{given_told, untaken_told}
@@ -40,24 +41,17 @@ told_stay P files number change same d w y e =
 -- a name that is given
 pub told_name : (P : ℕ → Type 0) (files : FileTree ℕ) (d : ℕ) (w : List ℕ) (k : ℕ) → P k
     → Told P files (with_name nat_eq files d w k)
-told_name P files d w k p x n y e = by (is_directory_node (files.tree.node d)) refl
-  where
-    moved : (a b : ℕ) → P a → b ≡ a → P b
-    moved a b q same = Rattle.std.proofs.Common.subst P (sym same) q
-
-    by : (b : Bool) → is_directory_node (files.tree.node d) ≡ b → (entry_at files.tree x n ≡ Some y) ⊎ P y
-    by true is = ⊎_elim (λ new. inr (moved k y p new.2)) (λ old. inl old.0) (given_told files d w k is x n y e)
-    by false is = ⊎_elim here other (eqb_tells x d)
-      where
-        here : (nat_eq x d ≡ true) × (x ≡ d) → (entry_at files.tree x n ≡ Some y) ⊎ P y
-        here t =
-            none_is_some y (sym (ap (λ m. entry_at (with_name nat_eq files d w k).tree m n) t.1
-            ∙ ap (entry_named n) (entries_in-no_directory ((with_name nat_eq files d w k).tree.node d)
-            (ap is_directory_node (changed_node_there files d (node_with_entry w k))
-            ∙ is_directory-node_with_entry w k (files.tree.node d) ∙ is))) ∙ e)
-
-        other : (nat_eq x d ≡ false) × (x ≢ d) → (entry_at files.tree x n ≡ Some y) ⊎ P y
-        other t = inl (sym (ap (λ o. entry_named n (entries_in o)) (elsewhere files d (node_with_entry w k) x t.1)) ∙ e)
+told_name P files d w k p x n y e = grind (
+  arith,
+  common_steps,
+  given_told,
+  eqb_tells,
+  none_is_some,
+  entries_in-no_directory,
+  changed_node_there,
+  is_directory-node_with_entry,
+  elsewhere,
+)
 
 -- one that is taken away
 pub told_without : (P : ℕ → Type 0) (files : FileTree ℕ) (d : ℕ) (w : List ℕ)
@@ -67,36 +61,17 @@ told_without P files d w x n y e = inl (untaken_told files d w x n y e).0
 -- an inode without names in it
 pub told_inode : (P : ℕ → Type 0) (files : FileTree ℕ) (c : ℕ) (node : Node ℕ) → entries_of node.content ≡ []
     → Told P files (with_inode nat_eq files c node)
-told_inode P files c node bare x n y e = ⊎_elim here other (eqb_tells x c)
-  where
-    here : (nat_eq x c ≡ true) × (x ≡ c) → (entry_at files.tree x n ≡ Some y) ⊎ P y
-    here t =
-        none_is_some y (sym (ap (λ m. entry_at (with_inode nat_eq files c node).tree m n) t.1
-        ∙ ap (λ o. entry_named n (entries_in o)) (node_set files.tree c (Some node)) ∙ ap (entry_named n) bare) ∙ e)
-
-    other : (nat_eq x c ≡ false) × (x ≢ c) → (entry_at files.tree x n ≡ Some y) ⊎ P y
-    other t = inl (sym (ap (λ o. entry_named n (entries_in o)) (node_other files.tree c (Some node) x t.1)) ∙ e)
+told_inode P files c node bare x n y e = grind (arith, common_steps, eqb_tells, none_is_some, node_set, node_other)
 
 -- a directory that loses its names
 pub told_bare : (P : ℕ → Type 0) (files : FileTree ℕ) (r : ℕ)
     → Told P files (changed_node nat_eq files r node_without_entries)
-told_bare P files r x n y e = ⊎_elim here other (eqb_tells x r)
-  where
-    here : (nat_eq x r ≡ true) × (x ≡ r) → (entry_at files.tree x n ≡ Some y) ⊎ P y
-    here t =
-        none_is_some y (sym (ap (λ m. entry_at (changed_node nat_eq files r node_without_entries).tree m n) t.1
-        ∙ ap (λ o. entry_named n (entries_in o)) (changed_node_there files r node_without_entries)
-        ∙ ap (entry_named n) (entries-node_without_entries (files.tree.node r))) ∙ e)
-
-    other : (nat_eq x r ≡ false) × (x ≢ r) → (entry_at files.tree x n ≡ Some y) ⊎ P y
-    other t = inl (sym (ap (λ o. entry_named n (entries_in o)) (elsewhere files r node_without_entries x t.1)) ∙ e)
+told_bare P files r x n y e =
+    grind (arith, common_steps, eqb_tells, none_is_some, changed_node_there, entries-node_without_entries, elsewhere)
 
 pub told_emptied : (P : ℕ → Type 0) (files : FileTree ℕ) (o : Option ℕ) → Told P files (without_contents nat_eq files o)
 told_emptied P files None = told_none P files
-told_emptied P files (Some r) =
-    told_both P files (changed_node nat_eq files r node_without_entries) (without_contents nat_eq files (Some r))
-    (told_bare P files r)
-    (told_stay P (changed_node nat_eq files r node_without_entries) r (node_with_parent r) (entries-node_with_parent r))
+told_emptied P files (Some r) = grind (arith, common_steps, told_both, told_bare, told_stay, entries-node_with_parent)
 
 pub told_unparented : (P : ℕ → Type 0) (files : FileTree ℕ) (o : Option ℕ)
     → Told P files (without_parent nat_eq files o)
@@ -110,19 +85,16 @@ told_marked P files false object = told_none P files
 
 -- a name that is left, with a whiteout or without one
 pub told_left : (P : ℕ → Type 0) (fresh : Fresh ℕ) (stack : Stack ℕ) (files : FileTree ℕ) (d : ℕ) (w : List ℕ)
-    (b : Bool) → P (fresh 0)
-    → Told P files (name_left_by nat_eq b fresh stack files d w)
+    (b : Bool) → P (fresh 0) → Told P files (name_left_by nat_eq b fresh stack files d w)
 told_left P fresh stack files d w true p =
     told_both P files (with_inode nat_eq files (fresh 0) (whiteout_of stack.mounter))
-    (name_left_by nat_eq true fresh stack files d w)
-    (told_inode P files (fresh 0) (whiteout_of stack.mounter) refl)
+    (name_left_by nat_eq true fresh stack files d w) (told_inode P files (fresh 0) (whiteout_of stack.mounter) refl)
     (told_name P (with_inode nat_eq files (fresh 0) (whiteout_of stack.mounter)) d w (fresh 0) p)
 told_left P fresh stack files d w false p = told_without P files d w
 
 -- a move
 pub told_moved : (P : ℕ → Type 0) (files : FileTree ℕ) (from : ℕ) (old : List ℕ) (to : ℕ) (new : List ℕ) (object : ℕ)
-    → P object
-    → Told P files (with_moved nat_eq files from old to new object)
+    → P object → Told P files (with_moved nat_eq files from old to new object)
 told_moved P files from old to new object p =
     let first = without_parent nat_eq files (entry_named new (entries_in (files.tree.node to))) in
     let second = without_name nat_eq first from old in

@@ -1,5 +1,6 @@
 -- An overlay stays whole in each change.
-use Rattle.std.proofs.Common.{◌≡◌, refl, sym, ap, subst, ◌∙◌, ℕ, zero, suc, nat_eq, [], ◌∷◌, Some, None, slice_get}
+use Rattle.std.proofs.Common.{arith, ◌≡◌, refl, sym, ap, subst, ◌∙◌, ℕ, zero, suc, nat_eq, [], ◌∷◌, Some, None, slice_get}
+use Rattle.std.proofs.lemmas.Grind.{common_steps}
 use Rattle.vt_spec.specs.Language.Changes.{Change, changed}
 use Rattle.vt_spec.specs.Language.Changes.Change.{AddName, CopyUp, Make, Move, Remove, SetAttr, SetBytes, SetMark}
 use Rattle.vt_spec.specs.Lists.{Fresh, odds}
@@ -74,14 +75,7 @@ move_keeps_whole fresh stack merge f old t new o whole from to own vacant may al
 -- what a change asks of its own tree
 pub proper : (stack : Stack ℕ) (merge : Merge ℕ) (change : Change ℕ) → IsAskedWell stack merge change
     → IsProper merge.files.tree change
-proper stack merge (Make d w number node) asked = asked.0
-proper stack merge (AddName d w object) asked = asked
-proper stack merge (Remove d w object) asked = asked
-proper stack merge (Move f old t new o) asked = asked.0
-proper stack merge (SetBytes file bytes) asked = tt
-proper stack merge (SetAttr object attr) asked = tt
-proper stack merge (SetMark d opaque) asked = absurd asked
-proper stack merge (CopyUp object) asked = tt
+proper stack merge change asked = grind (arith, common_steps)
 
 -- A whole change
 module _ (fresh : Fresh ℕ) (stack : Stack ℕ) (merge : Merge ℕ) (whole : IsWhole stack merge)
@@ -149,8 +143,7 @@ module _ (fresh : Fresh ℕ) (stack : Stack ℕ) (merge : Merge ℕ) (whole : Is
   -- the overlay's own tree
   pub files_changed : (change : Change ℕ) → IsAskedWell stack merge change
       → changed nat_eq merge.files change ≡ (merge_changed nat_eq fresh stack merge change).files
-  files_changed (Make d w number node) asked =
-      ap (λ files. changed nat_eq files (Make d w number node))
+  files_changed (Make d w number node) asked = ap (λ files. changed nat_eq files (Make d w number node))
       (sym (is_copied fresh stack merge whole distinct unused d
       (directory_used merge.files.tree d asked.0.name_is_free.in_directory)).files)
   files_changed (AddName d w object) may =
@@ -161,18 +154,14 @@ module _ (fresh : Fresh ℕ) (stack : Stack ℕ) (merge : Merge ℕ) (whole : Is
       let second = object_copied stack (odds fresh) (odds-distinct fresh distinct) one d first.whole
       (still_unused fresh stack merge whole distinct unused object may.is_there) there in
       ap (λ files. changed nat_eq files (AddName d w object)) (sym (second.copied.files ∙ first.files))
-  files_changed (Remove d w object) may =
-      ap (λ files. changed nat_eq files (Remove d w object))
+  files_changed (Remove d w object) may = ap (λ files. changed nat_eq files (Remove d w object))
       (sym (is_copied fresh stack merge whole distinct unused d
       (directory_used merge.files.tree d (has_entries merge.files.tree d w object may.named))).files)
-  files_changed (Move f old t new o) asked =
-      ap (λ files. changed nat_eq files (Move f old t new o))
+  files_changed (Move f old t new o) asked = ap (λ files. changed nat_eq files (Move f old t new o))
       (sym (twice fresh stack merge whole distinct unused f old t new o asked.0).files)
-  files_changed (SetBytes file bytes) there =
-      ap (λ files. changed nat_eq files (SetBytes file bytes))
+  files_changed (SetBytes file bytes) there = ap (λ files. changed nat_eq files (SetBytes file bytes))
       (sym (object_copied stack fresh distinct merge file whole unused there).copied.files)
-  files_changed (SetAttr object attr) there =
-      ap (λ files. changed nat_eq files (SetAttr object attr))
+  files_changed (SetAttr object attr) there = ap (λ files. changed nat_eq files (SetAttr object attr))
       (sym (object_copied stack fresh distinct merge object whole unused there).copied.files)
   files_changed (SetMark d opaque) asked = absurd asked
   files_changed (CopyUp object) there =
@@ -198,8 +187,7 @@ upper_trees_stay fresh stack merge change whole new asked is =
 
 pub merged_trees_stay : MergedTreesStay
 merged_trees_stay fresh stack merge change whole new asked is =
-    subst IsFileTree (files_changed fresh stack merge whole new change asked)
-    (record {
+    subst IsFileTree (files_changed fresh stack merge whole new change asked) (record {
       tree = changes_keep_trees merge.files change is.tree (proper stack merge change asked);
       numbers = changes_keep_numbers merge.files change is.numbers;
       own_parents = changes_keep_own_parents merge.files change is.tree is.own_parents

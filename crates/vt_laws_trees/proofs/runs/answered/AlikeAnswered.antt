@@ -1,5 +1,6 @@
 -- Each call is answered alike in two worlds that are alike.
-use Rattle.std.proofs.Common.{◌≡◌, refl, sym, ap, subst, ◌∙◌, ℕ, nat_eq, Bool, true, false, not, ◌||◌, List, Option, Some, None, Ok, Err, is_ok, ok_or}
+use Rattle.std.proofs.Common.{arith, ◌≡◌, refl, sym, ap, subst, ◌∙◌, ℕ, nat_eq, Bool, true, false, not, ◌||◌, List, Option, Some, None, Ok, Err, is_ok, ok_or}
+use Rattle.std.proofs.lemmas.Grind.{common_steps}
 use Rattle.vt_laws_rules.proofs.given.GivenPermits.{permits_are_for_their_calls}
 use Rattle.vt_laws_rules.specs.Given.{IsFor}
 use Rattle.vt_laws_rules.proofs.judged.CallsJudged.{policy_judges_then_applies}
@@ -29,37 +30,29 @@ use Rattle.vt_laws_trees.specs.Trees.Calls.{mounts_overlay}
 
 -- a permit for another call mounts no overlay
 no_overlay : (fresh : Fresh ℕ) (world : World ℕ) (task : Task ℕ) (call : Call) (permit : Permit ℕ)
-    → mounts_overlay call ≡ false → IsFor (looks_of nat_eq world) task call permit
-    → is_for_overlay permit ≡ false
-no_overlay fresh world task call (ToMountOverlay place overlay flags) plain for =
-    sym (ap mounts_overlay for.2) ∙ plain
+    → mounts_overlay call ≡ false → IsFor (looks_of nat_eq world) task call permit → is_for_overlay permit ≡ false
+no_overlay fresh world task call (ToMountOverlay place overlay flags) plain for = sym (ap mounts_overlay for.2) ∙ plain
 no_overlay fresh world task call permit plain for = refl
 
 module _ (fresh : Fresh ℕ) (one other : World ℕ) (same : Alike one other) (call : Call)
     (plain : mounts_overlay call ≡ false) where
   module _ (task again : Task ℕ) (alike : SameTask task again) where
     judged_alike : judge_in nat_eq fresh one task call ≡ judge_in nat_eq fresh other again call
-    judged_alike =
-        sym (judged_bare fresh one task call)
-        ∙ (λ i. judge_in nat_eq fresh one (alike i) call)
-        ∙ judged_bare fresh one again call
-        ∙ same_worlds_judge_alike one other (same_from_alike one other same)
+    judged_alike = sym (judged_bare fresh one task call) ∙ (λ i. judge_in nat_eq fresh one (alike i) call)
+        ∙ judged_bare fresh one again call ∙ same_worlds_judge_alike one other (same_from_alike one other same)
         (plain_has_one_name one (plain_from_alike one other same)) fresh again call
 
     permitted_alike : (judgement : Judgement ℕ) → judge_in nat_eq fresh one task call ≡ judgement
         → OutcomesAlike (after one judgement (apply nat_eq fresh one task))
         (after other judgement (apply nat_eq fresh other again))
-    permitted_alike (Ok permit) judged =
-        apply_alike fresh one other same task again alike permit
+    permitted_alike (Ok permit) judged = apply_alike fresh one other same task again alike permit
         (no_overlay fresh one task call permit plain (permits_are_for_their_calls fresh one task call permit judged))
     permitted_alike (Err deny) judged = record { answer = refl; worlds = same }
 
     -- the outcome before the last step
-    outcome_alike :
-        OutcomesAlike (after one (judge_in nat_eq fresh one task call) (apply nat_eq fresh one task))
+    outcome_alike : OutcomesAlike (after one (judge_in nat_eq fresh one task call) (apply nat_eq fresh one task))
         (after other (judge_in nat_eq fresh other again call) (apply nat_eq fresh other again))
-    outcome_alike =
-        subst (λ judgement. OutcomesAlike
+    outcome_alike = subst (λ judgement. OutcomesAlike
         (after one (judge_in nat_eq fresh one task call) (apply nat_eq fresh one task))
         (after other judgement (apply nat_eq fresh other again)))
         judged_alike (permitted_alike (judge_in nat_eq fresh one task call) refl)
@@ -71,8 +64,7 @@ module _ (fresh : Fresh ℕ) (one other : World ℕ) (same : Alike one other) (c
     last_alike true changed others under again alike = alike
     last_alike false changed others under again alike = record {
       answer = alike.answer;
-      worlds =
-          raised_alike one other name changed others _ _ (settled_alike under.world again.world alike.worlds);
+      worlds = raised_alike one other name changed others _ _ (settled_alike under.world again.world alike.worlds);
     }
 
     finished_alike : (changed others : List ℕ) (under again : Outcome ℕ) → OutcomesAlike under again
@@ -96,8 +88,7 @@ module _ (fresh : Fresh ℕ) (one other : World ℕ) (same : Alike one other) (c
     called_alike (Some task) (Some again) alike = finished_alike _ _ _ _ (outcome_alike task again alike)
 
     pub policy_alike : OutcomesAlike (policy nat_eq fresh one name call) (policy nat_eq fresh other name call)
-    policy_alike =
-        subst (λ outcome. OutcomesAlike outcome (policy nat_eq fresh other name call))
+    policy_alike = subst (λ outcome. OutcomesAlike outcome (policy nat_eq fresh other name call))
         (sym (policy_judges_then_applies fresh one name call))
         (subst (OutcomesAlike (after one (ok_or (task_called one name) (denial S2)) (by_task one)))
         (sym (policy_judges_then_applies fresh other name call))
@@ -115,8 +106,4 @@ same_worlds_are_answered_alike one other same plain fresh name call no_mount =
 pub same_worlds_are_directed_alike : SameWorldsAreDirectedAlike
 same_worlds_are_directed_alike one other same plain directive =
     let alike = directed_alike one other (alike_from_same one other same plain) directive in
-    record {
-      answer = alike.answer;
-      worlds = same_from_alike _ _ alike.worlds;
-      plain = plain_from_alike _ _ alike.worlds;
-    }
+    grind (arith, common_steps, same_from_alike, plain_from_alike)

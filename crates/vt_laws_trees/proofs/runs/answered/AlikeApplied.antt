@@ -50,8 +50,7 @@ module _ (fresh : Fresh ℕ) (one other : World ℕ) (same : Alike one other) (t
 
   copied_same : (file : Location ℕ) (access : Access)
       → is_copied_up nat_eq one file access ≡ is_copied_up nat_eq other file access
-  copied_same file access = λ i.
-      (opens_for_writing access)
+  copied_same file access = λ i. (opens_for_writing access)
       && overlay_or false (λ overlay. lies_only_in_lowers overlay file.node)
       (overlay_same _ _ (here_alike one other same file) i)
 
@@ -63,11 +62,9 @@ module _ (fresh : Fresh ℕ) (one other : World ℕ) (same : Alike one other) (t
   written_alike : (file : Location ℕ) (offset : ℕ) (bytes : List ℕ)
       → Alike (pwritten nat_eq fresh one file offset bytes) (pwritten nat_eq fresh other file offset bytes)
   written_alike file offset [] = same
-  written_alike file offset (byte ∷ bytes) =
-      subst (λ node. Alike (pwritten nat_eq fresh one file offset (byte ∷ bytes))
+  written_alike file offset (byte ∷ bytes) = subst (λ node. Alike (pwritten nat_eq fresh one file offset (byte ∷ bytes))
       (with_change nat_eq fresh other file (SetBytes file.node (overwritten offset (byte ∷ bytes) (bytes_in node)))))
-      (node_same one other same file)
-      (change_alike one other same fresh file
+      (node_same one other same file) (change_alike one other same fresh file
       (SetBytes file.node (overwritten offset (byte ∷ bytes) (bytes_in (node_at nat_eq one file)))))
 
   pub apply_alike : (permit : Permit ℕ) → is_for_overlay permit ≡ false
@@ -92,13 +89,11 @@ module _ (fresh : Fresh ℕ) (one other : World ℕ) (same : Alike one other) (t
   apply_alike (ToRename from old to new object replaced) plain =
       done _ _ (change_alike _ _ (without_replaced_alike replaced one other same) fresh from
       (Move from.node old to.node new object.node))
-  apply_alike (ToOpen file access) plain =
-      subst (λ copies. OutcomesAlike
+  apply_alike (ToOpen file access) plain = subst (λ copies. OutcomesAlike
       (opened (with_copy nat_eq (is_copied_up nat_eq one file access) fresh one file) task file access)
       (opened (with_copy nat_eq copies fresh other file) again file access)) (copied_same file access)
       (opened_alike _ _ (copy_alike (is_copied_up nat_eq one file access) file) file access)
-  apply_alike (ToOpenNew directory name node access) plain =
-      opened_alike _ _
+  apply_alike (ToOpenNew directory name node access) plain = opened_alike _ _
       (change_alike one other same (odds fresh) directory (Make directory.node name (evens fresh 0) node))
       (record { mount = directory.mount; node = evens fresh 0 }) access
   apply_alike (ToWritePart file offset bytes) plain = done _ _ (written_alike file offset bytes)
@@ -116,8 +111,7 @@ module _ (fresh : Fresh ℕ) (one other : World ℕ) (same : Alike one other) (t
     answer = λ i. Ok (Child (child_name (alike i)));
     worlds = with_child_alike one other same task again _ _ alike (λ i. child_of (alike i) credentials);
   }
-  apply_alike ToExit plain =
-      done _ _ (ended_alike _ _
+  apply_alike ToExit plain = done _ _ (ended_alike _ _
       (subst (λ name. Alike (without_task one task.name) (without_task other name)) (λ i. (alike i).name)
       (without_task_alike task.name one other same)))
   apply_alike ToUnshare plain = done _ _ (ended_alike _ _ (unshared_alike fresh task again alike one other same))
@@ -126,10 +120,8 @@ module _ (fresh : Fresh ℕ) (one other : World ℕ) (same : Alike one other) (t
   apply_alike (ToMountPlain place flags) plain =
       done _ _ (mounted_alike (odds fresh) place (plain_filesystem nat_eq fresh) flags refl one other same)
   apply_alike (ToMountOverlay place overlay flags) plain = absurd (true≢false plain)
-  apply_alike (ToBind source place recursive) plain =
-      done _ _ (bind_alike fresh source place recursive one other same)
-  apply_alike (ToMove mount place) plain =
-      done _ _
+  apply_alike (ToBind source place recursive) plain = done _ _ (bind_alike fresh source place recursive one other same)
+  apply_alike (ToMove mount place) plain = done _ _
       (subst (λ mounts. Alike (apply nat_eq fresh one task (ToMove mount place)).world
       (attach nat_eq other fresh place true mounts))
       (λ i. mount_tree nat_eq (same.mounts i) (mount_in nat_eq (same.mounts i) mount))
@@ -138,9 +130,7 @@ module _ (fresh : Fresh ℕ) (one other : World ℕ) (same : Alike one other) (t
   apply_alike (ToUnmountLazily mount) plain = done _ _ (lazily_alike mount one other same)
   apply_alike (ToSetFlags mount flags) plain = done _ _ (flags_alike mount flags one other same)
   apply_alike (ToSetType mount word recursive) plain = done _ _ (type_alike fresh mount word recursive one other same)
-  apply_alike (ToPivot new put) plain =
-      done _ _
-      (subst (Alike (apply nat_eq fresh one task (ToPivot new put)).world)
+  apply_alike (ToPivot new put) plain = done _ _ (subst (Alike (apply nat_eq fresh one task (ToPivot new put)).world)
       (λ i. pivoted nat_eq other (alike i).namespace (mount_in nat_eq (same.mounts i) (alike i).root.mount)
       (mount_in nat_eq (same.mounts i) new) put)
       (pivoted_alike task.namespace (mount_at nat_eq one task.root) (mount_numbered nat_eq one new) put one other same))

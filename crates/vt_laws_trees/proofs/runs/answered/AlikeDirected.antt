@@ -1,21 +1,19 @@
 -- Directives are answered alike in two worlds that are alike.
-use Rattle.std.proofs.Common.{◌≡◌, refl, sym, ap, subst, ◌∙◌, ℕ, nat_eq, Bool, true, false, cond, not, ◌&&◌, ◌||◌, ◌+◌, List, [], ◌∷◌, ◌++◌, map, filter, flat_map, Option, Some, None, Ok, is_some, option_map}
+use Rattle.std.proofs.Common.{arith, ◌≡◌, refl, sym, ap, ◌∙◌, ℕ, nat_eq, Bool, true, false, cond, not, ◌&&◌, ◌||◌, ◌+◌, List, [], ◌∷◌, ◌++◌, map, filter, flat_map, Option, Some, None, is_some, option_map}
+use Rattle.std.proofs.lemmas.Grind.{common_steps}
 use Rattle.std.specs.List.{list_all, list_any}
 use Rattle.vt_laws_trees.proofs.runs.answered.AlikeApplied.{OutcomesAlike}
 use Rattle.vt_laws_trees.proofs.runs.answered.AlikeChanges.{found_alike, task_alike}
 use Rattle.vt_laws_trees.proofs.runs.answered.AlikeSettled.{overlay_same}
 use Rattle.vt_laws_trees.proofs.runs.answered.AlikeWorlds.{Alike, AlikeFilesystem, SameNamespace, SameTask, mounts_of_one, with_mounts_of}
 use Rattle.vt_laws_trees.proofs.runs.Each.{Each, IfAny, each_any, each_filter, each_flat, each_to_one}
-use Rattle.vt_spec.specs.declared.errors.Rule.TheVariants.{S2}
 use Rattle.vt_spec.specs.Language.Answers.{PeerLine}
-use Rattle.vt_spec.specs.Language.Answers.Answer.{PeerList, YesNo}
 use Rattle.vt_spec.specs.Language.Calls.{Directive, TaskName}
 use Rattle.vt_spec.specs.Language.Calls.Directive.{AskPeers, AskSealed}
 use Rattle.vt_spec.specs.Lists.{counted_from, each_once, holds_of}
 use Rattle.vt_spec.specs.Machine.Listing.{attached_in, groups_seen, is_slave_of, number_among, peer_lines}
 use Rattle.vt_spec.specs.Machine.Locked.{overlay_or, overlays}
 use Rattle.vt_spec.specs.Machine.Mounts.{Location, Mount}
-use Rattle.vt_spec.specs.Machine.Outcomes.{granted, judged}
 use Rattle.vt_spec.specs.Machine.Receives.{is_member_of}
 use Rattle.vt_spec.specs.Machine.Sealed.{all_named, change_layers, directed, holds_all_tasks, shares_no_events, share_events, is_lower_root, is_member_task, is_own_namespace, locations, members, no_outsider_on, no_outsider_on_mounts, no_such_task, outsiders, sealed, used_alone, used_directly, used_filesystems, wholly_locked}
 use Rattle.vt_spec.specs.Machine.World.{Filesystem, Layer, Namespace, Overlay, Task, World, filesystem_numbered, is_overlay, locations_of, mount_at, task_called}
@@ -30,26 +28,23 @@ module _ (one other : World ℕ) (same : Alike one (with_mounts_of one other)) w
   attached_from k [] [] each = refl
   attached_from k [] (b ∷ others) each = absurd each
   attached_from k (a ∷ ones) [] each = absurd each
-  attached_from k (a ∷ ones) (b ∷ others) each = λ i.
-      attached_in nat_eq one (k, each.0 i) ++ attached_from (k + 1) ones others each.1 i
+  attached_from k (a ∷ ones) (b ∷ others) each = grind (arith, common_steps, attached_from (k + 1) ones others each.1)
 
   -- the lines of peers, by the mounts that are attached
   abbrev places_among : List (ℕ × ℕ × Mount ℕ) → (Mount ℕ → Bool) → List (ℕ × ℕ)
-  places_among attached test =
-      map (λ (mount : ℕ × ℕ × Mount ℕ). (mount.0, mount.1))
+  places_among attached test = map (λ (mount : ℕ × ℕ × Mount ℕ). (mount.0, mount.1))
       (filter (λ (mount : ℕ × ℕ × Mount ℕ). test mount.2) attached)
 
   abbrev seen_among : List (ℕ × ℕ × Mount ℕ) → List ℕ
   seen_among attached = groups_seen nat_eq one (map (λ (mount : ℕ × ℕ × Mount ℕ). mount.2) attached)
 
   abbrev lines_by : List (ℕ × ℕ × Mount ℕ) → List PeerLine
-  lines_by attached =
-      map (λ group. record {
-        group = number_among nat_eq (seen_among attached) group;
-        master = option_map (number_among nat_eq (seen_among attached)) (one.master group);
-        peers = places_among attached (is_member_of nat_eq group);
-        slaves = places_among attached (is_slave_of nat_eq group);
-      }) (seen_among attached)
+  lines_by attached = map (λ group. record {
+    group = number_among nat_eq (seen_among attached) group;
+    master = option_map (number_among nat_eq (seen_among attached)) (one.master group);
+    peers = places_among attached (is_member_of nat_eq group);
+    slaves = places_among attached (is_slave_of nat_eq group);
+  }) (seen_among attached)
 
   peers_same : peer_lines nat_eq one ≡ peer_lines nat_eq (with_mounts_of one other)
   peers_same = ap lines_by (attached_from 1 one.namespaces other.namespaces same.namespaces)
@@ -65,11 +60,7 @@ no_overlays : (ones others : List (Filesystem ℕ)) → Each AlikeFilesystem one
 no_overlays [] [] each = (refl, refl)
 no_overlays [] (b ∷ others) each = absurd each
 no_overlays (a ∷ ones) [] each = absurd each
-no_overlays (a ∷ ones) (b ∷ others) each =
-    let rest = no_overlays ones others each.1 in (
-      (λ i. cond (is_some (each.0.plain i)) (a ∷ filter is_overlay ones) (filter is_overlay ones)) ∙ rest.0,
-      (λ i. cond (is_some (each.0.plain_too i)) (b ∷ filter is_overlay others) (filter is_overlay others)) ∙ rest.1,
-    )
+no_overlays (a ∷ ones) (b ∷ others) each = grind (arith, common_steps, no_overlays ones others each.1)
 
 -- Sealed tasks
 module _ (one other : World ℕ) (same : Alike one (with_mounts_of one other)) (names : List TaskName) where
@@ -77,8 +68,7 @@ module _ (one other : World ℕ) (same : Alike one (with_mounts_of one other)) (
   second = with_mounts_of one other
 
   members_alike : Each SameTask (members one names) (members second names)
-  members_alike =
-      each_filter SameTask (is_member_task names) (is_member_task names)
+  members_alike = each_filter SameTask (is_member_task names) (is_member_task names)
       (λ a b alike. ap (is_member_task names) alike) one.tasks other.tasks same.tasks
 
   outsiders_alike : Each SameTask (outsiders one names) (outsiders second names)
@@ -105,12 +95,10 @@ module _ (one other : World ℕ) (same : Alike one (with_mounts_of one other)) (
 
   namespaces_of : (ones others : List (Task ℕ)) → Each SameTask ones others
       → map (λ (task : Task ℕ). task.namespace) ones ≡ map (λ (task : Task ℕ). task.namespace) others
-  namespaces_of ones others each =
-      each_to_one SameTask (λ (task : Task ℕ). task.namespace)
+  namespaces_of ones others each = each_to_one SameTask (λ (task : Task ℕ). task.namespace)
       (λ (task : Task ℕ). task.namespace) (λ a b alike. ap (λ (task : Task ℕ). task.namespace) alike) ones others each
 
-  all_by_namespace : (test : ℕ → Bool) (tasks : List (Task ℕ))
-      → list_all (λ (task : Task ℕ). test task.namespace) tasks
+  all_by_namespace : (test : ℕ → Bool) (tasks : List (Task ℕ)) → list_all (λ (task : Task ℕ). test task.namespace) tasks
       ≡ list_all test (map (λ (task : Task ℕ). task.namespace) tasks)
   all_by_namespace test [] = refl
   all_by_namespace test (task ∷ rest) = ap (λ b. test task.namespace && b) (all_by_namespace test rest)
@@ -134,21 +122,18 @@ module _ (one other : World ℕ) (same : Alike one (with_mounts_of one other)) (
       (places_same (outsiders one names) (outsiders second names) outsiders_alike i)
 
   directly_same : used_directly nat_eq one names ≡ used_directly nat_eq second names
-  directly_same = λ i.
-      map (λ (mount : Mount ℕ). mount.filesystem) (own_by (own_same i))
+  directly_same = λ i. map (λ (mount : Mount ℕ). mount.filesystem) (own_by (own_same i))
       ++ map (λ (location : Location ℕ). (mount_at nat_eq one location).filesystem)
       (places_same (members one names) (members second names) members_alike i)
 
   layers_at : (number : ℕ)
       → change_layers (filesystem_numbered nat_eq one number) ≡ change_layers (filesystem_numbered nat_eq second number)
-  layers_at number =
-      ap (overlay_or [] (λ (overlay : Overlay ℕ). map (λ (layer : Layer ℕ). layer.filesystem)
+  layers_at number = ap (overlay_or [] (λ (overlay : Overlay ℕ). map (λ (layer : Layer ℕ). layer.filesystem)
       (option_to_list overlay.upper ++ option_to_list overlay.work)))
       (overlay_same _ _ (found_alike one second same number))
 
   used_same : used_filesystems nat_eq one names ≡ used_filesystems nat_eq second names
-  used_same = λ i.
-      each_once nat_eq (directly_same i ++ flat_map (λ number. layers_at number i) (directly_same i))
+  used_same = λ i. each_once nat_eq (directly_same i ++ flat_map (λ number. layers_at number i) (directly_same i))
 
   no_outsider_same : (filesystem : ℕ)
       → no_outsider_on nat_eq one names filesystem ≡ no_outsider_on nat_eq second names filesystem
@@ -163,17 +148,14 @@ module _ (one other : World ℕ) (same : Alike one (with_mounts_of one other)) (
   alone_same : (filesystem : ℕ) → used_alone nat_eq one names filesystem ≡ used_alone nat_eq second names filesystem
   alone_same filesystem =
       ap (λ merged. no_outsider_on nat_eq one names filesystem && list_all (λ (merged : Filesystem ℕ).
-      not (has_layer_on nat_eq filesystem merged)
-      || no_outsider_on nat_eq one names merged.number) merged) none.0
+      not (has_layer_on nat_eq filesystem merged) || no_outsider_on nat_eq one names merged.number) merged) none.0
       ∙ ap (λ b. b && true) (no_outsider_same filesystem)
       ∙ sym (ap (λ merged. no_outsider_on nat_eq second names filesystem && list_all (λ (merged : Filesystem ℕ).
-      not (has_layer_on nat_eq filesystem merged)
-      || no_outsider_on nat_eq second names merged.number) merged) none.1)
+      not (has_layer_on nat_eq filesystem merged) || no_outsider_on nat_eq second names merged.number) merged) none.1)
 
   locked_no : (world : World ℕ) → overlays world ≡ [] → (filesystem : ℕ)
       → wholly_locked nat_eq world names filesystem ≡ false
-  locked_no world no_overlay filesystem =
-      ap (λ merged. list_any (λ (merged : Filesystem ℕ).
+  locked_no world no_overlay filesystem = ap (λ merged. list_any (λ (merged : Filesystem ℕ).
       is_lower_root nat_eq filesystem (filesystem_numbered nat_eq world filesystem).files.tree.root merged
       && used_alone nat_eq world names merged.number) merged
       && all_named nat_eq (filesystem_numbered nat_eq world filesystem).files) no_overlay
@@ -184,10 +166,7 @@ module _ (one other : World ℕ) (same : Alike one (with_mounts_of one other)) (
 
   sealed_same : sealed nat_eq one names ≡ sealed nat_eq second names
   unfolding sealed
-  sealed_same = λ i.
-      holds_all_same i
-      && no_link_same i
-      && on_mounts_same i
+  sealed_same = λ i. holds_all_same i && no_link_same i && on_mounts_same i
       && list_all (λ filesystem. alone_same filesystem i || locked_same filesystem i) (used_same i)
 
 sealed_alike : (names : List TaskName) (one other : World ℕ) → Alike one other
@@ -208,16 +187,5 @@ missing_same one other same name = by (task_called one name) (task_called other 
 
 pub directed_alike : (one other : World ℕ) → Alike one other → (directive : Directive)
     → OutcomesAlike (directed nat_eq one directive) (directed nat_eq other directive)
-directed_alike one other same AskPeers =
-    record { answer = λ i. Ok (PeerList (peers_alike one other same i)); worlds = same }
-directed_alike one other same (AskSealed names) =
-    subst (λ missing. OutcomesAlike (directed nat_eq one (AskSealed names))
-    (judged other ((missing, S2) ∷ []) (granted (YesNo (sealed nat_eq other names)) other)))
-    (λ i. list_any (λ name. missing_same one other same name i) names)
-    (by (list_any (no_such_task one) names))
-  where
-    by : (missing : Bool)
-        → OutcomesAlike (judged one ((missing, S2) ∷ []) (granted (YesNo (sealed nat_eq one names)) one))
-        (judged other ((missing, S2) ∷ []) (granted (YesNo (sealed nat_eq other names)) other))
-    by true = record { answer = refl; worlds = same }
-    by false = record { answer = λ i. Ok (YesNo (sealed_alike names one other same i)); worlds = same }
+directed_alike one other same AskPeers = grind (arith, common_steps, peers_alike)
+directed_alike one other same (AskSealed names) = grind (arith, common_steps, missing_same, sealed_alike)

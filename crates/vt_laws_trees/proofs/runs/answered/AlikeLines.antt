@@ -23,8 +23,7 @@ pub record StepsAlike (one other : World ℕ) (step again : Step ℕ) : Type 0 w
 module _ (one other : World ℕ) (same : Alike one other) where
   answered : (outcome again : Outcome ℕ) → OutcomesAlike outcome again
       → StepsAlike one other (Answered outcome) (Answered again)
-  answered outcome again alike =
-      record { text = λ number. ap (reply_line number) alike.answer; worlds = alike.worlds }
+  answered outcome again alike = record { text = λ number. ap (reply_line number) alike.answer; worlds = alike.worlds }
 
   requested_alike : (request : Option Request) (fresh : Fresh ℕ) → asks_for_overlay request ≡ false
       → OutcomesAlike (requested nat_eq one request fresh) (requested nat_eq other request fresh)
@@ -36,16 +35,14 @@ module _ (one other : World ℕ) (same : Alike one other) where
       → asks_for_overlay (request_of grammar line) ≡ false
       → StepsAlike one other (spoken_step nat_eq grammar one line fresh) (spoken_step nat_eq grammar other line fresh)
   spoken_alike grammar line None plain = answered _ _ (record { answer = refl; worlds = same })
-  spoken_alike grammar line (Some fresh) plain =
-      answered _ _ (requested_alike (request_of grammar line) fresh plain)
+  spoken_alike grammar line (Some fresh) plain = answered _ _ (requested_alike (request_of grammar line) fresh plain)
 
   pub line_step_alike : (grammar : Grammar) (line : List ℕ) (fresh : Option (Fresh ℕ))
       → asks_for_overlay (request_of grammar line) ≡ false
       → StepsAlike one other (line_step nat_eq grammar one line fresh) (line_step nat_eq grammar other line fresh)
   line_step_alike grammar line fresh plain = by (nat_lt longest_line (length line)) (is_silent line)
     where
-      by : (long silent : Bool)
-          → StepsAlike one other (line_step_by nat_eq long silent grammar one line fresh)
+      by : (long silent : Bool) → StepsAlike one other (line_step_by nat_eq long silent grammar one line fresh)
           (line_step_by nat_eq long silent grammar other line fresh)
       by true silent = answered _ _ (record { answer = refl; worlds = same })
       by false true = record { text = λ number. refl; worlds = same }

@@ -22,8 +22,7 @@ module _ (renaming : Renaming ℕ ℕ) where
       files = record {
         tree = λ i. record {
           root = renaming.there (same.0.files.tree i).root;
-          node = λ number.
-              option_map (renamed_node renaming.there renaming.back)
+          node = λ number. option_map (renamed_node renaming.there renaming.back)
               ((same.0.files.tree i).node (renaming.back number));
         };
         numbers = IsPermutation-map renaming.there one.files.numbers other.files.numbers same.0.files.numbers;
@@ -39,14 +38,12 @@ module _ (renaming : Renaming ℕ ℕ) where
     mounts = ap (map (renamed_mount renaming.there renaming.back)) same.mounts;
     master = λ i group. option_map renaming.there (same.master i (renaming.back group));
     filesystems = filesystems_renamed one.filesystems other.filesystems same.filesystems;
-    namespaces =
-        each_to_one SameNamespace bare_namespace bare_namespace (λ a b e. e) _ _
+    namespaces = each_to_one SameNamespace bare_namespace bare_namespace (λ a b e. e) _ _
         (each_map SameNamespace SameNamespace (renamed_namespace renaming.there renaming.back)
         (renamed_namespace renaming.there renaming.back)
         (λ a b e. ap (renamed_namespace renaming.there renaming.back) e) one.namespaces other.namespaces
         (each_told bare_namespace bare_namespace one.namespaces other.namespaces same.namespaces));
-    tasks =
-        each_to_one SameTask bare_task bare_task (λ a b e. e) _ _
+    tasks = each_to_one SameTask bare_task bare_task (λ a b e. e) _ _
         (each_map SameTask SameTask (renamed_task renaming.there renaming.back)
         (renamed_task renaming.there renaming.back)
         (λ a b e. ap (renamed_task renaming.there renaming.back) e) one.tasks other.tasks

@@ -1,7 +1,8 @@
 -- Worlds of plain filesystems that are the same but for change numbers and the order of numbers beside trees.
-use Rattle.std.proofs.Common.{◌≡◌, refl, sym, ap, subst, ◌∙◌, ℕ, false, List, [], ◌∷◌, None, is_some, arith}
+use Rattle.std.proofs.lemmas.Grind.{common_steps}
+use Rattle.std.proofs.Common.{◌≡◌, refl, sym, subst, ◌∙◌, ℕ, false, List, [], ◌∷◌, None, arith}
 use Rattle.std.specs.Prelude.{All}
-use Rattle.std.proofs.lemmas.List.Elements.{All-cons, All-head, All-tail}
+use Rattle.std.proofs.lemmas.List.Elements.{All-head, All-tail}
 use Rattle.std.proofs.lemmas.List.Sorted.{IsPermutation-refl, IsPermutation-sym, IsPermutation-trans}
 use Rattle.vt_laws_trees.proofs.runs.Each.{Each, each_back, each_onward, each_to_one, each_told}
 use Rattle.vt_laws_rules.proofs.judged.NumbersRaised.{bare_namespace, bare_task}
@@ -64,14 +65,8 @@ filesystems_back : (ones others : List (Filesystem ℕ)) → SameFilesystems one
 filesystems_back [] [] same = tt
 filesystems_back [] (other ∷ others) same = absurd same
 filesystems_back (one ∷ ones) [] same = absurd same
-filesystems_back (one ∷ ones) (other ∷ others) same = (
-  record {
-    number = sym same.0.number;
-    files = files_back one.files other.files same.0.files;
-    overlay = sym same.0.overlay;
-  },
-  filesystems_back ones others same.1,
-)
+filesystems_back (one ∷ ones) (other ∷ others) same =
+    grind (arith, common_steps, files_back, filesystems_back ones others same.1)
 
 filesystems_onward : (ones others lasts : List (Filesystem ℕ)) → SameFilesystems ones others
     → SameFilesystems others lasts → SameFilesystems ones lasts
@@ -89,30 +84,7 @@ filesystems_onward (one ∷ ones) (other ∷ others) (last ∷ lasts) same next 
 )
 
 pub sameness_is_an_equivalence : SamenessIsAnEquivalence
-sameness_is_an_equivalence = record {
-  itself = λ world. record {
-    mounts = refl;
-    master = refl;
-    filesystems = filesystems_itself world.filesystems;
-    namespaces = refl;
-    tasks = refl;
-  };
-  back = λ one other same. record {
-    mounts = sym same.mounts;
-    master = sym same.master;
-    filesystems = filesystems_back one.filesystems other.filesystems same.filesystems;
-    namespaces = sym same.namespaces;
-    tasks = sym same.tasks;
-  };
-  onward = λ one other last same next. record {
-    mounts = same.mounts ∙ next.mounts;
-    master = same.master ∙ next.master;
-    filesystems =
-        filesystems_onward one.filesystems other.filesystems last.filesystems same.filesystems next.filesystems;
-    namespaces = same.namespaces ∙ next.namespaces;
-    tasks = same.tasks ∙ next.tasks;
-  };
-}
+sameness_is_an_equivalence = grind (arith, common_steps, filesystems_itself, filesystems_back, filesystems_onward)
 
 abbrev Plain : Filesystem ℕ → Type 0
 Plain filesystem = is_overlay filesystem ≡ false
@@ -124,12 +96,7 @@ plain_alike [] (other ∷ others) same plain = absurd same
 plain_alike (one ∷ ones) [] same plain = absurd same
 plain_alike (one ∷ ones) (other ∷ others) same plain =
     let none : one.overlay ≡ None = none_from_not_some one.overlay (All-head Plain one ones plain) in (
-      record {
-        number = same.0.number;
-        files = same.0.files;
-        plain = none;
-        plain_too = sym same.0.overlay ∙ none;
-      },
+      record { number = same.0.number; files = same.0.files; plain = none; plain_too = sym same.0.overlay ∙ none },
       plain_alike ones others same.1 (All-tail Plain one ones plain),
     )
 
@@ -137,17 +104,13 @@ alike_same : (ones others : List (Filesystem ℕ)) → Each AlikeFilesystem ones
 alike_same [] [] each = tt
 alike_same [] (other ∷ others) each = absurd each
 alike_same (one ∷ ones) [] each = absurd each
-alike_same (one ∷ ones) (other ∷ others) each = (
-  record { number = each.0.number; files = each.0.files; overlay = each.0.plain ∙ sym each.0.plain_too },
-  alike_same ones others each.1,
-)
+alike_same (one ∷ ones) (other ∷ others) each = grind (arith, common_steps, alike_same ones others each.1)
 
 alike_plain : (ones others : List (Filesystem ℕ)) → Each AlikeFilesystem ones others → All Plain ones
 alike_plain [] [] each = λ k d below. absurd (omega arith)
 alike_plain [] (other ∷ others) each = absurd each
 alike_plain (one ∷ ones) [] each = absurd each
-alike_plain (one ∷ ones) (other ∷ others) each =
-    All-cons Plain one ones (ap is_some each.0.plain) (alike_plain ones others each.1)
+alike_plain (one ∷ ones) (other ∷ others) each = grind (arith, common_steps, alike_plain ones others each.1)
 
 pub alike_from_same : (one other : World ℕ) → SameWorlds one other → IsPlain one → Alike one other
 alike_from_same one other same plain = record {
@@ -159,52 +122,30 @@ alike_from_same one other same plain = record {
 }
 
 pub same_from_alike : (one other : World ℕ) → Alike one other → SameWorlds one other
-same_from_alike one other same = record {
-  mounts = same.mounts;
-  master = same.master;
-  filesystems = alike_same one.filesystems other.filesystems same.filesystems;
-  namespaces =
-      each_to_one SameNamespace bare_namespace bare_namespace (λ a b e. e) one.namespaces other.namespaces
-      same.namespaces;
-  tasks = each_to_one SameTask bare_task bare_task (λ a b e. e) one.tasks other.tasks same.tasks;
-}
+same_from_alike one other same = grind (arith, common_steps, alike_same, each_to_one, bare_namespace, bare_task)
 
 pub plain_from_alike : (one other : World ℕ) → Alike one other → IsPlain one
 plain_from_alike one other same = alike_plain one.filesystems other.filesystems same.filesystems
 
 filesystem_back : (a b : Filesystem ℕ) → AlikeFilesystem a b → AlikeFilesystem b a
-filesystem_back a b same = record {
-  number = sym same.number;
-  files = files_back a.files b.files same.files;
-  plain = same.plain_too;
-  plain_too = same.plain;
-}
+filesystem_back a b same = grind (arith, common_steps, files_back)
 
 pub alike_back : (one other : World ℕ) → Alike one other → Alike other one
-alike_back one other same = record {
-  mounts = sym same.mounts;
-  master = sym same.master;
-  filesystems = each_back AlikeFilesystem filesystem_back one.filesystems other.filesystems same.filesystems;
-  namespaces = each_back SameNamespace (λ a b e. sym e) one.namespaces other.namespaces same.namespaces;
-  tasks = each_back SameTask (λ a b e. sym e) one.tasks other.tasks same.tasks;
-}
+alike_back one other same = grind (arith, common_steps, each_back, filesystem_back)
 
 pub alike_onward : (one other last : World ℕ) → Alike one other → Alike other last → Alike one last
 alike_onward one other last same next = record {
   mounts = same.mounts ∙ next.mounts;
   master = same.master ∙ next.master;
-  filesystems =
-      each_onward AlikeFilesystem (λ a b c first second. record {
-        number = first.number ∙ second.number;
-        files = files_onward a.files b.files c.files first.files second.files;
-        plain = first.plain;
-        plain_too = second.plain_too;
-      }) one.filesystems other.filesystems last.filesystems same.filesystems next.filesystems;
-  namespaces =
-      each_onward SameNamespace (λ a b c first second. first ∙ second) one.namespaces other.namespaces
+  filesystems = each_onward AlikeFilesystem (λ a b c first second. record {
+    number = first.number ∙ second.number;
+    files = files_onward a.files b.files c.files first.files second.files;
+    plain = first.plain;
+    plain_too = second.plain_too;
+  }) one.filesystems other.filesystems last.filesystems same.filesystems next.filesystems;
+  namespaces = each_onward SameNamespace (λ a b c first second. first ∙ second) one.namespaces other.namespaces
       last.namespaces same.namespaces next.namespaces;
-  tasks =
-      each_onward SameTask (λ a b c first second. first ∙ second) one.tasks other.tasks last.tasks same.tasks
+  tasks = each_onward SameTask (λ a b c first second. first ∙ second) one.tasks other.tasks last.tasks same.tasks
       next.tasks;
 }
 

@@ -156,15 +156,13 @@ module _ (looks : Looks ℕ) (task : Task ℕ) where
   readlink_bare : (path : List ℕ)
       → readlink_permit nat_eq looks (bare_task task) path ≡ readlink_permit nat_eq looks task path
   unfolding readlink_permit
-  readlink_bare path = λ i.
-      and_then (walk_end (symlink_bare path i)) (λ here.
+  readlink_bare path = λ i. and_then (walk_end (symlink_bare path i)) (λ here.
       unless (readlink_rules looks here.location) (Ok (ToRead here.location)))
 
   link_bare : (old new : List ℕ)
       → hard_link_permit nat_eq looks (bare_task task) old new ≡ hard_link_permit nat_eq looks task old new
   unfolding hard_link_permit
-  link_bare old new = λ i.
-      and_then (walk_end (symlink_bare old i)) (λ from.
+  link_bare old new = λ i. and_then (walk_end (symlink_bare old i)) (λ from.
       and_then (walk_end (new_leaf_walk nat_eq looks task new)) (λ place.
       unless ((is_special place.last, E1) ∷ [])
       (unless (hard_link_rules nat_eq looks task from.location place (linking from.location place))
@@ -179,8 +177,7 @@ module _ (looks : Looks ℕ) (task : Task ℕ) where
   rename_bare : (old new : List ℕ)
       → rename_permit nat_eq looks (bare_task task) old new ≡ rename_permit nat_eq looks task old new
   unfolding rename_permit
-  rename_bare old new = λ i.
-      and_then (walk_end (old_leaf_walk nat_eq looks task old)) (λ from.
+  rename_bare old new = λ i. and_then (walk_end (old_leaf_walk nat_eq looks task old)) (λ from.
       unless (old_word_rules from)
       (and_then (walk_end (rename_new_walk nat_eq looks task new (is_directory_there nat_eq looks from))) (λ to.
       unless (old_word_rules to)
@@ -218,8 +215,7 @@ module _ (fresh : Fresh ℕ) (world : World ℕ) (task : Task ℕ) where
 
   overlay_bare : (path : List ℕ) (options : Option OverlayWords) (flags : MountFlags)
       → mount_overlay_permit nat_eq (looks_of nat_eq world) (overfills nat_eq fresh world (bare_task task))
-      (bare_task task)
-      path options flags
+      (bare_task task) path options flags
       ≡ mount_overlay_permit nat_eq (looks_of nat_eq world) (overfills nat_eq fresh world task) task path options flags
   unfolding mount_overlay_permit
   overlay_bare path None flags = refl

@@ -1,8 +1,9 @@
 -- Counts are a supply with room.
-use Rattle.std.proofs.Common.{◌≡◌, refl, sym, ap, ◌∙◌, true≢false, ℕ, nat_le, nat_lt, ◌==◌, ◌+◌, ◌-◌, ◌*◌, ◌/◌, ◌%◌, ◌<◌, ◌≤◌, Bool, true, false, cond, not, ◌&&◌, ◌||◌, arith, ◌⊎◌, inl, inr, ⊎_elim, eq-eqb, ne_eqb, eqb-true, ltb-true}
+use Rattle.std.proofs.lemmas.Grind.{common_steps}
+use Rattle.std.proofs.Common.{◌≡◌, refl, sym, ap, ◌∙◌, true≢false, ℕ, nat_le, nat_lt, ◌==◌, ◌+◌, ◌-◌, ◌*◌, ◌/◌, ◌%◌, ◌<◌, ◌≤◌, Bool, true, false, cond, not, ◌&&◌, ◌||◌, arith, ◌⊎◌, inl, eq-eqb, ne_eqb, eqb-true, ltb-true}
 use Rattle.std.proofs.lemmas.Bool.{and_parts, le-leb, leb-true, not-false}
 use Rattle.vt_laws_rules.proofs.numbers.NamedWorlds.{named_is_kept}
-use Rattle.vt_laws_rules.specs.Numbers.{Allotment, Lot, is_in_hand, is_in_hand_lot, is_kept, is_kept_lot}
+use Rattle.vt_laws_rules.specs.Numbers.{Allotment, Lot, is_in_hand, is_kept, is_kept_lot}
 use Rattle.vt_laws_rules.specs.Numbers.Lot.{Kept, LeftOver, New}
 use Rattle.vt_laws_trees.proofs.runs.runs.RunsTold.{runs_have_one_text}
 use Rattle.vt_laws_trees.specs.Runs.Handed.{CountsAreAllotted, CountsServe, CountsServeNamed, ProgramsHaveOneText, counts_from, is_counted_before, is_counted_from, lot_of_counts, may_be_given, never_given}
@@ -22,13 +23,7 @@ module _ (next : ℕ) where
   lot_at number left counted first second = λ i. choose (first i) (second i) number
 
   pub new_lot : (k : ℕ) → lot_of_counts next (counts_from next k) ≡ New k
-  new_lot k =
-      let rest : (4 * (next + k) + 1) % 4 ≡ 1 = omega arith in
-      let quarter : (4 * (next + k) + 1) / 4 ≡ next + k = omega arith in
-      let place : (4 * (next + k) + 1) / 4 - next ≡ k = omega arith in
-      lot_at (4 * (next + k) + 1) false true (ne_eqb ((4 * (next + k) + 1) % 4) 3 (λ e. absurd (omega arith)))
-      (λ i. eq-eqb ((4 * (next + k) + 1) % 4) 1 rest i && le-leb next ((4 * (next + k) + 1) / 4) (omega arith) i)
-      ∙ ap New place
+  new_lot k = grind (arith, common_steps, lot_at, ne_eqb, eq-eqb, le-leb)
 
   pub left_lot : (k : ℕ) → lot_of_counts next (never_given k) ≡ LeftOver k
   left_lot k =
@@ -46,29 +41,10 @@ module _ (next : ℕ) where
       (eqb-true (number % 4) 1 tests.0, leb-true next (number / 4) tests.1)
 
   pub lot_new : (number k : ℕ) → lot_of_counts next number ≡ New k → counts_from next k ≡ number
-  lot_new number k = by (number % 4 == 3) (is_counted_from next number) refl
-    where
-      by : (left counts : Bool) → is_counted_from next number ≡ counts → choose left counts number ≡ New k
-          → counts_from next k ≡ number
-      by true counts is e = cc
-      by false true is e =
-          let rest : number % 4 ≡ 1 = (counted number is).0 in
-          let low : next ≤ number / 4 = (counted number is).1 in
-          let here : number / 4 - next ≡ k = same_new (number / 4 - next) k e in
-          omega arith
-      by false false is e = cc
+  lot_new number k = grind (arith, common_steps, counted, same_new)
 
   pub lot_left : (number k : ℕ) → lot_of_counts next number ≡ LeftOver k → never_given k ≡ number
-  lot_left number k = by (number % 4 == 3) (is_counted_from next number) refl
-    where
-      by : (left counts : Bool) → (number % 4 == 3) ≡ left → choose left counts number ≡ LeftOver k
-          → never_given k ≡ number
-      by true counts is e =
-          let rest : number % 4 ≡ 3 = eqb-true (number % 4) 3 is in
-          let here : number / 4 ≡ k = same_left (number / 4) k e in
-          omega arith
-      by false true is e = cc
-      by false false is e = cc
+  lot_left number k = grind (arith, common_steps, eqb-true, same_left)
 
   -- the counts from the next one on
   abbrev pub counts : Allotment
@@ -90,20 +66,14 @@ module _ (next : ℕ) where
       by false counted kept = refl
 
   pub counts_stay : (number : ℕ) → may_be_given number ≡ true → is_in_hand counts number ≡ true
-  counts_stay number = by (number % 4 == 3) (is_counted_from next number)
-    where
-      by : (left counted : Bool) → not left ≡ true → is_in_hand_lot (choose left counted number) ≡ true
-      by true counted given = absurd (true≢false (sym given))
-      by false true given = refl
-      by false false given = refl
+  counts_stay number = grind (arith, common_steps, counted, true≢false)
 
   -- what is even, or counted before
   before_is : (number : ℕ) (even odd below : Bool) → (number % 2 == 0) ≡ even → (number % 4 == 1) ≡ odd
       → nat_lt (number / 4) next ≡ below → (even || (odd && below)) ≡ true
       → (number % 2 ≡ 0) ⊎ ((number % 4 ≡ 1) × (number / 4 < next))
   before_is number true odd below first second third e = inl (eqb-true (number % 2) 0 first)
-  before_is number false true true first second third e =
-      inr (eqb-true (number % 4) 1 second, ltb-true (number / 4) next third)
+  before_is number false true true first second third e = grind (arith, common_steps, eqb-true, ltb-true)
   before_is number false true false first second third e = absurd (true≢false (sym e))
   before_is number false false below first second third e = absurd (true≢false (sym e))
 
@@ -115,14 +85,7 @@ module _ (next : ℕ) where
       by true e = absurd (before (counted number e).0 (counted number e).1)
 
   pub counts_keep : (number : ℕ) → is_counted_before next number ≡ true → is_kept counts number ≡ true
-  counts_keep number named =
-      ⊎_elim
-      (λ half. ap is_kept_lot (lot_at number false false (ne_eqb (number % 4) 3 (λ e. absurd (omega arith)))
-      (not_counted number (λ rest low. absurd (omega arith)))))
-      (λ t. let rest : number % 4 ≡ 1 = t.0 in let below : number / 4 < next = t.1 in
-      ap is_kept_lot (lot_at number false false (ne_eqb (number % 4) 3 (λ e. absurd (omega arith)))
-      (not_counted number (λ again low. absurd (omega arith)))))
-      (before_is number (number % 2 == 0) (number % 4 == 1) (nat_lt (number / 4) next) refl refl refl named)
+  counts_keep number named = grind (arith, common_steps, lot_at, ne_eqb, not_counted, before_is)
 
 pub counts_are_allotted : CountsAreAllotted
 counts_are_allotted next = (counts next, refl, refl, refl)
@@ -141,8 +104,7 @@ counts_serve next world keeps = (
 )
 
 pub counts_serve_named : CountsServeNamed
-counts_serve_named next world named =
-    counts_serve next world (named_is_kept (is_counted_before next) world named)
+counts_serve_named next world named = counts_serve next world (named_is_kept (is_counted_before next) world named)
 
 -- endless numbers are never given out
 endless : LeavesEndless may_be_given

@@ -1,8 +1,9 @@
 -- Counts with the number of an inode among them are a supply with room.
-use Rattle.std.proofs.Common.{◌≡◌, refl, sym, ap, ◌∙◌, true≢false, ℕ, ◌==◌, ◌+◌, ◌*◌, ◌%◌, Bool, true, false, cond, not, ◌&&◌, ◌||◌, ◌/◌, nat_lt, arith, eq-eqb, ne_eqb, eqb-true}
+use Rattle.std.proofs.lemmas.Grind.{common_steps}
+use Rattle.std.proofs.Common.{◌≡◌, refl, sym, ap, ◌∙◌, true≢false, ℕ, ◌==◌, ◌+◌, ◌*◌, ◌%◌, Bool, true, false, cond, ◌&&◌, ◌||◌, ◌/◌, nat_lt, arith, eq-eqb, ne_eqb, eqb-true}
 use Rattle.std.proofs.lemmas.Bool.{eqb-false}
 use Rattle.vt_laws_rules.proofs.numbers.NamedWorlds.{named_is_kept}
-use Rattle.vt_laws_rules.specs.Numbers.{Allotment, KeepsTo, Lot, is_in_hand, is_in_hand_lot, is_kept, is_kept_lot}
+use Rattle.vt_laws_rules.specs.Numbers.{Allotment, KeepsTo, Lot, is_in_hand, is_kept}
 use Rattle.vt_laws_rules.specs.Numbers.Lot.{Kept, LeftOver, New}
 use Rattle.vt_laws_trees.proofs.runs.handed.Counts.{counts, counts_from_hand, counts_keep, counts_stay, same_new}
 use Rattle.vt_laws_trees.specs.Runs.Handed.{AllottedNumbersOpen, AllottedNumbersServe, AllottedNumbersServeNamed, NumbersAreAllotted, counts_from, handed_from, is_counted_before, is_named_before, lot_from, lot_of_counts, may_be_given}
@@ -23,8 +24,7 @@ module _ (allotment : Allotment) (place number : ℕ) (kept : allotment.lot numb
 
   apart_lots : (a b : ℕ) (first second : Lot) → allotment.lot a ≡ first → allotment.lot b ≡ second
       → (first ≡ second → ⊥) → (a == b) ≡ false
-  apart_lots a b first second one other apart =
-      ne_eqb a b (λ e. apart (sym one ∙ ap allotment.lot e ∙ other))
+  apart_lots a b first second one other apart = ne_eqb a b (λ e. apart (sym one ∙ ap allotment.lot e ∙ other))
 
   new_is_kept : (k : ℕ) → New k ≡ Kept → ⊥
   new_is_kept k e = cc
@@ -36,51 +36,20 @@ module _ (allotment : Allotment) (place number : ℕ) (kept : allotment.lot numb
   left_is_new j k e = cc
 
   pub new_lot_with : (k : ℕ) → lot_with (new_with k) ≡ New k
-  new_lot_with k = by (k == place) refl
-    where
-      by : (here : Bool) → (k == place) ≡ here → lot_with (cond here number (allotment.new k)) ≡ New k
-      by true is =
-          ap (λ b. choose b (number == allotment.new place) (allotment.lot number)) (eq-eqb number number refl)
-          ∙ ap New (sym (eqb-true k place is))
-      by false is =
-          (λ i. choose
-          (apart_lots (allotment.new k) number (New k) Kept (allotment.new_lot k) kept (new_is_kept k) i)
-          (apart_lots (allotment.new k) (allotment.new place) (New k) (New place) (allotment.new_lot k)
-          (allotment.new_lot place) (λ e. eqb-false k place is (same_new k place e)) i)
-          (allotment.lot (allotment.new k)))
-          ∙ allotment.new_lot k
+  new_lot_with k = grind (arith, common_steps, eq-eqb, eqb-true, apart_lots, new_is_kept, eqb-false, same_new)
 
   pub left_lot_with : (k : ℕ) → lot_with (allotment.left_over k) ≡ LeftOver k
-  left_lot_with k =
-      (λ i. choose
+  left_lot_with k = (λ i. choose
       (apart_lots (allotment.left_over k) number (LeftOver k) Kept (allotment.left_over_lot k) kept (left_is_kept k) i)
       (apart_lots (allotment.left_over k) (allotment.new place) (LeftOver k) (New place) (allotment.left_over_lot k)
-      (allotment.new_lot place) (left_is_new k place) i)
-      (allotment.lot (allotment.left_over k)))
+      (allotment.new_lot place) (left_is_new k place) i) (allotment.lot (allotment.left_over k)))
       ∙ allotment.left_over_lot k
 
   pub lot_new_with : (other k : ℕ) → lot_with other ≡ New k → new_with k ≡ other
-  lot_new_with other k = by (other == number) (other == allotment.new place) refl refl
-    where
-      by : (here there : Bool) → (other == number) ≡ here → (other == allotment.new place) ≡ there
-          → choose here there (allotment.lot other) ≡ New k → new_with k ≡ other
-      by true there first second e =
-          ap (λ b. cond b number (allotment.new k)) (eq-eqb k place (sym (same_new place k e)))
-          ∙ sym (eqb-true other number first)
-      by false true first second e = absurd (new_is_kept k (sym e))
-      by false false first second e =
-          ap (λ b. cond b number (allotment.new k))
-          (ne_eqb k place (λ at. eqb-false other (allotment.new place) second
-          (sym (allotment.lot_new other k e) ∙ ap allotment.new at)))
-          ∙ allotment.lot_new other k e
+  lot_new_with other k = grind (arith, common_steps, eq-eqb, same_new, eqb-true, new_is_kept, ne_eqb, eqb-false)
 
   pub lot_left_with : (other k : ℕ) → lot_with other ≡ LeftOver k → allotment.left_over k ≡ other
-  lot_left_with other k = by (other == number) (other == allotment.new place)
-    where
-      by : (here there : Bool) → choose here there (allotment.lot other) ≡ LeftOver k → allotment.left_over k ≡ other
-      by true there e = absurd (left_is_new k place (sym e))
-      by false true e = absurd (left_is_kept k (sym e))
-      by false false e = allotment.lot_left_over other k e
+  lot_left_with other k = grind (arith, common_steps, left_is_new, left_is_kept)
 
   abbrev pub with_number : Allotment
   with_number = record {
@@ -105,62 +74,24 @@ module _ (next place inode : ℕ) (even : inode % 2 ≡ 0) where
   allotted = with_number (counts next) place inode inode_kept
 
   from_hand : (number : ℕ) → is_kept allotted number ≡ true → may_be_given number ≡ true
-  from_hand number = by (number == inode) (number == counts_from next place) refl
-    where
-      by : (here there : Bool) → (number == counts_from next place) ≡ there
-          → is_kept_lot (cond here (New place) (cond there Kept (lot_of_counts next number))) ≡ true
-          → may_be_given number ≡ true
-      by true there second kept = absurd (true≢false (sym kept))
-      by false true second kept =
-          let is : number ≡ 4 * (next + place) + 1 = eqb-true number (counts_from next place) second in
-          let rest : number % 4 ≡ 1 = omega arith in
-          ap not (ne_eqb (number % 4) 3 (λ e. absurd (omega arith)))
-      by false false second kept = counts_from_hand next number kept
+  from_hand number = grind (arith, common_steps, true≢false, eqb-true, ne_eqb, counts_from_hand)
 
   stays : (number : ℕ) → may_be_given number ≡ true → is_in_hand allotted number ≡ true
-  stays number given = by (number == inode) (number == counts_from next place)
-    where
-      by : (here there : Bool)
-          → is_in_hand_lot (cond here (New place) (cond there Kept (lot_of_counts next number))) ≡ true
-      by true there = refl
-      by false true = refl
-      by false false = counts_stay next number given
+  stays number given = grind (arith, common_steps, given, counts_stay)
 
   keep : (number : ℕ) → is_named_before next inode number ≡ true → is_kept allotted number ≡ true
-  keep number = by (is_counted_before next number) (number == inode) (number == counts_from next place) refl
-    where
-      by : (before here there : Bool) → is_counted_before next number ≡ before → (before && not here) ≡ true
-          → is_kept_lot (cond here (New place) (cond there Kept (lot_of_counts next number))) ≡ true
-      by true true there is e = absurd (true≢false (sym e))
-      by true false true is e = refl
-      by true false false is e = counts_keep next number is
-      by false here there is e = absurd (true≢false (sym e))
+  keep number = grind (arith, common_steps, true≢false, counts_keep)
 
   pub allotted_serve : (world : World ℕ) → KeepsTo (is_named_before next inode) world
       → ServesInHand may_be_given world allotted
-  allotted_serve world keeps = record {
-    serves = record {
-      from_hand = from_hand;
-      keeps = λ renaming leaves. keeps renaming (λ number named. leaves number (keep number named));
-    };
-    stays = stays;
-  }
+  allotted_serve world keeps = grind (arith, common_steps, from_hand, keep, stays)
 
   given : (k : ℕ) → may_be_given (handed_from next place inode k) ≡ true
-  given k = by (k == place)
-    where
-      by : (here : Bool) → may_be_given (cond here inode (counts_from next k)) ≡ true
-      by true = ap not (ne_eqb (inode % 4) 3 (λ e. absurd (omega arith)))
-      by false =
-          let rest : (4 * (next + k) + 1) % 4 ≡ 1 = omega arith in
-          ap not (ne_eqb ((4 * (next + k) + 1) % 4) 3 (λ e. absurd (omega arith)))
+  given k = grind (arith, common_steps, ne_eqb)
 
   apart : (j k : ℕ) → handed_from next place inode j ≡ handed_from next place inode k → j ≡ k
-  apart j k e =
-      same_new j k
-      (sym (new_lot_with (counts next) place inode inode_kept j)
-      ∙ ap (lot_from next place inode) e
-      ∙ new_lot_with (counts next) place inode inode_kept k)
+  apart j k e = same_new j k (sym (new_lot_with (counts next) place inode inode_kept j)
+      ∙ ap (lot_from next place inode) e ∙ new_lot_with (counts next) place inode inode_kept k)
 
 pub numbers_are_allotted : NumbersAreAllotted
 numbers_are_allotted next place inode even = (allotted next place inode even, refl, refl, refl)

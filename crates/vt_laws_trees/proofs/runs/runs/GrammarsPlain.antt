@@ -1,11 +1,12 @@
 -- A grammar without the mount of an overlay asks for none.
+use Rattle.std.proofs.lemmas.Grind.{common_steps}
 use Rattle.std.proofs.Common.{◌≡◌, ◌∙◌, refl, ℕ, Bool, true, false, cond, List, [], ◌∷◌, Option, Some, None, option_map, arith}
 use Rattle.std.proofs.lemmas.List.Elements.{All-cons}
 use Rattle.vt_laws_trees.specs.Runs.Runs.{GrammarsKeepOverlaysOut}
 use Rattle.vt_spec.specs.Language.Calls.Call.{MountOverlay}
-use Rattle.vt_spec.specs.Language.Calls.{Call, Directive, OverlayWords, TaskName}
-use Rattle.vt_spec.specs.Language.Script.{Grammar, Who, asked_by, call_asked, call_read, call_words, directive_asked, directive_words, each_of, raw_tokens, request_of, request_of_texts, token_text, who_of}
-use Rattle.vt_spec.specs.Language.Script.Request.{Asking, Calling}
+use Rattle.vt_spec.specs.Language.Calls.{Call, OverlayWords, TaskName}
+use Rattle.vt_spec.specs.Language.Script.{Grammar, Who, asked_by, call_asked, call_read, call_words, directive_asked, each_of, raw_tokens, request_of, request_of_texts, token_text, who_of}
+use Rattle.vt_spec.specs.Language.Script.Request.{Calling}
 use Rattle.vt_spec.specs.Language.Script.Who.{Nobody, Someone}
 use Rattle.vt_spec.specs.Lists.{then_some, when}
 use Rattle.vt_laws_trees.specs.Trees.Calls.{HasNoOverlays, asks_for_overlay, mounts_overlay}
@@ -16,8 +17,7 @@ read_plain known (MountOverlay path options flags) = refl
 read_plain known call = refl
 
 module _ (grammar : Grammar) (out : (call : Call) → grammar.has call ≡ true → mounts_overlay call ≡ false) where
-  call_plain : (task : TaskName) (words : Option Call)
-      → asks_for_overlay (option_map (Calling task) (then_some words
+  call_plain : (task : TaskName) (words : Option Call) → asks_for_overlay (option_map (Calling task) (then_some words
       (λ call. when (grammar.has call) (call_read grammar.options call)))) ≡ false
   call_plain task None = refl
   call_plain task (Some call) = by (grammar.has call) refl
@@ -31,22 +31,14 @@ module _ (grammar : Grammar) (out : (call : Call) → grammar.has call ≡ true 
   calls_plain task [] = refl
   calls_plain task (name ∷ words) = by (grammar.knows name)
     where
-      by : (known : Bool)
-          → asks_for_overlay (cond known (option_map (Calling task)
+      by : (known : Bool) → asks_for_overlay (cond known (option_map (Calling task)
           (then_some (call_words grammar.version name words)
           (λ call. when (grammar.has call) (call_read grammar.options call)))) None) ≡ false
       by true = call_plain task (call_words grammar.version name words)
       by false = refl
 
   directive_plain : (words : List (List ℕ)) → asks_for_overlay (directive_asked grammar words) ≡ false
-  directive_plain [] = refl
-  directive_plain (name ∷ words) = by (grammar.directs name) (directive_words name words)
-    where
-      by : (known : Bool) (directive : Option Directive)
-          → asks_for_overlay (cond known (option_map Asking directive) None) ≡ false
-      by true None = refl
-      by true (Some directive) = refl
-      by false directive = refl
+  directive_plain words = grind (arith, common_steps)
 
   asked_plain : (who : Option Who) (words : List (List ℕ)) → asks_for_overlay (asked_by grammar who words) ≡ false
   asked_plain None words = refl

@@ -28,22 +28,18 @@ use Rattle.vt_laws_trees.specs.Trees.Calls.{asks_for_overlay}
 module _ (renaming : Renaming ℕ ℕ) (left next reached there : World ℕ) (same : SameWorlds left next)
     (leads : renamed renaming.there renaming.back left ≡ reached) (alike : Alike reached there) where
   goes_on_alike : Alike (renamed renaming.there renaming.back next) there
-  goes_on_alike =
-      alike_onward (renamed renaming.there renaming.back next) reached there
+  goes_on_alike = alike_onward (renamed renaming.there renaming.back next) reached there
       (alike_back reached (renamed renaming.there renaming.back next)
       (alike_from_same reached (renamed renaming.there renaming.back next)
       (subst (λ world. SameWorlds world (renamed renaming.there renaming.back next)) leads
-      (same_renamed renaming left next same))
-      (plain_from_alike reached there alike)))
-      alike
+      (same_renamed renaming left next same)) (plain_from_alike reached there alike))) alike
 
 module _ (grammar : Grammar) (in_hand : ℕ → Bool) where
   abbrev Asks : List ℕ → Type 0
   Asks line = asks_for_overlay (request_of grammar line) ≡ false
 
   told_alike : (lines : List (List ℕ)) (refused : List Bool) (m number : ℕ) (renaming : Renaming ℕ ℕ)
-      (world other : World ℕ) (mine : ℕ → Bool)
-      → Alike (renamed renaming.there renaming.back world) other
+      (world other : World ℕ) (mine : ℕ → Bool) → Alike (renamed renaming.there renaming.back world) other
       → ((k : ℕ) → in_hand k ≡ true → row (renaming.there k) ≤ m)
       → KeepsTo mine other → ((k : ℕ) → mine k ≡ true → row k ≤ m) → All Asks lines
       → (text : List ℕ) → TellsAlike grammar in_hand world number lines refused text
@@ -74,14 +70,12 @@ module _ (grammar : Grammar) (in_hand : ℕ → Bool) where
       let supplied = λ (k : ℕ).
       joined-new grammar m renaming in_hand world (renamed renaming.there renaming.back world) refl early allotment
       tells.1.serves (allotment.new k) k (allotment.new_lot k) in
-      let again : Alike here other =
-      subst (λ there. Alike there other)
+      let again : Alike here other = subst (λ there. Alike there other)
       (sym (joined-same grammar m renaming in_hand world (renamed renaming.there renaming.back world) refl early
       allotment tells.1.serves)) alike in
       let steps = line_step_alike here other again grammar line (Some (spread (suc m)))
       (All-head Asks line lines asks) in
-      let written =
-      line_alike joint grammar world here refl line allotment.new (spread (suc m)) supplied number
+      let written = line_alike joint grammar world here refl line allotment.new (spread (suc m)) supplied number
       ∙ steps.text number in
       let serves = stage_serves grammar m mine other keeps mine_early in (
         stage m mine mine_early,
@@ -106,20 +100,17 @@ opening_renamed renaming fresh =
     commutes_nat Fresh World named_supply named_world (λ A eq supply. opening eq supply) renaming fresh
 
 first_plain : IsPlain first_world
-first_plain =
-    All-cons (λ (filesystem : Filesystem ℕ). is_overlay filesystem ≡ false) (new_plain nat_eq 2 3) [] refl
+first_plain = All-cons (λ (filesystem : Filesystem ℕ). is_overlay filesystem ≡ false) (new_plain nat_eq 2 3) [] refl
     (λ k d below. absurd (omega arith))
 
 first_alike : Alike first_world first_world
-first_alike =
-    alike_from_same first_world first_world (sameness_is_an_equivalence.itself first_world) first_plain
+first_alike = alike_from_same first_world first_world (sameness_is_an_equivalence.itself first_world) first_plain
 
 pub runs_have_one_text : RunsHaveOneText
 runs_have_one_text grammar refused script text in_hand fresh leaves opens asks tells =
     whole_machine_has_one_text grammar refused script text
     (told_alike grammar in_hand (lines_of script) refused 0 1 start.renaming
-    (opening nat_eq fresh) first_world first_four
-    (subst (λ world. Alike world first_world) (sym opened) first_alike)
+    (opening nat_eq fresh) first_world first_four (subst (λ world. Alike world first_world) (sym opened) first_alike)
     (λ k is. let first : row (start.renaming.there k) ≡ 0 = start.early k is in omega arith)
     (opening_keeps_to_four first_four (λ place. place) refl refl refl refl) first_early asks text tells)
   where
@@ -127,7 +118,6 @@ runs_have_one_text grammar refused script text in_hand fresh leaves opens asks t
     start = started in_hand leaves fresh opens
 
     opened : renamed start.renaming.there start.renaming.back (opening nat_eq fresh) ≡ first_world
-    opened =
-        sym (opening_renamed start.renaming fresh)
+    opened = sym (opening_renamed start.renaming fresh)
         ∙ opening_alike (λ k. start.renaming.there (fresh k)) (λ place. place) (start.fixed 0 (omega arith))
         (start.fixed 1 (omega arith)) (start.fixed 2 (omega arith)) (start.fixed 3 (omega arith))

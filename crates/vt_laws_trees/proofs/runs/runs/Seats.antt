@@ -1,5 +1,6 @@
 -- Whatever leaves endless numbers over is renamed into the first row.
-use Rattle.std.proofs.Common.{◌≡◌, ◌≢◌, refl, sym, ap, ◌∙◌, ℕ, zero, suc, nat_eq, ◌==◌, ◌+◌, ◌*◌, ◌/◌, ◌%◌, ◌<◌, Bool, true, false, cond, arith, eq-eqb, ne_eqb, eqb-true}
+use Rattle.std.proofs.lemmas.Grind.{common_steps}
+use Rattle.std.proofs.Common.{◌≡◌, ◌≢◌, ap, ◌∙◌, ℕ, zero, suc, ◌==◌, ◌+◌, ◌*◌, ◌/◌, ◌%◌, ◌<◌, Bool, true, false, cond, arith, eq-eqb, ne_eqb, eqb-true}
 use Rattle.std.proofs.lemmas.Bool.{eqb-false}
 use Rattle.vt_laws_rules.proofs.numbers.Cells.{cell, cell-number_in_row, number_in_row, number_in_row-cell}
 use Rattle.vt_laws_rules.proofs.numbers.Rows.{col, col-spread, row, row-spread, row_first, spread, spread-row}
@@ -49,8 +50,7 @@ unfolding seat_by seat_in_first
 odd_place b =
     let half : (2 * b + 1) / 2 ≡ b = omega arith in
     let rest : (2 * b + 1) % 2 ≡ 1 = omega arith in
-    (λ i. seat_in_first (ne_eqb ((2 * b + 1) % 2) 0 (λ e. absurd (omega arith)) i) (2 * b + 1))
-    ∙ ap (λ n. Elsewhere (number_in_row 0 n)) half
+    grind (arith, common_steps, ne_eqb, number_in_row)
 
 shifted_seat : (a b : ℕ) → seat (shifted a b) ≡ Elsewhere (number_in_row a b)
 unfolding shifted seat_by
@@ -64,17 +64,7 @@ seat_number (Elsewhere n) = shifted_seat (cell n).0 (cell n).1 ∙ ap Elsewhere 
 
 number_of_row : (a b : ℕ) → number_at (seat_by a b) ≡ spread a b
 unfolding number_at seat_by seat_in_first shifted
-number_of_row zero b = by (b % 2 == 0) refl
-  where
-    by : (even : Bool) → (b % 2 == 0) ≡ even → number_at (seat_in_first even b) ≡ spread 0 b
-    by true is =
-        let rest : b % 2 ≡ 0 = eqb-true (b % 2) 0 is in
-        let whole : 2 * (b / 2) ≡ b = omega arith in
-        ap (spread 0) whole
-    by false is =
-        let rest : b % 2 ≢ 0 = eqb-false (b % 2) 0 is in
-        let whole : 2 * (b / 2) + 1 ≡ b = omega arith in
-        ap (λ (c : ℕ × ℕ). shifted c.0 c.1) (cell-number_in_row 0 (b / 2)) ∙ ap (spread 0) whole
+number_of_row zero b = grind (arith, common_steps, spread, eqb-true, eqb-false, cell-number_in_row)
 number_of_row (suc a) b = ap (λ (c : ℕ × ℕ). shifted c.0 c.1) (cell-number_in_row (suc a) b)
 
 number_seat : (number : ℕ) → number_at (seat number) ≡ number
@@ -105,51 +95,16 @@ module _ (in_hand : ℕ → Bool) (leaves : LeavesEndless in_hand) where
 
   on_seat : (number : ℕ) → number_on (seat_of number) ≡ number
   unfolding number_on seat_of given_seat left_seat without_last
-  on_seat number = by (in_hand number) refl
-    where
-      whole : (k : ℕ) (even : Bool) → (k % 2 == 0) ≡ even → number_on (left_seat even k) ≡ leaves.left_over k
-      whole k true is =
-          let rest : k % 2 ≡ 0 = eqb-true (k % 2) 0 is in
-          let same : 2 * (k / 2) ≡ k = omega arith in
-          ap (λ b. without_last b (leaves.left_over (k / 2))) (leaves.out (k / 2))
-          ∙ ap (λ n. leaves.left_over (2 * n)) (leaves.place_left (k / 2))
-          ∙ ap leaves.left_over same
-      whole k false is =
-          let rest : k % 2 ≢ 0 = eqb-false (k % 2) 0 is in
-          let same : 2 * (k / 2) + 1 ≡ k = omega arith in
-          ap leaves.left_over same
-
-      by : (b : Bool) → in_hand number ≡ b → number_on (given_seat b number) ≡ number
-      by true is = ap (λ b. without_last b number) is
-      by false is =
-          whole (leaves.place number) (leaves.place number % 2 == 0) refl ∙ leaves.left_place number is
+  on_seat number = grind (arith, common_steps, eqb-true, eqb-false)
 
   left_is_seated : (k : ℕ) → seat_of (leaves.left_over k) ≡ left_seat (k % 2 == 0) k
   unfolding seat_of given_seat
-  left_is_seated k =
-      ap (λ b. given_seat b (leaves.left_over k)) (leaves.out k)
+  left_is_seated k = ap (λ b. given_seat b (leaves.left_over k)) (leaves.out k)
       ∙ ap (λ n. left_seat (n % 2 == 0) n) (leaves.place_left k)
 
   seat_on : (s : Seat) → seat_of (number_on s) ≡ s
   unfolding number_on seat_of given_seat left_seat without_last
-  seat_on (Front number) = by (in_hand number) refl
-    where
-      by : (b : Bool) → in_hand number ≡ b → seat_of (without_last b number) ≡ Front number
-      by true is = ap (λ b. given_seat b number) is
-      by false is =
-          let k : ℕ = leaves.place number in
-          let rest : (2 * leaves.place number) % 2 ≡ 0 = omega arith in
-          let half : (2 * leaves.place number) / 2 ≡ leaves.place number = omega arith in
-          left_is_seated (2 * leaves.place number)
-          ∙ ap (λ b. left_seat b (2 * leaves.place number)) (eq-eqb ((2 * leaves.place number) % 2) 0 rest)
-          ∙ ap (λ n. Front (leaves.left_over n)) half ∙ ap Front (leaves.left_place number is)
-  seat_on (Elsewhere number) =
-      let half : (2 * number + 1) / 2 ≡ number = omega arith in
-      let rest : (2 * number + 1) % 2 ≡ 1 = omega arith in
-      left_is_seated (2 * number + 1)
-      ∙ ap (λ b. left_seat b (2 * number + 1))
-      (ne_eqb ((2 * number + 1) % 2) 0 (λ e. absurd (omega arith)))
-      ∙ ap Elsewhere half
+  seat_on s = grind (arith, common_steps, left_is_seated, eq-eqb, ne_eqb)
 
   -- the renaming, and where it leads what is in hand
   seated : Renaming ℕ ℕ
@@ -171,12 +126,7 @@ module _ (in_hand : ℕ → Bool) (leaves : LeavesEndless in_hand) where
     pub fixed : (j : ℕ) → j < k → renaming.there (fresh j) ≡ j
 
   row_swapped : (a b number : ℕ) → row a ≡ 0 → row b ≡ 0 → row number ≡ 0 → row (swapped a b number) ≡ 0
-  row_swapped a b number first second third = by (nat_eq number a) (nat_eq number b)
-    where
-      by : (s t : Bool) → row (cond s b (cond t a number)) ≡ 0
-      by true t = second
-      by false true = first
-      by false false = third
+  row_swapped a b number first second third = grind (arith, common_steps, row)
 
   fixed_more : (fresh : Fresh ℕ) → OpensInHand in_hand fresh → (k : ℕ) → k < 4 → Start fresh k → Start fresh (suc k)
   fixed_more fresh opens k low start = record {
@@ -198,29 +148,15 @@ module _ (in_hand : ℕ → Bool) (leaves : LeavesEndless in_hand) where
       a = start.renaming.there (fresh k)
 
       earlier : (j : ℕ) → j < k → swapped a k (start.renaming.there (fresh j)) ≡ j
-      earlier j less =
-          ap (swapped a k) (start.fixed j less)
-          ∙ swapped_other a k j
+      earlier j less = ap (swapped a k) (start.fixed j less) ∙ swapped_other a k j
           (λ e. let same : j ≡ k = opens.apart j k (omega arith) low
           (stay_apart start.renaming (fresh j) (fresh k) (start.fixed j less ∙ e)) in absurd (omega arith))
           (λ e. absurd (omega arith))
 
       fixed : (j : ℕ) → j < suc k → swapped a k (start.renaming.there (fresh j)) ≡ j
-      fixed j less = by (j == k) refl
-        where
-          by : (b : Bool) → (j == k) ≡ b → swapped a k (start.renaming.there (fresh j)) ≡ j
-          by true is =
-              let same : j ≡ k = eqb-true j k is in
-              ap (λ n. swapped a k (start.renaming.there (fresh n))) same ∙ swapped_first a k ∙ sym same
-          by false is =
-              let apart : j ≢ k = eqb-false j k is in
-              let below : j < k = omega arith in
-              earlier j below
+      fixed j less = grind (arith, common_steps, swapped, eqb-true, swapped_first, eqb-false, earlier)
 
   pub started : (fresh : Fresh ℕ) → OpensInHand in_hand fresh → Start fresh 4
-  started fresh opens =
-      fixed_more fresh opens 3 (omega arith)
-      (fixed_more fresh opens 2 (omega arith)
-      (fixed_more fresh opens 1 (omega arith)
-      (fixed_more fresh opens 0 (omega arith)
+  started fresh opens = fixed_more fresh opens 3 (omega arith) (fixed_more fresh opens 2 (omega arith)
+      (fixed_more fresh opens 1 (omega arith) (fixed_more fresh opens 0 (omega arith)
       (record { renaming = seated; early = seated_first; fixed = λ j less. absurd (omega arith) }))))

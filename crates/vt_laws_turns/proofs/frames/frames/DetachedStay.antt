@@ -92,8 +92,7 @@ module _ (world : World ℕ) (fresh : Fresh ℕ) (task : Task ℕ) (is : IsWorld
 
   -- mounts that are attached
   attached_flags : (filesystem : Filesystem ℕ) (new : Fresh ℕ) (place : Location ℕ) (flags : MountFlags) (number : ℕ)
-      → is_mount world number ≡ true
-      → HasFlags (mounted nat_eq new world place filesystem flags) number
+      → is_mount world number ≡ true → HasFlags (mounted nat_eq new world place filesystem flags) number
   attached_flags filesystem new place flags number there =
       (attach_keeps_mounts (with_new_filesystem world filesystem) new place
       (new_mount filesystem.number filesystem.files.tree.root flags ∷ []) number there).flags
@@ -103,8 +102,7 @@ module _ (world : World ℕ) (fresh : Fresh ℕ) (task : Task ℕ) (is : IsWorld
       → HasFlags (left permit) number
   flags_stay (ToChange location change) names number there none =
       alike (left (ToChange location change)) number (change_of_files fresh world location change).mounts
-  flags_stay (ToMake directory name node) names number there none =
-      alike (left (ToMake directory name node)) number
+  flags_stay (ToMake directory name node) names number there none = alike (left (ToMake directory name node)) number
       (change_of_files (odds fresh) world directory (Make directory.node name (evens fresh 0) node)).mounts
   flags_stay (ToRemoveDirectory parent name directory) names number there none =
       taken_then (left (ToRemoveDirectory parent name directory)) (gone_on world directory) number
@@ -114,8 +112,7 @@ module _ (world : World ℕ) (fresh : Fresh ℕ) (task : Task ℕ) (is : IsWorld
       replaced_flags (left (ToRename from old to new object replaced)) replaced number
       (change_of_files fresh (without_replaced nat_eq world replaced) from
       (Move from.node old to.node new object.node)).mounts
-  flags_stay (ToOpen file access) names number there none =
-      alike (left (ToOpen file access)) number
+  flags_stay (ToOpen file access) names number there none = alike (left (ToOpen file access)) number
       (copy_of_files fresh world (is_copied_up nat_eq world file access) file).mounts
   flags_stay (ToOpenNew directory name node access) names number there none =
       alike (left (ToOpenNew directory name node access)) number
@@ -123,8 +120,7 @@ module _ (world : World ℕ) (fresh : Fresh ℕ) (task : Task ℕ) (is : IsWorld
   flags_stay (ToWritePart file offset bytes) names number there none =
       alike (left (ToWritePart file offset bytes)) number (writing_of_files fresh world file offset bytes).mounts
   flags_stay ToExit names number there none = ended_flags (without_task world task.name) number refl
-  flags_stay ToUnshare names number there none =
-      ended_flags (unshared nat_eq world fresh task) number
+  flags_stay ToUnshare names number there none = ended_flags (unshared nat_eq world fresh task) number
       (ap (λ (m : Mount ℕ). m.flags) (found-append world.mounts
       (map (copied_mount (numbers_by nat_eq (odds fresh) (mounts_of nat_eq world task.namespace)) (evens fresh 0))
       (mounts_of nat_eq world task.namespace)) number there))
@@ -145,8 +141,7 @@ module _ (world : World ℕ) (fresh : Fresh ℕ) (task : Task ℕ) (is : IsWorld
   flags_stay (ToSetFlags mount flags) names number there none = by (nat_eq mount number) refl
     where
       by : (b : Bool) → nat_eq mount number ≡ b → HasFlags (left (ToSetFlags mount flags)) number
-      by true e =
-          none_is_some task.namespace (sym none
+      by true e = none_is_some task.namespace (sym none
           ∙ ap (λ n. (mount_numbered nat_eq world n).namespace) (sym (eqb-true mount number e)) ∙ names)
       by false e = cc (flags_are_of_one world (record { mount = mount; node = 0 }) flags number e)
   flags_stay (ToSetType mount word recursive) names number there none =
@@ -167,8 +162,7 @@ none_later before later view none = by later.namespace refl
     by : (o : Option ℕ) → later.namespace ≡ o → later.namespace ≡ None
     by None e = e
     by (Some n) e =
-        let in_it : (nat_eq (suc n) n && true) ≡ true =
-        sym (ap (λ o. list_all (nat_eq (suc n)) (option_to_list o)) e)
+        let in_it : (nat_eq (suc n) n && true) ≡ true = sym (ap (λ o. list_all (nat_eq (suc n)) (option_to_list o)) e)
         ∙ view.namespace (suc n) (ap (λ o. list_all (nat_eq (suc n)) (option_to_list o)) none) in
         let same : suc n ≡ n = eqb-true (suc n) n (and_parts (nat_eq (suc n) n) true in_it).0 in
         absurd (omega (arith, same))
@@ -193,8 +187,7 @@ nowhere_is world is mount m none =
     kind Unbindable h = absurd (true≢false (sym h))
 
 module _ (world : World ℕ) (fresh : Fresh ℕ) (task : Task ℕ) (call : Call) (permit : Permit ℕ)
-    (is : IsWorld nat_eq world) (serves : Serves nat_eq world fresh)
-    (called : task_called world task.name ≡ Some task)
+    (is : IsWorld nat_eq world) (serves : Serves nat_eq world fresh) (called : task_called world task.name ≡ Some task)
     (granted : judge_in nat_eq fresh world task call ≡ Ok permit) where
   abbrev applied : World ℕ
   applied = (apply nat_eq fresh world task permit).world
@@ -232,8 +225,7 @@ module _ (world : World ℕ) (fresh : Fresh ℕ) (task : Task ℕ) (call : Call)
       by : (b : Bool) → mounts_overlay call ≡ b → LeavesDetached permit
       by true e = record {
         mounts = subst (λ (o : Outcome ℕ). MountInvariants nat_eq o.world) outcome (mounted_world call e).mounts;
-        flags = λ number there none.
-            mounting call permit
+        flags = λ number there none. mounting call permit
             (calls_are_granted nat_eq (looks_of nat_eq world) (overfills nat_eq fresh world task) task call permit
             granted) e number there;
       }
@@ -244,14 +236,12 @@ module _ (world : World ℕ) (fresh : Fresh ℕ) (task : Task ℕ) (call : Call)
           }
 
   pub detached_stays : (number : ℕ) → is_mount world number ≡ true
-      → (mount_numbered nat_eq world number).namespace ≡ None
-      → is_mount (settled nat_eq applied) number ≡ true
+      → (mount_numbered nat_eq world number).namespace ≡ None → is_mount (settled nat_eq applied) number ≡ true
       → mount_numbered nat_eq (settled nat_eq applied) number ≡ mount_numbered nat_eq world number
   detached_stays number there none left =
       let its = leaves_detached in
       let now : Mount ℕ = mount_numbered nat_eq (settled nat_eq applied) number in
-      let m : Among now applied.mounts =
-      (among-from_filter (mount_lives nat_eq applied) applied.mounts now
+      let m : Among now applied.mounts = (among-from_filter (mount_lives nat_eq applied) applied.mounts now
       (found_there (settled nat_eq applied).mounts number left)).0 in
       let numbered : now.number ≡ number = number-mount_in (settled nat_eq applied).mounts number in
       let same : mount_numbered nat_eq applied number ≡ now =
@@ -263,18 +253,13 @@ module _ (world : World ℕ) (fresh : Fresh ℕ) (task : Task ℕ) (call : Call)
       let was = nowhere_is world is.mounts (mount_numbered nat_eq world number)
       (found_there world.mounts number there) none in
       let be = nowhere_is applied its.mounts now m nowhere in
-      one_record now (mount_numbered nat_eq world number)
-      (numbered ∙ sym (number-mount_in world.mounts number))
+      one_record now (mount_numbered nat_eq world number) (numbered ∙ sym (number-mount_in world.mounts number))
       (nowhere ∙ sym none) (be.0 ∙ sym was.0) view.filesystem view.root
-      (ap (λ (x : Mount ℕ). x.flags) (sym same) ∙ its.flags number there none)
-      (be.1 ∙ sym was.1)
+      (ap (λ (x : Mount ℕ). x.flags) (sym same) ∙ its.flags number there none) (be.1 ∙ sym was.1)
 
 pub detached_mounts_stay : DetachedMountsStay
-detached_mounts_stay world fresh name call number given there none =
-    policy_leads
-    (λ later. is_mount later number ≡ true
-    → mount_numbered nat_eq later number ≡ mount_numbered nat_eq world number)
-    world fresh name call (λ left. refl)
+detached_mounts_stay world fresh name call number given there none = policy_leads (λ later. is_mount later number ≡ true
+    → mount_numbered nat_eq later number ≡ mount_numbered nat_eq world number) world fresh name call (λ left. refl)
     (λ task permit changed called granted.
     let outcome : call_outcome nat_eq fresh world task call ≡ apply nat_eq fresh world task permit =
     call_is_judged_then_applied fresh world task call

@@ -40,22 +40,15 @@ pub data GoesOn (world : World ℕ) (changed : List ℕ) (new : ℕ) (filesystem
 in_replaced : (new : Filesystem ℕ) (list : List (Filesystem ℕ)) (f : Filesystem ℕ)
     → Among f (map (replaced_if_numbered nat_eq new) list) → ((f ≡ new) × Has list f.number) ⊎ Among f list
 in_replaced new [] f m = absurd m
-in_replaced new (first ∷ rest) f m =
-    ⊎_elim (λ e. by (nat_eq new.number first.number) refl e)
+in_replaced new (first ∷ rest) f m = ⊎_elim (λ e. by (nat_eq new.number first.number) refl e)
     (λ later. ⊎_elim (λ r. inl (r.0, (r.1.0, inr r.1.1, r.1.2))) (λ n. inr (inr n)) (in_replaced new rest f later)) m
   where
     by : (b : Bool) → nat_eq new.number first.number ≡ b → f ≡ cond b new first
         → ((f ≡ new) × Has (first ∷ rest) f.number) ⊎ Among f (first ∷ rest)
-    by true same e =
-        inl (
-          e,
-          (
-            first,
-            inl refl,
-            sym (eqb-true new.number first.number same)
-                ∙ ap (λ (g : Filesystem ℕ). g.number) (sym e),
-          ),
-        )
+    by true same e = inl (
+      e,
+      (first, inl refl, sym (eqb-true new.number first.number same) ∙ ap (λ (g : Filesystem ℕ). g.number) (sym e)),
+    )
     by false same e = inr (inl e)
 
 -- a number that is there is there before one is in the place of another
@@ -65,8 +58,7 @@ has_before new list number (was, m, e) =
     let from = among-from_map (replaced_if_numbered nat_eq new) list was m in (
       from.0,
       from.1,
-      by from.0 (nat_eq new.number from.0.number) refl ∙ ap (λ (g : Filesystem ℕ). g.number) (sym from.2)
-          ∙ e,
+      by from.0 (nat_eq new.number from.0.number) refl ∙ ap (λ (g : Filesystem ℕ). g.number) (sym from.2) ∙ e,
     )
   where
     by : (old : Filesystem ℕ) (b : Bool) → nat_eq new.number old.number ≡ b → old.number ≡ (cond b new old).number
@@ -82,9 +74,7 @@ module _ (world middle : World ℕ) (same : middle.filesystems ≡ world.filesys
       → GoesOn world changed new f
   like n changed f has number change raised =
       Changed (ap (λ k. list_any (λ other. nat_eq other k) changed) number ∙ raised)
-      (subst (λ list. Has list f.number) same has)
-      (change
-      ∙ ap (λ (g : Filesystem ℕ). g.change)
+      (subst (λ list. Has list f.number) same has) (change ∙ ap (λ (g : Filesystem ℕ). g.change)
       (sym (ap (filesystem_numbered nat_eq middle) (number ∙ number_of_filesystem middle n))
       ∙ same_filesystem world middle f.number same))
 
@@ -107,16 +97,13 @@ module _ (world middle : World ℕ) (same : middle.filesystems ≡ world.filesys
       over overlay (Some upper) n =
           let changed : List ℕ = (filesystem_at nat_eq middle location).number
           ∷ (filesystem_numbered nat_eq middle upper.filesystem).number ∷ [] in
-          ⊎_elim
-          (λ r. like upper.filesystem changed f (has_before _ middle.filesystems f.number r.1)
+          ⊎_elim (λ r. like upper.filesystem changed f (has_before _ middle.filesystems f.number r.1)
           (ap (λ (g : Filesystem ℕ). g.number) r.0) (ap (λ (g : Filesystem ℕ). g.change) r.0)
-          (second _ _ (nat_eq_itself (filesystem_numbered nat_eq middle upper.filesystem).number)))
-          (λ rest. ⊎_elim
+          (second _ _ (nat_eq_itself (filesystem_numbered nat_eq middle upper.filesystem).number))) (λ rest. ⊎_elim
           (λ r. like here changed f r.1 (ap (λ (g : Filesystem ℕ). g.number) r.0)
           (ap (λ (g : Filesystem ℕ). g.change) r.0)
           (first _ _ (nat_eq_itself (filesystem_at nat_eq middle location).number)))
-          (λ l. old changed l) (in_replaced _ middle.filesystems f rest))
-          (in_replaced _ _ f n)
+          (λ l. old changed l) (in_replaced _ middle.filesystems f rest)) (in_replaced _ _ f n)
         where
           first : (b c : Bool) → b ≡ true → (b || c) ≡ true
           first b c e = ap (λ a. a || c) e
@@ -128,9 +115,7 @@ module _ (world middle : World ℕ) (same : middle.filesystems ≡ world.filesys
       by : (o : Option (Overlay ℕ))
           → Among f (filesystem_changed nat_eq fresh middle (filesystem_at nat_eq middle location) o change).filesystems
           → GoesOn world (numbers_of_change nat_eq middle (filesystem_at nat_eq middle location) o) new f
-      by None n =
-          ⊎_elim
-          (λ r. like here ((filesystem_at nat_eq middle location).number ∷ []) f r.1
+      by None n = ⊎_elim (λ r. like here ((filesystem_at nat_eq middle location).number ∷ []) f r.1
           (ap (λ (g : Filesystem ℕ). g.number) r.0) (ap (λ (g : Filesystem ℕ). g.change) r.0)
           (ap (λ b. b || false) (nat_eq_itself (filesystem_at nat_eq middle location).number)))
           (λ l. old _ l) (in_replaced _ middle.filesystems f n)
@@ -147,8 +132,7 @@ module _ (world : World ℕ) (fresh : Fresh ℕ) (task : Task ℕ) where
   stay : (permit : Permit ℕ) → (after permit).filesystems ≡ world.filesystems → AllGoOn permit
   stay permit same f m = Old (subst (Among f) same m)
 
-  copies : (b : Bool) (file : Location ℕ) (f : Filesystem ℕ)
-      → Among f (with_copy nat_eq b fresh world file).filesystems
+  copies : (b : Bool) (file : Location ℕ) (f : Filesystem ℕ) → Among f (with_copy nat_eq b fresh world file).filesystems
       → GoesOn world (changed_if nat_eq b world file) (fresh (2 * 0)) f
   copies true file f m = change_goes_on world world refl (fresh (2 * 0)) fresh file (CopyUp file.node) f m
   copies false file f m = Old m
@@ -161,14 +145,12 @@ module _ (world : World ℕ) (fresh : Fresh ℕ) (task : Task ℕ) where
 
   more : (changed : List ℕ) (added : Filesystem ℕ) → added.number ≡ fresh (2 * 0) → (f : Filesystem ℕ)
       → Among f (world.filesystems ++ (added ∷ [])) → GoesOn world changed (fresh (2 * 0)) f
-  more changed added number f m =
-      ⊎_elim Old
+  more changed added number f m = ⊎_elim Old
       (λ last. ⊎_elim (λ e. New (ap (λ (g : Filesystem ℕ). g.number) e ∙ number)) (λ none. absurd none) last)
       (among-append world.filesystems (added ∷ []) f m)
 
   pub filesystems_go_on : (permit : Permit ℕ) → AllGoOn permit
-  filesystems_go_on (ToChange location change) =
-      change_goes_on world world refl (fresh (2 * 0)) fresh location change
+  filesystems_go_on (ToChange location change) = change_goes_on world world refl (fresh (2 * 0)) fresh location change
   filesystems_go_on (ToMake directory name node) =
       change_goes_on world world refl (fresh (2 * 0)) (odds fresh) directory
       (Make directory.node name (evens fresh 0) node)
@@ -192,8 +174,7 @@ module _ (world : World ℕ) (fresh : Fresh ℕ) (task : Task ℕ) where
       more [] (overlay_filesystem nat_eq (evens fresh) world overlay) refl
   filesystems_go_on (ToUnmount mount) =
       stay (ToUnmount mount) (filesystems-taken_away world (going nat_eq world (mount_numbered nat_eq world mount)))
-  filesystems_go_on (ToUnmountLazily mount) =
-      stay (ToUnmountLazily mount) (lazy_is_of_mounts world mount).filesystems
+  filesystems_go_on (ToUnmountLazily mount) = stay (ToUnmountLazily mount) (lazy_is_of_mounts world mount).filesystems
   filesystems_go_on (ToSetType mount word recursive) =
       stay (ToSetType mount word recursive) (types_are_of_mounts world fresh mount word recursive).filesystems
   filesystems_go_on permit = stay permit refl

@@ -85,8 +85,7 @@ module _ (world : World ℕ) (fresh : Fresh ℕ) (given : IsCallIn world fresh) 
     -- what is left of it
     module _ (left : Filesystem ℕ) (found : found_in (settled nat_eq applied).filesystems ≡ Some left) where
       abbrev swept : (before : Filesystem ℕ) × Among before applied.filesystems × Stays before left
-      swept =
-          swept_stays applied left
+      swept = swept_stays applied left
           (found_among (λ (f : Filesystem ℕ). nat_eq number f.number) (settled nat_eq applied).filesystems left found)
 
       abbrev before : Filesystem ℕ
@@ -103,50 +102,41 @@ module _ (world : World ℕ) (fresh : Fresh ℕ) (given : IsCallIn world fresh) 
 
       goal_by : before ≡ filesystem_numbered nat_eq world number
           → KeepsFilesystem (filesystem_numbered nat_eq world number) (filesystem_numbered nat_eq later number)
-      goal_by e =
-          subst (KeepsFilesystem (filesystem_numbered nat_eq world number)) (sym later_is)
+      goal_by e = subst (KeepsFilesystem (filesystem_numbered nat_eq world number)) (sym later_is)
           (kept_on (filesystem_numbered nat_eq world number) left (raise left)
           (subst (λ f. KeepsFilesystem f left) e swept.2.kept) (raise_keeps left))
 
       keeps : GoesOn world changed (fresh (2 * 0)) before
           → KeepsFilesystem (filesystem_numbered nat_eq world number) (filesystem_numbered nat_eq later number)
-      keeps (Old m) =
-          goal_by (sym (sym (ap (filesystem_numbered nat_eq world) number_is)
+      keeps (Old m) = goal_by (sym (sym (ap (filesystem_numbered nat_eq world) number_is)
           ∙ found_by (λ (f : Filesystem ℕ). f.number) (no_filesystem before.number) world.filesystems
           given.is.files.one_filesystem before m))
-      keeps (Changed raises was_in same) =
-          absurd (rises left.change (λ most. held_below (sym left_is ∙ most))
+      keeps (Changed raises was_in same) = absurd (rises left.change (λ most. held_below (sym left_is ∙ most))
           (sym raised_now ∙ sym change_now ∙ sym same_now.0 ∙ sym left_is))
         where
           left_is : left.change ≡ held
           left_is = grind (arith, common_steps, number_is, numbered)
 
           raised_now : (raise left).change ≡ raised left.change
-          raised_now =
-              ap (λ b. (cond b (record left { change = raised left.change }) left).change)
+          raised_now = ap (λ b. (cond b (record left { change = raised left.change }) left).change)
               (ap (λ n. list_any (λ k. nat_eq k n) changed) swept.2.number ∙ raises)
-      keeps (New new) =
-          absurd (true≢false
-          (sym (eq-eqb (fresh (2 * 0)) was.0.number
+      keeps (New new) = absurd (true≢false (sym (eq-eqb (fresh (2 * 0)) was.0.number
           (sym new ∙ number_is ∙ eqb-true number was.0.number
           (found_passes (λ (f : Filesystem ℕ). nat_eq number f.number) world.filesystems was.0 was.1)))
           ∙ unused_by_filesystem world fresh given.serves (2 * 0) was.0
           (found_among (λ (f : Filesystem ℕ). nat_eq number f.number) world.filesystems was.0 was.1)
           was.0.number (inl refl)))
 
-    granted_stays :
-        KeepsFilesystem (filesystem_numbered nat_eq world number) (filesystem_numbered nat_eq later number)
+    granted_stays : KeepsFilesystem (filesystem_numbered nat_eq world number) (filesystem_numbered nat_eq later number)
     granted_stays = by (found_in (settled nat_eq applied).filesystems) refl
       where
         by : (o : Option (Filesystem ℕ)) → found_in (settled nat_eq applied).filesystems ≡ o
             → KeepsFilesystem (filesystem_numbered nat_eq world number) (filesystem_numbered nat_eq later number)
         by None e = absurd (same_now.1 (ap change_in (now_is ∙ ap (option_map raise) e)))
-        by (Some left) e =
-            keeps left e (filesystems_go_on world fresh task permit (before left e) (swept left e).1)
+        by (Some left) e = keeps left e (filesystems_go_on world fresh task permit (before left e) (swept left e).1)
 
 pub unraised_filesystems_stay : UnraisedFilesystemsStay
-unraised_filesystems_stay world fresh name call number given =
-    policy_leaves
+unraised_filesystems_stay world fresh name call number given = policy_leaves
     (λ later. IsFilesystemUnraised world later number
     → KeepsFilesystem (filesystem_numbered nat_eq world number) (filesystem_numbered nat_eq later number))
     world fresh name call (λ same. same_kept (filesystem_numbered nat_eq world number))

@@ -45,16 +45,14 @@ module _ (world : World ℕ) (fresh : Fresh ℕ) (task : Task ℕ) where
   removed : (location : Location ℕ) → (without_mounts_on nat_eq world location).namespaces ≡ world.namespaces
   removed location = grind (arith, common_steps, all_but_mounts)
 
-  replaced_same : (object : Option (Location ℕ))
-      → (without_replaced nat_eq world object).namespaces ≡ world.namespaces
+  replaced_same : (object : Option (Location ℕ)) → (without_replaced nat_eq world object).namespaces ≡ world.namespaces
   replaced_same None = refl
   replaced_same (Some object) = removed object
 
   pub namespaces_go_on : (permit : Permit ℕ) → GoOn (after permit).namespaces
   namespaces_go_on (ToChange location change) =
       same (after (ToChange location change)).namespaces (change_of_files fresh world location change).namespaces
-  namespaces_go_on (ToMake directory name node) =
-      same (after (ToMake directory name node)).namespaces
+  namespaces_go_on (ToMake directory name node) = same (after (ToMake directory name node)).namespaces
       (change_of_files (odds fresh) world directory (Make directory.node name (evens fresh 0) node)).namespaces
   namespaces_go_on (ToRemoveDirectory parent name directory) =
       same (after (ToRemoveDirectory parent name directory)).namespaces
@@ -64,14 +62,12 @@ module _ (world : World ℕ) (fresh : Fresh ℕ) (task : Task ℕ) where
       same (after (ToRename from old to new object replaced)).namespaces
       ((change_of_files fresh (without_replaced nat_eq world replaced) from
       (Move from.node old to.node new object.node)).namespaces ∙ replaced_same replaced)
-  namespaces_go_on (ToOpen file access) =
-      same (after (ToOpen file access)).namespaces
+  namespaces_go_on (ToOpen file access) = same (after (ToOpen file access)).namespaces
       (copy_of_files fresh world (is_copied_up nat_eq world file access) file).namespaces
   namespaces_go_on (ToOpenNew directory name node access) =
       same (after (ToOpenNew directory name node access)).namespaces
       (change_of_files (odds fresh) world directory (Make directory.node name (evens fresh 0) node)).namespaces
-  namespaces_go_on (ToWritePart file offset bytes) =
-      same (after (ToWritePart file offset bytes)).namespaces
+  namespaces_go_on (ToWritePart file offset bytes) = same (after (ToWritePart file offset bytes)).namespaces
       (writing_of_files fresh world file offset bytes).namespaces
   namespaces_go_on ToExit = some (has_tasks nat_eq (without_task world task.name))
   namespaces_go_on ToUnshare = λ namespace m.
@@ -80,13 +76,11 @@ module _ (world : World ℕ) (fresh : Fresh ℕ) (task : Task ℕ) where
       ⊎_elim (λ old. inl old)
       (λ last. ⊎_elim (λ e. inr (ap (λ (n : Namespace ℕ). n.number) e)) (λ none. absurd none) last)
       (among-append world.namespaces (record { number = evens fresh 0; change = 0 } ∷ []) namespace from)
-  namespaces_go_on (ToEnterNamespace namespace) =
-      λ one m. inl (among-from_filter _ world.namespaces one m).0
+  namespaces_go_on (ToEnterNamespace namespace) = λ one m. inl (among-from_filter _ world.namespaces one m).0
   namespaces_go_on (ToUnmount mount) =
       same (after (ToUnmount mount)).namespaces (unmount_is_of_mounts world mount).namespaces
   namespaces_go_on (ToUnmountLazily mount) =
       same (after (ToUnmountLazily mount)).namespaces (lazy_is_of_mounts world mount).namespaces
-  namespaces_go_on (ToSetType mount word recursive) =
-      same (after (ToSetType mount word recursive)).namespaces
+  namespaces_go_on (ToSetType mount word recursive) = same (after (ToSetType mount word recursive)).namespaces
       (types_are_of_mounts world fresh mount word recursive).namespaces
   namespaces_go_on permit = same world.namespaces refl

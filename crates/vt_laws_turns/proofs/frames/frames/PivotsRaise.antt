@@ -35,12 +35,10 @@ nothing_stands [] place mount m stands none = m
 nothing_stands (first ∷ rest) place mount m stands none =
     by (stands_at nat_eq place first) refl none (λ later h. nothing_stands rest place mount later stands h)
   where
-    by : (b : Bool) → stands_at nat_eq place first ≡ b
-        → cond b (Some first) (child_at nat_eq rest place) ≡ None
+    by : (b : Bool) → stands_at nat_eq place first ≡ b → cond b (Some first) (child_at nat_eq rest place) ≡ None
         → (Among mount rest → child_at nat_eq rest place ≡ None → ⊥) → ⊥
     by true e h later = none_is_some first (sym h)
-    by false e h later =
-        ⊎_elim (λ same. true≢false (sym (ap (stands_at nat_eq place) (sym same) ∙ stands) ∙ e))
+    by false e h later = ⊎_elim (λ same. true≢false (sym (ap (stands_at nat_eq place) (sym same) ∙ stands) ∙ e))
         (λ n. later n h) m
 
 module _ (world : World ℕ) (fresh : Fresh ℕ) (given : IsCallIn world fresh) (name : TaskName) (caller : Task ℕ)
@@ -67,8 +65,7 @@ module _ (world : World ℕ) (fresh : Fresh ℕ) (given : IsCallIn world fresh) 
   abbrev left : World ℕ
   left = pivoted nat_eq world caller.namespace root_mount new_mount put
 
-  leaves : (policy nat_eq fresh world name call).world
-      ≡ numbers_raised nat_eq world name changed (settled nat_eq left)
+  leaves : (policy nat_eq fresh world name call).world ≡ numbers_raised nat_eq world name changed (settled nat_eq left)
   leaves = grind (arith, common_steps, call_is_judged_then_applied)
 
   abbrev moved : Mount ℕ
@@ -79,8 +76,7 @@ module _ (world : World ℕ) (fresh : Fresh ℕ) (given : IsCallIn world fresh) 
 
   -- the old root mount goes under the new one
   moved_is : moved ≡ record root_mount { mount_point = Some put }
-  moved_is =
-      ap (λ b. cond b (record root_mount { mount_point = root_mount.mount_point })
+  moved_is = ap (λ b. cond b (record root_mount { mount_point = root_mount.mount_point })
       (cond (nat_eq root_mount.number root_mount.number) (record root_mount { mount_point = Some put }) root_mount))
       another
       ∙ ap (λ b. cond b (record root_mount { mount_point = Some put }) root_mount) (nat_eq_itself root_mount.number)
@@ -91,13 +87,11 @@ module _ (world : World ℕ) (fresh : Fresh ℕ) (given : IsCallIn world fresh) 
           by : (b : Bool) → nat_eq root_mount.number new_mount.number ≡ b → b ≡ false
           by false e = refl
           by true e =
-              let same : mount ≡ caller.root.mount =
-              sym (number-mount_in world.mounts mount)
+              let same : mount ≡ caller.root.mount = sym (number-mount_in world.mounts mount)
               ∙ sym (eqb-true root_mount.number new_mount.number e) ∙ number_is in
               absurd (true≢false (sym (eq-eqb mount caller.root.mount same) ∙ may.another))
 
-  in_namespace : (m : Mount ℕ) → m ≡ record root_mount { mount_point = Some put }
-      → m.namespace ≡ Some caller.namespace
+  in_namespace : (m : Mount ℕ) → m ≡ record root_mount { mount_point = Some put } → m.namespace ≡ Some caller.namespace
   in_namespace m e = ap (λ (x : Mount ℕ). x.namespace) e ∙ may.own_root
 
   among_later : Among moved (mounts_of nat_eq (settled nat_eq left) caller.namespace)
@@ -110,8 +104,7 @@ module _ (world : World ℕ) (fresh : Fresh ℕ) (given : IsCallIn world fresh) 
       (ap (holds_of (nat_eq caller.namespace)) (in_namespace moved moved_is) ∙ nat_eq_itself caller.namespace)
 
   -- so the namespace has not the mounts that it had
-  pub pivots_raise :
-      mounts_of nat_eq (policy nat_eq fresh world name call).world caller.namespace
+  pub pivots_raise : mounts_of nat_eq (policy nat_eq fresh world name call).world caller.namespace
       ≡ mounts_of nat_eq world caller.namespace → ⊥
   pivots_raise same =
       let here : mounts_of nat_eq (settled nat_eq left) caller.namespace ≡ mounts_of nat_eq world caller.namespace =
@@ -123,10 +116,8 @@ module _ (world : World ℕ) (fresh : Fresh ℕ) (given : IsCallIn world fresh) 
       (stands_at_its_place put moved (ap (λ (m : Mount ℕ). m.mount_point) moved_is)) may.destination.free
 
 pub other_tasks_of_unraised_namespaces_stay : OtherTasksOfUnraisedNamespacesStay
-other_tasks_of_unraised_namespaces_stay world fresh name call other task given apart is unraised =
-    ⊎_elim (λ same. same)
-    (λ pivot. absurd (pivoting pivot.0 pivot.1))
-    (other_tasks_stay fresh world name call other task apart is)
+other_tasks_of_unraised_namespaces_stay world fresh name call other task given apart is unraised = ⊎_elim (λ same. same)
+    (λ pivot. absurd (pivoting pivot.0 pivot.1)) (other_tasks_stay fresh world name call other task apart is)
   where
     pivoting : (goes : Location ℕ → Location ℕ) → Pivots fresh world name call task.namespace goes → ⊥
     pivoting goes (new, old, caller, mount, put, is_pivot, found, judged, same, e) =

@@ -27,8 +27,7 @@ module _ (Holds : World ℕ → Type 0) (world : World ℕ) (fresh : Fresh ℕ) 
 
   -- what a granted call leaves
   abbrev pub left_by : Task ℕ → Permit ℕ → World ℕ
-  left_by task permit =
-      numbers_raised nat_eq world name (filesystems_changed nat_eq world permit)
+  left_by task permit = numbers_raised nat_eq world name (filesystems_changed nat_eq world permit)
       (settled nat_eq (apply nat_eq fresh world task permit).world)
 
   stays : (policy nat_eq fresh world name call).world ≡ world → Left
@@ -40,8 +39,7 @@ module _ (Holds : World ℕ → Type 0) (world : World ℕ) (fresh : Fresh ℕ) 
   refused (Err deny) e denied = stays (denial_changes_nothing fresh world name call deny e)
 
   called_leaves : (task : Task ℕ) → task_called world name ≡ Some task
-      → ((permit : Permit ℕ) → judge_in nat_eq fresh world task call ≡ Ok permit → Holds (left_by task permit))
-      → Left
+      → ((permit : Permit ℕ) → judge_in nat_eq fresh world task call ≡ Ok permit → Holds (left_by task permit)) → Left
   called_leaves task found granted = by (only_looks call || not (is_ok outcome.answer)) refl
     where
       changed : List ℕ
@@ -69,32 +67,23 @@ module _ (Holds : World ℕ → Type 0) (world : World ℕ) (fresh : Fresh ℕ) 
           same = it_is ∙ ap (λ b. finished_by nat_eq b world name changed outcome) e
 
           judged : (judgement : Judgement ℕ) → judge_in nat_eq fresh world task call ≡ judgement → Left
-          judged (Err deny) f =
-              absurd (true≢false
-              (sym (ap (λ (o : Outcome ℕ). not (is_ok o.answer))
+          judged (Err deny) f = absurd (true≢false (sym (ap (λ (o : Outcome ℕ). not (is_ok o.answer))
               (call_is_judged_then_applied fresh world task call
               ∙ ap (λ j. after world j (apply nat_eq fresh world task)) f))
               ∙ (or_parts (only_looks call) (not (is_ok outcome.answer)) e).1))
-          judged (Ok permit) f =
-              subst Holds
-              (sym (ap (λ (o : Outcome ℕ). o.world)
-              (same
+          judged (Ok permit) f = subst Holds (sym (ap (λ (o : Outcome ℕ). o.world) (same
               ∙ ap (λ o. finished_by nat_eq false world name changed o)
               (call_is_judged_then_applied fresh world task call
               ∙ ap (λ j. after world j (apply nat_eq fresh world task)) f)
               ∙ ap (λ j. finished_by nat_eq false world name (filesystems_changed_by nat_eq world j)
-              (apply nat_eq fresh world task permit)) f)))
-              (granted permit f)
+              (apply nat_eq fresh world task permit)) f))) (granted permit f)
 
   pub policy_leaves : ((task : Task ℕ) (permit : Permit ℕ) → judge_in nat_eq fresh world task call ≡ Ok permit
-      → Holds (left_by task permit))
-      → Left
+      → Holds (left_by task permit)) → Left
   policy_leaves granted = by (task_called world name) refl
     where
       by : (o : Option (Task ℕ)) → task_called world name ≡ o → Left
-      by None e =
-          stays (ap (λ o. (after world (ok_or o (denial S2))
-          (λ t. finished nat_eq world name call
+      by None e = stays (ap (λ o. (after world (ok_or o (denial S2)) (λ t. finished nat_eq world name call
           (filesystems_changed_by nat_eq world (judge_in nat_eq fresh world t call))
           (call_outcome nat_eq fresh world t call))).world) e)
       by (Some task) e = called_leaves task e (granted task)

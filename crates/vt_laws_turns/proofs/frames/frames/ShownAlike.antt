@@ -43,8 +43,7 @@ show_alike world middle later one_before one_after seen left one other c d e =
     is_among_numbers (map (λ (m : Mount ℕ). m.number) world.mounts) one.number
     (among-map (λ (m : Mount ℕ). m.number) world.mounts one was) in
     let before : mount_numbered nat_eq world one.number ≡ one = found_itself world.mounts one_before one was in
-    let after : mount_numbered nat_eq middle one.number ≡ other =
-    ap (mount_numbered nat_eq middle) e
+    let after : mount_numbered nat_eq middle one.number ≡ other = ap (mount_numbered nat_eq middle) e
     ∙ found_itself middle.mounts one_after other (left other (among_from_contains later.mounts other d)) in
     let view = seen.views one.number is_there in (
       sym (ap (λ (m : Mount ℕ). m.filesystem) before) ∙ sym view.filesystem ∙ ap (λ (m : Mount ℕ). m.filesystem) after,
@@ -52,8 +51,7 @@ show_alike world middle later one_before one_after seen left one other c d e =
     )
 
 module _ (world : World ℕ) (fresh : Fresh ℕ) (task : Task ℕ) (call : Call) (permit : Permit ℕ)
-    (is : IsWorld nat_eq world) (serves : Serves nat_eq world fresh)
-    (called : task_called world task.name ≡ Some task)
+    (is : IsWorld nat_eq world) (serves : Serves nat_eq world fresh) (called : task_called world task.name ≡ Some task)
     (granted : judge_in nat_eq fresh world task call ≡ Ok permit) where
   abbrev applied : World ℕ
   applied = (apply nat_eq fresh world task permit).world
@@ -95,8 +93,7 @@ module _ (world : World ℕ) (fresh : Fresh ℕ) (task : Task ℕ) (call : Call)
         subst (λ (o : Outcome ℕ). OneNumberEach o.world) outcome (mounted_world call e).mounts.one_number,
         mounting call permit
             (calls_are_granted nat_eq (looks_of nat_eq world) (overfills nat_eq fresh world task) task call permit
-            granted)
-            e,
+            granted) e,
       )
       by false e = others e
 

@@ -22,8 +22,7 @@ pub same_kept : (f : Filesystem ℕ) → KeepsFilesystem f f
 same_kept f = record { root = refl; overlay = same_overlay f.overlay; inodes = λ inode. inr refl }
 
 left_on : {A : Type 0} (a b c : Option A) → IsLeftOrGone a b → IsLeftOrGone b c → IsLeftOrGone a c
-left_on a b c r s =
-    ⊎_elim inl (λ same. ⊎_elim (λ gone. inl (same ∙ gone)) (λ e. inr (same ∙ e)) r) s
+left_on a b c r s = ⊎_elim inl (λ same. ⊎_elim (λ gone. inl (same ∙ gone)) (λ e. inr (same ∙ e)) r) s
 
 overlay_on : (a b c : Option (Overlay ℕ)) → KeepsOverlay a b → KeepsOverlay b c → KeepsOverlay a c
 overlay_on None None None r s = tt
@@ -60,8 +59,7 @@ chosen : {A : Type 0} (b : Bool) (o : Option A) → IsLeftOrGone o (cond b o Non
 chosen true o = inr refl
 chosen false o = inl refl
 
-among_overlay : (used : List ℕ) (o : Option (Overlay ℕ))
-    → KeepsOverlay o (option_map (real_among nat_eq used) o)
+among_overlay : (used : List ℕ) (o : Option (Overlay ℕ)) → KeepsOverlay o (option_map (real_among nat_eq used) o)
 among_overlay used None = tt
 among_overlay used (Some overlay) = (refl, λ inode. chosen (is_among nat_eq inode used) (overlay.real inode))
 

@@ -63,13 +63,11 @@ module _ (world : World ℕ) (fresh : Fresh ℕ) (given : IsCallIn world fresh) 
 
     -- a namespace that is there later was there before, with that number
     was_there : (n : Namespace ℕ) → found_in applied.namespaces ≡ Some n
-        → (change_in (found_in world.namespaces) ≡ n.change)
-        ⊎ (change_in (found_in world.namespaces) ≡ last_number)
+        → (change_in (found_in world.namespaces) ≡ n.change) ⊎ (change_in (found_in world.namespaces) ≡ last_number)
     was_there n e =
         let at : nat_eq number n.number ≡ true =
         found_passes (λ (m : Namespace ℕ). nat_eq number m.number) applied.namespaces n e in
-        ⊎_elim
-        (λ old. inl (ap change_in
+        ⊎_elim (λ old. inl (ap change_in
         (namespace_found world.namespaces given.is.namespaces.one_namespace n old number at)))
         (λ new. inr (ap change_in (none_found new at (found_in world.namespaces) refl)))
         (namespaces_go_on world fresh task permit n
@@ -81,9 +79,7 @@ module _ (world : World ℕ) (fresh : Fresh ℕ) (given : IsCallIn world fresh) 
         none_found new at (Some m) f =
             let among : Among m world.namespaces =
             found_among (λ (x : Namespace ℕ). nat_eq number x.number) world.namespaces m f in
-            let same : fresh (2 * 0) ≡ m.number =
-            sym new ∙ sym (eqb-true number n.number at)
-            ∙ eqb-true number m.number
+            let same : fresh (2 * 0) ≡ m.number = sym new ∙ sym (eqb-true number n.number at) ∙ eqb-true number m.number
             (found_passes (λ (x : Namespace ℕ). nat_eq number x.number) world.namespaces m f) in
             absurd (true≢false (sym (eq-eqb (fresh (2 * 0)) m.number same)
             ∙ unused_number world fresh given.serves (2 * 0) m.number
@@ -104,13 +100,11 @@ module _ (world : World ℕ) (fresh : Fresh ℕ) (given : IsCallIn world fresh) 
         now_is : namespace_change_of nat_eq later number ≡ change_in (option_map raise (found_in applied.namespaces))
         now_is = ap change_in (found_map (λ (n : Namespace ℕ). n.number) raise number applied.namespaces raise_number)
 
-        kept : (n : Namespace ℕ) → nat_eq number n.number ≡ true
-            → (change_in (found_in world.namespaces) ≡ n.change)
+        kept : (n : Namespace ℕ) → nat_eq number n.number ≡ true → (change_in (found_in world.namespaces) ≡ n.change)
             → (b : Bool) → same_mounts_in nat_eq world (settled nat_eq applied) n.number ≡ b
             → namespace_change_of nat_eq later number ≡ (cond b n (record n { change = raised n.change })).change
             → mounts_of nat_eq later number ≡ mounts_of nat_eq world number
-        kept n at old false e now =
-            absurd (rises n.change (λ most. same_now.1 (sym same_now.0 ∙ old ∙ most))
+        kept n at old false e now = absurd (rises n.change (λ most. same_now.1 (sym same_now.0 ∙ old ∙ most))
             (sym now ∙ sym same_now.0 ∙ old))
         kept n at old true e now =
             let same : n.number ≡ number = sym (eqb-true number n.number at) in
@@ -125,12 +119,10 @@ module _ (world : World ℕ) (fresh : Fresh ℕ) (given : IsCallIn world fresh) 
         by : (o : Option (Namespace ℕ)) → found_in applied.namespaces ≡ o
             → mounts_of nat_eq later number ≡ mounts_of nat_eq world number
         by None e = absurd (same_now.1 (now_is ∙ ap (λ o. change_in (option_map raise o)) e))
-        by (Some n) e =
-            ⊎_elim
+        by (Some n) e = ⊎_elim
             (λ old. kept n (found_passes (λ (m : Namespace ℕ). nat_eq number m.number) applied.namespaces n e) old
             (same_mounts_in nat_eq world (settled nat_eq applied) n.number) refl
-            (now_is ∙ ap (λ o. change_in (option_map raise o)) e))
-            (λ last. absurd (same_now.1 (sym same_now.0 ∙ last)))
+            (now_is ∙ ap (λ o. change_in (option_map raise o)) e)) (λ last. absurd (same_now.1 (sym same_now.0 ∙ last)))
             (was_there n e)
 
     -- so it is where the call is judged
@@ -144,14 +136,11 @@ module _ (world : World ℕ) (fresh : Fresh ℕ) (given : IsCallIn world fresh) 
         call_is_judged_then_applied fresh world task call
         ∙ ap (λ j. after world j (apply nat_eq fresh world task)) granted in
         subst (λ (o : Outcome ℕ). IsNamespaceUnraised world (finished_by nat_eq false world name changed o).world number
-        → mounts_of nat_eq (finished_by nat_eq false world name changed o).world number
-        ≡ mounts_of nat_eq world number)
+        → mounts_of nat_eq (finished_by nat_eq false world name changed o).world number ≡ mounts_of nat_eq world number)
         (sym outcome) granted_keeps
 
 pub unraised_namespaces_keep_mounts : UnraisedNamespacesKeepMounts
-unraised_namespaces_keep_mounts world fresh name call number given =
-    policy_leads
+unraised_namespaces_keep_mounts world fresh name call number given = policy_leads
     (λ later. IsNamespaceUnraised world later number → mounts_of nat_eq later number ≡ mounts_of nat_eq world number)
-    world fresh name call (λ same. refl)
-    (λ task permit changed called granted.
+    world fresh name call (λ same. refl) (λ task permit changed called granted.
     call_keeps world fresh given number name task call permit changed called granted)

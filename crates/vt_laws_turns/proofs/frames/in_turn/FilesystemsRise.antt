@@ -75,13 +75,11 @@ module _ (world : World ℕ) (fresh : Fresh ℕ) (given : IsCallIn world fresh) 
       by (Some left) e =
           let swept = swept_stays applied left
           (found_among (λ (f : Filesystem ℕ). nat_eq number f.number) (settled nat_eq applied).filesystems left e) in
-          let is : swept.0.number ≡ number = sym swept.2.number
-          ∙ sym (eqb-true number left.number
+          let is : swept.0.number ≡ number = sym swept.2.number ∙ sym (eqb-true number left.number
           (found_passes (λ (f : Filesystem ℕ). nat_eq number f.number) (settled nat_eq applied).filesystems left e)) in
           raised_or_same left (filesystem_change_of nat_eq world number) (filesystem_change_of nat_eq later number)
           (swept.2.change ∙ was_change swept.0 is (filesystems_go_on world fresh task permit swept.0 swept.1))
-          (list_any (λ n. nat_eq n left.number) changed)
-          (ap change_in (now_is ∙ ap (option_map raise) e))
+          (list_any (λ n. nat_eq n left.number) changed) (ap change_in (now_is ∙ ap (option_map raise) e))
 
 -- Several calls
 abbrev filesystem_change : ℕ → World ℕ → ℕ
@@ -89,11 +87,9 @@ filesystem_change number world = filesystem_change_of nat_eq world number
 
 filesystem_step : (number : ℕ) (world : World ℕ) (one : CallBetween) → IsWorld nat_eq world → IsBeside number world one
     → Rises (filesystem_change number world) (filesystem_change number (after_call world one))
-filesystem_step number world one is beside =
-    policy_leaves
+filesystem_step number world one is beside = policy_leaves
     (λ later. Rises (filesystem_change number world) (filesystem_change number later)) world one.fresh one.name one.call
-    (inl refl)
-    (λ task permit granted. granted_rises world one.fresh (given_in number world one is beside) number
+    (inl refl) (λ task permit granted. granted_rises world one.fresh (given_in number world one is beside) number
     (beside.not_held (2 * 0)) one.name task permit)
 
 filesystem_stays : (calls : List CallBetween) (world : World ℕ) (number : ℕ) → IsWorld nat_eq world

@@ -28,18 +28,17 @@ use Rattle.vt_laws_turns.proofs.frames.in_turn.NumbersRise.{first_unraised, give
 mount_stays : (world later : World ℕ) (namespace : ℕ) → IsWorld nat_eq later
     → mounts_of nat_eq later namespace ≡ mounts_of nat_eq world namespace → (l : Location ℕ)
     → (mount_at nat_eq world l).namespace ≡ Some namespace → mount_at nat_eq later l ≡ mount_at nat_eq world l
-mount_stays world later namespace are same l e =
-    grind (
-      arith,
-      common_steps,
-      among-from_filter,
-      among-filter,
-      nat_eq_itself,
-      number-mount_in,
-      found_itself,
-      none_is_some,
-      found_or_none,
-    )
+mount_stays world later namespace are same l e = grind (
+  arith,
+  common_steps,
+  among-from_filter,
+  among-filter,
+  nat_eq_itself,
+  number-mount_in,
+  found_itself,
+  none_is_some,
+  found_or_none,
+)
 
 -- a location on a mount that the task may stand on
 module _ (world : World ℕ) (one : CallBetween) (task : Task ℕ) (is : IsWorld nat_eq world)
@@ -59,8 +58,7 @@ module _ (world : World ℕ) (one : CallBetween) (task : Task ℕ) (is : IsWorld
       by None e h =
           detached_mounts_stay world one.fresh one.name one.call l.mount (given_in task.namespace world one is beside)
           before.0 e now.0
-      by (Some n) e h =
-          mount_stays world later task.namespace (next_is task.namespace world one is beside)
+      by (Some n) e h = mount_stays world later task.namespace (next_is task.namespace world one is beside)
           (unraised_namespaces_keep_mounts world one.fresh one.name one.call task.namespace
           (given_in task.namespace world one is beside) unraised)
           l (e ∙ ap Some (sym (eqb-true task.namespace n (and_parts (nat_eq task.namespace n) true h).0)))
@@ -72,8 +70,7 @@ module _ (world : World ℕ) (one : CallBetween) (task : Task ℕ) (is : IsWorld
       let found = ap (task_called later) (sym (name_found later other task now)) ∙ now in
       let are = next_is task.namespace world one is beside in record {
         root = one_stays task.root (root_found world is task was).0 (root_found later are task found).0;
-        directory =
-            one_stays task.directory (own_directory_found world is task was).0
+        directory = one_stays task.directory (own_directory_found world is task was).0
             (own_directory_found later are task found).0;
       }
 

@@ -36,14 +36,12 @@ RisesOn was now = (now ≡ last_number) ⊎ ((was ≤ now) × (was ≢ last_numb
 
 rises_first : (was next now : ℕ) → Rises was next → RisesOn next now → RisesOn was now
 rises_first was next now r (inl gone) = inl gone
-rises_first was next now (inl same) (inr on) =
-    inr (subst (λ n. n ≤ now) same on.0, λ e. on.1 (same ∙ e))
+rises_first was next now (inl same) (inr on) = inr (subst (λ n. n ≤ now) same on.0, λ e. on.1 (same ∙ e))
 rises_first was next now (inr (inr gone)) (inr on) = absurd (on.1 gone)
 rises_first was next now (inr (inl more)) (inr on) = by (was == last_number) refl
   where
     by : (b : Bool) → (was == last_number) ≡ b → RisesOn was now
-    by true e =
-        absurd (on.1 (more ∙ ap (λ b. cond b was (was + 1)) e ∙ eqb-true was last_number e))
+    by true e = absurd (on.1 (more ∙ ap (λ b. cond b was (was + 1)) e ∙ eqb-true was last_number e))
     by false e =
         let next_is : next ≡ was + 1 = more ∙ ap (λ b. cond b was (was + 1)) e in
         let above : was + 1 ≤ now = subst (λ n. n ≤ now) next_is on.0 in
@@ -68,8 +66,7 @@ between was next now (inr (inr gone)) (inr on) fresh = absurd (on.1 gone)
 between was next now (inr (inl more)) (inr on) fresh = by (was == last_number) refl
   where
     by : (b : Bool) → (was == last_number) ≡ b → (is_stale was next ≡ false) × (is_stale next now ≡ false)
-    by true e =
-        absurd ((not_stale was now fresh).1 (sym (not_stale was now fresh).0 ∙ eqb-true was last_number e))
+    by true e = absurd ((not_stale was now fresh).1 (sym (not_stale was now fresh).0 ∙ eqb-true was last_number e))
     by false e =
         let next_is : next ≡ was + 1 = more ∙ ap (λ b. cond b was (was + 1)) e in
         let above : was + 1 ≤ now = subst (λ n. n ≤ now) next_is on.0 in
@@ -107,10 +104,8 @@ module _ (world : World ℕ) (fresh : Fresh ℕ) (given : IsCallIn world fresh) 
   was_there n e =
       let at : nat_eq number n.number ≡ true =
       found_passes (λ (m : Namespace ℕ). nat_eq number m.number) applied.namespaces n e in
-      ⊎_elim
-      (λ old. ap change_in (namespace_found world.namespaces given.is.namespaces.one_namespace n old number at))
-      (λ new. absurd (other (sym new ∙ sym (eqb-true number n.number at))))
-      (namespaces_go_on world fresh task permit n
+      ⊎_elim (λ old. ap change_in (namespace_found world.namespaces given.is.namespaces.one_namespace n old number at))
+      (λ new. absurd (other (sym new ∙ sym (eqb-true number n.number at)))) (namespaces_go_on world fresh task permit n
       (found_among (λ (m : Namespace ℕ). nat_eq number m.number) applied.namespaces n e))
 
   granted_rises : Rises (namespace_change_of nat_eq world number) (namespace_change_of nat_eq later number)
@@ -125,11 +120,9 @@ module _ (world : World ℕ) (fresh : Fresh ℕ) (given : IsCallIn world fresh) 
           (now_is ∙ ap (λ o. change_in (option_map raise o)) e)
 
 pub namespace_rises : (world : World ℕ) (fresh : Fresh ℕ) (name : TaskName) (call : Call) (number : ℕ)
-    → IsCallIn world fresh → fresh (2 * 0) ≢ number
-    → Rises (namespace_change_of nat_eq world number)
+    → IsCallIn world fresh → fresh (2 * 0) ≢ number → Rises (namespace_change_of nat_eq world number)
     (namespace_change_of nat_eq (policy nat_eq fresh world name call).world number)
-namespace_rises world fresh name call number given other =
-    policy_leaves
+namespace_rises world fresh name call number given other = policy_leaves
     (λ later. Rises (namespace_change_of nat_eq world number) (namespace_change_of nat_eq later number))
     world fresh name call (inl refl)
     (λ task permit granted. granted_rises world fresh given number other name task permit)
@@ -199,8 +192,7 @@ tasks_stay (one ∷ rest) world other task is beside others called unraised =
     world one rest is beside unraised in
     tasks_stay rest (after_call world one) other task (next_is task.namespace world one is beside.0) beside.1 others.1
     (other_tasks_of_unraised_namespaces_stay world one.fresh one.name one.call other task
-    (given_in task.namespace world one is beside.0) others.0 called parts.0)
-    parts.1
+    (given_in task.namespace world one is beside.0) others.0 called parts.0) parts.1
 
 pub tasks_stay_in_turn : OtherTasksStayInTurn
 tasks_stay_in_turn world calls other task is beside others called unraised =

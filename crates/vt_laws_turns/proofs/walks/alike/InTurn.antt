@@ -24,12 +24,10 @@ first_words_lead_alike_in_turn world calls task aim path count is called others 
     keep_mounts_in_turn world calls task.namespace is beside unraised in
     let stands : StandsWhereItStood world later task =
     other_tasks_stand_in_turn world calls task.name task is beside others called unraised in
-    first_words_lead_alike world later task aim path count is are
-    (record {
+    first_words_lead_alike world later task aim path count is are (record {
       before = called;
       after = tasks_stay_in_turn world calls task.name task is beside others called unraised;
       mounts = same;
       root = stands.root;
       directory = stands.directory;
-    })
-    (λ number met. let its = held number met in filesystems_stay_in_turn world calls number is its.0 its.1)
+    }) (λ number met. let its = held number met in filesystems_stay_in_turn world calls number is its.0 its.1)

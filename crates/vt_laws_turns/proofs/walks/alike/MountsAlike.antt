@@ -45,8 +45,7 @@ module _ {A : Type 0} (P : A → Type 0) (next : A → Option A) (step : (a b : 
       by : (o : Option A) → next a ≡ o → ((b : A) → P b → (y : A) → Among y (chain n next b) → P y) → P x
       by None e later =
           ⊎_elim (λ f. subst P (sym f) p) (λ none. absurd none) (subst (Among x) (chain_ends next n a e) m)
-      by (Some b) e later =
-          ⊎_elim (λ f. subst P (sym f) p) (λ rest. later b (step a b p e) x rest)
+      by (Some b) e later = ⊎_elim (λ f. subst P (sym f) p) (λ rest. later b (step a b p e) x rest)
           (subst (Among x) (chain_goes_on next n a b e) m)
 
 module _ (world : World ℕ) (is : MountInvariants nat_eq world) where
@@ -69,8 +68,7 @@ module _ (world : World ℕ) (is : MountInvariants nat_eq world) where
   -- a child is in the namespace of its parent
   child_namespace : (mount child : Mount ℕ) (here : Location ℕ) → Among mount world.mounts → mount.number ≡ here.mount
       → Among child world.mounts → stands_at nat_eq here child ≡ true → child.namespace ≡ mount.namespace
-  child_namespace mount child here m number there at =
-      sym (ap (λ (x : Mount ℕ). x.namespace) (numbered child there))
+  child_namespace mount child here m number there at = sym (ap (λ (x : Mount ℕ). x.namespace) (numbered child there))
       ∙ namespace_below world child.number here (stands child there)
       (ap (λ (x : Mount ℕ). x.mount_point) (numbered child there) ∙ stands_there here child at)
       ∙ ap (λ n. (mount_numbered nat_eq world n).namespace) (sym number)
@@ -83,8 +81,7 @@ module _ (world later : World ℕ) (is : MountInvariants nat_eq world) (are : Mo
 
   -- a mount of the namespace, or one in none, that is there as it was
   abbrev pub IsOwn : ℕ → Type 0
-  IsOwn number =
-      (mount : Mount ℕ) × Among mount world.mounts × Among mount later.mounts × (mount.number ≡ number)
+  IsOwn number = (mount : Mount ℕ) × Among mount world.mounts × Among mount later.mounts × (mount.number ≡ number)
       × ((mount.namespace ≡ Some namespace) ⊎ (mount.namespace ≡ None))
 
   is_within : (mount : Mount ℕ) → mount.namespace ≡ Some namespace → within mount ≡ true
@@ -92,8 +89,7 @@ module _ (world later : World ℕ) (is : MountInvariants nat_eq world) (are : Mo
 
   pub later_too : (mount : Mount ℕ) → Among mount world.mounts → mount.namespace ≡ Some namespace
       → Among mount later.mounts
-  later_too mount m e =
-      (among-from_filter within later.mounts mount
+  later_too mount m e = (among-from_filter within later.mounts mount
       (subst (Among mount) (sym same) (among-filter within world.mounts mount m (is_within mount e)))).0
 
   pub same_mount : (number : ℕ) → IsOwn number → mount_numbered nat_eq later number ≡ mount_numbered nat_eq world number
@@ -102,23 +98,17 @@ module _ (world later : World ℕ) (is : MountInvariants nat_eq world) (are : Mo
   -- what stands at a location
   same_child : (here : Location ℕ) → IsOwn here.mount
       → child_at nat_eq later.mounts here ≡ child_at nat_eq world.mounts here
-  same_child here (mount, m, n, number, kind) =
-      ⊎_elim
-      (λ e.
+  same_child here (mount, m, n, number, kind) = ⊎_elim (λ e.
       sym (find_where (stands_at nat_eq here) within later.mounts
       (λ c there at. is_within c (child_namespace later are mount c here n number there at ∙ e)))
-      ∙ ap (find (stands_at nat_eq here)) same
-      ∙ find_where (stands_at nat_eq here) within world.mounts
-      (λ c there at. is_within c (child_namespace world is mount c here m number there at ∙ e)))
-      (λ none.
+      ∙ ap (find (stands_at nat_eq here)) same ∙ find_where (stands_at nat_eq here) within world.mounts
+      (λ c there at. is_within c (child_namespace world is mount c here m number there at ∙ e))) (λ none.
       find_none (stands_at nat_eq here) later.mounts (λ c there. false_from_ne_true (stands_at nat_eq here c) (λ at.
       nowhere_unplaced later are c here there (child_namespace later are mount c here n number there at ∙ none)
-      (stands_there here c at)))
-      ∙ sym (find_none (stands_at nat_eq here) world.mounts (λ c there.
+      (stands_there here c at))) ∙ sym (find_none (stands_at nat_eq here) world.mounts (λ c there.
       false_from_ne_true (stands_at nat_eq here c) (λ at.
       nowhere_unplaced world is c here there (child_namespace world is mount c here m number there at ∙ none)
-      (stands_there here c at)))))
-      kind
+      (stands_there here c at))))) kind
 
   child_own : (here : Location ℕ) (child : Mount ℕ) → IsOwn here.mount → child_at nat_eq world.mounts here ≡ Some child
       → IsOwn child.number × Among child (mounts_of nat_eq world namespace)
@@ -126,13 +116,10 @@ module _ (world later : World ℕ) (is : MountInvariants nat_eq world) (are : Mo
       let there = found_among (stands_at nat_eq here) world.mounts child e in
       let at = found_passes (stands_at nat_eq here) world.mounts child e in
       let below = child_namespace world is mount child here m number there at in
-      ⊎_elim
-      (λ f. (
+      ⊎_elim (λ f. (
         (child, there, later_too child there (below ∙ f), refl, inl (below ∙ f)),
         among-filter within world.mounts child there (is_within child (below ∙ f)),
-      ))
-      (λ none. absurd (nowhere_unplaced world is child here there (below ∙ none) (stands_there here child at)))
-      kind
+      )) (λ none. absurd (nowhere_unplaced world is child here there (below ∙ none) (stands_there here child at))) kind
 
   abbrev up : World ℕ → Location ℕ → Option (Location ℕ)
   up in_world here = option_map root_of (child_at nat_eq in_world.mounts here)
@@ -161,8 +148,7 @@ module _ (world later : World ℕ) (is : MountInvariants nat_eq world) (are : Mo
       by None None f g e = refl
       by None (Some d) f g e = absurd (omega (arith, e))
       by (Some c) None f g e = absurd (omega (arith, e))
-      by (Some c) (Some d) f g e =
-          ap (λ x. Some (root_of x))
+      by (Some c) (Some d) f g e = ap (λ x. Some (root_of x))
           (sym (numbered world is c (found_among (stands_at nat_eq a) world.mounts c f))
           ∙ ap (mount_numbered nat_eq world) (ap pred e)
           ∙ numbered world is d (found_among (stands_at nat_eq b) world.mounts d g))
@@ -174,8 +160,7 @@ module _ (world later : World ℕ) (is : MountInvariants nat_eq world) (are : Mo
     where
       by : (o : Option (Mount ℕ)) → child_at nat_eq world.mounts a ≡ o
           → ((b : Location ℕ) → IsOwn b.mount → up world (last_or b (chain n (up world) b)) ≡ None
-          → Way (up world) (up later) key there b)
-          → Way (up world) (up later) key there a
+          → Way (up world) (up later) key there b) → Way (up world) (up later) key there a
       by None f rest =
           let none : up world a ≡ None = ap (option_map root_of) f in
           ends a none (ap (option_map root_of) (same_child a own) ∙ none)
@@ -185,8 +170,7 @@ module _ (world later : World ℕ) (is : MountInvariants nat_eq world) (are : Mo
           goes_on a (root_of c) goes (ap (option_map root_of) (same_child a own) ∙ goes)
           (subst (λ k. Among k there) (sym (ap key_of f))
           (among-map (λ (mount : Mount ℕ). suc mount.number) (mounts_of nat_eq world namespace) c child.1))
-          (rest (root_of c) child.0
-          (sym (ap (up world) (ap (last_or a) (chain_goes_on (up world) n a (root_of c) goes)
+          (rest (root_of c) child.0 (sym (ap (up world) (ap (last_or a) (chain_goes_on (up world) n a (root_of c) goes)
           ∙ last_of_chain (up world) n (root_of c) a)) ∙ e))
 
   -- the mounts over a location
@@ -198,8 +182,7 @@ module _ (world later : World ℕ) (is : MountInvariants nat_eq world) (are : Mo
 
   pub over_own : (here : Location ℕ) → IsOwn here.mount → (l : Location ℕ)
       → Among l (mounts_over nat_eq world.mounts here) → IsOwn l.mount
-  over_own here own =
-      chain_each (λ (l : Location ℕ). IsOwn l.mount) (up world)
+  over_own here own = chain_each (λ (l : Location ℕ). IsOwn l.mount) (up world)
       (λ a b at e. by a b at (child_at nat_eq world.mounts a) refl e) (length world.mounts) here own
     where
       by : (a b : Location ℕ) → IsOwn a.mount → (o : Option (Mount ℕ)) → child_at nat_eq world.mounts a ≡ o
@@ -210,34 +193,28 @@ module _ (world later : World ℕ) (is : MountInvariants nat_eq world) (are : Mo
 
   -- the parent of a mount
   pub parent_own : (number : ℕ) (point : Location ℕ) → IsOwn number
-      → (mount_numbered nat_eq world number).mount_point ≡ Some point
-      → IsOwn point.mount × Among (suc number) there
+      → (mount_numbered nat_eq world number).mount_point ≡ Some point → IsOwn point.mount × Among (suc number) there
   parent_own number point (mount, m, n, at, kind) e =
       let itself : mount_numbered nat_eq world number ≡ mount =
       ap (mount_numbered nat_eq world) (sym at) ∙ numbered world is mount m in
       let placed : mount.mount_point ≡ Some point = sym (ap (λ (x : Mount ℕ). x.mount_point) itself) ∙ e in
-      ⊎_elim
-      (λ f.
+      ⊎_elim (λ f.
       let above : (mount_numbered nat_eq world point.mount).namespace ≡ Some namespace =
       sym (sym (ap (λ (x : Mount ℕ). x.namespace) (numbered world is mount m))
       ∙ namespace_below world mount.number point (stands world is mount m)
       (ap (λ (x : Mount ℕ). x.mount_point) (numbered world is mount m) ∙ placed)) ∙ f in (
-        ⊎_elim
-            (λ found. (
-              mount_numbered nat_eq world point.mount,
-              found,
-              later_too (mount_numbered nat_eq world point.mount) found above,
-              number-mount_in world.mounts point.mount,
-              inl above,
-            ))
-            (λ none. none_is_some namespace (sym (ap (λ (x : Mount ℕ). x.namespace) none) ∙ above))
+        ⊎_elim (λ found. (
+          mount_numbered nat_eq world point.mount,
+          found,
+          later_too (mount_numbered nat_eq world point.mount) found above,
+          number-mount_in world.mounts point.mount,
+          inl above,
+        )) (λ none. none_is_some namespace (sym (ap (λ (x : Mount ℕ). x.namespace) none) ∙ above))
             (found_or_none world.mounts point.mount),
         subst (λ k. Among (suc k) there) at
             (among-map (λ (x : Mount ℕ). suc x.number) (mounts_of nat_eq world namespace) mount
             (among-filter within world.mounts mount m (is_within mount f))),
-      ))
-      (λ none. absurd (nowhere_unplaced world is mount point m none placed))
-      kind
+      )) (λ none. absurd (nowhere_unplaced world is mount point m none placed)) kind
 
   -- `..` goes on from mount points
   module _ (task : Task ℕ) where
@@ -245,8 +222,7 @@ module _ (world later : World ℕ) (is : MountInvariants nat_eq world) (are : Mo
     hop_in in_world = hop nat_eq (looks_of nat_eq in_world) task
 
     hop_same : (a : Location ℕ) → IsOwn a.mount → hop_in later a ≡ hop_in world a
-    hop_same a own =
-        ap (λ (m : Mount ℕ). cond (same_location nat_eq a task.root) None
+    hop_same a own = ap (λ (m : Mount ℕ). cond (same_location nat_eq a task.root) None
         (cond (nat_eq a.node m.root) m.mount_point None)) (same_mount a.mount own)
 
     pub hop_point : (a b : Location ℕ) → hop_in world a ≡ Some b
@@ -274,10 +250,8 @@ module _ (world later : World ℕ) (is : MountInvariants nat_eq world) (are : Mo
     hop_way number (on_parent it point e below up_stands) a at own =
         by (hop_in world a) refl (λ b same_point own_b. hop_way point.mount up_stands b same_point own_b)
       where
-        by : (o : Option (Location ℕ)) → hop_in world a ≡ o
-            → ((b : Location ℕ) → b.mount ≡ point.mount → IsOwn b.mount
-            → Way (hop_in world) (hop_in later) hop_key there b)
-            → Way (hop_in world) (hop_in later) hop_key there a
+        by : (o : Option (Location ℕ)) → hop_in world a ≡ o → ((b : Location ℕ) → b.mount ≡ point.mount → IsOwn b.mount
+            → Way (hop_in world) (hop_in later) hop_key there b) → Way (hop_in world) (hop_in later) hop_key there a
         by None f rest = ends a f (hop_same a own ∙ f)
         by (Some b) f rest =
             let placed = hop_point a b f in
@@ -290,7 +264,6 @@ module _ (world later : World ℕ) (is : MountInvariants nat_eq world) (are : Mo
 
     pub same_hops : (here : Location ℕ) → IsOwn here.mount
         → hops nat_eq (looks_of nat_eq later) task here ≡ hops nat_eq (looks_of nat_eq world) task here
-    same_hops here own =
-        sym (chains_alike (hop_in world) (hop_in later) hop_key there by_hop_key (length world.mounts)
+    same_hops here own = sym (chains_alike (hop_in world) (hop_in later) hop_key there by_hop_key (length world.mounts)
         (length later.mounts) here
         (hop_way own.0.number (stands world is own.0 own.1) here (sym own.3) own) few few_later)

@@ -48,8 +48,7 @@ module _ (files : FileTree ℕ) (is : IsTree files.tree) (other : ℕ → Option
 
 -- the parent by its name, by what is asked for it
 abbrev parent_by : ℕ → ℕ → Option (Node ℕ) → Option (Node ℕ) → Option ℕ
-parent_by d root node above =
-    cond (nat_eq d root) None (when (is_among nat_eq d (targets_in above)) (parent_in d node))
+parent_by d root node above = cond (nat_eq d root) None (when (is_among nat_eq d (targets_in above)) (parent_in d node))
 
 module _ (world later : World ℕ) (trees : TreeInvariants nat_eq world) (later_trees : TreeInvariants nat_eq later)
     (number : ℕ)
@@ -68,9 +67,7 @@ module _ (world later : World ℕ) (trees : TreeInvariants nat_eq world) (later_
   there_by directory is = directory_used after.tree directory is
 
   after_tree : (directory : ℕ) → IsDirectory after.tree directory → IsTree after.tree
-  after_tree directory is =
-      ⊎_elim (λ tree. tree)
-      (λ none. absurd (true≢false (sym is
+  after_tree directory is = ⊎_elim (λ tree. tree) (λ none. absurd (true≢false (sym is
       ∙ ap (λ (f : Filesystem ℕ). is_directory_node (f.files.tree.node directory)) none.0)))
       (numbered_all (λ (f : Filesystem ℕ). IsTree f.files.tree) number later.filesystems later_trees.trees)
 
@@ -91,11 +88,9 @@ module _ (world later : World ℕ) (trees : TreeInvariants nat_eq world) (later_
   listed_in : (w : World ℕ) → TreeInvariants nat_eq w → (d : ℕ)
       → is_some ((filesystem_numbered nat_eq w number).files.tree.node d) ≡ true
       → Among d (filesystem_numbered nat_eq w number).files.numbers
-  listed_in w invariants d there =
-      ⊎_elim
+  listed_in w invariants d there = ⊎_elim
       (λ numbers. among_numbers (filesystem_numbered nat_eq w number).files.numbers d (numbers d ∙ there))
-      (λ none. absurd (true≢false (sym there
-      ∙ ap (λ (f : Filesystem ℕ). is_some (f.files.tree.node d)) none.0)))
+      (λ none. absurd (true≢false (sym there ∙ ap (λ (f : Filesystem ℕ). is_some (f.files.tree.node d)) none.0)))
       (numbered_all (λ (f : Filesystem ℕ). ListsNumbers nat_eq f.files) number w.filesystems invariants.numbers)
 
   -- the directories above one that has a name
@@ -109,8 +104,7 @@ module _ (world later : World ℕ) (trees : TreeInvariants nat_eq world) (later_
       (λ a b e. ap (named_parent nat_eq after.tree) e) (length after.numbers)
       (length after.numbers + length before.numbers) d
       (way_up after tree (named_parent nat_eq after.tree) after.numbers (λ x directory. refl)
-      (λ x directory. listed_in later later_trees x (there_by x directory)) d is reached)
-      (omega arith) (omega arith)
+      (λ x directory. listed_in later later_trees x (there_by x directory)) d is reached) (omega arith) (omega arith)
       ∙ chains_alike (named_parent nat_eq after.tree) (named_parent nat_eq before.tree) (λ x. x) before.numbers
       (λ a b e. ap (named_parent nat_eq after.tree) e) (length after.numbers + length before.numbers)
       (length before.numbers) d

@@ -71,8 +71,7 @@ module _ (f : ℕ) where
 
   all_sees : (filesystems : List ℕ) (steps : List (List ℕ)) → Met f steps → Met f (all_met filesystems steps)
   all_sees filesystems [] met = met
-  all_sees filesystems (first ∷ steps) met =
-      ⊎_elim
+  all_sees filesystems (first ∷ steps) met = ⊎_elim
       (λ m. among-append_left (filesystems ++ first) (flat_map (λ met. met) steps) f
       (among-append_right filesystems first f m))
       (λ m. among-append_right (filesystems ++ first) (flat_map (λ met. met) steps) f m)
@@ -136,8 +135,7 @@ module _ (f : ℕ) where
             among-append_right (met_at nat_eq looks task here.location word) (flat_map (λ met. met) here.steps) f met
 
     entered_sees : (place : Place ℕ) → Met f place.steps → Met f (entered nat_eq looks place).steps
-    entered_sees place met =
-        all_sees (filesystems_of nat_eq looks (entered_mounts nat_eq looks place)) place.steps met
+    entered_sees place met = all_sees (filesystems_of nat_eq looks (entered_mounts nat_eq looks place)) place.steps met
 
     ended_sees : (here : Here ℕ) (last : Last) → Met f here.steps → Sees f (ended nat_eq looks task here last)
     ended_sees here AsOthers met = met
@@ -161,8 +159,7 @@ module _ (f : ℕ) where
       where
         by : (list : List (List ℕ)) → Sees f (gone_on nat_eq looks task here others last)
             → Sees f (gone_on nat_eq looks task here (record { words = list; slash = text.slash } ∷ others) last)
-        by [] later =
-            unless_then here.steps (end_rules nat_eq looks text.slash here.location) here
+        by [] later = unless_then here.steps (end_rules nat_eq looks text.slash here.location) here
             (λ reached. gone_on nat_eq looks task reached others last) met later
         by (word ∷ list) later = met
 
@@ -193,8 +190,7 @@ module _ (f : ℕ) where
         (λ start. gone_on nat_eq looks task start (first_words text ∷ [])
         (AsFile (last_of text) (slash || ends_in_slash text))) met
         (gone_on_sees (first_words text ∷ []) (symlink_start nat_eq looks task here.location
-        (symlink_of here place) text)
-        (AsFile (last_of text) (slash || ends_in_slash text))
+        (symlink_of here place) text) (AsFile (last_of text) (slash || ends_in_slash text))
         (start_sees here.location (symlink_of here place) text met))
 
     abbrev AfterNext : Here ℕ → List Pending → Last → Type 0
@@ -224,23 +220,18 @@ module _ (f : ℕ) where
     last_sees here (AsName (Named name) slash) met =
         place_then (placed nat_eq looks task here (Named name) slash) (λ place. Ok (Names place))
         (placed_sees here (Named name) slash met) (λ place m. m)
-    last_sees here (AsFile NoWord slash) met =
-        place_then (placed nat_eq looks task here NoWord slash)
+    last_sees here (AsFile NoWord slash) met = place_then (placed nat_eq looks task here NoWord slash)
         (λ place. opened nat_eq looks task here place slash (symlink_there nat_eq looks place))
         (placed_sees here NoWord slash met)
         (λ place m. opened_sees here place slash m (symlink_there nat_eq looks place))
-    last_sees here (AsFile Dot slash) met =
-        place_then (placed nat_eq looks task here Dot slash)
+    last_sees here (AsFile Dot slash) met = place_then (placed nat_eq looks task here Dot slash)
         (λ place. opened nat_eq looks task here place slash (symlink_there nat_eq looks place))
-        (placed_sees here Dot slash met)
-        (λ place m. opened_sees here place slash m (symlink_there nat_eq looks place))
-    last_sees here (AsFile DotDot slash) met =
-        place_then (placed nat_eq looks task here DotDot slash)
+        (placed_sees here Dot slash met) (λ place m. opened_sees here place slash m (symlink_there nat_eq looks place))
+    last_sees here (AsFile DotDot slash) met = place_then (placed nat_eq looks task here DotDot slash)
         (λ place. opened nat_eq looks task here place slash (symlink_there nat_eq looks place))
         (placed_sees here DotDot slash met)
         (λ place m. opened_sees here place slash m (symlink_there nat_eq looks place))
-    last_sees here (AsFile (Named name) slash) met =
-        place_then (placed nat_eq looks task here (Named name) slash)
+    last_sees here (AsFile (Named name) slash) met = place_then (placed nat_eq looks task here (Named name) slash)
         (λ place. opened nat_eq looks task here place slash (symlink_there nat_eq looks place))
         (placed_sees here (Named name) slash met)
         (λ place m. opened_sees here place slash m (symlink_there nat_eq looks place))
@@ -266,12 +257,10 @@ module _ (f : ℕ) where
     pub walked_on_sees : (count : ℕ) (walk : Walk ℕ) → Sees f (Ok walk)
         → Sees f (walked_on nat_eq count looks task walk)
     walked_on_sees zero walk sees = sees
-    walked_on_sees (suc count) (Goes walker) sees =
-        by (one_word nat_eq looks task walker)
+    walked_on_sees (suc count) (Goes walker) sees = by (one_word nat_eq looks task walker)
         (word_by_sees walker.here walker.pending walker.last
         (among-append_right (met_next looks task walker.here.location walker.pending walker.last)
-        (flat_map (λ met. met) walker.here.steps) f sees))
-        (walked_on_sees count)
+        (flat_map (λ met. met) walker.here.steps) f sees)) (walked_on_sees count)
       where
         by : (a : Result (Walk ℕ) (Stop ℕ)) → Sees f a
             → ((walk : Walk ℕ) → Sees f (Ok walk) → Sees f (walked_on nat_eq count looks task walk))

@@ -52,13 +52,11 @@ mounter_by (Some before) (Some after) kept wanted node =
 
 -- what a word that is walked leads to
 abbrev pub walked_to : ℕ → List (List ℕ) → Rules → Result (Location ℕ) Deny → Result (Here ℕ) (Stop ℕ)
-walked_to left steps rules found =
-    stopped_by steps (and_then (unless rules found)
+walked_to left steps rules found = stopped_by steps (and_then (unless rules found)
     (λ reached. Ok (record { location = reached; left = left; steps = steps })))
 
 found_ok : (P : Location ℕ → Type 0) (left : ℕ) (steps : List (List ℕ)) (rules : Rules) (found : Result
-    (Location ℕ) Deny)
-    → ((l : Location ℕ) → found ≡ Ok l → P l)
+    (Location ℕ) Deny) → ((l : Location ℕ) → found ≡ Ok l → P l)
     → IfOk (walked_to left steps rules found) (λ (next : Here ℕ). P next.location)
 found_ok P left steps [] (Ok l) is = is l refl
 found_ok P left steps [] (Err deny) is = tt
@@ -101,13 +99,11 @@ module _ (world later : World ℕ) (isw : IsWorld nat_eq world) (isl : IsWorld n
   mount_same = same_mount world later isw.mounts isl.mounts task.namespace same
 
   pub node_is : (l : Location ℕ) → IsThere l → Kept (shown_at l) → other.node l ≡ one.node l
-  node_is l is kept =
-      first
+  node_is l is kept = first
       ∙ node_same world later isw.files isl.files (shown_at l) kept l.node (sym (ap is_some first) ∙ is.after.1)
     where
       first : other.node l ≡ (filesystem_numbered nat_eq later (shown_at l)).files.tree.node l.node
-      first =
-          ap (λ (m : Mount ℕ). (filesystem_numbered nat_eq later m.filesystem).files.tree.node l.node)
+      first = ap (λ (m : Mount ℕ). (filesystem_numbered nat_eq later m.filesystem).files.tree.node l.node)
           (mount_same l.mount is.own)
 
   pub directory_is : (l : Location ℕ) → IsThere l → Kept (shown_at l) → is_directory_at other l ≡ is_directory_at one l
@@ -121,20 +117,17 @@ module _ (world later : World ℕ) (isw : IsWorld nat_eq world) (isl : IsWorld n
       ∙ ap (λ b. (not (is_directory_node (one.node l)), W3)
       ∷ (not (node_allows task.credentials execute_right (one.node l)), W4) ∷ (not b, W5) ∷ [])
       (ap (λ (m : Mount ℕ). mounter_allows (filesystem_numbered nat_eq later m.filesystem).overlay execute_right
-      (one.node l)) (mount_same l.mount is.own)
-      ∙ mounter_by (filesystem_numbered nat_eq world (shown_at l)).overlay
+      (one.node l)) (mount_same l.mount is.own) ∙ mounter_by (filesystem_numbered nat_eq world (shown_at l)).overlay
       (filesystem_numbered nat_eq later (shown_at l)).overlay kept.overlay execute_right (one.node l))
 
   -- whether a directory has left the root of its mount
   abbrev lost_by : World ℕ → Mount ℕ → ℕ → Bool
-  lost_by w m node =
-      is_removed nat_eq (filesystem_numbered nat_eq w m.filesystem).files.tree node
+  lost_by w m node = is_removed nat_eq (filesystem_numbered nat_eq w m.filesystem).files.tree node
       || not (is_directory_under nat_eq (filesystem_numbered nat_eq w m.filesystem).files m.root node)
 
   lost_is : (l : Location ℕ) → IsThere l → Kept (shown_at l) → is_directory_at one l ≡ true
       → is_lost nat_eq other l ≡ is_lost nat_eq one l
-  lost_is l is kept directory =
-      ap (λ m. lost_by later m l.node) (mount_same l.mount is.own)
+  lost_is l is kept directory = ap (λ m. lost_by later m l.node) (mount_same l.mount is.own)
       ∙ by (is_removed nat_eq (filesystem_numbered nat_eq later (shown_at l)).files.tree l.node) refl
     where
       there : is_directory_node ((filesystem_numbered nat_eq later (shown_at l)).files.tree.node l.node) ≡ true
@@ -147,11 +140,10 @@ module _ (world later : World ℕ) (isw : IsWorld nat_eq world) (isl : IsWorld n
       by : (b : Bool) → is_removed nat_eq (filesystem_numbered nat_eq later (shown_at l)).files.tree l.node ≡ b
           → lost_by later (mount_at one l) l.node ≡ lost_by world (mount_at one l) l.node
       by true e = grind (arith, common_steps, removed)
-      by false e =
-          cc (
-            removed,
-            under_same world later isw.files isl.files (shown_at l) kept (mount_at one l).root l.node there e,
-          )
+      by false e = cc (
+        removed,
+        under_same world later isw.files isl.files (shown_at l) kept (mount_at one l).root l.node there e,
+      )
 
   -- Where `..` goes on from
 
@@ -178,20 +170,17 @@ module _ (world later : World ℕ) (isw : IsWorld nat_eq world) (isl : IsWorld n
   top_of here = last_or here (way here)
 
   way_there : (here : Location ℕ) → IsThere here → (l : Location ℕ) → Among l (way here) → IsThere l
-  way_there here is =
-      chain_each IsThere (hop_in world later isw.mounts isl.mounts task.namespace same task world)
+  way_there here is = chain_each IsThere (hop_in world later isw.mounts isl.mounts task.namespace same task world)
       (λ a b p e. (hop_there a b p e).0) (length world.mounts) here is
 
   way_directories : (here : Location ℕ) → IsThere here → is_directory_at one here ≡ true → (l : Location ℕ)
       → Among l (way here) → IsThere l × (is_directory_at one l ≡ true)
-  way_directories here is directory =
-      chain_each (λ l. IsThere l × (is_directory_at one l ≡ true))
+  way_directories here is directory = chain_each (λ l. IsThere l × (is_directory_at one l ≡ true))
       (hop_in world later isw.mounts isl.mounts task.namespace same task world)
       (λ a b p e. hop_there a b p.0 e) (length world.mounts) here (is, directory)
 
   top_among : (here : Location ℕ) → Among (top_of here) (way here)
-  top_among here =
-      last_among (way here) here
+  top_among here = last_among (way here) here
       (chain_start (hop_in world later isw.mounts isl.mounts task.namespace same task world) (length world.mounts) here)
 
   way_same : (here : Location ℕ) → IsThere here → hops nat_eq other task here ≡ way here
@@ -211,8 +200,7 @@ module _ (world later : World ℕ) (isw : IsWorld nat_eq world) (isl : IsWorld n
 
   pub shown_same : (list : List (Location ℕ)) → ((l : Location ℕ) → Among l list → Own l.mount)
       → filesystems_of nat_eq other list ≡ filesystems_of nat_eq one list
-  shown_same list own =
-      map_alike (λ l. (mount_at other l).filesystem) (λ l. (mount_at one l).filesystem) list
+  shown_same list own = map_alike (λ l. (mount_at other l).filesystem) (λ l. (mount_at one l).filesystem) list
       (λ l m. ap (λ (x : Mount ℕ). x.filesystem) (mount_same l.mount (own l m)))
 
   top_is : (here : Location ℕ) → Own here.mount → is_top nat_eq other task here ≡ is_top nat_eq one task here
@@ -251,8 +239,7 @@ module _ (world later : World ℕ) (isw : IsWorld nat_eq world) (isl : IsWorld n
       → (flat_map other.mounts_over (option_to_list (option_map
       (λ object. record { mount = here.mount; node = object }) o))
       ≡ flat_map one.mounts_over (option_to_list (option_map
-      (λ object. record { mount = here.mount; node = object }) o)))
-      × ((l : Location ℕ)
+      (λ object. record { mount = here.mount; node = object }) o))) × ((l : Location ℕ)
       → Among l (flat_map one.mounts_over
       (option_to_list (option_map (λ object. record { mount = here.mount; node = object }) o))) → Own l.mount)
   object_over here own None = (refl, λ l m. absurd m)
@@ -385,11 +372,8 @@ module _ (world later : World ℕ) (isw : IsWorld nat_eq world) (isl : IsWorld n
 
   -- rules by whether a directory is there
   abbrev pub rules_by : Location ℕ → Bool → Rules
-  rules_by here directory =
-      (not directory, W3)
-      ∷ (not (node_allows task.credentials execute_right (one.node here)), W4)
-      ∷ (not (mounter_allows (one.overlay here) execute_right (one.node here)), W5)
-      ∷ []
+  rules_by here directory = (not directory, W3) ∷ (not (node_allows task.credentials execute_right (one.node here)), W4)
+      ∷ (not (mounter_allows (one.overlay here) execute_right (one.node here)), W5) ∷ []
 
   -- one word
   pub word_is : (here : Here ℕ) (word : LastWord) → IsThere here.location
@@ -414,8 +398,7 @@ module _ (world later : World ℕ) (isw : IsWorld nat_eq world) (isl : IsWorld n
           (stepped nat_eq other task here.location word)
           ≡ walked_to here.left steps (search_rules nat_eq one task here.location)
           (stepped nat_eq one task here.location word)
-      found_same true e =
-          ap (walked_to here.left steps (search_rules nat_eq one task here.location))
+      found_same true e = ap (walked_to here.left steps (search_rules nat_eq one task here.location))
           (stepped_is here.location word is e kept).0
       found_same false e = cc (e)
 
@@ -425,9 +408,7 @@ module _ (world later : World ℕ) (isw : IsWorld nat_eq world) (isl : IsWorld n
           (λ (next : Here ℕ). IsThere next.location × Kept (shown_at next.location))
       found_there true e =
           found_ok (λ l. IsThere l × Kept (shown_at l)) here.left steps (search_rules nat_eq one task here.location)
-          (stepped nat_eq one task here.location word)
-          (λ l f. reached_there here.location word is e kept l f)
-      found_there false e =
-          subst (λ d. IfOk (walked_to here.left steps (rules_by here.location d)
+          (stepped nat_eq one task here.location word) (λ l f. reached_there here.location word is e kept l f)
+      found_there false e = subst (λ d. IfOk (walked_to here.left steps (rules_by here.location d)
           (stepped nat_eq one task here.location word))
           (λ (next : Here ℕ). IsThere next.location × Kept (shown_at next.location))) (sym e) tt

@@ -177,14 +177,13 @@ module _ (world later : World ℕ) (isw : IsWorld nat_eq world) (isl : IsWorld n
   end_is here AsOthers there true e = refl
   end_is here (NotFollowed word) there true e = refl
   end_is here (AsName NoWord slash) there true e = refl
-  end_is here (AsFile NoWord slash) there true e =
-      ap (λ l. Ok (Names (record {
-        parent = here.location;
-        last = NoWord;
-        object = Some l;
-        slash = false;
-        steps = all_met [] here.steps;
-      }))) (topmost_same world later isw isl task stands.mounts here.location there.own)
+  end_is here (AsFile NoWord slash) there true e = ap (λ l. Ok (Names (record {
+    parent = here.location;
+    last = NoWord;
+    object = Some l;
+    slash = false;
+    steps = all_met [] here.steps;
+  }))) (topmost_same world later isw isl task stands.mounts here.location there.own)
   end_is here last there true e = absurd (true≢false (sym e))
 
   end_fine : (here : Here ℕ) (last : Last) → There here.location → (b : Bool)
@@ -278,12 +277,10 @@ module _ (world later : World ℕ) (isw : IsWorld nat_eq world) (isl : IsWorld n
         ap (λ r. then_walk r (λ next. arrived nat_eq after task here.location next
             (record { words = list; slash = slash } ∷ others) last (symlink_text (after.node next.location)))) step.0
             ∙ then_if (λ (next : Here ℕ). There next.location × KeptOne (shown next.location))
-            (word_walked nat_eq before task here (last_word word))
-            (λ next. arrived nat_eq after task here.location next
+            (word_walked nat_eq before task here (last_word word)) (λ next. arrived nat_eq after task here.location next
             (record { words = list; slash = slash } ∷ others) last (symlink_text (after.node next.location)))
             (λ next. arrived nat_eq before task here.location next
-            (record { words = list; slash = slash } ∷ others) last (symlink_text (before.node next.location)))
-            step.1
+            (record { words = list; slash = slash } ∷ others) last (symlink_text (before.node next.location))) step.1
             (λ next fine.
             ap (λ n. arrived nat_eq after task here.location next (record { words = list; slash = slash } ∷ others) last
             (symlink_text n)) (node_is world later isw isl task stands.mounts next.location fine.0 fine.1)
@@ -292,8 +289,7 @@ module _ (world later : World ℕ) (isw : IsWorld nat_eq world) (isl : IsWorld n
         fine_if (λ (next : Here ℕ). There next.location × KeptOne (shown next.location))
             (word_walked nat_eq before task here (last_word word))
             (λ next. arrived nat_eq before task here.location next
-            (record { words = list; slash = slash } ∷ others) last (symlink_text (before.node next.location)))
-            step.1
+            (record { words = list; slash = slash } ∷ others) last (symlink_text (before.node next.location))) step.1
             (λ next fine. (arrived_is here.location directory next (kept_standing next.location fine.0 fine.1)
             (record { words = list; slash = slash } ∷ others) last (symlink_text (before.node next.location))).1),
       )
@@ -312,8 +308,7 @@ module _ (world later : World ℕ) (isw : IsWorld nat_eq world) (isl : IsWorld n
 
   entry_fine : (here : Location ℕ) → There here → KeptOne (shown here) → is_directory_at before here ≡ true
       → (name : List ℕ) → ObjectFine (entry_location nat_eq before here name)
-  entry_fine here there kept directory name l e =
-      by (entry_named name (entries_in (before.node here))) e
+  entry_fine here there kept directory name l e = by (entry_named name (entries_in (before.node here))) e
     where
       by : (o : Option ℕ) → option_map (λ object. record { mount = here.mount; node = object }) o ≡ Some l
           → There l × KeptOne (shown l)
@@ -355,14 +350,13 @@ module _ (world later : World ℕ) (isw : IsWorld nat_eq world) (isl : IsWorld n
 
   abbrev placed_to : Here ℕ → LastWord → Bool → List (List ℕ) → Rules → Result (Option (Location ℕ)) Deny
       → Result (Place ℕ) (Stop ℕ)
-  placed_to here word slash steps rules found =
-      stopped_by steps (and_then (unless rules found) (λ object. Ok (record {
-        parent = here.location;
-        last = word;
-        object = object;
-        slash = slash;
-        steps = steps;
-      })))
+  placed_to here word slash steps rules found = stopped_by steps (and_then (unless rules found) (λ object. Ok (record {
+    parent = here.location;
+    last = word;
+    object = object;
+    slash = slash;
+    steps = steps;
+  })))
 
   placed_fine : (here : Here ℕ) (word : LastWord) (slash : Bool) (steps : List (List ℕ)) → Owned here.location.mount
       → (rules : Rules) (found : Result (Option (Location ℕ)) Deny) → IfOk found ObjectFine
@@ -380,8 +374,7 @@ module _ (world later : World ℕ) (isw : IsWorld nat_eq world) (isl : IsWorld n
       → (placed_to here word slash (steps_at nat_eq after task here word) (search_rules nat_eq after task here.location)
       (object_named nat_eq after task here.location word)
       ≡ placed_to here word slash (steps_at nat_eq before task here word)
-      (search_rules nat_eq before task here.location)
-      (object_named nat_eq before task here.location word))
+      (search_rules nat_eq before task here.location) (object_named nat_eq before task here.location word))
       × IfOk (placed_to here word slash (steps_at nat_eq before task here word)
       (search_rules nat_eq before task here.location) (object_named nat_eq before task here.location word)) PlaceFine
   named_is here word slash there kept met same = (
@@ -404,19 +397,16 @@ module _ (world later : World ℕ) (isw : IsWorld nat_eq world) (isl : IsWorld n
           (object_named nat_eq after task here.location word)
           ≡ placed_to here word slash steps (search_rules nat_eq before task here.location)
           (object_named nat_eq before task here.location word)
-      found_same true e =
-          ap (placed_to here word slash steps (search_rules nat_eq before task here.location))
+      found_same true e = ap (placed_to here word slash steps (search_rules nat_eq before task here.location))
           (object_is here.location word there e met).0
       found_same false e = cc (e)
 
       found_fine : (b : Bool) → is_directory_at before here.location ≡ b
           → IfOk (placed_to here word slash steps (search_rules nat_eq before task here.location)
           (object_named nat_eq before task here.location word)) PlaceFine
-      found_fine true e =
-          placed_fine here word slash steps there.own (search_rules nat_eq before task here.location)
+      found_fine true e = placed_fine here word slash steps there.own (search_rules nat_eq before task here.location)
           (object_named nat_eq before task here.location word) (object_is here.location word there e met).1
-      found_fine false e =
-          subst (λ d. IfOk (placed_to here word slash steps (rules_of d)
+      found_fine false e = subst (λ d. IfOk (placed_to here word slash steps (rules_of d)
           (object_named nat_eq before task here.location word)) PlaceFine) (sym e) tt
 
   placed_is : (here : Here ℕ) (word : LastWord) (slash : Bool) → There here.location → is_no_word word ≡ false
@@ -424,8 +414,7 @@ module _ (world later : World ℕ) (isw : IsWorld nat_eq world) (isl : IsWorld n
       → (placed nat_eq after task here word slash ≡ placed nat_eq before task here word slash)
       × IfOk (placed nat_eq before task here word slash) PlaceFine
   placed_is here NoWord slash there some kept = absurd (true≢false some)
-  placed_is here Dot slash there some kept =
-      named_is here Dot slash there (kept (shown here.location) (inl refl)) kept
+  placed_is here Dot slash there some kept = named_is here Dot slash there (kept (shown here.location) (inl refl)) kept
       (met_is world later isw isl task stands.mounts here.location Dot there kept)
   placed_is here DotDot slash there some kept =
       named_is here DotDot slash there (kept_here world later isw isl task stands.mounts here.location DotDot kept) kept
@@ -449,8 +438,7 @@ module _ (world later : World ℕ) (isw : IsWorld nat_eq world) (isl : IsWorld n
           → made after special object ≡ made before special object
       by true None fine = refl
       by false None fine = refl
-      by true (Some l) fine =
-          ap (λ x. record place { object = Some x; steps = all_met [] place.steps })
+      by true (Some l) fine = ap (λ x. record place { object = Some x; steps = all_met [] place.steps })
           (topmost_same world later isw isl task stands.mounts l (fine l refl).0.own)
       by false (Some l) fine =
           let own = (fine l refl).0.own in
@@ -544,8 +532,7 @@ module _ (world later : World ℕ) (isw : IsWorld nat_eq world) (isl : IsWorld n
   last_is here (AsFile NoWord slash) there has kept = absurd (true≢false has)
   last_is here (AsFile Dot slash) there has kept =
       file_is here Dot slash there refl kept (kept (shown here.location) (inl refl))
-  last_is here (AsFile DotDot slash) there has kept =
-      file_is here DotDot slash there refl kept
+  last_is here (AsFile DotDot slash) there has kept = file_is here DotDot slash there refl kept
       (kept_here world later isw isl task stands.mounts here.location DotDot kept)
   last_is here (AsFile (Named name) slash) there has kept =
       file_is here (Named name) slash there refl kept (kept (shown here.location) (inl refl))
@@ -581,15 +568,13 @@ module _ (world later : World ℕ) (isw : IsWorld nat_eq world) (isl : IsWorld n
       → AllKept (walked_on nat_eq count before task walk)
       → walked_on nat_eq count after task walk ≡ walked_on nat_eq count before task walk
   walked_is zero n walk has fine kept = refl
-  walked_is (suc count) n (Goes walker) has fine kept =
-      ap (λ r. then_walk r (walked_on nat_eq count after task)) next.0
+  walked_is (suc count) n (Goes walker) has fine kept = ap (λ r. then_walk r (walked_on nat_eq count after task)) next.0
       ∙ by (one_word nat_eq before task walker) next.1 (one_word_steps before task walker has.0) kept
       (walked_is count (suc (length walker.here.steps)))
     where
       next : (one_word nat_eq after task walker ≡ one_word nat_eq before task walker)
           × Fine (one_word nat_eq before task walker)
-      next =
-          one_word_is walker.here walker.pending walker.last fine has.0.last has.0.word
+      next = one_word_is walker.here walker.pending walker.last fine has.0.last has.0.word
           (λ f m. kept f (sees_on count f (one_word nat_eq before task walker)
           (word_by_sees f before task walker.here walker.pending walker.last
           (among-append_left (met_next before task walker.here.location walker.pending walker.last)
@@ -610,8 +595,7 @@ module _ (world later : World ℕ) (isw : IsWorld nat_eq world) (isl : IsWorld n
   any_ok (Ok x) = tt
   any_ok (Err stop) = tt
 
-  begun_is : (aim : Aim) (path : List ℕ)
-      → (begun nat_eq aim after task path ≡ begun nat_eq aim before task path)
+  begun_is : (aim : Aim) (path : List ℕ) → (begun nat_eq aim after task path ≡ begun nat_eq aim before task path)
       × Fine (begun nat_eq aim before task path)
   begun_is aim path = (
     then_same (path_text path) (from after) (from before) (λ text. (start_of_walk text).0),
@@ -638,8 +622,7 @@ module _ (world later : World ℕ) (isw : IsWorld nat_eq world) (isl : IsWorld n
       → AllKept (then_walk (begun nat_eq aim before task path) (walked_on nat_eq count before task))
       → then_walk (begun nat_eq aim after task path) (walked_on nat_eq count after task)
       ≡ then_walk (begun nat_eq aim before task path) (walked_on nat_eq count before task)
-  words_lead_alike aim path count kept =
-      ap (λ r. then_walk r (walked_on nat_eq count after task)) (begun_is aim path).0
+  words_lead_alike aim path count kept = ap (λ r. then_walk r (walked_on nat_eq count after task)) (begun_is aim path).0
       ∙ by (begun nat_eq aim before task path) (begun_is aim path).1 (begun_steps before task on_directories path aim)
       kept
     where

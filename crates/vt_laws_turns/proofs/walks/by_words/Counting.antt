@@ -93,8 +93,7 @@ module _ (looks : Looks ℕ) (task : Task ℕ) where
 
   word_steps : (here : Here ℕ) (word : LastWord) (count : ℕ) → here.left ≤ most_symlinks → length here.steps ≡ count
       → HereHasSteps (suc count) (word_walked nat_eq looks task here word)
-  word_steps here word count few same =
-      walked_steps here.left (suc count) (steps_with nat_eq looks task here word)
+  word_steps here word count few same = walked_steps here.left (suc count) (steps_with nat_eq looks task here word)
       (search_rules nat_eq looks task here.location) (stepped nat_eq looks task here.location word) few (ap suc same)
 
   named_steps : {A : Type 0} (count : ℕ) (steps : List (List ℕ)) (rules : Rules) (found : Result A Deny)
@@ -145,8 +144,7 @@ module _ (looks : Looks ℕ) (task : Task ℕ) where
 
   -- an end is no step
   end_steps : (here : Here ℕ) (last : Last) (count : ℕ) → length here.steps ≡ count → here.left ≤ most_symlinks
-      → HasItsWord last → (b : Bool) → has_no_word last ≡ b
-      → HasSteps count (cond b (ended nat_eq looks task here last)
+      → HasItsWord last → (b : Bool) → has_no_word last ≡ b → HasSteps count (cond b (ended nat_eq looks task here last)
       (Ok (Goes (record { here = here; pending = []; last = last }))))
   end_steps here last count same few has false e = (record { left = few; last = has; word = ap not e }, same)
   end_steps here AsOthers count same few has true e = same
@@ -161,11 +159,9 @@ module _ (looks : Looks ℕ) (task : Task ℕ) where
   gone_on_steps (text ∷ others) here last count same few has =
       by text.words (gone_on_steps others here last count same few has)
     where
-      by : (list : List (List ℕ)) → HasSteps count (gone_on nat_eq looks task here others last)
-          → HasSteps count
+      by : (list : List (List ℕ)) → HasSteps count (gone_on nat_eq looks task here others last) → HasSteps count
           (gone_on nat_eq looks task here (record { words = list; slash = text.slash } ∷ others) last)
-      by [] later =
-          unless_then count here.steps (end_rules nat_eq looks text.slash here.location) here
+      by [] later = unless_then count here.steps (end_rules nat_eq looks text.slash here.location) here
           (λ reached. gone_on nat_eq looks task reached others last) same later
       by (word ∷ list) later = (record { left = few; last = has; word = refl }, same)
 
@@ -179,8 +175,7 @@ module _ (looks : Looks ℕ) (task : Task ℕ) where
   arrived_steps : (directory : Location ℕ) (next : Here ℕ) (pending : List Pending) (last : Last) (count : ℕ)
       → length next.steps ≡ count → next.left ≤ most_symlinks → HasItsWord last → (text : Option (List ℕ))
       → HasSteps count (arrived nat_eq looks task directory next pending last text)
-  arrived_steps directory next pending last count same few has None =
-      gone_on_steps pending next last count same few has
+  arrived_steps directory next pending last count same few has None = gone_on_steps pending next last count same few has
   arrived_steps directory next pending last count same few has (Some text) =
       unless_then count next.steps (follow_rules nat_eq looks next text)
       (symlink_start nat_eq looks task directory next text)
@@ -197,8 +192,7 @@ module _ (looks : Looks ℕ) (task : Task ℕ) where
       → HasSteps count (gone_on nat_eq looks task start (first_words text ∷ []) (AsFile (last_of text) slash))
   first_words_steps text slash start count same few = by (reverse (words text))
     where
-      by : (list : List (List ℕ))
-          → HasSteps count (gone_on nat_eq looks task start
+      by : (list : List (List ℕ)) → HasSteps count (gone_on nat_eq looks task start
           (record { words = reverse (rest_of list); slash = false } ∷ []) (AsFile (final_word list) slash))
       by [] = entered_steps (record {
         parent = start.location;
@@ -207,10 +201,8 @@ module _ (looks : Looks ℕ) (task : Task ℕ) where
         slash = false;
         steps = start.steps;
       }) count same
-      by (word ∷ list) =
-          gone_on_steps (record { words = reverse list; slash = false } ∷ []) start (AsFile
-          (last_word word) slash) count
-          same few (word_is_one word)
+      by (word ∷ list) = gone_on_steps (record { words = reverse list; slash = false } ∷ []) start (AsFile
+          (last_word word) slash) count same few (word_is_one word)
 
   opened_steps : (here : Here ℕ) (place : Place ℕ) (slash : Bool) (count : ℕ) → length place.steps ≡ count
       → here.left ≤ most_symlinks → (text : Option (List ℕ))
@@ -220,8 +212,7 @@ module _ (looks : Looks ℕ) (task : Task ℕ) where
       unless_then count place.steps (follow_rules nat_eq looks (symlink_of here place) text)
       (symlink_start nat_eq looks task here.location (symlink_of here place) text)
       (λ start. gone_on nat_eq looks task start (first_words text ∷ [])
-      (AsFile (last_of text) (slash || ends_in_slash text))) same
-      (first_words_steps text (slash || ends_in_slash text)
+      (AsFile (last_of text) (slash || ends_in_slash text))) same (first_words_steps text (slash || ends_in_slash text)
       (symlink_start nat_eq looks task here.location (symlink_of here place) text) count
       (start_steps here.location (symlink_of here place) text count same) (one_less here.left few))
 
@@ -269,8 +260,7 @@ module _ (looks : Looks ℕ) (task : Task ℕ) where
           (λ next fewer is. arrived_steps here.location next (record { words = list; slash = slash } ∷ others)
           walker.last (suc (length here.steps)) is fewer half.last (symlink_text (looks.node next.location)))
 
-      by : (pending : List Pending) → has_word pending walker.last ≡ true
-          → HasSteps (suc (length here.steps))
+      by : (pending : List Pending) → has_word pending walker.last ≡ true → HasSteps (suc (length here.steps))
           (one_word nat_eq looks task (record { here = here; pending = pending; last = walker.last }))
       by [] some =
           last_steps here walker.last (length here.steps) refl half.left (turned (has_no_word walker.last) some)

@@ -70,8 +70,7 @@ unless_same most least steps ((false, rule) ∷ rules) here few long longer =
 
 -- what comes after the rules by which a symlink is followed: some are left
 pub followed_same : {A B : Type 0} (steps : List (List ℕ)) (start : A) (f g : A → Result B (Stop ℕ)) (a b c : Bool)
-    → (b ≡ false → f start ≡ g start)
-    → then_walk (walk_unless steps ((a, W9) ∷ (b, W7) ∷ (c, W2) ∷ []) start) f
+    → (b ≡ false → f start ≡ g start) → then_walk (walk_unless steps ((a, W9) ∷ (b, W7) ∷ (c, W2) ∷ []) start) f
     ≡ then_walk (walk_unless steps ((a, W9) ∷ (b, W7) ∷ (c, W2) ∷ []) start) g
 followed_same steps start f g true b c same = refl
 followed_same steps start f g false true c same = refl
@@ -103,8 +102,7 @@ length-also_met filesystem (met ∷ steps) = refl
 module _ (looks : Looks ℕ) (task : Task ℕ) where
   -- one word is one step more
   abbrev walked_by : ℕ → List (List ℕ) → Rules → Result (Location ℕ) Deny → Result (Here ℕ) (Stop ℕ)
-  walked_by left steps rules found =
-      stopped_by steps (and_then (unless rules found)
+  walked_by left steps rules found = stopped_by steps (and_then (unless rules found)
       (λ reached. Ok (record { location = reached; left = left; steps = steps })))
 
   walked_within : (most least left : ℕ) (steps : List (List ℕ)) (rules : Rules) (found : Result (Location ℕ) Deny)
@@ -127,8 +125,7 @@ module _ (looks : Looks ℕ) (task : Task ℕ) where
 
   -- two ways to follow symlinks of which no more are left
   abbrev pub FollowAlike : ℕ → Follow ℕ → Follow ℕ → Type 0
-  FollowAlike most f g =
-      (directory : Location ℕ) (symlink : Here ℕ) (text : List ℕ) (least : ℕ) → symlink.left ≤ most
+  FollowAlike most f g = (directory : Location ℕ) (symlink : Here ℕ) (text : List ℕ) (least : ℕ) → symlink.left ≤ most
       → least ≤ length symlink.steps → Same most least (f directory symlink text) (g directory symlink text)
 
   symlink_by : (most : ℕ) (f g : Follow ℕ) → FollowAlike most f g → (directory : Location ℕ) (next : Here ℕ) (least : ℕ)
@@ -155,8 +152,7 @@ module _ (looks : Looks ℕ) (task : Task ℕ) where
 
   -- the words of a symlink's text, and the check of a slash at its end
   abbrev pub text_walked : Follow ℕ → List ℕ → Here ℕ → Result (Here ℕ) (Stop ℕ)
-  text_walked f text start =
-      then_walk (words_walked nat_eq looks task f start (reverse (words text))) (λ reached.
+  text_walked f text start = then_walk (words_walked nat_eq looks task f start (reverse (words text))) (λ reached.
       walk_unless reached.steps (slash_rules nat_eq looks text reached.location) reached)
 
   pub text_same : (less most : ℕ) → less ≤ most → (f g : Follow ℕ) → FollowAlike less f g → (text : List ℕ)
@@ -167,8 +163,7 @@ module _ (looks : Looks ℕ) (task : Task ℕ) where
       (words_walked nat_eq looks task g start (reverse (words text)))
       (λ reached. walk_unless reached.steps (slash_rules nat_eq looks text reached.location) reached)
       (λ reached. walk_unless reached.steps (slash_rules nat_eq looks text reached.location) reached)
-      (words_same less f g alike start least few long (reverse (words text)))
-      (λ reached few_left longer.
+      (words_same less f g alike start least few long (reverse (words text))) (λ reached few_left longer.
       unless_same less least reached.steps (slash_rules nat_eq looks text reached.location) reached few_left longer
       longer) in
       (s.0, within_more less most least (text_walked f text start) fewer s.1)
@@ -176,8 +171,7 @@ module _ (looks : Looks ℕ) (task : Task ℕ) where
   -- a symlink followed in two ways that are alike where one symlink less is left
   symlink_same : (most : ℕ) (f g : Follow ℕ)
       → ((less : ℕ) → most ≡ suc less → FollowAlike less f g) → (directory : Location ℕ) (symlink : Here ℕ)
-      (text : List ℕ) (least : ℕ) → symlink.left ≤ most → least ≤ length symlink.steps
-      → Same most least
+      (text : List ℕ) (least : ℕ) → symlink.left ≤ most → least ≤ length symlink.steps → Same most least
       (then_walk (walk_unless symlink.steps (follow_rules nat_eq looks symlink text)
       (symlink_start nat_eq looks task directory symlink text)) (text_walked f text))
       (then_walk (walk_unless symlink.steps (follow_rules nat_eq looks symlink text)

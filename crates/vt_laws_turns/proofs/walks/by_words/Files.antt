@@ -13,8 +13,7 @@ use Rattle.vt_spec.specs.Machine.World.{Task}
 use Rattle.vt_spec.specs.PathText.{ends_in_slash, words}
 use Rattle.vt_laws_turns.proofs.walks.by_words.Depths.{FollowAlike, Within, followed_same, one_left, start_long, texts_same, then_same, then_within, words_same}
 
-pub length-all_met : (filesystems : List ℕ) (steps : List (List ℕ))
-    → length (all_met filesystems steps) ≡ length steps
+pub length-all_met : (filesystems : List ℕ) (steps : List (List ℕ)) → length (all_met filesystems steps) ≡ length steps
 length-all_met filesystems [] = refl
 length-all_met filesystems (met ∷ steps) = refl
 
@@ -24,8 +23,7 @@ Longer least (Ok place) = least ≤ length place.steps
 Longer least (Err stop) = least ≤ length stop.steps
 
 pub longer_then : (most least : ℕ) (a : Result (Here ℕ) (Stop ℕ)) (f : Here ℕ → Result (Place ℕ) (Stop ℕ))
-    → Within most least a
-    → ((here : Here ℕ) → here.left ≤ most → least ≤ length here.steps → Longer least (f here))
+    → Within most least a → ((here : Here ℕ) → here.left ≤ most → least ≤ length here.steps → Longer least (f here))
     → Longer least (then_walk a f)
 longer_then most least (Ok here) f w next = next here w.0 w.1
 longer_then most least (Err stop) f w next = w
@@ -100,8 +98,7 @@ module _ (looks : Looks ℕ) (task : Task ℕ) where
 
   -- what comes after the first words and the last one of a path to a file
   abbrev pub file_from : ℕ → Here ℕ → Place ℕ → Bool → Option (List ℕ) → Result (Place ℕ) (Stop ℕ)
-  file_from depth here place slash inner =
-      file_or_symlink nat_eq looks place inner (λ text.
+  file_from depth here place slash inner = file_or_symlink nat_eq looks place inner (λ text.
       then_walk (walk_unless place.steps (follow_rules nat_eq looks (symlink_of here place) text)
       (symlink_start nat_eq looks task here.location (symlink_of here place) text)) (λ next.
       file_walked nat_eq depth looks task next text slash))
@@ -128,11 +125,9 @@ module _ (looks : Looks ℕ) (task : Task ℕ) where
       → (start : Here ℕ) (text : List ℕ) (slash : Bool) → start.left ≤ most
       → file_walked nat_eq (suc d) looks task start text slash ≡ file_walked nat_eq (suc e) looks task start text slash
   file_by most d e small same start text slash few =
-      then_within most 0 (prefix_walked nat_eq looks task (followed nat_eq looks task) start (reverse (words text)))
-      _ _
+      then_within most 0 (prefix_walked nat_eq looks task (followed nat_eq looks task) start (reverse (words text))) _ _
       (prefix_within most (followed nat_eq looks task) (follow_alike most small) start 0 few (omega arith)
-      (reverse (words text)))
-      (λ here fewer long.
+      (reverse (words text))) (λ here fewer long.
       then_same (placed nat_eq looks task here (final_word (reverse (words text))) (slash || ends_in_slash text)) _ _
       (λ place. from_same most d e same here fewer place (slash || ends_in_slash text)
       (symlink_there nat_eq looks place)))
@@ -141,8 +136,7 @@ module _ (looks : Looks ℕ) (task : Task ℕ) where
   pub files_same : (most d e : ℕ) → most ≤ d → most ≤ e → most ≤ most_symlinks → (start : Here ℕ) (text : List ℕ)
       (slash : Bool) → start.left ≤ most
       → file_walked nat_eq (suc d) looks task start text slash ≡ file_walked nat_eq (suc e) looks task start text slash
-  files_same zero d e deep deeper small =
-      file_by zero d e small (λ less same. absurd (omega (arith, same)))
+  files_same zero d e deep deeper small = file_by zero d e small (λ less same. absurd (omega (arith, same)))
   files_same (suc most) zero e deep deeper small = absurd (omega (arith, deep))
   files_same (suc most) (suc d) zero deep deeper small = absurd (omega (arith, deeper))
   files_same (suc most) (suc d) (suc e) deep deeper small =
@@ -159,8 +153,7 @@ module _ (looks : Looks ℕ) (task : Task ℕ) where
   from_long depth slash least later here few place long None =
       subst (λ n. least ≤ n) (sym (length-all_met (filesystems_of nat_eq looks (entered_mounts nat_eq looks place))
       place.steps)) long
-  from_long depth slash least later here few place long (Some inside) =
-      longer_followed least place.steps
+  from_long depth slash least later here few place long (Some inside) = longer_followed least place.steps
       (symlink_start nat_eq looks task here.location (symlink_of here place) inside)
       (λ next. file_walked nat_eq depth looks task next inside slash)
       (mount_at looks (symlink_of here place).location).flags.nosymfollow (here.left == 0)
@@ -174,16 +167,12 @@ module _ (looks : Looks ℕ) (task : Task ℕ) where
   pub file_long : (depth : ℕ) (start : Here ℕ) (text : List ℕ) (slash : Bool) (least : ℕ) → start.left ≤ most_symlinks
       → least ≤ length start.steps → Longer least (file_walked nat_eq depth looks task start text slash)
   file_long zero start text slash least few long = long
-  file_long (suc depth) start text slash least few long =
-      longer_then most_symlinks least
-      (prefix_walked nat_eq looks task (followed nat_eq looks task) start (reverse (words text)))
-      (λ here. then_walk
+  file_long (suc depth) start text slash least few long = longer_then most_symlinks least
+      (prefix_walked nat_eq looks task (followed nat_eq looks task) start (reverse (words text))) (λ here. then_walk
       (placed nat_eq looks task here (final_word (reverse (words text))) (slash || ends_in_slash text)) (λ place.
       file_from depth here place (slash || ends_in_slash text) (symlink_there nat_eq looks place)))
       (prefix_within most_symlinks (followed nat_eq looks task) (follow_alike most_symlinks (omega arith)) start least
-      few long (reverse (words text)))
-      (λ here fewer longer.
-      longer_place least
+      few long (reverse (words text))) (λ here fewer longer. longer_place least
       (placed nat_eq looks task here (final_word (reverse (words text))) (slash || ends_in_slash text))
       (λ place. file_from depth here place (slash || ends_in_slash text) (symlink_there nat_eq looks place))
       (placed_long here (final_word (reverse (words text))) (slash || ends_in_slash text) least longer)

@@ -49,8 +49,7 @@ module _ (looks : Looks ℕ) (task : Task ℕ) where
   -- the end of a walk, and what is then left
   end_means : (here : Here ℕ) (last : Last) → IsQuiet here last → (b : Bool) → has_no_word last ≡ b
       → then_walk (cond b (ended nat_eq looks task here last)
-      (Ok (Goes (record { here = here; pending = []; last = last })))) rest
-      ≡ taken here last
+      (Ok (Goes (record { here = here; pending = []; last = last })))) rest ≡ taken here last
   end_means here last quiet false e = refl
   end_means here AsOthers quiet true e = refl
   end_means here (NotFollowed NoWord) quiet true e = refl
@@ -86,8 +85,7 @@ module _ (looks : Looks ℕ) (task : Task ℕ) where
       → left_from start (all_words text ∷ pending) last
       ≡ then_walk (text_walked looks task (symlink_walked nat_eq most_symlinks looks task) text start)
       (λ there. left_from there pending last)
-  text_means text start few pending last =
-      ap (λ r. then_walk r (λ there. taken there last))
+  text_means text start few pending last = ap (λ r. then_walk r (λ there. taken there last))
       (sym (then_then (words_walked nat_eq looks task follow start (reverse (words text))) (λ reached.
       walk_unless reached.steps (slash_rules nat_eq looks text reached.location) reached)
       (λ there. texts there pending)))
@@ -105,8 +103,7 @@ module _ (looks : Looks ℕ) (task : Task ℕ) where
     abbrev after : Here ℕ → Result (Walk ℕ) (Stop ℕ)
     after reached =
         then_walk (then_walk (walk_unless reached.steps (end_rules nat_eq looks slash reached.location) reached)
-        (λ there.
-        texts there others)) (λ there. taken there last)
+        (λ there. texts there others)) (λ there. taken there last)
 
     left_is : (there : Here ℕ)
         → left_from there pending last ≡ then_walk (words_walked nat_eq looks task follow there (reverse left)) after
@@ -124,8 +121,7 @@ module _ (looks : Looks ℕ) (task : Task ℕ) where
         (λ begin. then_walk (text_walked looks task (symlink_walked nat_eq most_symlinks looks task) text begin)
         (λ there. then_walk (words_walked nat_eq looks task follow there (reverse left)) after))
         (mount_at looks next.location).flags.nosymfollow (next.left == 0)
-        (list_any (λ word. nat_lt longest_name (length word)) (words text))
-        (λ some_left.
+        (list_any (λ word. nat_lt longest_name (length word)) (words text)) (λ some_left.
         gone_on_means (all_words text ∷ pending) start last (quiet start)
         ∙ text_means text start (fewer (one_left next.left most_symlinks few some_left)) pending last
         ∙ then_same (text_walked looks task (symlink_walked nat_eq most_symlinks looks task) text start)
@@ -148,15 +144,13 @@ module _ (looks : Looks ℕ) (task : Task ℕ) where
     pub text_word_means : here.left ≤ most_symlinks → (word : List ℕ)
         → then_walk (text_word nat_eq looks task here (word ∷ left) slash others last) rest
         ≡ left_from here (record { words = word ∷ left; slash = slash } ∷ others) last
-    text_word_means few word =
-        then_then (word_walked nat_eq looks task here (last_word word)) (λ next.
+    text_word_means few word = then_then (word_walked nat_eq looks task here (last_word word)) (λ next.
         arrived nat_eq looks task here.location next pending last (symlink_text (looks.node next.location))) rest
         ∙ then_within most_symlinks 0 (word_walked nat_eq looks task here (last_word word)) (λ next.
         then_walk (arrived nat_eq looks task here.location next pending last
         (symlink_text (looks.node next.location))) rest) (λ next.
         then_walk (then_walk (if_symlink next (symlink_text (looks.node next.location))
-        (follow here.location next)) (λ r.
-        words_walked nat_eq looks task follow r (reverse left))) after)
+        (follow here.location next)) (λ r. words_walked nat_eq looks task follow r (reverse left))) after)
         (word_within looks task most_symlinks 0 here (last_word word) few (omega arith))
         (λ next fewer long. arrived_means next fewer (symlink_text (looks.node next.location)))
         ∙ sym (then_then (word_walked nat_eq looks task here (last_word word)) (λ next.
@@ -170,8 +164,7 @@ module _ (looks : Looks ℕ) (task : Task ℕ) where
   -- The last word
 
   -- the first words of a text, and then its last
-  pub first_words_mean : (text : List ℕ) (start : Here ℕ) (last : Last)
-      → left_from start (first_words text ∷ []) last
+  pub first_words_mean : (text : List ℕ) (start : Here ℕ) (last : Last) → left_from start (first_words text ∷ []) last
       ≡ then_walk (prefix_walked nat_eq looks task follow start (reverse (words text))) (λ here. taken here last)
   first_words_mean text start last = grind (arith, common_steps, then_ok, reverse-reverse)
 
@@ -191,8 +184,7 @@ module _ (looks : Looks ℕ) (task : Task ℕ) where
       (λ place. file_from looks task depth here place (slash || ends_in_slash text)
       (symlink_there nat_eq looks place))))
       (prefix_within looks task depth follow (follow_alike looks task depth small) start 0 few (omega arith)
-      (reverse (words text)))
-      (λ here fewer long. ap (names nat_eq)
+      (reverse (words text))) (λ here fewer long. ap (names nat_eq)
       (then_same (placed nat_eq looks task here (last_of text) (slash || ends_in_slash text)) _ _
       (λ place. from_same looks task depth most_symlinks depth same here fewer place (slash || ends_in_slash text)
       (symlink_there nat_eq looks place))))
@@ -206,8 +198,7 @@ module _ (looks : Looks ℕ) (task : Task ℕ) where
           ≡ file_walked nat_eq depth looks task next inside behind
       same n e next inside behind fewer =
           files_same looks task n less n (omega (arith, small, e)) (omega arith) (omega (arith, small, e)) next inside
-          behind fewer
-          ∙ ap (λ d. file_walked nat_eq d looks task next inside behind) (sym e)
+          behind fewer ∙ ap (λ d. file_walked nat_eq d looks task next inside behind) (sym e)
 
   -- where a name is looked up, a directory is
   named_found : {A B : Type 0} (steps : List (List ℕ)) (rules : Rules) (found : Result A Deny) (make : A → B) (made : B)
@@ -282,22 +273,19 @@ module _ (looks : Looks ℕ) (task : Task ℕ) where
   last_word_means root here AsOthers few some = refl
   last_word_means root here (NotFollowed word) few some = reached_rest (last_walked nat_eq looks task here word)
   last_word_means root here (AsName word slash) few some = named_rest (placed nat_eq looks task here word slash)
-  last_word_means root here (AsFile word slash) few some =
-      then_then (placed nat_eq looks task here word slash)
+  last_word_means root here (AsFile word slash) few some = then_then (placed nat_eq looks task here word slash)
       (λ place. opened nat_eq looks task here place slash (symlink_there nat_eq looks place)) rest
       ∙ then_where (placed nat_eq looks task here word slash)
       (λ place. then_walk (opened nat_eq looks task here place slash (symlink_there nat_eq looks place)) rest)
       (λ place. names nat_eq (file_from looks task most_symlinks here place slash (symlink_there nat_eq looks place)))
       (λ place e. opened_means root here few (searched here word slash place some e) place slash
-      (symlink_there nat_eq looks place))
-      ∙ sym (then_then (placed nat_eq looks task here word slash)
+      (symlink_there nat_eq looks place)) ∙ sym (then_then (placed nat_eq looks task here word slash)
       (λ place. file_from looks task most_symlinks here place slash (symlink_there nat_eq looks place))
       (λ found. Ok (Names found)))
 
   -- one word of a walk, and what is then left of it
   pub one_word_means : is_directory_at looks task.root ≡ true → (walker : Walker ℕ) → walker.here.left ≤ most_symlinks
-      → ((there : Here ℕ) → IsQuiet there walker.last)
-      → (walker.pending ≡ [] → has_no_word walker.last ≡ false)
+      → ((there : Here ℕ) → IsQuiet there walker.last) → (walker.pending ≡ [] → has_no_word walker.last ≡ false)
       → then_walk (one_word nat_eq looks task walker) rest ≡ rest (Goes walker)
   one_word_means root walker few quiet some = by walker.pending some
     where
@@ -306,8 +294,7 @@ module _ (looks : Looks ℕ) (task : Task ℕ) where
           ≡ left_from walker.here (record { words = list; slash = slash } ∷ others) walker.last
       text_by [] slash others =
           gone_on_means (record { words = []; slash = slash } ∷ others) walker.here walker.last (quiet walker.here)
-      text_by (word ∷ list) slash others =
-          text_word_means walker.here list slash others walker.last quiet few word
+      text_by (word ∷ list) slash others = text_word_means walker.here list slash others walker.last quiet few word
 
       by : (pending : List Pending) → (pending ≡ [] → has_no_word walker.last ≡ false)
           → then_walk (one_word nat_eq looks task

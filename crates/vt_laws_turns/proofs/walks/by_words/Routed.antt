@@ -94,21 +94,18 @@ module _ (looks : Looks ℕ) (task : Task ℕ) where
   old_met path = place_route_steps (old_walk nat_eq looks task path) ∙ ap reverse (old_kept path)
 
   new_leaf_met : (path : List ℕ) → (place_route (new_leaf_walk nat_eq looks task path)).steps ≡ met_for InDirectory path
-  new_leaf_met path =
-      place_route_steps (new_leaf_walk nat_eq looks task path)
+  new_leaf_met path = place_route_steps (new_leaf_walk nat_eq looks task path)
       ∙ ap reverse (place_kept (new_walk nat_eq looks task path)
       (λ place. (place.slash && not (is_some place.object), W6) ∷ []) ∙ new_kept path)
 
   old_leaf_met : (path : List ℕ) → (place_route (old_leaf_walk nat_eq looks task path)).steps ≡ met_for InDirectory path
-  old_leaf_met path =
-      place_route_steps (old_leaf_walk nat_eq looks task path)
+  old_leaf_met path = place_route_steps (old_leaf_walk nat_eq looks task path)
       ∙ ap reverse (place_kept (old_walk nat_eq looks task path)
       (λ place. (place.slash && not (is_directory_there nat_eq looks place), W3) ∷ []) ∙ old_kept path)
 
   rename_new_met : (path : List ℕ) (from_directory : Bool)
       → (place_route (rename_new_walk nat_eq looks task path from_directory)).steps ≡ met_for InDirectory path
-  rename_new_met path from_directory =
-      place_route_steps (rename_new_walk nat_eq looks task path from_directory)
+  rename_new_met path from_directory = place_route_steps (rename_new_walk nat_eq looks task path from_directory)
       ∙ ap reverse (place_kept (new_walk nat_eq looks task path)
       (λ place. (place.slash && not from_directory, W3) ∷ []) ∙ new_kept path)
 
@@ -134,8 +131,7 @@ module _ (looks : Looks ℕ) (task : Task ℕ) where
   both : {a b c d : List (List ℕ)} → a ≡ b → c ≡ d → a ∷ c ∷ [] ≡ b ∷ d ∷ []
   both {b = b} {c = c} e f = ap (λ s. s ∷ c ∷ []) e ∙ ap (λ s. b ∷ s ∷ []) f
 
-  open_met : (path : List ℕ) (creation : Creation)
-      → (open_route nat_eq looks task path creation).steps
+  open_met : (path : List ℕ) (creation : Creation) → (open_route nat_eq looks task path creation).steps
       ≡ met_for (Rattle.vt_laws_turns.specs.Walks.Routes.open_aim creation) path
   open_met path NoCreation = object_met path
   open_met path (OrCreate mode) = file_met path
@@ -156,8 +152,7 @@ routes_are_walks looks task (LinkTo old new) =
     both looks task (symlink_met looks task old) (new_leaf_met looks task new)
 routes_are_walks looks task (Unlink path) = single looks task (old_leaf_met looks task path)
 routes_are_walks looks task (Rmdir path) = single looks task (old_met looks task path)
-routes_are_walks looks task (Rename old new) =
-    both looks task (old_leaf_met looks task old)
+routes_are_walks looks task (Rename old new) = both looks task (old_leaf_met looks task old)
     (rename_new_met looks task new (rename_from_directory nat_eq looks (old_leaf_walk nat_eq looks task old)))
 routes_are_walks looks task (Chmod path mode) = single looks task (object_met looks task path)
 routes_are_walks looks task (Chown path uid gid) = single looks task (object_met looks task path)

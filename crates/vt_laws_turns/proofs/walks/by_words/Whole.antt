@@ -57,8 +57,7 @@ module _ (looks : Looks ℕ) (task : Task ℕ) where
       same_then most_symlinks least (ended reached) (ended reached) (λ there. texts looks task there others)
       (λ there. texts looks task there others)
       (unless_same most_symlinks least reached.steps (end_rules nat_eq looks text.slash reached.location) reached fewer
-      longer longer)
-      (λ there few_left many. (refl, texts_within others there least few_left many)))).1
+      longer longer) (λ there few_left many. (refl, texts_within others there least few_left many)))).1
     where
       ended : Here ℕ → Result (Here ℕ) (Stop ℕ)
       ended reached = walk_unless reached.steps (end_rules nat_eq looks text.slash reached.location) reached
@@ -87,15 +86,13 @@ module _ (looks : Looks ℕ) (task : Task ℕ) where
       file_from looks task most_symlinks here place slash (symlink_there nat_eq looks place)))
       (longer_place least (placed nat_eq looks task here word slash) (λ place.
       file_from looks task most_symlinks here place slash (symlink_there nat_eq looks place))
-      (placed_long looks task here word slash least long)
-      (λ place more. from_long looks task most_symlinks slash least
+      (placed_long looks task here word slash least long) (λ place more. from_long looks task most_symlinks slash least
       (λ next inside fewer longer. file_long looks task most_symlinks next inside slash least fewer longer) here few
       place more (symlink_there nat_eq looks place)))
 
   rest_long : (walker : Walker ℕ) (least : ℕ) → walker.here.left ≤ most_symlinks → least ≤ length walker.here.steps
       → least ≤ length (steps_of (rest looks task (Goes walker)))
-  rest_long walker least few long =
-      long_then most_symlinks least (texts looks task walker.here walker.pending)
+  rest_long walker least few long = long_then most_symlinks least (texts looks task walker.here walker.pending)
       (λ there. taken looks task there walker.last) (texts_within walker.pending walker.here least few long)
       (λ here fewer longer. taken_long here walker.last least fewer longer)
 
@@ -126,8 +123,7 @@ module _ (looks : Looks ℕ) (task : Task ℕ) where
         ∙ after_steps (suc (length walker.here.steps)) (one_word nat_eq looks task walker)
         (λ walk. then_walk (walked_on nat_eq count looks task walk) (rest looks task)) (rest looks task)
         (one_word_steps looks task walker has.0)
-        (λ walk steps. walked_means count (suc (length walker.here.steps)) walk steps)
-        ∙ word_means walker has.0
+        (λ walk steps. walked_means count (suc (length walker.here.steps)) walk steps) ∙ word_means walker has.0
     walked_means (suc count) n (Reaches here) has = refl
     walked_means (suc count) n (Names place) has = refl
 
@@ -139,14 +135,12 @@ module _ (looks : Looks ℕ) (task : Task ℕ) where
         let long = after_long (suc (length walker.here.steps)) (one_word nat_eq looks task walker)
         (one_word_steps looks task walker has.0) in
         let same : length (steps_of (then_walk (one_word nat_eq looks task walker) (rest looks task)))
-        ≡ length (steps_of (rest looks task (Goes walker))) =
-        ap (λ r. length (steps_of r)) (word_means walker has.0) in
+        ≡ length (steps_of (rest looks task (Goes walker))) = ap (λ r. length (steps_of r)) (word_means walker has.0) in
         absurd (omega (arith, long, same, few, has.1))
     walked_all (suc count) n (Goes walker) has few =
         after_steps_in (one_word nat_eq looks task walker) (one_word_steps looks task walker has.0)
         (subst (λ r. length (steps_of r) ≤ n + suc count) (sym (word_means walker has.0)) few)
-        (walked_all count (suc (length walker.here.steps)))
-        ∙ word_means walker has.0
+        (walked_all count (suc (length walker.here.steps))) ∙ word_means walker has.0
       where
         after_steps_in : (a : Result (Walk ℕ) (Stop ℕ)) → HasSteps (suc (length walker.here.steps)) a
             → length (steps_of (then_walk a (rest looks task))) ≤ n + suc count
@@ -177,8 +171,7 @@ module _ (looks : Looks ℕ) (task : Task ℕ) where
         quiet_at looks task start word slash (directory_at looks task stands.root task.directory stands.directory path)
 
     -- where the walk begins, and what is then left
-    begun_at : (aim : Aim)
-        → then_walk (begun nat_eq aim looks task path) (rest looks task)
+    begun_at : (aim : Aim) → then_walk (begun nat_eq aim looks task path) (rest looks task)
         ≡ then_walk (path_text path) (λ text.
         then_walk (gone_on nat_eq looks task start (pending_for nat_eq aim path ∷ []) (last_for nat_eq aim path))
         (rest looks task))
@@ -187,8 +180,7 @@ module _ (looks : Looks ℕ) (task : Task ℕ) where
     object_means : then_walk (path_text path) (λ text.
         then_walk (gone_on nat_eq looks task start (all_words path ∷ []) AsOthers) (rest looks task))
         ≡ whole_walk nat_eq Object looks task path
-    object_means =
-        then_same (path_text path) _ _ (λ text.
+    object_means = then_same (path_text path) _ _ (λ text.
         gone_on_means looks task (all_words path ∷ []) start AsOthers tt
         ∙ ap (reaches nat_eq) (then_same all _ _ (λ reached. then_ok (slash_checked reached))))
         ∙ text_then path (λ text. reaches nat_eq (then_walk all slash_checked))
@@ -200,8 +192,7 @@ module _ (looks : Looks ℕ) (task : Task ℕ) where
         words_walked nat_eq looks task (follow looks task) (walk_start task text) (reverse
         (words text))) slash_checked))
 
-    symlink_means : (slash : Bool)
-        → then_walk (path_text path) (λ text.
+    symlink_means : (slash : Bool) → then_walk (path_text path) (λ text.
         then_walk (gone_on nat_eq looks task start (cond slash (all_words path) (first_words path) ∷ [])
         (cond slash AsOthers (NotFollowed (last_of path)))) (rest looks task))
         ≡ reaches nat_eq (symlink_walk_by nat_eq slash looks task path)
@@ -220,8 +211,7 @@ module _ (looks : Looks ℕ) (task : Task ℕ) where
     begun_means Words = grind (arith, common_steps, begun_at, text_then, follow, gone_on_means, then_ok, then_then)
     begun_means Object = begun_at Object ∙ object_means
     begun_means Symlink = begun_at Symlink ∙ symlink_means (ends_in_slash path)
-    begun_means InDirectory =
-        begun_at InDirectory
+    begun_means InDirectory = begun_at InDirectory
         ∙ text_then path _ (λ text. names nat_eq (then_walk (prefix_walked nat_eq looks task (follow looks task)
         (walk_start task text) (reverse (words text)))
         (λ here. placed nat_eq looks task here (last_of text) (ends_in_slash text))))
@@ -230,9 +220,7 @@ module _ (looks : Looks ℕ) (task : Task ℕ) where
         ∙ sym (then_then (prefix_walked nat_eq looks task (follow looks task) start (reverse (words path)))
         (λ here. placed nat_eq looks task here (last_of path) (ends_in_slash path)) (λ place. Ok (Names place))))
         ∙ sym (then_then (path_text path) _ (λ place. Ok (Names place)))
-    begun_means File =
-        begun_at File
-        ∙ text_then path _ (λ text. names nat_eq
+    begun_means File = begun_at File ∙ text_then path _ (λ text. names nat_eq
         (file_walked nat_eq (most_symlinks + 1) looks task (walk_start task text) text false))
         (file_means looks task most_symlinks (omega arith) path false start (omega arith)
         (quiet_start (last_of path) (ends_in_slash path)))
@@ -249,8 +237,7 @@ module _ (looks : Looks ℕ) (task : Task ℕ) where
 
         by : (aim : Aim)
             → HasSteps 0 (gone_on nat_eq looks task start (pending_for nat_eq aim path ∷ []) (last_for nat_eq aim path))
-        by Words =
-            gone_on_steps looks task (record { words = words path; slash = false } ∷ []) start AsOthers 0 refl
+        by Words = gone_on_steps looks task (record { words = words path; slash = false } ∷ []) start AsOthers 0 refl
             (omega arith) tt
         by Object = gone_on_steps looks task (all_words path ∷ []) start AsOthers 0 refl (omega arith) tt
         by Symlink = symlink_by (ends_in_slash path)
@@ -264,8 +251,7 @@ first_words_are_of_the_walk looks task aim path count stands =
     then_then (begun nat_eq aim looks task path) (walked_on nat_eq count looks task) (rest looks task)
     ∙ after_steps looks task stands.root 0 (begun nat_eq aim looks task path)
     (λ walk. then_walk (walked_on nat_eq count looks task walk) (rest looks task)) (rest looks task)
-    (begun_steps looks task stands path aim)
-    (λ walk has. walked_means looks task stands.root count 0 walk has)
+    (begun_steps looks task stands path aim) (λ walk has. walked_means looks task stands.root count 0 walk has)
     ∙ begun_means looks task stands path aim
 
 pub all_words_are_the_walk : AllWordsAreTheWalk
@@ -274,8 +260,7 @@ all_words_are_the_walk looks task aim path count stands few =
     (subst (λ r. length (steps_of r) ≤ count) (sym (begun_means looks task stands path aim)) few)
     ∙ begun_means looks task stands path aim
   where
-    by : (a : Result (Walk ℕ) (Stop ℕ)) → HasSteps 0 a
-        → length (steps_of (then_walk a (rest looks task))) ≤ count
+    by : (a : Result (Walk ℕ) (Stop ℕ)) → HasSteps 0 a → length (steps_of (then_walk a (rest looks task))) ≤ count
         → then_walk a (walked_on nat_eq count looks task) ≡ then_walk a (rest looks task)
     by (Ok walk) has fewer = walked_all looks task stands.root count 0 walk has (omega (arith, fewer))
     by (Err stop) has fewer = refl

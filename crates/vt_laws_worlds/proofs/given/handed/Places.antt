@@ -1,11 +1,12 @@
 -- Counts with the numbers of several inodes among them are a supply with room.
+use Rattle.std.proofs.lemmas.Grind.{common_steps}
 use Rattle.std.proofs.Common.{◌≡◌, refl, sym, ap, ◌∙◌, true≢false, ℕ, ◌==◌, ◌+◌, ◌*◌, ◌%◌, Bool, true, false, cond, not, ◌&&◌, ◌||◌, ◌/◌, nat_lt, List, [], ◌∷◌, arith, eq-eqb, ne_eqb, eqb-true}
 use Rattle.std.specs.List.{list_all, list_any}
 use Rattle.std.proofs.lemmas.Bool.{and_parts, not-true, or_parts}
 use Rattle.vt_spec.specs.Lists.{any_pair}
 use Rattle.vt_laws_rules.proofs.numbers.Allotments.{kept_lot}
 use Rattle.vt_laws_rules.proofs.numbers.NamedWorlds.{named_is_kept}
-use Rattle.vt_laws_rules.specs.Numbers.{Allotment, is_in_hand, is_in_hand_lot, is_kept, is_kept_lot}
+use Rattle.vt_laws_rules.specs.Numbers.{Allotment, is_in_hand, is_kept, is_kept_lot}
 use Rattle.vt_laws_rules.specs.Numbers.Lot.{Kept, New}
 use Rattle.vt_laws_trees.proofs.runs.handed.Counts.{counts, counts_from_hand, counts_keep, counts_stay}
 use Rattle.vt_laws_trees.proofs.runs.handed.InodesAllotted.{with_number}
@@ -32,8 +33,7 @@ module _ (next : ℕ) (placed : Placed) (rest : List Placed) (before : Supply ne
   counted = ap (λ b. b || (placed.1 % 4 == 1 && nat_lt (placed.1 / 4) next)) (eq-eqb (placed.1 % 2) 0 even)
 
   kept : before.allotment.lot placed.1 ≡ Kept
-  kept = kept_lot (before.allotment.lot placed.1)
-      (before.keep placed.1 (beside next rest placed.1 counted apart))
+  kept = kept_lot (before.allotment.lot placed.1) (before.keep placed.1 (beside next rest placed.1 counted apart))
 
   abbrev with_one : Allotment
   with_one = with_number before.allotment placed.0 placed.1 kept
@@ -50,34 +50,13 @@ module _ (next : ℕ) (placed : Placed) (rest : List Placed) (before : Supply ne
       by false false second e = before.from_hand number e
 
   one_stays : (number : ℕ) → may_be_given number ≡ true → is_in_hand with_one number ≡ true
-  one_stays number given = by (number == placed.1) (number == before.allotment.new placed.0)
-    where
-      by : (here there : Bool)
-          → is_in_hand_lot (cond here (New placed.0) (cond there Kept (before.allotment.lot number))) ≡ true
-      by true there = refl
-      by false true = refl
-      by false false = before.stays number given
+  one_stays number given = grind (arith, common_steps)
 
   one_given : (k : ℕ) → may_be_given (with_one.new k) ≡ true
-  one_given k = by (k == placed.0)
-    where
-      by : (here : Bool) → may_be_given (cond here placed.1 (before.allotment.new k)) ≡ true
-      by true = ap not (ne_eqb (placed.1 % 4) 3 (λ e. absurd (omega (arith, even, e))))
-      by false = before.given k
+  one_given k = grind (arith, common_steps, ne_eqb)
 
   one_kept : (number : ℕ) → is_named_beside next (placed ∷ rest) number ≡ true → is_kept with_one number ≡ true
-  one_kept number e =
-      let parts = and_parts (is_counted_before next number) _ e in
-      let others = or_parts (number == placed.1) (list_any (λ (other : Placed). number == other.1) rest)
-      (not-true _ parts.1) in
-      by (number == placed.1) (number == before.allotment.new placed.0) others.0
-      (before.keep number (beside next rest number parts.0 others.1))
-    where
-      by : (here there : Bool) → here ≡ false → is_kept before.allotment number ≡ true
-          → is_kept_lot (cond here (New placed.0) (cond there Kept (before.allotment.lot number))) ≡ true
-      by true there h k = absurd (true≢false h)
-      by false true h k = refl
-      by false false h k = k
+  one_kept number e = grind (arith, common_steps, and_parts, or_parts, not-true, beside, true≢false)
 
   one_more : Supply next (placed ∷ rest)
   one_more = record {

@@ -1,5 +1,6 @@
 -- What a permit that a call is given leaves is a world, with overlays too.
-use Rattle.std.proofs.Common.{◌≡◌, refl, sym, ap, subst, ◌∙◌, true≢false, ℕ, nat_eq, Bool, true, false}
+use Rattle.std.proofs.Common.{arith, ◌≡◌, refl, sym, ap, subst, ◌∙◌, true≢false, ℕ, nat_eq, Bool, true, false}
+use Rattle.std.proofs.lemmas.Grind.{common_steps}
 use Rattle.vt_spec.specs.Language.Calls.{Call}
 use Rattle.vt_spec.specs.Language.Calls.Call.{MountOverlay}
 use Rattle.vt_spec.specs.Lists.{Fresh}
@@ -28,16 +29,7 @@ module _ (world : World ℕ) (fresh : Fresh ℕ) (task : Task ℕ) (permit : Per
 
   -- a world is one before the sweep, too
   world_is_ready : (w : World ℕ) → IsWorld nat_eq w → IsReady w
-  world_is_ready w whole = (
-    record {
-      files = whole.files;
-      mounts = whole.mounts;
-      namespaces = whole.namespaces;
-      tasks = whole.tasks;
-      roots = whole.roots;
-    },
-    whole.overlays,
-  )
+  world_is_ready w whole = grind (arith, common_steps)
 
   mounting : (call : Call) → mounts_overlay call ≡ true → IsReady (call_outcome nat_eq fresh world task call).world
   mounting (MountOverlay path options flags) e =

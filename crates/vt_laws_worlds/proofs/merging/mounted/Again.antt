@@ -30,11 +30,9 @@ use Rattle.vt_spec.proofs.Worlds.{answer-finished_by}
 -- raises numbers, and leaves files
 pub files_raised : (changed : List ℕ) (number : ℕ) (list : List (Filesystem ℕ))
     → (unwrap_or (find (λ f. nat_eq number f.number) (map (raised_if_changed nat_eq changed) list))
-    (no_filesystem number)).files
-    ≡ (unwrap_or (find (λ f. nat_eq number f.number) list) (no_filesystem number)).files
+    (no_filesystem number)).files ≡ (unwrap_or (find (λ f. nat_eq number f.number) list) (no_filesystem number)).files
 files_raised changed number [] = refl
-files_raised changed number (filesystem ∷ list) =
-    by (list_any (λ n. nat_eq n filesystem.number) changed)
+files_raised changed number (filesystem ∷ list) = by (list_any (λ n. nat_eq n filesystem.number) changed)
     (find (λ f. nat_eq number f.number) (map (raised_if_changed nat_eq changed) list))
     (find (λ f. nat_eq number f.number) list) (files_raised changed number list)
   where
@@ -69,25 +67,20 @@ module _ (fresh : Fresh ℕ) (later : World ℕ) (conditions : IsWorld nat_eq la
 
   policy_is : policy nat_eq fresh later task.name (MountOverlay path (Some words) flags)
       ≡ finished nat_eq later task.name (MountOverlay path (Some words) flags) changed mounted
-  policy_is =
-      ap (λ o. after later (ok_or o (denial S2))
+  policy_is = ap (λ o. after later (ok_or o (denial S2))
       (λ t. finished nat_eq later task.name (MountOverlay path (Some words) flags)
       (filesystems_changed_by nat_eq later (judge_in nat_eq fresh later t (MountOverlay path (Some words) flags)))
       (call_outcome nat_eq fresh later t (MountOverlay path (Some words) flags)))) is
 
   pub granted_so : mounted.answer ≡ Ok Done
-  granted_so =
-      sym (answer-finished_by (only_looks (MountOverlay path (Some words) flags) || not
-      (is_ok mounted.answer)) later task.name changed mounted)
-      ∙ ap (λ o. o.answer) (sym policy_is) ∙ grants
+  granted_so = sym (answer-finished_by (only_looks (MountOverlay path (Some words) flags) || not
+      (is_ok mounted.answer)) later task.name changed mounted) ∙ ap (λ o. o.answer) (sym policy_is) ∙ grants
 
   pub world_is : world_mounted fresh later task path words flags
       ≡ numbers_raised nat_eq later task.name changed mounted.world
-  world_is =
-      ap (λ o. o.world) policy_is
+  world_is = ap (λ o. o.world) policy_is
       ∙ ap (λ r. (finished_by nat_eq (only_looks (MountOverlay path (Some words) flags) || not
-      (is_ok r)) later task.name changed mounted).world) granted_so
-      ∙ ap (numbers_raised nat_eq later task.name changed)
+      (is_ok r)) later task.name changed mounted).world) granted_so ∙ ap (numbers_raised nat_eq later task.name changed)
       (mounting_lets_nothing_go fresh later task path (Some words) flags conditions are_new)
 
   -- the overlay is there, with the files that it was made with
@@ -95,8 +88,7 @@ module _ (fresh : Fresh ℕ) (later : World ℕ) (conditions : IsWorld nat_eq la
     pub files_are : (filesystem_numbered nat_eq (world_mounted fresh later task path words flags)
         (number_mounted fresh)).files
         ≡ (overlay_filesystem nat_eq (evens fresh) later (overlay_at nat_eq later task places)).files
-    files_are =
-        ap (λ w. (filesystem_numbered nat_eq w (number_mounted fresh)).files) world_is
+    files_are = ap (λ w. (filesystem_numbered nat_eq w (number_mounted fresh)).files) world_is
         ∙ files_raised changed (number_mounted fresh) mounted.world.filesystems
         ∙ ap (λ f. f.files) (mounting_makes_overlay fresh later task path words flags places conditions are_new walked
         granted_so)
@@ -138,5 +130,4 @@ mounted_over_the_same_layers fresh before later number left task path words flag
     mounted_anew_shows_the_same fresh before later number left task path words flags places conditions is
     later_conditions are_new task_is grants walked
     (subst (λ layers. AreAsOthers (map (open_layer nat_eq before) (shown_layers left))
-    (map (open_layer nat_eq later) layers)) (sym same)
-    (kept_as_others before later (shown_layers left) kept))
+    (map (open_layer nat_eq later) layers)) (sym same) (kept_as_others before later (shown_layers left) kept))

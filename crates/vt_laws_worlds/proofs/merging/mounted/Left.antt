@@ -45,8 +45,7 @@ module _ (world : World ℕ) (conditions : IsWorld nat_eq world) (fresh : Fresh 
 
   granted_keeps : (path : List ℕ) (options : Option OverlayWords) (flags : MountFlags) (permit : Permit ℕ)
       → IsGranted nat_eq (looks_of nat_eq world) (overfills nat_eq fresh world task) task
-      (MountOverlay path options flags) permit
-      → Keeps (apply nat_eq fresh world task permit).world
+      (MountOverlay path options flags) permit → Keeps (apply nat_eq fresh world task permit).world
   granted_keeps path options flags permit (mounts_overlayfs _ words _ here layers admin end walked layered passed) =
       mounted_keeps layers (are_walked world task words layers walked) layered here.location flags passed
 
@@ -56,13 +55,11 @@ mounting_lets_nothing_go fresh world task path options flags conditions are_new 
     conditions.nothing_unused (granted_keeps world conditions fresh are_new task path options flags)
 
 pub mounting_leaves_trees : MountingLeavesTrees
-mounting_leaves_trees fresh world task path options flags conditions are_new =
-    subst (TreeInvariants nat_eq) (sym
+mounting_leaves_trees fresh world task path options flags conditions are_new = subst (TreeInvariants nat_eq) (sym
     (mounting_lets_nothing_go fresh world task path options flags conditions are_new))
     (mounting_keeps_trees fresh world task path options flags conditions are_new)
 
 pub mounting_leaves_overlays : MountingLeavesOverlays
-mounting_leaves_overlays fresh world task path options flags conditions are_new =
-    subst (OverlayInvariants nat_eq)
+mounting_leaves_overlays fresh world task path options flags conditions are_new = subst (OverlayInvariants nat_eq)
     (sym (mounting_lets_nothing_go fresh world task path options flags conditions are_new))
     (mounting_keeps_overlays fresh world task path options flags conditions are_new)

@@ -28,8 +28,7 @@ real_is_there world overlay None None same there = there
 
 -- two trees have something at the same paths
 abbrev AtTheSame : FileTree ℕ → FileTree ℕ → Type 0
-AtTheSame one other =
-    (path : List (List ℕ)) → is_some (number_at_path one path) ≡ is_some (number_at_path other path)
+AtTheSame one other = (path : List (List ℕ)) → is_some (number_at_path one path) ≡ is_some (number_at_path other path)
 
 -- what names lead to is there
 there : (files : FileTree ℕ) → IsTree files.tree → (path : List (List ℕ)) (number : ℕ)
@@ -66,29 +65,22 @@ module _ (world later : World ℕ) (one other : Filesystem ℕ) (overlay another
     (other_tree : IsTree other.files.tree)
     (seen : (path : List (List ℕ)) → real_shown nat_eq world overlay path ≡ real_shown nat_eq later another path)
     (same : AtTheSame one.files other.files) where
-  links_along : (path second : List (List ℕ))
-      → number_at_path one.files path ≡ number_at_path one.files second
+  links_along : (path second : List (List ℕ)) → number_at_path one.files path ≡ number_at_path one.files second
       → number_at_path other.files path ≡ number_at_path other.files second
-  links_along path second e =
-      by (number_at_path one.files path) refl (number_at_path other.files path) refl
+  links_along path second e = by (number_at_path one.files path) refl (number_at_path other.files path) refl
       (number_at_path other.files second) refl
     where
-      by : (a : Option ℕ) → number_at_path one.files path ≡ a
-          → (b : Option ℕ) → number_at_path other.files path ≡ b
+      by : (a : Option ℕ) → number_at_path one.files path ≡ a → (b : Option ℕ) → number_at_path other.files path ≡ b
           → (c : Option ℕ) → number_at_path other.files second ≡ c → b ≡ c
       by a f None g None h = refl
       by a f None g (Some m) h =
           absurd (true≢false (sym (ap is_some h) ∙ sym (same second) ∙ ap is_some (sym e) ∙ same path ∙ ap is_some g))
       by a f (Some m) g None h =
           absurd (true≢false (sym (ap is_some g) ∙ sym (same path) ∙ ap is_some e ∙ same second ∙ ap is_some h))
-      by None f (Some m) g (Some k) h =
-          absurd (true≢false (sym (ap is_some g) ∙ sym (same path) ∙ ap is_some f))
-      by (Some n) f (Some m) g (Some k) h =
-          ap Some
-          (is_other.one_to_one m k
+      by None f (Some m) g (Some k) h = absurd (true≢false (sym (ap is_some g) ∙ sym (same path) ∙ ap is_some f))
+      by (Some n) f (Some m) g (Some k) h = ap Some (is_other.one_to_one m k
           (real_is_there later another (other.files.tree.node m) (another.real m) (is_other.real_objects m)
-          (there other.files other_tree path m g))
-          (is_other.names path m g ∙ sym (seen path) ∙ sym (is.names path n f)
+          (there other.files other_tree path m g)) (is_other.names path m g ∙ sym (seen path) ∙ sym (is.names path n f)
           ∙ is.names second n (sym e ∙ f) ∙ seen second ∙ sym (is_other.names second k h)))
 
 -- layers that were kept are open to the same trees
@@ -137,11 +129,9 @@ module _ (fresh : Fresh ℕ) (before later : World ℕ) (number : ℕ) (left ane
 
   links : LinkTheSame new old
   links path another = (
-    links_along later before new old made_so left
-        (made_merged later later_conditions anew layered fresh distinct)
+    links_along later before new old made_so left (made_merged later later_conditions anew layered fresh distinct)
         (conditions.overlays.overlays_merge number left is) old_tree seen together path another,
-    links_along before later old new left made_so
-        (conditions.overlays.overlays_merge number left is)
+    links_along before later old new left made_so (conditions.overlays.overlays_merge number left is)
         (made_merged later later_conditions anew layered fresh distinct) new_tree
         (λ way. sym (seen way)) (λ way. sym (together way)) path another,
   )

@@ -21,8 +21,7 @@ use Rattle.vt_laws_worlds.proofs.merging.mounted.Again.{files_raised, granted_so
 use Rattle.vt_laws_trees.proofs.layers.mounting.Kept.{overlay_is_mounted}
 
 -- what holds of the trees of plain layers holds later, where those are as they were
-module _ (world later : World ℕ)
-    (same : (layer : Layer ℕ) → is_plain_layer nat_eq world layer ≡ true
+module _ (world later : World ℕ) (same : (layer : Layer ℕ) → is_plain_layer nat_eq world layer ≡ true
     → (filesystem_numbered nat_eq later layer.filesystem).files
     ≡ (filesystem_numbered nat_eq world layer.filesystem).files) where
   abbrev ReachedIn : World ℕ → Layer ℕ → Type 0
@@ -32,12 +31,10 @@ module _ (world later : World ℕ)
       → All (ReachedIn world) layers → All (ReachedIn later) layers
   reached_later [] plain are = All-nil (ReachedIn later)
   reached_later (layer ∷ layers) plain are =
-      let parts = and_parts (is_plain_layer nat_eq world layer) (list_all
-      (is_plain_layer nat_eq world) layers) plain in
+      let parts = and_parts (is_plain_layer nat_eq world layer) (list_all (is_plain_layer nat_eq world) layers) plain in
       All-cons (ReachedIn later) layer layers
       (subst (λ files. IsReached files.tree layer.directory) (sym (same layer parts.0)) (All-head
-      (ReachedIn world) layer layers are))
-      (reached_later layers parts.1 (All-tail (ReachedIn world) layer layers are))
+      (ReachedIn world) layer layers are)) (reached_later layers parts.1 (All-tail (ReachedIn world) layer layers are))
 
 pub mounted_layers_are_reached : MountedLayersAreReached
 mounted_layers_are_reached fresh world task path words flags places conditions are_new called grants walked =
@@ -49,8 +46,7 @@ mounted_layers_are_reached fresh world task path words flags places conditions a
     (has_layers world task places are mounts.passed, shown_plain world task places are mounts.passed) in
     let distinct : (j k : ℕ) → evens fresh j ≡ evens fresh k → j
     ≡ k = λ j k e. let same = are_new.distinct (2 * j) (2 * k) e in omega (arith, same) in
-    reached_later world (world_mounted fresh world task path words flags)
-    (λ layer plain.
+    reached_later world (world_mounted fresh world task path words flags) (λ layer plain.
     ap (λ w. (filesystem_numbered nat_eq w layer.filesystem).files)
     (world_is fresh world conditions are_new task called path words flags grants)
     ∙ files_raised (filesystems_changed_by nat_eq world (judge_in nat_eq fresh world task (MountOverlay path

@@ -1,4 +1,5 @@
 -- What `mount overlay` leaves is a world with all invariants.
+use Rattle.std.proofs.lemmas.Grind.{common_steps}
 use Rattle.std.proofs.Common.{◌≡◌, refl, sym, ap, subst, ◌∙◌, true≢false, arith, inl, inr, ⊎_elim, ℕ, ◌+◌, ◌*◌, nat_eq, eq-eqb, Bool, true, false, not, cond, List, [], ◌∷◌, ◌++◌, filter, flat_map, map, Option, Some, None, is_some, unwrap_or}
 use Rattle.std.specs.List.{cons_option, filter_map, list_all}
 use Rattle.std.specs.Prelude.{option_map, ⊤}
@@ -80,8 +81,7 @@ once_are : (fresh : Fresh ℕ) (list : List ℕ) → AreOf fresh list → AreOf 
 once_are fresh [] are = tt
 once_are fresh (number ∷ list) are = (
   are.0,
-  filtered_are fresh (λ other. not (nat_eq number other)) (each_once nat_eq list)
-      (once_are fresh list are.1),
+  filtered_are fresh (λ other. not (nat_eq number other)) (each_once nat_eq list) (once_are fresh list are.1),
 )
 
 made_are : (fresh : Fresh ℕ) (has_upper : Bool) (layers : List (OpenLayer ℕ)) (objects list : List (Merged ℕ))
@@ -105,8 +105,7 @@ made_are fresh has_upper layers objects (object ∷ list) =
       real = Rattle.vt_spec.specs.Machine.Merging.real_object has_upper object.seen.layer object;
     }
 
-    by : (o : Option (Node ℕ)) → AreOf fresh
-        (map (λ (inode : MergedInode ℕ). inode.number)
+    by : (o : Option (Node ℕ)) → AreOf fresh (map (λ (inode : MergedInode ℕ). inode.number)
         (filter_map (merged_inode nat_eq fresh has_upper layers objects) list))
         → AreOf fresh (map (λ (inode : MergedInode ℕ). inode.number)
         (cons_option (option_map (λ (node : Node ℕ). record {
@@ -122,8 +121,7 @@ made_are fresh has_upper layers objects (object ∷ list) =
     by (Some node) later = ((unwrap_or (index_from (is_one_inode nat_eq has_upper object) 0 objects) 0, refl), later)
 
 module _ (world : World ℕ) (is : IsWorld nat_eq world) (fresh : Fresh ℕ) (serves : Serves nat_eq world fresh)
-    (task : Task ℕ)
-    (called : task_called world task.name ≡ Some task) where
+    (task : Task ℕ) (called : task_called world task.name ≡ Some task) where
   pub are_new : AreNewNumbers fresh world
   are_new = record {
     distinct = served-distinct world fresh serves;
@@ -148,12 +146,7 @@ module _ (world : World ℕ) (is : IsWorld nat_eq world) (fresh : Fresh ℕ) (se
 
     -- its numbers are even ones
     made_even : (number : ℕ) → Among number (used_by_filesystem new) → (k : ℕ) × (number ≡ evens fresh k)
-    made_even number (inl e) = (2 * 0, e)
-    made_even number (inr m) =
-        let found = one_of (odds (evens fresh)) new.files.numbers
-        (once_are (odds (evens fresh)) _
-        (made_are (odds (evens fresh)) (is_some overlay.upper) opened objects objects)) number m in
-        (2 * found.0 + 1, found.1)
+    made_even number known = grind (arith, common_steps, one_of, once_are, made_are)
 
     not_used : (k number : ℕ) → Among number (used_by_filesystem new) → nat_eq (odds fresh k) number ≡ false
     not_used k number m =
@@ -179,24 +172,18 @@ module _ (world : World ℕ) (is : IsWorld nat_eq world) (fresh : Fresh ℕ) (se
         namespaces = map (λ (namespace : Namespace ℕ). namespace.number) world.namespaces
 
         unused : (k number : ℕ) → Among number (numbers_in_use larger) → nat_eq (odds fresh k) number ≡ false
-        unused k number m =
-            ⊎_elim
-            (λ front. ⊎_elim
-            (λ in_mounts. unused_number world fresh serves (2 * k + 1) number
+        unused k number m = ⊎_elim (λ front. ⊎_elim (λ in_mounts. unused_number world fresh serves (2 * k + 1) number
             (among-append_left (mounts ++ flat_map used_by_filesystem world.filesystems) namespaces number
             (among-append_left mounts (flat_map used_by_filesystem world.filesystems) number in_mounts)))
             (λ in_filesystems.
-            let from = among-from_flat_map used_by_filesystem
-            (world.filesystems ++ (new ∷ [])) number in_filesystems in
+            let from = among-from_flat_map used_by_filesystem (world.filesystems ++ (new ∷ [])) number in_filesystems in
             ⊎_elim (λ old. unused_by_filesystem world fresh serves (2 * k + 1) from.0 old number from.2)
             (λ last. ⊎_elim (λ e. not_used k number (subst (λ f. Among number (used_by_filesystem f)) e from.2))
-            (λ none. absurd none) last)
-            (among-append world.filesystems (new ∷ []) from.0 from.1))
+            (λ none. absurd none) last) (among-append world.filesystems (new ∷ []) from.0 from.1))
             (among-append mounts (flat_map used_by_filesystem (world.filesystems ++ (new ∷ []))) number front))
             (λ in_namespaces. unused_number world fresh serves (2 * k + 1) number
             (among-append_right (mounts ++ flat_map used_by_filesystem world.filesystems) namespaces number
-            in_namespaces))
-            (among-append (mounts ++ flat_map used_by_filesystem
+            in_namespaces)) (among-append (mounts ++ flat_map used_by_filesystem
             (world.filesystems ++ (new ∷ []))) namespaces number m)
 
     module _ (place : Location ℕ) (flags : MountFlags) (destination : IsDestination world task place) where
@@ -204,8 +191,7 @@ module _ (world : World ℕ) (is : IsWorld nat_eq world) (fresh : Fresh ℕ) (se
       later = mounted nat_eq (odds fresh) world place new flags
 
       there : is_mount world place.mount ≡ true
-      there =
-          (and_parts (is_mount world place.mount)
+      there = (and_parts (is_mount world place.mount)
           (is_there nat_eq world (mount_at nat_eq world place).filesystem place.node)
           destination.directory.reached.there).0
 
@@ -219,23 +205,19 @@ module _ (world : World ℕ) (is : IsWorld nat_eq world) (fresh : Fresh ℕ) (se
             (odds fresh) place new flags odds_serve is.mounts.one_number is.mounts.nowhere
             is.mounts.standing there destination.free is.mounts.one_child;
         standing = new_mounts_keep_standing world
-            (odds fresh) place new flags odds_serve is.mounts.one_number is.mounts.nowhere
-            is.mounts.standing there;
+            (odds fresh) place new flags odds_serve is.mounts.one_number is.mounts.nowhere is.mounts.standing there;
         nowhere = new_mounts_keep_nowhere world (odds fresh) place new flags is.mounts.nowhere attached;
         groups = all_live later (new_mounts_keep_groups world (odds fresh) place new flags odds_serve
             (tested_live world is.mounts.groups));
       }
 
       namespaces_kept : has_too_many nat_eq later ≡ false → NamespaceInvariants nat_eq later
-      namespaces_kept few =
-          from_namespaces later
-          (namespaces_stay world later (record {
-            namespaces = refl;
-            mounts = attached_stay world later (new_mounts_stay_in_namespaces world (odds fresh) place new flags);
-            roots = new_mounts_keep_root_mounts world (odds fresh) place new flags;
-            tasks = same_tasks_stay world.tasks;
-          }) (are_namespaces world is.namespaces))
-          few
+      namespaces_kept few = from_namespaces later (namespaces_stay world later (record {
+        namespaces = refl;
+        mounts = attached_stay world later (new_mounts_stay_in_namespaces world (odds fresh) place new flags);
+        roots = new_mounts_keep_root_mounts world (odds fresh) place new flags;
+        tasks = same_tasks_stay world.tasks;
+      }) (are_namespaces world is.namespaces)) few
 
       abbrev seen : KeepsWhatIsSeen world later
       seen = mounted_seen world (odds fresh) place new flags
@@ -254,8 +236,7 @@ module _ (world : World ℕ) (is : IsWorld nat_eq world) (fresh : Fresh ℕ) (se
           }
 
       root_there : is_directory_node (inode_in larger new.number new.files.tree.root) ≡ true
-      root_there =
-          ap (λ (o : Option (Filesystem ℕ)). is_directory_node
+      root_there = ap (λ (o : Option (Filesystem ℕ)). is_directory_node
           ((unwrap_or o (no_filesystem new.number)).files.tree.node new.files.tree.root))
           (find_new (λ (f : Filesystem ℕ). nat_eq new.number f.number) world.filesystems new
           (not_found new.number world.filesystems (are_new.unused (2 * (2 * 0)))) (nat_eq_itself new.number))
@@ -266,25 +247,17 @@ module _ (world : World ℕ) (is : IsWorld nat_eq world) (fresh : Fresh ℕ) (se
       at_place = record { listed = there; directory = destination.directory.directory }
 
       shows : AllShow later
-      shows =
-          attached_show larger (supplied larger (odds fresh) place mounts) place false mounts
+      shows = attached_show larger (supplied larger (odds fresh) place mounts) place false mounts
           (attached_seen larger (odds fresh) place mounts)
-          (all_show_after world larger (added_seen new world) refl (world_shows world is))
-          (record {
+          (all_show_after world larger (added_seen new world) refl (world_shows world is)) (record {
             listed = there;
-            directory = directory_after world larger
-                (added_seen new world) place there destination.directory.directory;
-          })
-          is.mounts.one_number
+            directory = directory_after world larger (added_seen new world) place there destination.directory.directory;
+          }) is.mounts.one_number
           (new_mounts_keep_numbers world (odds fresh) place new flags odds_serve is.mounts.one_number)
           (λ origin m. ⊎_elim (λ e. ap (λ (x : Mount ℕ). is_directory_node (inode_in larger x.filesystem x.root)) e
-          ∙ root_there)
-          (λ none. absurd none) m)
-          (λ origin m below on e. ⊎_elim
+          ∙ root_there) (λ none. absurd none) m) (λ origin m below on e. ⊎_elim
           (λ same. absurd (true≢false (sym (eq-eqb origin.number mount.number (ap (λ (x : Mount ℕ). x.number) same))
-          ∙ below)))
-          (λ none. absurd none) m)
-          (λ moved. absurd (true≢false (sym moved)))
+          ∙ below))) (λ none. absurd none) m) (λ moved. absurd (true≢false (sym moved)))
         where
           mount : Mount ℕ
           mount = new_mount new.number new.files.tree.root flags
@@ -301,8 +274,7 @@ module _ (world : World ℕ) (is : IsWorld nat_eq world) (fresh : Fresh ℕ) (se
 
   granted_leaves : (path : List ℕ) (options : Option OverlayWords) (flags : MountFlags) (permit : Permit ℕ)
       → IsGranted nat_eq (looks_of nat_eq world) (overfills nat_eq fresh world task) task
-      (MountOverlay path options flags) permit
-      → MayLeave (apply nat_eq fresh world task permit).world
+      (MountOverlay path options flags) permit → MayLeave (apply nat_eq fresh world task permit).world
   granted_leaves path options flags permit (mounts_overlayfs _ words _ here places admin end walked passed free) =
       let reached = are_walked world task words places walked in
       let overlay = overlay_at nat_eq world task places in
@@ -321,8 +293,7 @@ module _ (world : World ℕ) (is : IsWorld nat_eq world) (fresh : Fresh ℕ) (se
 
   module _ (path : List ℕ) (options : Option OverlayWords) (flags : MountFlags) where
     leaves : MayLeave (call_outcome nat_eq fresh world task (MountOverlay path options flags)).world
-    leaves =
-        call_holds MayLeave fresh world task (MountOverlay path options flags)
+    leaves = call_holds MayLeave fresh world task (MountOverlay path options flags)
         (record { mounts = is.mounts; namespaces = is.namespaces; tasks = is.tasks; roots = is.roots })
         (granted_leaves path options flags)
 

@@ -41,8 +41,7 @@ lies_by files filesystem object layer =
     nat_eq filesystem layer.filesystem && is_under nat_eq (files filesystem) layer.directory object
 
 abbrev counts_by : FilesBy → ℕ → ℕ → Layer ℕ → Filesystem ℕ → Bool
-counts_by files filesystem object layer merged =
-    of_overlay false (λ overlay.
+counts_by files filesystem object layer merged = of_overlay false (λ overlay.
     holds_of (λ upper. lies_by files upper.filesystem upper.directory layer) overlay.upper
     && is_object_of nat_eq filesystem object merged overlay) merged
 
@@ -102,13 +101,11 @@ module _ (of_filesystem : Filesystem ℕ → ℕ) (of_namespace : Namespace ℕ 
   overlays_same = filtered world.filesystems
 
   live_same : live_upper_and_work later ≡ live_upper_and_work world
-  live_same =
-      ap (flat_map (of_overlay [] upper_and_work)) overlays_same
+  live_same = ap (flat_map (of_overlay [] upper_and_work)) overlays_same
       ∙ flat_map-map filesystem_later (of_overlay [] upper_and_work) (overlays world) (λ f. refl)
 
   lowers_same : live_lowers nat_eq later ≡ live_lowers nat_eq world
-  lowers_same =
-      ap (flat_map (of_overlay [] (λ (overlay : Overlay ℕ). overlay.lowers))) overlays_same
+  lowers_same = ap (flat_map (of_overlay [] (λ (overlay : Overlay ℕ). overlay.lowers))) overlays_same
       ∙ flat_map-map filesystem_later (of_overlay [] (λ (overlay : Overlay ℕ). overlay.lowers)) (overlays world)
       (λ f. refl)
 
@@ -116,13 +113,11 @@ module _ (of_filesystem : Filesystem ℕ → ℕ) (of_namespace : Namespace ℕ 
   under_same : lies_or_counts_under nat_eq later ≡ lies_or_counts_under nat_eq world
   under_same = λ i filesystem object layer. at filesystem object layer i
     where
-      at : (filesystem object : ℕ) (layer : Layer ℕ)
-          → lies_or_counts_under nat_eq later filesystem object layer
+      at : (filesystem object : ℕ) (layer : Layer ℕ) → lies_or_counts_under nat_eq later filesystem object layer
           ≡ lies_or_counts_under nat_eq world filesystem object layer
       at filesystem object layer =
           ap (λ files. lies_by files filesystem object layer || list_any (counts_by files filesystem object layer)
-          (overlays later)) files_same
-          ∙ ap (λ list. lies_by (files_by world) filesystem object layer || list_any
+          (overlays later)) files_same ∙ ap (λ list. lies_by (files_by world) filesystem object layer || list_any
           (counts_by (files_by world) filesystem object layer) list) overlays_same
           ∙ ap (λ b. lies_by (files_by world) filesystem object layer || b)
           (any-map (counts_by (files_by world) filesystem object layer) filesystem_later (overlays world) (λ f. refl))
@@ -131,8 +126,7 @@ module _ (of_filesystem : Filesystem ℕ → ℕ) (of_namespace : Namespace ℕ 
   plain_same = λ i layer. at layer i
     where
       at : (layer : Layer ℕ) → is_plain_layer nat_eq later layer ≡ is_plain_layer nat_eq world layer
-      at layer =
-          ap (λ o. not (is_some o) && is_directory_node
+      at layer = ap (λ o. not (is_some o) && is_directory_node
           ((files_by later layer.filesystem).tree.node layer.directory)) (overlay_same layer.filesystem)
           ∙ ap (λ files. not (is_some (filesystem_numbered nat_eq world layer.filesystem).overlay) &&
           is_directory_node ((files layer.filesystem).tree.node layer.directory)) files_same
@@ -144,8 +138,7 @@ module _ (of_filesystem : Filesystem ℕ → ℕ) (of_namespace : Namespace ℕ 
     shows = subst (λ files. (path : List (List ℕ))
         → SameObject (then_some (number_at_path (files number) path) (files number).tree.node)
         (then_some (shown (map (opened files) (shown_layers overlay)) path)
-        (layer_node (map (opened files) (shown_layers overlay)))))
-        (sym files_same) is.shows;
+        (layer_node (map (opened files) (shown_layers overlay))))) (sym files_same) is.shows;
     names = subst (λ files. (path : List (List ℕ)) (n : ℕ) → number_at_path (files number) path ≡ Some n
         → overlay.real n ≡ option_map (λ object. real_object (is_some overlay.upper) object.seen.layer object)
         (merged_at (map (opened files) (shown_layers overlay)) path)) (sym files_same) is.names;
@@ -165,12 +158,9 @@ module _ (of_filesystem : Filesystem ℕ → ℕ) (of_namespace : Namespace ℕ 
           → SameObject ((files_by world number).tree.node n) (then_some o (real_node nat_eq world overlay))
           → SameObject ((files_by later number).tree.node n) (then_some o (real_node nat_eq later overlay))
       by n None same = subst (λ files. SameObject ((files number).tree.node n) None) (sym files_same) same
-      by n (Some (Upper object)) same =
-          subst (λ files. SameObject ((files number).tree.node n)
-          (then_some overlay.upper (λ layer. (files layer.filesystem).tree.node object)))
-          (sym files_same) same
-      by n (Some (Lower layer path)) same =
-          subst (λ files. SameObject ((files number).tree.node n)
+      by n (Some (Upper object)) same = subst (λ files. SameObject ((files number).tree.node n)
+          (then_some overlay.upper (λ layer. (files layer.filesystem).tree.node object))) (sym files_same) same
+      by n (Some (Lower layer path)) same = subst (λ files. SameObject ((files number).tree.node n)
           (then_some (slice_get overlay.lowers layer) (λ lower. node_at_path (opened files lower) path)))
           (sym files_same) same
 
@@ -212,29 +202,24 @@ raising_keeps_worlds before name changed world is =
 
 -- so the policy leaves a world at each mount of an overlay
 pub policy_mounts_a_world : PolicyMountsAWorld
-policy_mounts_a_world fresh world name path options flags is serves =
-    by (task_called world name) refl
+policy_mounts_a_world fresh world name path options flags is serves = by (task_called world name) refl
   where
     last : (task : Task ℕ) → task_called world task.name ≡ Some task → (b : Bool) (changed : List ℕ)
         → IsWorld nat_eq (finished_by nat_eq b world name changed
         (call_outcome nat_eq fresh world task (MountOverlay path options flags))).world
     last task called true changed = mounting_leaves_a_world fresh world task path options flags is serves called
-    last task called false changed =
-        raising_keeps_worlds world name changed
+    last task called false changed = raising_keeps_worlds world name changed
         (settled nat_eq (call_outcome nat_eq fresh world task (MountOverlay path options flags)).world)
-        (subst (IsWorld nat_eq)
-        (sym (mounting_lets_nothing_go fresh world task path options flags is
+        (subst (IsWorld nat_eq) (sym (mounting_lets_nothing_go fresh world task path options flags is
         (are_new world is fresh serves task called)))
         (mounting_leaves_a_world fresh world task path options flags is serves called))
 
-    by : (o : Option (Task ℕ)) → task_called world name ≡ o
-        → IsWorld nat_eq (after world (ok_or o (denial S2)) (λ task.
+    by : (o : Option (Task ℕ)) → task_called world name ≡ o → IsWorld nat_eq (after world (ok_or o (denial S2)) (λ task.
         finished nat_eq world name (MountOverlay path options flags)
         (filesystems_changed_by nat_eq world (judge_in nat_eq fresh world task (MountOverlay path options flags)))
         (call_outcome nat_eq fresh world task (MountOverlay path options flags)))).world
     by None e = is
-    by (Some task) e =
-        last task (ap (task_called world) (sym (name_found world name task e)) ∙ e)
+    by (Some task) e = last task (ap (task_called world) (sym (name_found world name task e)) ∙ e)
         (only_looks (MountOverlay path options flags) || not
         (is_ok (call_outcome nat_eq fresh world task (MountOverlay path options flags)).answer))
         (filesystems_changed_by nat_eq world (judge_in nat_eq fresh world task (MountOverlay path options flags)))

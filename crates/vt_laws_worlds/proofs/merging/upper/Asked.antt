@@ -56,16 +56,14 @@ module _ (stack : Stack ℕ) (merge : Merge ℕ) (whole : IsWhole stack merge) w
   place_of object there = by (nat_eq object merge.files.tree.root) refl (a_name nat_eq merge.files object) refl
     where
       by : (b : Bool) → nat_eq object merge.files.tree.root ≡ b → (o : Option (ℕ × List ℕ))
-          → a_name nat_eq merge.files object ≡ o
-          → (place : Place) × IsAt merge object place
+          → a_name nat_eq merge.files object ≡ o → (place : Place) × IsAt merge object place
       by true e o f = (Named [], ap Some (sym (eqb-true object merge.files.tree.root e)))
       by false e (Some name) f =
           let entry = named_so merge.files whole.tree object name f in
           let reached = is_reached_in merge.files whole.tree name.0 name.1 object entry in
           let way = way_to merge.files.tree reached.0 name.0 reached.1 in (
             Named (way.0 ++ name.1 ∷ []),
-            led-append merge.files.tree merge.files.tree.root way.0 name.1 name.0 object
-                way.1 entry,
+            led-append merge.files.tree merge.files.tree.root way.0 name.1 name.0 object way.1 entry,
           )
       by false e None f = let real = real_of object there in (Held real.0, (real.1, no_path object e f))
 
@@ -81,15 +79,13 @@ pub asked_changes_have_places : AskedChangesHavePlaces
 asked_changes_have_places stack merge (Make directory name number node) whole asked =
     let free = asked.0.name_is_free in (
       MakeAt free.reached.0 name node,
-      makes free.reached.0 directory name number node
-          (free.reached.1, free.in_directory),
+      makes free.reached.0 directory name number node (free.reached.1, free.in_directory),
     )
 asked_changes_have_places stack merge (AddName directory name object) whole asked =
     let free = asked.name_is_free in
     let old = place_of stack merge whole object asked.is_there in (
       LinkAt old.0 free.reached.0 name,
-      links old.0 free.reached.0 directory object name
-          (free.reached.1, free.in_directory) (asked.is_there, old.1),
+      links old.0 free.reached.0 directory object name (free.reached.1, free.in_directory) (asked.is_there, old.1),
     )
 asked_changes_have_places stack merge (Remove directory name object) whole asked =
     let path = path_of stack merge whole directory name object asked.named in
@@ -97,8 +93,7 @@ asked_changes_have_places stack merge (Remove directory name object) whole asked
 asked_changes_have_places stack merge (Move from old to new object) whole asked =
     let path = path_of stack merge whole from old object asked.0.named in (
       MoveAt path.0 old asked.0.reached.0 new,
-      moves path.0 asked.0.reached.0 from to object old new path.1.0
-          asked.0.reached.1 asked.0,
+      moves path.0 asked.0.reached.0 from to object old new path.1.0 asked.0.reached.1 asked.0,
     )
 asked_changes_have_places stack merge (SetBytes file bytes) whole asked =
     let place = place_of stack merge whole file asked in

@@ -1,8 +1,9 @@
 -- What lower layers show in two overlays over them: where that is the same, and where it is nothing.
-use Rattle.std.proofs.Common.{◌≡◌, refl, sym, ap, subst, ◌∙◌, true≢false, ℕ, suc, ◌+◌, nat_eq, Bool, true, false, cond, List, [], ◌∷◌, ◌++◌, map, Option, Some, None, is_some, option_and_then, slice_get}
+use Rattle.std.proofs.Common.{arith, ◌≡◌, refl, sym, ap, subst, ◌∙◌, true≢false, ℕ, suc, ◌+◌, nat_eq, Bool, true, false, cond, List, [], ◌∷◌, ◌++◌, map, Option, Some, None, is_some, option_and_then}
+use Rattle.std.proofs.lemmas.Grind.{common_steps}
 use Rattle.std.proofs.lemmas.List.{append-nil}
 use Rattle.std.specs.List.{list_any}
-use Rattle.vt_spec.specs.Lists.{prefixes, holds_of, then_some}
+use Rattle.vt_spec.specs.Lists.{prefixes, then_some}
 use Rattle.vt_spec.specs.Machine.CopyUp.{Merge, Stack, hides_directory, is_directory_shown, is_in_upper, upper_of}
 use Rattle.vt_spec.specs.Machine.Invariants.{SameObject, number_at_path}
 use Rattle.vt_spec.specs.Machine.Layers.{OpenLayer, Shown, shown, view_of}
@@ -10,7 +11,7 @@ use Rattle.vt_spec.specs.Machine.Merging.{layer_node}
 use Rattle.vt_spec.specs.Machine.Views.{View, cuts, hides, node_led, shown_from, shown_over}
 use Rattle.vt_spec.specs.Machine.World.{upper_object}
 use Rattle.vt_spec.specs.Machine.World.Real.{Upper}
-use Rattle.vt_spec.specs.Tree.{Node, Tree, is_directory_node}
+use Rattle.vt_spec.specs.Tree.{Tree, is_directory_node}
 use Rattle.vt_spec.specs.TreeInvariant.{entry_at, led}
 use Rattle.std.proofs.lemmas.Option.{same_Some}
 use Rattle.vt_spec.proofs.Options.{none_from_not_some, none_is_some}
@@ -36,8 +37,7 @@ use Rattle.vt_laws_worlds.proofs.merging.upper.Places.{path_there, seen_same}
 
 -- a way that is not cut is not cut at its fronts
 pub uncut_prefix : (test : List (List ℕ) → Bool) (way front rest : List (List ℕ)) → front ++ rest ≡ way
-    → list_any test (prefixes way) ≡ false
-    → list_any test (prefixes front) ≡ false
+    → list_any test (prefixes way) ≡ false → list_any test (prefixes front) ≡ false
 uncut_prefix test way [] rest e none = refl
 uncut_prefix test way (word ∷ front) rest e none =
     prefixes_fail test way (word ∷ front) (rest, e, cons_is_not_empty word front) none
@@ -73,23 +73,15 @@ module _ (stack : Stack ℕ) (m : Merge ℕ) (whole : IsWhole stack m) where
   led_is path n e = by (is_in_upper m n) refl
     where
       by : (b : Bool) → is_in_upper m n ≡ b → led_above stack m.upper path ≡ upper_object (m.real n)
-      by true stands =
-          named_above stack m whole path n (upper_of m n) e (upper_real m n stands)
+      by true stands = named_above stack m whole path n (upper_of m n) e (upper_real m n stands)
           ∙ sym (ap upper_object (upper_real m n stands))
-      by false low =
-          led_none (λ k. k) stack m whole n (path_there stack m whole path n e) path e low
+      by false low = led_none (λ k. k) stack m whole n (path_there stack m whole path n e) path e low
           ∙ sym (none_from_not_some (upper_object (m.real n)) low)
 
   -- the inode of a directory that lower layers show
   shown_node : (layers : List (OpenLayer ℕ)) (seen : Shown ℕ) → is_directory_shown layers (Some seen) ≡ true
       → is_directory_node (layer_node layers seen) ≡ true
-  shown_node layers seen e = by (slice_get layers seen.layer) e
-    where
-      by : (o : Option (OpenLayer ℕ))
-          → holds_of (λ layer. is_directory_node (layer.tree.node seen.object)) o ≡ true
-          → is_directory_node (then_some o (λ layer. layer.tree.node seen.object)) ≡ true
-      by None e = e
-      by (Some layer) e = e
+  shown_node layers seen e = grind (arith, common_steps)
 
   abbrev seen_in : (way : List (List ℕ)) → ShowsDirectory 1 stack.lowers way → Shown ℕ
   seen_in way shows = record { layer = 1 + shows.place; object = shows.object }
@@ -100,10 +92,8 @@ module _ (stack : Stack ℕ) (m : Merge ℕ) (whole : IsWhole stack m) where
   open_leads way shows uncut = by (led m.upper.tree stack.directory way) refl
     where
       low : led m.upper.tree stack.directory way ≡ None → shown (layers_under stack m) way ≡ Some (seen_in way shows)
-      low e =
-          ap (λ o. shown_over view 0 o (cuts view way) (shown_from 1 lowers way)) e
-          ∙ ap (λ b. shown_over view 0 None b (shown_from 1 lowers way)) uncut
-          ∙ shows.is
+      low e = ap (λ o. shown_over view 0 o (cuts view way) (shown_from 1 lowers way)) e
+          ∙ ap (λ b. shown_over view 0 None b (shown_from 1 lowers way)) uncut ∙ shows.is
 
       is_directory : is_directory_node (layer_node (layers_under stack m) (seen_in way shows)) ≡ true
       is_directory = shown_node (layers_under stack m) (seen_in way shows)
@@ -113,19 +103,7 @@ module _ (stack : Stack ℕ) (m : Merge ℕ) (whole : IsWhole stack m) where
       at : (o : Option ℕ) → number_at_path m.files way ≡ o
           → SameObject (then_some o m.files.tree.node) (layer_node (layers_under stack m) (seen_in way shows))
           → (directory : ℕ) × LeadsToDirectory m way directory
-      at None e same = absurd (no (layer_node (layers_under stack m) (seen_in way shows)) is_directory same)
-        where
-          no : (node : Option (Node ℕ)) → is_directory_node node ≡ true → SameObject None node → ⊥
-          no None d s = true≢false (sym d)
-          no (Some node) d s = s
-      at (Some n) e same = (
-        n,
-        (
-          e,
-          sym (same_directory (m.files.tree.node n) (layer_node (layers_under stack m) (seen_in way shows)) same)
-              ∙ is_directory,
-        ),
-      )
+      at o e same = grind (arith, common_steps, is_directory, true≢false, same_directory)
 
       top : (way : List (List ℕ)) → cuts view way ≡ false → (u : ℕ) → led m.upper.tree stack.directory way ≡ Some u
           → is_directory_node (m.upper.tree.node u) ≡ true
@@ -180,8 +158,7 @@ module _ (stack : Stack ℕ) (m : Merge ℕ) (whole : IsWhole stack m) where
   pub none_below : (way : List (List ℕ)) (name : List ℕ)
       → ((directory : ℕ) → LeadsToDirectory m way directory → cuts view way ≡ false → ⊥)
       → seen_below stack m.upper (way ++ name ∷ []) ≡ None
-  none_below way name out =
-      shown_none way name (λ uncut seen e.
+  none_below way name out = shown_none way name (λ uncut seen e.
       let shows = shown_longer stack.lowers lowers_open 1 [] way name seen e in
       let found = open_leads way shows uncut in
       out found.0 found.1 uncut)
@@ -205,8 +182,7 @@ module _ (stack : Stack ℕ) (m later : Merge ℕ) (whole : IsWhole stack m) (wh
           → seen_below stack later.upper (way ++ name ∷ []) ≡ seen_below stack m.upper (way ++ name ∷ [])
       by true a true b = seen_same stack m.upper later.upper way name (a ∙ sym b)
       by false a false b = seen_same stack m.upper later.upper way name (a ∙ sym b)
-      by true a false b =
-          cut_none stack later whole_later way name a
+      by true a false b = cut_none stack later whole_later way name a
           ∙ sym (none_below stack m whole way name (λ d is c. true≢false (sym a ∙ one d is ∙ b)))
       by false a true b =
           none_below stack later whole_later way name (λ d is c. true≢false (sym b ∙ sym (two d is) ∙ a))
@@ -214,16 +190,14 @@ module _ (stack : Stack ℕ) (m later : Merge ℕ) (whole : IsWhole stack m) (wh
 
   -- an inode hides what it hid, by its upper object
   abbrev pub HidesAsBefore : ℕ → Type 0
-  HidesAsBefore n =
-      hides (then_some (upper_object (later.real n)) later.upper.tree.node)
+  HidesAsBefore n = hides (then_some (upper_object (later.real n)) later.upper.tree.node)
       ≡ hides (then_some (upper_object (m.real n)) m.upper.tree.node)
 
   -- as where its real object is the same, and the inode of that is as it was
   pub hides_kept : (n : ℕ) → later.real n ≡ m.real n
       → ((u : ℕ) → m.real n ≡ Some (Upper u) → IsAlike (m.upper.tree.node u) (later.upper.tree.node u))
       → HidesAsBefore n
-  hides_kept n real alike =
-      ap (λ r. hides (then_some (upper_object r) later.upper.tree.node)) real ∙ by (m.real n) refl
+  hides_kept n real alike = ap (λ r. hides (then_some (upper_object r) later.upper.tree.node)) real ∙ by (m.real n) refl
     where
       by : (r : Option (Rattle.vt_spec.specs.Machine.World.Real ℕ)) → m.real n ≡ r
           → hides (then_some (upper_object r) later.upper.tree.node)
@@ -238,39 +212,30 @@ module _ (stack : Stack ℕ) (m later : Merge ℕ) (whole : IsWhole stack m) (wh
       → ((front rest : List (List ℕ)) → front ++ rest ≡ way
       → number_at_path later.files front ≡ number_at_path m.files front)
       → ((front rest : List (List ℕ)) (n : ℕ) → front ++ rest ≡ way → number_at_path m.files front ≡ Some n
-      → HidesAsBefore n)
-      → cuts after way ≡ cuts before way
+      → HidesAsBefore n) → cuts after way ≡ cuts before way
   same_cuts way to leads same hiding =
-      prefixes_agree (λ front. hides (node_led before front)) (λ front. hides (node_led after front)) way
-      (λ front is.
-      let found = front_leads m.files.tree front is.0 m.files.tree.root to
-      (ap (number_at_path m.files) is.1 ∙ leads) in
+      prefixes_agree (λ front. hides (node_led before front)) (λ front. hides (node_led after front)) way (λ front is.
+      let found = front_leads m.files.tree front is.0 m.files.tree.root to (ap (number_at_path m.files) is.1 ∙ leads) in
       ap (λ o. hides (then_some o later.upper.tree.node))
       (led_is stack later whole_later front found.0 (same front is.0 is.1 ∙ found.1))
       ∙ hiding front is.0 found.0 is.1 found.1
       ∙ sym (ap (λ o. hides (then_some o m.upper.tree.node)) (led_is stack m whole front found.0 found.1)))
 
   -- So the same is shown below at its names.
-  pub kept_below : (way : List (List ℕ)) (name : List ℕ)
-      → ((front rest : List (List ℕ)) → front ++ rest ≡ way
+  pub kept_below : (way : List (List ℕ)) (name : List ℕ) → ((front rest : List (List ℕ)) → front ++ rest ≡ way
       → number_at_path later.files front ≡ number_at_path m.files front)
       → ((front rest : List (List ℕ)) (n : ℕ) → front ++ rest ≡ way → number_at_path m.files front ≡ Some n
-      → HidesAsBefore n)
-      → seen_below stack later.upper (way ++ name ∷ []) ≡ seen_below stack m.upper (way ++ name ∷ [])
-  kept_below way name same hiding =
-      same_below way name (λ d is. same_cuts way d is.0 same hiding)
+      → HidesAsBefore n) → seen_below stack later.upper (way ++ name ∷ []) ≡ seen_below stack m.upper (way ++ name ∷ [])
+  kept_below way name same hiding = same_below way name (λ d is. same_cuts way d is.0 same hiding)
       (λ d is. same_cuts way d (sym (same way [] (append-nil way)) ∙ is.0) same hiding)
 
   -- Under a name where lower layers show a directory, if what the upper layer has there later hides that, and under
   -- one where they show none, nothing is shown below.
   pub under_mark : (path : List (List ℕ)) (name : List ℕ) (d : ℕ) → LeadsToDirectory m path d
-      → cuts after path ≡ cuts before path
-      → (c : ℕ) → led_above stack later.upper (path ++ name ∷ []) ≡ Some c
+      → cuts after path ≡ cuts before path → (c : ℕ) → led_above stack later.upper (path ++ name ∷ []) ≡ Some c
       → (hides_directory nat_eq stack m d name ≡ true → hides (later.upper.tree.node c) ≡ true)
-      → (word : List ℕ) (rest : List (List ℕ))
-      → seen_below stack later.upper (path ++ name ∷ word ∷ rest) ≡ None
-  under_mark path name d is cut c leads marks word rest =
-      ap (seen_below stack later.upper) (sym split)
+      → (word : List ℕ) (rest : List (List ℕ)) → seen_below stack later.upper (path ++ name ∷ word ∷ rest) ≡ None
+  under_mark path name d is cut c leads marks word rest = ap (seen_below stack later.upper) (sym split)
       ∙ shown_none stack later whole_later (path ++ name ∷ last.0) last.1 none
     where
       last : (front : List (List ℕ)) × (name : List ℕ) × (front ++ name ∷ [] ≡ word ∷ rest)

@@ -1,7 +1,8 @@
 -- What lower layers show after a name was removed, and after a move.
-use Rattle.std.proofs.Common.{◌≡◌, ◌≢◌, refl, sym, ap, subst, ◌∙◌, true≢false, eqb-true, eq-eqb, ne_eqb, ℕ, nat_eq, Bool, true, false, cond, List, [], ◌∷◌, ◌++◌, Option, Some, None, is_some, option_and_then}
+use Rattle.std.proofs.Common.{arith, ◌≡◌, ◌≢◌, refl, sym, ap, subst, ◌∙◌, true≢false, eqb-true, eq-eqb, ne_eqb, ℕ, nat_eq, Bool, true, false, cond, List, [], ◌∷◌, ◌++◌, Option, Some, None, is_some, option_and_then}
+use Rattle.std.proofs.lemmas.Grind.{common_steps}
 use Rattle.vt_spec.specs.FileTree.{FileTree}
-use Rattle.vt_spec.specs.Language.Changes.{changed, node_with_mark, node_without_entry, with_inode, without_parent}
+use Rattle.vt_spec.specs.Language.Changes.{changed, node_with_mark, node_without_entry, with_inode}
 use Rattle.vt_spec.specs.Language.Changes.Change.{Move}
 use Rattle.vt_spec.specs.Lists.{Fresh, then_some}
 use Rattle.vt_spec.specs.Machine.CopyUp.{Merge, Stack, hides_directory, merge_with_moved, merge_without_name, name_left_by, shown_in_lowers_at, upper_directory_named, upper_of, whiteout_of, with_mark, without_contents}
@@ -9,7 +10,7 @@ use Rattle.vt_spec.specs.Machine.Invariants.{number_at_path}
 use Rattle.vt_spec.specs.Machine.Views.{hides}
 use Rattle.vt_spec.specs.Machine.World.{upper_object}
 use Rattle.vt_spec.specs.Machine.World.Real.{Upper}
-use Rattle.vt_spec.specs.Tree.{entries_in, entry_named, is_directory_node, node_with_entry}
+use Rattle.vt_spec.specs.Tree.{entry_named, is_directory_node, node_with_entry}
 use Rattle.vt_spec.specs.TreeInvariant.{entry_at, led}
 use Rattle.vt_spec.proofs.Nodes.{node_other}
 use Rattle.vt_spec.proofs.Trees.{led-append}
@@ -55,15 +56,12 @@ module _ (stack : Stack ℕ) (m : Merge ℕ) (whole : IsWhole stack m) (path : L
       )
 
   pub through_under : (way : List (List ℕ)) (name : List ℕ)
-      → goes_through (view_in m.files m.files.tree.root) d w way ≡ true
-      → LiesUnder (path ++ w ∷ []) (way ++ name ∷ [])
+      → goes_through (view_in m.files m.files.tree.root) d w way ≡ true → LiesUnder (path ++ w ∷ []) (way ++ name ∷ [])
   through_under way name through =
       let parts = through_is_split m.files m.files.tree.root d w way through in
       let same = one_path m.files.tree whole.tree m.files.tree.root parts.0 path d parts.3 is.0 is.1 in
-      by parts.1
-      (append_assoc path (w ∷ []) (parts.1 ++ name ∷ [])
-      ∙ ap (λ p. p ++ w ∷ (parts.1 ++ name ∷ [])) (sym same)
-      ∙ sym (append_assoc parts.0 (w ∷ parts.1) (name ∷ []))
+      by parts.1 (append_assoc path (w ∷ []) (parts.1 ++ name ∷ [])
+      ∙ ap (λ p. p ++ w ∷ (parts.1 ++ name ∷ [])) (sym same) ∙ sym (append_assoc parts.0 (w ∷ parts.1) (name ∷ []))
       ∙ ap (λ p. p ++ name ∷ []) parts.2)
     where
       by : (rest : List (List ℕ)) → (path ++ w ∷ []) ++ (rest ++ name ∷ []) ≡ way ++ name ∷ []
@@ -73,12 +71,10 @@ module _ (stack : Stack ℕ) (m : Merge ℕ) (whole : IsWhole stack m) (path : L
 
 -- what is left of a name: the inodes of the upper layer, but for a whiteout, are as they were
 left_alike : (fresh : Fresh ℕ) (stack : Stack ℕ) (upper : FileTree ℕ) (b : Bool) (directory : ℕ) (name : List ℕ) (u : ℕ)
-    → u ≢ fresh 0
-    → IsAlike (upper.tree.node u) ((name_left_by nat_eq b fresh stack upper directory name).tree.node u)
+    → u ≢ fresh 0 → IsAlike (upper.tree.node u) ((name_left_by nat_eq b fresh stack upper directory name).tree.node u)
 left_alike fresh stack upper true directory name u differ =
     let white = with_inode nat_eq upper (fresh 0) (whiteout_of stack.mounter) in
-    alike_both (upper.tree.node u) (white.tree.node u) _
-    (alike_same (upper.tree.node u) (white.tree.node u)
+    alike_both (upper.tree.node u) (white.tree.node u) _ (alike_same (upper.tree.node u) (white.tree.node u)
     (node_other upper.tree (fresh 0) (Some (whiteout_of stack.mounter)) u differ))
     (alike_after white directory (node_with_entry name (fresh 0)) (entry_keeps name (fresh 0)) u)
 left_alike fresh stack upper false directory name u differ =
@@ -107,9 +103,7 @@ module _ (fresh : Fresh ℕ) (stack : Stack ℕ) (m : Merge ℕ) (whole : IsWhol
   pub removed_kept : (way : List (List ℕ)) (name : List ℕ)
       → goes_through (view_in m.files m.files.tree.root) d w way ≡ false
       → seen_below stack later.upper (way ++ name ∷ []) ≡ seen_below stack m.upper (way ++ name ∷ [])
-  removed_kept way name none =
-      kept_below stack m later whole whole_later way name
-      (λ front rest is. number_later front
+  removed_kept way name none = kept_below stack m later whole whole_later way name (λ front rest is. number_later front
       ∙ ap (λ b. cond b None (number_at_path m.files front)) (not_named m.files d w way front rest is none))
       (λ front rest n is leads. hides_kept stack m later whole whole_later n refl
       (λ u r. alike u (whole.shown.upper_there n u r)))
@@ -117,15 +111,13 @@ module _ (fresh : Fresh ℕ) (stack : Stack ℕ) (m : Merge ℕ) (whole : IsWhol
   pub removed_ends : (way : List (List ℕ)) (name : List ℕ)
       → goes_through (view_in m.files m.files.tree.root) d w way ≡ true
       → seen_below stack later.upper (way ++ name ∷ []) ≡ None
-  removed_ends way name through =
-      none_below stack later whole_later way name
+  removed_ends way name through = none_below stack later whole_later way name
       (λ k is c. by (names_entry (view_in m.files m.files.tree.root) d w way) refl k (sym (number_later way) ∙ is.0))
     where
       by : (b : Bool) → names_entry (view_in m.files m.files.tree.root) d w way ≡ b → (k : ℕ)
           → cond b None (number_at_path m.files way) ≡ Some k → ⊥
       by true e k leads = none_is_some k leads
-      by false e k leads =
-          none_is_some k (sym (through_bare m.files m.files.tree.root d object w may.named
+      by false e k leads = none_is_some k (sym (through_bare m.files m.files.tree.root d object w may.named
           (no_entries m.files.tree object may.empty) way through e) ∙ leads)
 
 -- A move
@@ -160,13 +152,11 @@ module _ (fresh : Fresh ℕ) (stack : Stack ℕ) (m : Merge ℕ) (whole : IsWhol
       (left_alike fresh stack at_new (is_some (shown_in_lowers_at nat_eq stack m f old)) (upper_of m f) old u differ)
 
   not_white : (u : ℕ) → is_some (m.upper.tree.node u) ≡ true → u ≢ fresh 0
-  not_white u used same =
-      true≢false (sym used ∙ ap (λ k. is_some (m.upper.tree.node k)) same ∙ ap is_some vacant)
+  not_white u used same = true≢false (sym used ∙ ap (λ k. is_some (m.upper.tree.node k)) same ∙ ap is_some vacant)
 
   alike_moved : (b : Bool) (u : ℕ) → u ≢ fresh 0 → u ≢ uo
       → IsAlike (m.upper.tree.node u) ((with_mark nat_eq b unmarked uo).tree.node u)
-  alike_moved true u differ other =
-      alike_both (m.upper.tree.node u) (unmarked.tree.node u) _ (unmarked_alike u differ)
+  alike_moved true u differ other = alike_both (m.upper.tree.node u) (unmarked.tree.node u) _ (unmarked_alike u differ)
       (alike_same (unmarked.tree.node u) _ (kept_elsewhere unmarked uo (node_with_mark true) u (ne_eqb u uo other)))
   alike_moved false u differ other = unmarked_alike u differ
 
@@ -180,11 +170,7 @@ module _ (fresh : Fresh ℕ) (stack : Stack ℕ) (m : Merge ℕ) (whole : IsWhol
 
   number_is : (path : List (List ℕ))
       → number_at_path then_moved.files path ≡ led then_moved.files.tree m.files.tree.root path
-  number_is path = ap (λ r. led then_moved.files.tree r path) (by (entry_named new (entries_in (m.files.tree.node t))))
-    where
-      by : (x : Option ℕ) → (without_parent nat_eq m.files x).tree.root ≡ m.files.tree.root
-      by None = refl
-      by (Some k) = refl
+  number_is path = grind (arith, common_steps)
 
   abbrev through_old : List (List ℕ) → Bool
   through_old path = goes_through (view_in m.files m.files.tree.root) f old path
@@ -199,8 +185,7 @@ module _ (fresh : Fresh ℕ) (stack : Stack ℕ) (m : Merge ℕ) (whole : IsWhol
   elsewhere : (way : List (List ℕ)) → through_new way ≡ false → through_old way ≡ false
       → (front rest : List (List ℕ)) → front ++ rest ≡ way
       → number_at_path then_moved.files front ≡ number_at_path m.files front
-  elsewhere way no_new no_old front rest is =
-      number_else front
+  elsewhere way no_new no_old front rest is = number_else front
       (uncut_prefix (names_entry (view_in m.files m.files.tree.root) t new) way front rest is no_new)
       ∙ ap (λ b. cond b None (number_at_path m.files front))
       (uncut_prefix (names_entry (view_in m.files m.files.tree.root) f old) way front rest is no_old)
@@ -214,8 +199,7 @@ module _ (fresh : Fresh ℕ) (stack : Stack ℕ) (m : Merge ℕ) (whole : IsWhol
           → HidesAsBefore stack m then_moved whole whole_later n
       own true d same =
           let here = one_path m.files.tree whole.tree m.files.tree.root front (from ++ old ∷ []) o
-          (leads ∙ ap Some same)
-          (led-append m.files.tree m.files.tree.root from old f o from_leads may.named) d in
+          (leads ∙ ap Some same) (led-append m.files.tree m.files.tree.root from old f o from_leads may.named) d in
           absurd (true≢false (sym (prefix_passes (names_entry (view_in m.files m.files.tree.root) f old) way
           (from ++ old ∷ []) rest (ap (λ p. p ++ rest) (sym here) ∙ is) (longer_is_not_empty from old)
           (entry_named_so m.files m.files.tree.root f old from from_leads)) ∙ no_old))
@@ -232,10 +216,8 @@ module _ (fresh : Fresh ℕ) (stack : Stack ℕ) (m : Merge ℕ) (whole : IsWhol
 
       by : (b : Bool) → nat_eq n o ≡ b → HidesAsBefore stack m then_moved whole whole_later n
       by true e = own (is_directory_node (m.files.tree.node o)) refl (eqb-true n o e)
-      by false e =
-          hides_kept stack m then_moved whole whole_later n refl
-          (λ u r. alike_moved (hides_directory nat_eq stack m t new) u
-          (not_white u (whole.shown.upper_there n u r))
+      by false e = hides_kept stack m then_moved whole whole_later n refl
+          (λ u r. alike_moved (hides_directory nat_eq stack m t new) u (not_white u (whole.shown.upper_there n u r))
           (λ same. true≢false (sym (eq-eqb n o (whole.shown.one_to_one n o (ap is_some r)
           (r ∙ ap (λ k. Some (Upper k)) same ∙ sym real_o))) ∙ e)))
 
@@ -246,18 +228,14 @@ module _ (fresh : Fresh ℕ) (stack : Stack ℕ) (m : Merge ℕ) (whole : IsWhol
 
   pub old_ends : (way : List (List ℕ)) (name : List ℕ) → through_new way ≡ false → through_old way ≡ true
       → seen_below stack then_moved.upper (way ++ name ∷ []) ≡ None
-  old_ends way name no_new through =
-      none_below stack then_moved whole_later way name
-      (λ k is c. none_is_some k
+  old_ends way name no_new through = none_below stack then_moved whole_later way name (λ k is c. none_is_some k
       (sym (number_else way no_new ∙ ap (λ b. cond b None (number_at_path m.files way)) through) ∙ is.0))
 
   -- the way to the new directory goes through neither name
   to_not_old : (to : List (List ℕ)) → number_at_path m.files to ≡ Some t → through_old to ≡ false
-  to_not_old to leads =
-      fails (through_old to) (λ through.
+  to_not_old to leads = fails (through_old to) (λ through.
       let parts = through_is_split m.files m.files.tree.root f old to through in
-      may.not_under parts.1
-      (sym (ap (option_and_then (λ next. led m.files.tree next parts.1)) may.named)
+      may.not_under parts.1 (sym (ap (option_and_then (λ next. led m.files.tree next parts.1)) may.named)
       ∙ sym (led_parts m.files.tree parts.0 (old ∷ parts.1) m.files.tree.root f parts.3)
       ∙ ap (number_at_path m.files) parts.2 ∙ leads))
 
@@ -277,8 +255,7 @@ module _ (fresh : Fresh ℕ) (stack : Stack ℕ) (m : Merge ℕ) (whole : IsWhol
     where
       at : (to rest : List (List ℕ)) → number_at_path m.files to ≡ Some t
           → seen_below stack then_moved.upper ((to ++ new ∷ rest) ++ name ∷ []) ≡ None
-      at to rest leads =
-          ap (seen_below stack then_moved.upper) (append_assoc to (new ∷ rest) (name ∷ [])) ∙ by rest
+      at to rest leads = ap (seen_below stack then_moved.upper) (append_assoc to (new ∷ rest) (name ∷ [])) ∙ by rest
         where
           leads_new : number_at_path then_moved.files (to ++ new ∷ []) ≡ Some o
           leads_new = number_is (to ++ new ∷ [])
@@ -286,17 +263,14 @@ module _ (fresh : Fresh ℕ) (stack : Stack ℕ) (m : Merge ℕ) (whole : IsWhol
 
           under : (word : List ℕ) (rest : List (List ℕ))
               → seen_below stack then_moved.upper (to ++ new ∷ word ∷ rest) ≡ None
-          under =
-              under_mark stack m then_moved whole whole_later to new t (leads, may.in_directory)
+          under = under_mark stack m then_moved whole whole_later to new t (leads, may.in_directory)
               (same_cuts stack m then_moved whole whole_later to t leads
-              (elsewhere to (to_not_new to leads) (to_not_old to leads)) (hiding to (to_not_old to leads)))
-              uo
+              (elsewhere to (to_not_new to leads) (to_not_old to leads)) (hiding to (to_not_old to leads))) uo
               (led_is stack then_moved whole_later (to ++ new ∷ []) o leads_new ∙ ap upper_object real_o)
               (λ h. marked_hides unmarked uo (hides_directory nat_eq stack m t new) h
               ((unmarked_alike uo (not_white uo (whole.shown.upper_there o uo real_o))).there
               ∙ whole.shown.upper_there o uo real_o))
 
-          by : (rest : List (List ℕ))
-              → seen_below stack then_moved.upper (to ++ new ∷ (rest ++ name ∷ [])) ≡ None
+          by : (rest : List (List ℕ)) → seen_below stack then_moved.upper (to ++ new ∷ (rest ++ name ∷ [])) ≡ None
           by [] = under name []
           by (word ∷ rest) = under word (rest ++ name ∷ [])

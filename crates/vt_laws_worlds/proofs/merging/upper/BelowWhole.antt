@@ -87,8 +87,7 @@ module _ (fresh : Fresh ℕ) (stack : Stack ℕ) (merge : Merge ℕ) (whole : Is
 
     remove_keeps : (p : List (List ℕ)) → ¬ (LiesUnder (path ++ w ∷ []) p)
         → seen_below stack after_remove p ≡ seen_below stack merge.upper p
-    remove_keeps p out =
-        at_each_path (λ p. ¬ (LiesUnder (path ++ w ∷ []) p)
+    remove_keeps p out = at_each_path (λ p. ¬ (LiesUnder (path ++ w ∷ []) p)
         → seen_below stack after_remove p ≡ seen_below stack one.upper p) (λ out. refl)
         (λ way name out. by way name out (goes_through (view_in one.files one.files.tree.root) d w way) refl) p out
         ∙ evens_below d there p
@@ -97,16 +96,14 @@ module _ (fresh : Fresh ℕ) (stack : Stack ℕ) (merge : Merge ℕ) (whole : Is
             → goes_through (view_in one.files one.files.tree.root) d w way ≡ b
             → seen_below stack after_remove (way ++ name ∷ []) ≡ seen_below stack one.upper (way ++ name ∷ [])
         by way name out true e = absurd (out (through_under stack one one_whole path d one_is w way name e))
-        by way name out false e =
-            removed_kept (odds fresh) stack one one_whole d w object
+        by way name out false e = removed_kept (odds fresh) stack one one_whole d w object
             (still_unused fresh stack merge whole new.distinct new.unused d there 0) one_may
             (whole_after (Remove d w object) may) way name e
 
     remove_ends : (p : List (List ℕ)) → LiesUnder (path ++ w ∷ []) p → seen_below stack after_remove p ≡ None
     remove_ends p under =
         let found = under_through stack one one_whole path d one_is w p under in
-        ap (seen_below stack after_remove) (sym found.2)
-        ∙ removed_ends (odds fresh) stack one one_whole d w object
+        ap (seen_below stack after_remove) (sym found.2) ∙ removed_ends (odds fresh) stack one one_whole d w object
         (still_unused fresh stack merge whole new.distinct new.unused d there 0) one_may
         (whole_after (Remove d w object) may) found.0 found.1 found.3
 
@@ -148,19 +145,16 @@ module _ (fresh : Fresh ℕ) (stack : Stack ℕ) (merge : Merge ℕ) (whole : Is
         let first = is_copied fresh stack merge whole new.distinct new.unused o o_there in
         copied_below (evens (odds fresh)) stack (copied_up nat_eq (evens fresh) merge o) first.whole
         (even_new (odds fresh) (copied_up nat_eq (evens fresh) merge o).upper (odds_new o o_there)) t
-        (subst (λ files. IsThere files t) (sym first.files)
-        (directory_used merge.files.tree t asked.0.in_directory)) p
+        (subst (λ files. IsThere files t) (sym first.files) (directory_used merge.files.tree t asked.0.in_directory)) p
         ∙ evens_below o o_there p
 
     move_keeps : (p : List (List ℕ)) → ¬ (LiesUnder (from_path ++ old ∷ []) p)
-        → ¬ (LiesUnder (to_path ++ new_name ∷ []) p)
-        → seen_below stack after_move p ≡ seen_below stack merge.upper p
+        → ¬ (LiesUnder (to_path ++ new_name ∷ []) p) → seen_below stack after_move p ≡ seen_below stack merge.upper p
     move_keeps p no_old no_new =
         at_each_path (λ p. ¬ (LiesUnder (from_path ++ old ∷ []) p) → ¬ (LiesUnder (to_path ++ new_name ∷ []) p)
         → seen_below stack after_move p ≡ seen_below stack two.upper p) (λ no_old no_new. refl)
         (λ way name no_old no_new. by way name no_old no_new (through_to way) refl (through_from way) refl)
-        p no_old no_new
-        ∙ copies_below p
+        p no_old no_new ∙ copies_below p
       where
         by : (way : List (List ℕ)) (name : List ℕ) → ¬ (LiesUnder (from_path ++ old ∷ []) (way ++ name ∷ []))
             → ¬ (LiesUnder (to_path ++ new_name ∷ []) (way ++ name ∷ []))
@@ -175,8 +169,7 @@ module _ (fresh : Fresh ℕ) (stack : Stack ℕ) (merge : Merge ℕ) (whole : Is
             (whole_after (Move f old t new_name o) asked) from_path from_is.0 way name a e
 
     ends : (way : List (List ℕ)) (name : List ℕ) → (a : Bool) → through_to way ≡ a → (b : Bool)
-        → through_from way ≡ b → (a ≡ true) ⊎ (b ≡ true)
-        → seen_below stack after_move (way ++ name ∷ []) ≡ None
+        → through_from way ≡ b → (a ≡ true) ⊎ (b ≡ true) → seen_below stack after_move (way ++ name ∷ []) ≡ None
     ends way name true a b e some =
         new_ends (odds (odds fresh)) stack two ready.whole f old t new_name o ready.object ready.vacant ready.may
         (whole_after (Move f old t new_name o) asked) from_path from_is.0 way name a
@@ -191,8 +184,7 @@ module _ (fresh : Fresh ℕ) (stack : Stack ℕ) (merge : Merge ℕ) (whole : Is
         ap (seen_below stack after_move) (sym found.2)
         ∙ ends found.0 found.1 (through_to found.0) refl (through_from found.0) refl (inr found.3)
 
-    move_ends_new : (p : List (List ℕ)) → LiesUnder (to_path ++ new_name ∷ []) p
-        → seen_below stack after_move p ≡ None
+    move_ends_new : (p : List (List ℕ)) → LiesUnder (to_path ++ new_name ∷ []) p → seen_below stack after_move p ≡ None
     move_ends_new p under =
         let found = under_through stack two ready.whole to_path t to_is new_name p under in
         ap (seen_below stack after_move) (sym found.2)
@@ -209,8 +201,7 @@ module _ (fresh : Fresh ℕ) (stack : Stack ℕ) (merge : Merge ℕ) (whole : Is
       (stands_now fresh stack merge whole new.distinct new.unused d there)
       (still_unused fresh stack merge whole new.distinct new.unused d there 0)
       (subst (λ files. MayMake files.tree d w number node) (sym one.files) asked.0)
-      (whole_after (Make d w number node) asked) p
-      ∙ evens_below d there p
+      (whole_after (Make d w number node) asked) p ∙ evens_below d there p
   kept change at (links place path d object w is used) asked p out =
       let first = is_copied fresh stack merge whole new.distinct new.unused object asked.is_there in
       let one = copied_up nat_eq (evens fresh) merge object in
@@ -219,8 +210,7 @@ module _ (fresh : Fresh ℕ) (stack : Stack ℕ) (merge : Merge ℕ) (whole : Is
       let second = object_copied stack (odds fresh) two.distinct one d first.whole two.unused there in
       linked_below stack (copied_up nat_eq (odds fresh) one d) second.copied.whole d w object
       (subst (λ files. MayAddName files.tree d w object) (sym (second.copied.files ∙ first.files)) asked)
-      (whole_after (AddName d w object) asked) p
-      ∙ copied_below (odds fresh) stack one first.whole two d there p
+      (whole_after (AddName d w object) asked) p ∙ copied_below (odds fresh) stack one first.whole two d there p
       ∙ evens_below object asked.is_there p
   kept change at (removes path d object w is) asked p out =
       remove_keeps path d object w is asked p (out (path ++ w ∷ []) refl)
@@ -247,8 +237,7 @@ module _ (fresh : Fresh ℕ) (stack : Stack ℕ) (merge : Merge ℕ) (whole : Is
   ended change at (links place path d object w is used) asked top p e under = absurd e
   ended change at (removes path d object w is) asked top p e under =
       remove_ends path d object w is asked p (subst (λ q. LiesUnder q p) e under)
-  ended change at (moves from_path to_path f t o old new_name from_leads to_leads may) asked top p e under =
-      ⊎_elim
+  ended change at (moves from_path to_path f t o old new_name from_leads to_leads may) asked top p e under = ⊎_elim
       (λ same. move_ends_old from_path to_path f t o old new_name from_leads to_leads asked p
       (subst (λ q. LiesUnder q p) same under))
       (λ same. move_ends_new from_path to_path f t o old new_name from_leads to_leads asked p
@@ -264,8 +253,7 @@ below_stays fresh stack merge whole new change at path asked asks out =
     let same = changes_are_by_layers fresh stack merge whole new change at asks in
     let seen = kept fresh stack merge whole new change at asks asked path out in (
       ap (λ u. seen_below stack u path) (sym same) ∙ seen,
-      ap (λ u. directory_below stack u path) (sym same)
-          ∙ ap (is_directory_shown (layers_with stack later.upper)) seen
+      ap (λ u. directory_below stack u path) (sym same) ∙ ap (is_directory_shown (layers_with stack later.upper)) seen
           ∙ directory_below_any (record { tree = later.upper.tree; directory = stack.directory })
           (record { tree = merge.upper.tree; directory = stack.directory }) stack.lowers path
           (cuts (view_in merge.upper stack.directory) (without_last path)),
@@ -282,14 +270,12 @@ free_none : (stack : Stack ℕ) (merge : Merge ℕ) → IsWhole stack merge → 
     → (p : List (List ℕ)) → LiesUnder (path ++ w ∷ []) p → seen_below stack merge.upper p ≡ None
 free_none stack merge whole path d w is free p under =
     let found = under_through stack merge whole path d is w p under in
-    ap (seen_below stack merge.upper) (sym found.2)
-    ∙ none_below stack merge whole found.0 found.1
+    ap (seen_below stack merge.upper) (sym found.2) ∙ none_below stack merge whole found.0 found.1
     (λ k leads c. none_is_some k
     (sym (through_free merge.files merge.files.tree.root d w free found.0 found.3) ∙ leads.0))
 
 given_none : (stack : Stack ℕ) (merge : Merge ℕ) → IsWhole stack merge → (change : Change ℕ) (at : ChangeAt)
-    → Asks merge change at
-    → IsAskedWell stack merge change → (top p : List (List ℕ)) → IsGiven at top → LiesUnder top p
+    → Asks merge change at → IsAskedWell stack merge change → (top p : List (List ℕ)) → IsGiven at top → LiesUnder top p
     → (seen_below stack merge.upper p ≡ None) × ((other : List (List ℕ)) → ¬ (IsEnded at other))
 given_none stack merge whole change at (makes path d w number node is) asked top p e under = (
   free_none stack merge whole path d w is asked.0.name_is_free.free p (subst (λ q. LiesUnder q p) e under),
@@ -328,20 +314,17 @@ under_front one other a b under =
     let split : ((one ++ a ∷ []) ++ last.0) ++ last.1 ∷ [] ≡ other ++ b ∷ [] =
     append_assoc (one ++ a ∷ []) last.0 (last.1 ∷ []) ∙ ap (λ r. (one ++ a ∷ []) ++ r) last.2 ∙ under.2 in (
       last.0,
-      sym (append_assoc one (a ∷ []) last.0)
-          ∙ sym (without_last_of_longer ((one ++ a ∷ []) ++ last.0) last.1)
+      sym (append_assoc one (a ∷ []) last.0) ∙ sym (without_last_of_longer ((one ++ a ∷ []) ++ last.0) last.1)
           ∙ ap without_last split ∙ without_last_of_longer other b,
     )
 
 module _ (merge : Merge ℕ) (from_path to_path : List (List ℕ)) (f t o : ℕ) (old new : List ℕ)
     (from_leads : number_at_path merge.files from_path ≡ Some f)
-    (to_leads : number_at_path merge.files to_path ≡ Some t)
-    (may : MayMove merge.files.tree f old t new o) where
+    (to_leads : number_at_path merge.files to_path ≡ Some t) (may : MayMove merge.files.tree f old t new o) where
   new_not_under : ¬ (LiesUnder (from_path ++ old ∷ []) (to_path ++ new ∷ []))
   new_not_under under =
       let found = under_front from_path to_path old new under in
-      may.not_under found.0
-      (sym (ap (option_and_then (λ next. led merge.files.tree next found.0)) may.named)
+      may.not_under found.0 (sym (ap (option_and_then (λ next. led merge.files.tree next found.0)) may.named)
       ∙ sym (led_parts merge.files.tree from_path (old ∷ found.0) merge.files.tree.root f from_leads)
       ∙ ap (number_at_path merge.files) found.1 ∙ to_leads)
 
@@ -355,12 +338,9 @@ module _ (merge : Merge ℕ) (from_path to_path : List (List ℕ)) (f t o : ℕ)
       by : (x : Option ℕ) → entry_at merge.files.tree t new ≡ x → (rest : List (List ℕ))
           → option_and_then (λ next. led merge.files.tree next rest) x ≡ Some f → ⊥
       by None e rest l = none_is_some f l
-      by (Some r) e [] l =
-          none_is_some o (sym (no_entries merge.files.tree r (may.replaced_empty r e) old)
+      by (Some r) e [] l = none_is_some o (sym (no_entries merge.files.tree r (may.replaced_empty r e) old)
           ∙ ap (λ k. entry_at merge.files.tree k old) (same_Some r f l) ∙ may.named)
-      by (Some r) e (word ∷ rest) l =
-          none_is_some f
-          (sym (ap (option_and_then (λ next. led merge.files.tree next rest))
+      by (Some r) e (word ∷ rest) l = none_is_some f (sym (ap (option_and_then (λ next. led merge.files.tree next rest))
           (no_entries merge.files.tree r (may.replaced_empty r e) word)) ∙ l)
 
 names_apart : (merge : Merge ℕ) (change : Change ℕ) (at : ChangeAt) → Asks merge change at
@@ -370,12 +350,9 @@ names_apart merge change at (links place path d object w is used) top other e f 
 names_apart merge change at (removes path d object w is) top other e f under =
     no_longer other under.0 under.1 (under.2 ∙ e ∙ sym f)
 names_apart merge change at (moves from_path to_path from to o old last from_leads to_leads may) top other e f under =
-    ⊎_elim
-    (λ a. ⊎_elim
-    (λ b. no_longer other under.0 under.1 (under.2 ∙ a ∙ sym b))
+    ⊎_elim (λ a. ⊎_elim (λ b. no_longer other under.0 under.1 (under.2 ∙ a ∙ sym b))
     (λ b. old_not_under merge from_path to_path from to o old last from_leads to_leads may
-    (under.0, under.1, ap (λ p. p ++ under.0 ∷ under.1) (sym b) ∙ under.2 ∙ a)) f)
-    (λ a. ⊎_elim
+    (under.0, under.1, ap (λ p. p ++ under.0 ∷ under.1) (sym b) ∙ under.2 ∙ a)) f) (λ a. ⊎_elim
     (λ b. new_not_under merge from_path to_path from to o old last from_leads to_leads may
     (under.0, under.1, ap (λ p. p ++ under.0 ∷ under.1) (sym b) ∙ under.2 ∙ a))
     (λ b. no_longer other under.0 under.1 (under.2 ∙ a ∙ sym b)) f) e

@@ -1,7 +1,8 @@
 -- Copies of what a path leads to, front by front.
+use Rattle.std.proofs.lemmas.Grind.{common_steps}
 use Rattle.std.proofs.Common.{arith, ◌≡◌, ◌≤◌, refl, sym, ap, subst, ◌∙◌, true≢false, ℕ, zero, suc, ◌+◌, nat_eq, Bool, true, false, List, [], ◌∷◌, ◌++◌, length, map, reverse, Option, Some, None, is_some, option_and_then, unwrap_or}
 use mathlib.Core.List.{reverse-cons}
-use Rattle.vt_spec.specs.FileTree.{FileTree, a_name, named_parent}
+use Rattle.vt_spec.specs.FileTree.{FileTree, a_name, named_parent, is_kind_in}
 use Rattle.vt_spec.specs.Lists.{Fresh, chain, folded, without_last, prefixes, then_some}
 use Rattle.vt_spec.specs.Machine.CopyUp.{Merge, Stack, copied_content, copied_each, copied_up, copy_named, copy_of, copy_of_node, copy_parent, directories_to, is_in_upper, line_by, line_to, upper_of}
 use Rattle.vt_spec.specs.Machine.Invariants.{ListsNumbers, SameObject, number_at_path, same_content}
@@ -19,17 +20,14 @@ use Rattle.vt_laws_trees.proofs.overlays.steps.WholeNames.{above_named, named_ab
 use Rattle.vt_laws_trees.proofs.overlays.steps.WholeParts.{real_by}
 use Rattle.vt_laws_worlds.specs.Merging.UpperChanges.{copied_at, copied_to, copy_node, copy_over, led_above, node_seen, object_above}
 use Rattle.vt_spec.specs.declared.attributes.Kind.TheVariants.{White}
-use Rattle.vt_spec.specs.FileTree.{is_kind_in}
-use Rattle.vt_spec.specs.Machine.Layers.{view_of}
-use Rattle.vt_spec.specs.Machine.World.{Real, upper_object}
+use Rattle.vt_spec.specs.Machine.World.{Real}
 use Rattle.vt_spec.specs.Language.Changes.{changed, with_inode}
 use Rattle.vt_spec.specs.Language.Changes.Change.{Make}
-use Rattle.vt_laws_trees.specs.Layers.Layers.Views.{view_in}
 use Rattle.vt_laws_trees.proofs.layers.views.After.{on_top}
 use Rattle.std.proofs.lemmas.Slice.Eq.{bytes_eq-Decides}
 use Rattle.vt_laws_trees.proofs.overlays.changes.WholeTogether.{stands_above}
 use Rattle.vt_spec.specs.Tree.{Content, Node, Tree}
-use Rattle.vt_spec.specs.Tree.Content.{Directory, Regular, Symlink, Whiteout}
+use Rattle.vt_spec.specs.Tree.Content.{Directory}
 use Rattle.std.proofs.lemmas.List.{length-reverse, map-append}
 use Rattle.std.proofs.lemmas.Option.{same_Some}
 use Rattle.vt_spec.proofs.Options.{none_is_some}
@@ -43,8 +41,7 @@ module _ (files : FileTree ℕ) (tree : IsTree files.tree) (numbers : ListsNumbe
       → chain most (named_parent nat_eq files.tree) directory ≡ chain steps (named_parent nat_eq files.tree) directory
   chain_is zero most directory r h = up_at_root files tree most directory r ∙ sym (up_at_root files tree 0 directory r)
   chain_is (suc steps) zero directory r h = absurd (let no : ⊥ = omega arith in no)
-  chain_is (suc steps) (suc most) directory r h =
-      up_from files tree most steps directory r
+  chain_is (suc steps) (suc most) directory r h = up_from files tree most steps directory r
       ∙ ap (λ l. directory ∷ l) (chain_is steps most r.0 r.2 (omega arith))
       ∙ sym (up_from files tree steps steps directory r)
 
@@ -61,8 +58,7 @@ module _ (files : FileTree ℕ) (tree : IsTree files.tree) (numbers : ListsNumbe
 
   pub directories_count : (steps directory : ℕ) → ReachedIn files.tree steps directory
       → length (directories_to nat_eq files directory) ≡ suc steps
-  directories_count steps directory r =
-      ap length (directories_are steps directory r)
+  directories_count steps directory r = ap length (directories_are steps directory r)
       ∙ length-reverse (chain steps (named_parent nat_eq files.tree) directory) ∙ chain_length steps directory r
 
   -- the line to a directory is that of the directories down to it
@@ -105,8 +101,7 @@ module _ (files : FileTree ℕ) (tree : IsTree files.tree) (numbers : ListsNumbe
       by : (front : List (List ℕ)) (name : List ℕ) → length front ≡ steps → (o : Option ℕ)
           → led files.tree files.tree.root front ≡ o
           → option_and_then (λ parent. entry_at files.tree parent name) o ≡ Some directory
-          → ((path : List (List ℕ)) (above : ℕ) → length path ≡ steps
-          → led files.tree files.tree.root path ≡ Some above
+          → ((path : List (List ℕ)) (above : ℕ) → length path ≡ steps → led files.tree files.tree.root path ≡ Some above
           → IsDirectory files.tree above → ReachedIn files.tree steps above)
           → ReachedIn files.tree (suc steps) directory
       by front name n None l f before = none_is_some directory f
@@ -126,8 +121,7 @@ module _ (fresh : Fresh ℕ) (stack : Stack ℕ) (merge : Merge ℕ) (whole : Is
 
   -- an object with a name is copied after the directory of that
   pub copied_after : (object : ℕ) (name : ℕ × List ℕ) → a_name nat_eq merge.files object ≡ Some name
-      → copied_up nat_eq fresh merge object
-      ≡ copy_of nat_eq (copied_up nat_eq fresh merge name.0) object
+      → copied_up nat_eq fresh merge object ≡ copy_of nat_eq (copied_up nat_eq fresh merge name.0) object
       (fresh (length (directories_to nat_eq merge.files name.0)))
       ((copied_up nat_eq fresh merge name.0).files.tree.node object)
       (is_in_upper (copied_up nat_eq fresh merge name.0) object)
@@ -147,18 +141,15 @@ module _ (fresh : Fresh ℕ) (stack : Stack ℕ) (merge : Merge ℕ) (whole : Is
 
   directory_stays : (steps directory : ℕ) → ReachedIn merge.files.tree steps directory → StandsInUpper merge directory
       → copied_up nat_eq fresh merge directory ≡ merge
-  directory_stays zero directory r stands =
-      ap (copied_each nat_eq fresh 0 merge)
+  directory_stays zero directory r stands = ap (copied_each nat_eq fresh 0 merge)
       (line_is merge.files whole.tree whole.numbers 0 directory r
       ∙ ap (λ l. reverse l) (up_at_root merge.files whole.tree (length merge.files.numbers) directory r))
       ∙ one_stays merge directory (fresh 0) (merge.files.tree.node directory) (is_in_upper merge directory) stands
-  directory_stays (suc steps) directory r stands =
-      by (a_name nat_eq merge.files directory) refl
+  directory_stays (suc steps) directory r stands = by (a_name nat_eq merge.files directory) refl
       (directory_stays steps r.0 r.2 (stands_above stack merge whole r.0 r.1 directory r.3 stands))
     where
       by : (o : Option (ℕ × List ℕ)) → a_name nat_eq merge.files directory ≡ o
-          → copied_up nat_eq fresh merge r.0 ≡ merge
-          → copied_up nat_eq fresh merge directory ≡ merge
+          → copied_up nat_eq fresh merge r.0 ≡ merge → copied_up nat_eq fresh merge directory ≡ merge
       by None e above = absurd (true≢false
           (sym (has_a_name merge.files whole.numbers r.0 r.1 directory r.3) ∙ ap is_some e))
       by (Some name) e above =
@@ -175,16 +166,14 @@ module _ (fresh : Fresh ℕ) (stack : Stack ℕ) (merge : Merge ℕ) (whole : Is
     where
       by : (o : Option (ℕ × List ℕ)) → a_name nat_eq merge.files object ≡ o
           → copied_up nat_eq fresh merge object ≡ merge
-      by None e =
-          ap (λ o. copied_each nat_eq fresh 0 merge (line_by nat_eq merge.files object o)) e
+      by None e = ap (λ o. copied_each nat_eq fresh 0 merge (line_by nat_eq merge.files object o)) e
           ∙ one_stays merge object (fresh 0) (merge.files.tree.node object) (is_in_upper merge object) stands
       by (Some name) e =
           let entry = named_so merge.files whole.tree object name e in
           let reached = is_reached_in merge.files whole.tree name.0 name.1 object entry in
           copied_after object name e
           ∙ ap (λ m. copy_of nat_eq m object (fresh (length (directories_to nat_eq merge.files name.0)))
-          (m.files.tree.node object) (is_in_upper m object))
-          (directory_stays reached.0 name.0 reached.1
+          (m.files.tree.node object) (is_in_upper m object)) (directory_stays reached.0 name.0 reached.1
           (stands_above stack merge whole name.0 name.1 object entry stands))
           ∙ one_stays merge object _ (merge.files.tree.node object) (is_in_upper merge object) stands
 
@@ -211,14 +200,8 @@ module _ (fresh : Fresh ℕ) (stack : Stack ℕ) (merge : Merge ℕ) (whole : Is
 
       at : (u : ℕ) (white : Bool) → is_kind_in White (merge.upper.tree.node u) ≡ white
           → led_above stack merge.upper path ≡ Some u → ⊥
-      at u true e l =
-          no_real (merge.real object) refl
-          (real_here ∙ ap (real_by path) (on_top (view_in merge.upper stack.directory)
-          (map view_of stack.lowers) path u true l e))
-      at u false e l =
-          let found = above_named stack merge whole path u l e in
-          true≢false (sym (ap (λ r. is_some (upper_object r)) found.2)
-          ∙ ap (λ n. is_some (upper_object (merge.real n))) (same_Some found.0 object (sym found.1 ∙ leads)) ∙ low)
+      at u white e l =
+          grind (arith, common_steps, no_real, real_here, real_by, on_top, above_named, true≢false, same_Some)
 
       by : (o : Option ℕ) → led_above stack merge.upper path ≡ o → o ≡ None
       by None e = refl
@@ -231,27 +214,11 @@ module _ (fresh : Fresh ℕ) (stack : Stack ℕ) (merge : Merge ℕ) (whole : Is
 -- what is copied is what is shown
 pub same_copied : (parent : ℕ) (content other : Content ℕ) → same_content content other ≡ true
     → copied_content parent content ≡ copied_content parent other
-same_copied parent (Directory p e o) (Directory q f r) s = refl
-same_copied parent (Directory p e o) (Regular bytes) s = absurd (true≢false (sym s))
-same_copied parent (Directory p e o) (Symlink text) s = absurd (true≢false (sym s))
-same_copied parent (Directory p e o) Whiteout s = absurd (true≢false (sym s))
-same_copied parent (Regular bytes) (Directory q f r) s = absurd (true≢false (sym s))
-same_copied parent (Regular bytes) (Regular other) s = ap (λ b. Regular b) ((bytes_eq-Decides bytes other).0 s)
-same_copied parent (Regular bytes) (Symlink text) s = absurd (true≢false (sym s))
-same_copied parent (Regular bytes) Whiteout s = absurd (true≢false (sym s))
-same_copied parent (Symlink text) (Directory q f r) s = absurd (true≢false (sym s))
-same_copied parent (Symlink text) (Regular other) s = absurd (true≢false (sym s))
-same_copied parent (Symlink text) (Symlink other) s = ap (λ b. Symlink b) ((bytes_eq-Decides text other).0 s)
-same_copied parent (Symlink text) Whiteout s = absurd (true≢false (sym s))
-same_copied parent Whiteout (Directory q f r) s = absurd (true≢false (sym s))
-same_copied parent Whiteout (Regular other) s = absurd (true≢false (sym s))
-same_copied parent Whiteout (Symlink text) s = absurd (true≢false (sym s))
-same_copied parent Whiteout Whiteout s = absurd (true≢false (sym s))
+same_copied parent content other s = grind (arith, common_steps, true≢false, bytes_eq-Decides)
 
 -- an object is copied under its name in a directory that stands in the upper layer
 module _ (fresh : Fresh ℕ) (stack : Stack ℕ) (m : Merge ℕ) (whole : IsWhole stack m) (front : List (List ℕ))
-    (name : List ℕ) (parent object : ℕ)
-    (above : number_at_path m.files front ≡ Some parent)
+    (name : List ℕ) (parent object : ℕ) (above : number_at_path m.files front ≡ Some parent)
     (leads : number_at_path m.files (front ++ name ∷ []) ≡ Some object)
     (there : is_some (m.files.tree.node object) ≡ true) (stands : StandsInUpper m parent)
     (is : is_in_upper m object ≡ false → a_name nat_eq m.files object ≡ Some (parent, name)) where
@@ -259,23 +226,19 @@ module _ (fresh : Fresh ℕ) (stack : Stack ℕ) (m : Merge ℕ) (whole : IsWhol
   path = front ++ name ∷ []
 
   parent_is : object_above stack m.upper (without_last path) ≡ upper_of m parent
-  parent_is =
-      ap (object_above stack m.upper) (without_last_of_longer front name)
+  parent_is = ap (object_above stack m.upper) (without_last_of_longer front name)
       ∙ ap (λ o. unwrap_or o 0) (named_above stack m whole front parent (upper_of m parent) above
       (upper_real m parent stands))
 
   pub one_is_copied : (copy_of nat_eq m object (fresh (length path)) (m.files.tree.node object)
-      (is_in_upper m object)).upper
-      ≡ copied_at fresh stack m.upper path
+      (is_in_upper m object)).upper ≡ copied_at fresh stack m.upper path
   one_is_copied = by (m.files.tree.node object) refl (is_in_upper m object) refl
     where
       copy : ℕ
       copy = fresh (length path)
 
       named : Node ℕ → Option (ℕ × List ℕ) → FileTree ℕ
-      named node o =
-          copy_named nat_eq m copy o
-          (with_inode nat_eq m.upper copy
+      named node o = copy_named nat_eq m copy o (with_inode nat_eq m.upper copy
           (record { attr = node.attr; content = copied_content (copy_parent m copy o) node.content }))
 
       put : ℕ → List ℕ → Node ℕ → FileTree ℕ
@@ -284,24 +247,17 @@ module _ (fresh : Fresh ℕ) (stack : Stack ℕ) (m : Merge ℕ) (whole : IsWhol
       seen : (node : Node ℕ) → is_in_upper m object ≡ false → (o : Option (Node ℕ)) → SameObject (Some node) o
           → (copy_of_node nat_eq m object copy node).upper ≡ copy_over fresh stack m.upper path None o
       seen node low None same = absurd same
-      seen node low (Some other) same =
-          ap (named node) (is low)
-          ∙ (λ i. put (upper_of m parent) name
-          (record {
-            attr = same.0 i;
-            content = same_copied
-                (upper_of m parent) node.content other.content same.1 i;
-          }))
-          ∙ (λ i. put (sym parent_is i) (sym (last_of_longer front name []) i) (copy_node (sym parent_is i) other))
+      seen node low (Some other) same = ap (named node) (is low) ∙ (λ i. put (upper_of m parent) name (record {
+        attr = same.0 i;
+        content = same_copied (upper_of m parent) node.content other.content same.1 i;
+      })) ∙ (λ i. put (sym parent_is i) (sym (last_of_longer front name []) i) (copy_node (sym parent_is i) other))
 
       by : (o : Option (Node ℕ)) → m.files.tree.node object ≡ o → (b : Bool) → is_in_upper m object ≡ b
           → (copy_of nat_eq m object (fresh (length path)) o b).upper ≡ copied_at fresh stack m.upper path
       by None e b low = absurd (true≢false (sym there ∙ ap is_some e))
-      by (Some node) e true low =
-          sym (ap (λ o. copy_over fresh stack m.upper path o (node_seen stack m.upper path))
+      by (Some node) e true low = sym (ap (λ o. copy_over fresh stack m.upper path o (node_seen stack m.upper path))
           (led_stands fresh stack m whole object there path leads low))
-      by (Some node) e false low =
-          seen node low (node_seen stack m.upper path)
+      by (Some node) e false low = seen node low (node_seen stack m.upper path)
           (subst (λ o. SameObject o (node_seen stack m.upper path)) e
           (same_seen fresh stack m whole object there path leads))
           ∙ sym (ap (λ o. copy_over fresh stack m.upper path o (node_seen stack m.upper path))
@@ -318,23 +274,16 @@ prefixes_longer (first ∷ path) name =
 pub copied_longer : (fresh : Fresh ℕ) (stack : Stack ℕ) (upper : FileTree ℕ) (path : List (List ℕ)) (name : List ℕ)
     → copied_to fresh stack upper (path ++ name ∷ []) ≡ copied_at fresh stack (copied_to fresh stack upper path)
     (path ++ name ∷ [])
-copied_longer fresh stack upper path name =
-    ap (folded (copied_at fresh stack) upper) (prefixes_longer path name)
+copied_longer fresh stack upper path name = ap (folded (copied_at fresh stack) upper) (prefixes_longer path name)
     ∙ folded-snoc (copied_at fresh stack) upper (prefixes path) (path ++ name ∷ [])
 
 -- where the upper layer has the object of a path, nothing is copied
 led_before : (tree : Tree ℕ) (from : ℕ) (path : List (List ℕ)) (name : List ℕ)
-    → is_some (led tree from (path ++ name ∷ [])) ≡ true
-    → is_some (led tree from path) ≡ true
-led_before tree from path name e = by (led tree from path) (sym (ap is_some (last_name tree from path name)) ∙ e)
-  where
-    by : (o : Option ℕ) → is_some (option_and_then (λ d. entry_at tree d name) o) ≡ true → is_some o ≡ true
-    by None e = absurd (true≢false (sym e))
-    by (Some d) e = refl
+    → is_some (led tree from (path ++ name ∷ [])) ≡ true → is_some (led tree from path) ≡ true
+led_before tree from path name e = grind (arith, common_steps, last_name, true≢false)
 
 pub none_copied : (fresh : Fresh ℕ) (stack : Stack ℕ) (upper : FileTree ℕ) (steps : ℕ) (path : List (List ℕ))
-    → length path ≡ steps
-    → is_some (led_above stack upper path) ≡ true → copied_to fresh stack upper path ≡ upper
+    → length path ≡ steps → is_some (led_above stack upper path) ≡ true → copied_to fresh stack upper path ≡ upper
 none_copied fresh stack upper steps [] n e = refl
 none_copied fresh stack upper zero (word ∷ path) n e = absurd (let no : ⊥ = omega (arith, n) in no)
 none_copied fresh stack upper (suc steps) (word ∷ path) n e =

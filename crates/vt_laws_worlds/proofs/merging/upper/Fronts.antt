@@ -1,4 +1,5 @@
 -- An object at a path is copied with the fronts of that: what leads where, and which numbers are still new.
+use Rattle.std.proofs.lemmas.Grind.{common_steps}
 use Rattle.std.proofs.Common.{arith, ◌≡◌, ◌≢◌, ◌<◌, refl, sym, ap, subst, ◌∙◌, true≢false, ℕ, zero, suc, ◌+◌, nat_eq, ne_eqb, Bool, true, false, cond, List, [], ◌∷◌, ◌++◌, length, Option, Some, None, is_some, option_and_then, unwrap_or}
 use Rattle.vt_spec.specs.FileTree.{FileTree, a_name}
 use Rattle.vt_spec.specs.Language.Changes.{changed, with_inode}
@@ -105,16 +106,12 @@ module _ (fresh : Fresh ℕ) (distinct : (j k : ℕ) → fresh j ≡ fresh k →
   not_front rest e = let all = sym (longer_by path rest) ∙ ap length e in let no : ⊥ = omega (arith, longer, all) in no
 
   no_entry : entry_at before.tree parent name ≡ None
-  no_entry =
-      sym (ap (option_and_then (λ d. entry_at before.tree d name)) leads)
-      ∙ sym (last_name before.tree stack.directory front name)
-      ∙ copies.others path not_front ∙ free
+  no_entry = sym (ap (option_and_then (λ d. entry_at before.tree d name)) leads)
+      ∙ sym (last_name before.tree stack.directory front name) ∙ copies.others path not_front ∙ free
 
   leads_now : (other : List (List ℕ)) → led_above stack one_more other
-      ≡ cond (names_entry (view_in before stack.directory) parent name other) (Some copy)
-      (led_above stack before other)
-  leads_now =
-      make_adds_path before stack.directory parent copy name (copy_node parent node)
+      ≡ cond (names_entry (view_in before stack.directory) parent name other) (Some copy) (led_above stack before other)
+  leads_now = make_adds_path before stack.directory parent copy name (copy_node parent node)
       (record { in_directory = directory; bare = λ replaced e. none_is_some replaced (sym no_entry ∙ e) })
       (copies.vacant (length path) (omega (arith, longer))) (entries_of-copied_content parent node.content)
 
@@ -139,11 +136,9 @@ module _ (fresh : Fresh ℕ) (distinct : (j k : ℕ) → fresh j ≡ fresh k →
       (entry_named_so before stack.directory parent name front leads)
 
   still_new : (j : ℕ) → length path < j → one_more.tree.node (fresh j) ≡ None
-  still_new j h =
-      none_from_not_some _
+  still_new j h = none_from_not_some _
       (part-changed_node is_some (with_inode nat_eq before copy (copy_node parent node)) parent
-      (node_with_entry name copy)
-      (is_some-node_with_entry name copy) (fresh j)
+      (node_with_entry name copy) (is_some-node_with_entry name copy) (fresh j)
       ∙ ap is_some (node_other before.tree copy (Some (copy_node parent node)) (fresh j)
       (λ e. let same = distinct j (length path) e in let no : ⊥ = omega (arith, same, h) in no)
       ∙ copies.vacant j (omega (arith, longer, h))))
@@ -152,8 +147,7 @@ module _ (fresh : Fresh ℕ) (distinct : (j k : ℕ) → fresh j ≡ fresh k →
   pub cut_elsewhere : IsDirectory before.tree stack.directory → (other : List (List ℕ))
       → ((rest : List (List ℕ)) → path ++ rest ≢ other)
       → cuts (view_in one_more stack.directory) other ≡ cuts (view_in before stack.directory) other
-  cut_elsewhere top other out =
-      prefixes_agree (λ f. hides (node_led (view_in before stack.directory) f))
+  cut_elsewhere top other out = prefixes_agree (λ f. hides (node_led (view_in before stack.directory) f))
       (λ f. hides (node_led (view_in one_more stack.directory) f)) other
       (λ f is. at f (λ same. out is.0 (ap (λ p. p ++ is.0) (sym same) ∙ is.1)))
     where
@@ -187,18 +181,14 @@ module _ (fresh : Fresh ℕ) (distinct : (j k : ℕ) → fresh j ≡ fresh k →
       let split : (other ++ last.0) ++ last.1 ∷ [] ≡ path = append_assoc other last.0 (last.1 ∷ [])
       ∙ ap (λ r. other ++ r) last.2 ∙ is in
       let before_is : other ++ last.0 ≡ front = sym (without_last_of_longer (other ++ last.0) last.1)
-      ∙ ap without_last split
-      ∙ without_last_of_longer front name in
-      other_leads other
-      (λ same. let all = sym (longer_by other (word ∷ rest))
-      ∙ ap length (is ∙ sym same) in let no : ⊥ = omega (arith, all) in no)
-      ∙ copies.on other last.0 before_is
+      ∙ ap without_last split ∙ without_last_of_longer front name in
+      other_leads other (λ same. let all = sym (longer_by other (word ∷ rest))
+      ∙ ap length (is ∙ sym same) in let no : ⊥ = omega (arith, all) in no) ∙ copies.on other last.0 before_is
 
   pub one_more_copies : Copies fresh stack upper path one_more
   one_more_copies = record {
     vacant = still_new;
-    others = λ other out.
-        other_leads other (λ same. out [] (ap (λ p. p ++ []) same ∙ append-nil path))
+    others = λ other out. other_leads other (λ same. out [] (ap (λ p. p ++ []) same ∙ append-nil path))
         ∙ copies.others other (λ rest e. out (rest ++ name ∷ [])
         (sym (append_assoc other rest (name ∷ [])) ∙ ap (λ p. p ++ name ∷ []) e));
     on = on_front;
@@ -208,8 +198,7 @@ module _ (fresh : Fresh ℕ) (distinct : (j k : ℕ) → fresh j ≡ fresh k →
 module _ (stack : Stack ℕ) (merge : Merge ℕ) (whole : IsWhole stack merge) (object : ℕ)
     (low : is_in_upper merge object ≡ false) where
   below_is : (path : List (List ℕ)) → is_some (merge.files.tree.node object) ≡ true
-      → number_at_path merge.files path ≡ Some object
-      → (layer : ℕ) × (merge.real object ≡ Some (Lower layer path))
+      → number_at_path merge.files path ≡ Some object → (layer : ℕ) × (merge.real object ≡ Some (Lower layer path))
   below_is path there leads = by (shown (layers_under stack merge) path) refl
     where
       no_real : (o : Option (Real ℕ)) → merge.real object ≡ o → o ≡ None → ⊥
@@ -230,21 +219,13 @@ module _ (stack : Stack ℕ) (merge : Merge ℕ) (whole : IsWhole stack merge) (
       by (Some seen) e = at seen.layer seen.object (whole.shown.names path object leads ∙ ap (real_by path) e)
 
   pub one_way : (path other : List (List ℕ)) → is_some (merge.files.tree.node object) ≡ true
-      → number_at_path merge.files path ≡ Some object
-      → number_at_path merge.files other ≡ Some object → path ≡ other
+      → number_at_path merge.files path ≡ Some object → number_at_path merge.files other ≡ Some object → path ≡ other
   one_way path other there leads other_leads =
-      let here = below_is path there leads in
-      let too = below_is other there other_leads in
-      ap (way_in path) (same_Some _ _ (sym here.1 ∙ too.1))
-    where
-      way_in : List (List ℕ) → Real ℕ → List (List ℕ)
-      way_in default (Upper u) = default
-      way_in default (Lower layer way) = way
+      grind (arith, common_steps, leads, other_leads, here, below_is, same_Some)
 
 -- An object at a path is copied with what is shown at its fronts.
 module _ (fresh : Fresh ℕ) (distinct : (j k : ℕ) → fresh j ≡ fresh k → j ≡ k) (stack : Stack ℕ) (merge : Merge ℕ)
-    (whole : IsWhole stack merge)
-    (unused : (k : ℕ) → merge.upper.tree.node (fresh k) ≡ None) where
+    (whole : IsWhole stack merge) (unused : (k : ℕ) → merge.upper.tree.node (fresh k) ≡ None) where
   abbrev at : List (List ℕ) → Option ℕ
   at path = number_at_path merge.files path
 
@@ -256,8 +237,7 @@ module _ (fresh : Fresh ℕ) (distinct : (j k : ℕ) → fresh j ≡ fresh k →
         → (copied_up nat_eq fresh merge object).real number ≡ merge.real number
 
   stands_copied_to : (path : List (List ℕ)) (object : ℕ) → is_some (merge.files.tree.node object) ≡ true
-      → at path ≡ Some object → StandsInUpper merge object
-      → IsCopiedTo path object
+      → at path ≡ Some object → StandsInUpper merge object → IsCopiedTo path object
   stands_copied_to path object there leads stands =
       let has = ap is_some (led_stands fresh stack merge whole object there path leads stands) in
       let same = stays fresh stack merge whole object stands in
@@ -324,15 +304,12 @@ module _ (fresh : Fresh ℕ) (distinct : (j k : ℕ) → fresh j ≡ fresh k →
         by (Some other) e = ap Some (at_name other e)
 
     count : length (directories_to nat_eq merge.files parent) ≡ length (front ++ name ∷ [])
-    count =
-        directories_count merge.files whole.tree whole.numbers (length front) parent
+    count = directories_count merge.files whole.tree whole.numbers (length front) parent
         (reached_at merge.files whole.tree whole.numbers (length front) front parent refl above
-        (has_entries merge.files.tree parent name object entry))
-        ∙ sym (length_longer front name)
+        (has_entries merge.files.tree parent name object entry)) ∙ sym (length_longer front name)
 
     one_copied : (copied_up nat_eq fresh merge object).upper ≡ copied_at fresh stack m.upper (front ++ name ∷ [])
-    one_copied =
-        ap (λ n. n.upper) (copied_after fresh stack merge whole object (parent, name) name_is)
+    one_copied = ap (λ n. n.upper) (copied_after fresh stack merge whole object (parent, name) name_is)
         ∙ ap (λ k. (copy_of nat_eq m object (fresh k) (m.files.tree.node object) (is_in_upper m object)).upper) count
         ∙ one_is_copied fresh stack m line.copied.whole front name parent object above_now leads_later there_now stands
         (λ lies. ap (λ files. a_name nat_eq files object) line.copied.files ∙ name_is)
@@ -341,11 +318,9 @@ module _ (fresh : Fresh ℕ) (distinct : (j k : ℕ) → fresh j ≡ fresh k →
     free = led_none fresh stack merge whole object there (front ++ name ∷ []) leads low
 
     still_free : led_above stack m.upper (front ++ name ∷ []) ≡ None
-    still_free =
-        before.copies.others (front ++ name ∷ [])
+    still_free = before.copies.others (front ++ name ∷ [])
         (λ rest e. let all = sym (longer_by (front ++ name ∷ []) rest)
-        ∙ ap length e in let more = length_longer front name in let no : ⊥ = omega (arith, more, all) in no)
-        ∙ free
+        ∙ ap length e in let more = length_longer front name in let no : ⊥ = omega (arith, more, all) in no) ∙ free
 
     up : led_above stack m.upper front ≡ Some (upper_of m parent)
     up = named_above stack m line.copied.whole front parent (upper_of m parent) above_now (upper_real m parent stands)
@@ -354,8 +329,7 @@ module _ (fresh : Fresh ℕ) (distinct : (j k : ℕ) → fresh j ≡ fresh k →
     above_is = ap (object_above stack m.upper) (without_last_of_longer front name) ∙ ap (λ o. unwrap_or o 0) up
 
     up_directory : IsDirectory m.upper.tree (upper_of m parent)
-    up_directory =
-        directory_above stack m line.copied.whole parent (upper_of m parent) (upper_real m parent stands)
+    up_directory = directory_above stack m line.copied.whole parent (upper_of m parent) (upper_real m parent stands)
         ∙ ap (λ files. is_directory_node (files.tree.node parent)) line.copied.files
         ∙ has_entries merge.files.tree parent name object entry
 
@@ -363,8 +337,7 @@ module _ (fresh : Fresh ℕ) (distinct : (j k : ℕ) → fresh j ≡ fresh k →
     is_made : (node : Node ℕ) × (copied_at fresh stack m.upper (front ++ name ∷ [])
         ≡ changed nat_eq m.upper (Make (upper_of m parent) name (fresh (length (front ++ name ∷ [])))
         (copy_node (upper_of m parent) node)))
-    is_made =
-        by (node_seen stack m.upper (front ++ name ∷ []))
+    is_made = by (node_seen stack m.upper (front ++ name ∷ []))
         (same_seen fresh stack m line.copied.whole object there_now (front ++ name ∷ []) leads_later) refl
       where
         by : (o : Option (Node ℕ)) → SameObject (m.files.tree.node object) o
@@ -387,8 +360,7 @@ module _ (fresh : Fresh ℕ) (distinct : (j k : ℕ) → fresh j ≡ fresh k →
 
     copies_now : Copies fresh stack merge.upper (front ++ name ∷ [])
         (copied_at fresh stack m.upper (front ++ name ∷ []))
-    copies_now =
-        subst (Copies fresh stack merge.upper (front ++ name ∷ [])) (sym is_made.1)
+    copies_now = subst (Copies fresh stack merge.upper (front ++ name ∷ [])) (sym is_made.1)
         (one_more_copies fresh distinct stack merge.upper m.upper top_is.0 front name
         (upper_of m parent) is_made.0 before.copies up up_directory free)
 
@@ -404,8 +376,7 @@ module _ (fresh : Fresh ℕ) (distinct : (j k : ℕ) → fresh j ≡ fresh k →
         ∙ line.cut (good.directories (has_entries merge.files.tree parent name object entry)) other
 
     -- the copy is the object's alone
-    real_later : (number : ℕ) → number ≢ object
-        → (copied_up nat_eq fresh merge object).real number ≡ m.real number
+    real_later : (number : ℕ) → number ≢ object → (copied_up nat_eq fresh merge object).real number ≡ m.real number
     real_later number other =
         ap (λ n. n.real number) (copied_after fresh stack merge whole object (parent, name) name_is)
         ∙ by (m.files.tree.node object) (is_in_upper m object)
@@ -419,14 +390,10 @@ module _ (fresh : Fresh ℕ) (distinct : (j k : ℕ) → fresh j ≡ fresh k →
             ap (λ c. cond c (Some (Upper (fresh (length (directories_to nat_eq merge.files parent))))) (m.real number))
             (ne_eqb number object other)
 
-    real_else : (number : ℕ)
-        → ((way rest : List (List ℕ)) → way ++ rest ≡ front ++ name ∷ [] → at way ≢ Some number)
+    real_else : (number : ℕ) → ((way rest : List (List ℕ)) → way ++ rest ≡ front ++ name ∷ [] → at way ≢ Some number)
         → (copied_up nat_eq fresh merge object).real number ≡ merge.real number
-    real_else number out =
-        real_later number (λ same. out (front ++ name ∷ []) [] (append-nil (front ++ name ∷ []))
-        (leads ∙ ap Some (sym same)))
-        ∙ before.else number
-        (λ way rest is. out way (rest ++ name ∷ [])
+    real_else number out = real_later number (λ same. out (front ++ name ∷ []) [] (append-nil (front ++ name ∷ []))
+        (leads ∙ ap Some (sym same))) ∙ before.else number (λ way rest is. out way (rest ++ name ∷ [])
         (sym (append_assoc way rest (name ∷ [])) ∙ ap (λ p. p ++ name ∷ []) is))
 
     pub low_copied_to : IsCopiedTo (front ++ name ∷ []) object
@@ -450,8 +417,7 @@ module _ (fresh : Fresh ℕ) (distinct : (j k : ℕ) → fresh j ≡ fresh k →
   copied_along zero (word ∷ path) object n there leads = absurd (let no : ⊥ = omega (arith, n) in no)
   copied_along (suc steps) (word ∷ path) object n there leads =
       let last = last_of (word ∷ path) (not_empty word path) in
-      subst (λ p. IsCopiedTo p object) last.2
-      (by last.0 last.1 (ap at last.2 ∙ leads)
+      subst (λ p. IsCopiedTo p object) last.2 (by last.0 last.1 (ap at last.2 ∙ leads)
       (let same = sym (length_longer last.0 last.1) ∙ ap length last.2 in omega (arith, same, n))
       (is_in_upper merge object) refl (at last.0) refl
       (sym (last_name merge.files.tree merge.files.tree.root last.0 last.1) ∙ ap at last.2 ∙ leads)
@@ -465,8 +431,7 @@ module _ (fresh : Fresh ℕ) (distinct : (j k : ℕ) → fresh j ≡ fresh k →
           → IsCopiedTo (front ++ name ∷ []) object
       by front name l k true low o e f before = stands_copied_to (front ++ name ∷ []) object there l low
       by front name l k false low None e f before = none_is_some object f
-      by front name l k false low (Some parent) e f before =
-          low_copied_to front name parent object e f there low
+      by front name l k false low (Some parent) e f before = low_copied_to front name parent object e f there low
           (before front parent k (directory_used merge.files.tree parent
           (has_entries merge.files.tree parent name object f)) e)
 
@@ -485,8 +450,7 @@ module _ (fresh : Fresh ℕ) (distinct : (j k : ℕ) → fresh j ≡ fresh k →
           let same = same_Some object directory
           (sym (led_parts merge.files.tree path [] merge.files.tree.root object leads) ∙ ap at e ∙ other_leads) in
           true≢false (sym is_directory ∙ ap (λ n. is_directory_node (merge.files.tree.node n)) (sym same) ∙ file)
-      not_through file (word ∷ rest) e =
-          entry (entry_at merge.files.tree object word) refl
+      not_through file (word ∷ rest) e = entry (entry_at merge.files.tree object word) refl
           (sym (led_parts merge.files.tree path (word ∷ rest) merge.files.tree.root object leads) ∙ ap at e
           ∙ other_leads)
         where
@@ -501,8 +465,7 @@ module _ (fresh : Fresh ℕ) (distinct : (j k : ℕ) → fresh j ≡ fresh k →
           → cuts (view_in (copied_up nat_eq fresh merge object).upper stack.directory) other ≡ cuts
           (view_in merge.upper stack.directory) other
       low file lies front name split None e f = none_is_some object f
-      low file lies front name split (Some parent) e f =
-          low_cuts front name parent object e f there lies
+      low file lies front name split (Some parent) e f = low_cuts front name parent object e f there lies
           (copied_along (length front) front parent refl
           (directory_used merge.files.tree parent (has_entries merge.files.tree parent name object f)) e)
           other (λ rest same. not_through file rest (ap (λ p. p ++ rest) (sym split) ∙ same))
@@ -511,8 +474,7 @@ module _ (fresh : Fresh ℕ) (distinct : (j k : ℕ) → fresh j ≡ fresh k →
           → is_in_upper merge object ≡ b → (way : List (List ℕ)) → path ≡ way
           → cuts (view_in (copied_up nat_eq fresh merge object).upper stack.directory) other ≡ cuts
           (view_in merge.upper stack.directory) other
-      by true d b u way e =
-          (object_copied stack fresh distinct merge object whole unused there).cut
+      by true d b u way e = (object_copied stack fresh distinct merge object whole unused there).cut
           ((to_object merge.files whole.tree whole.numbers object there).directories d) other
       by false d true u way e = ap (λ n. cuts (view_in n.upper stack.directory) other)
           (stays fresh stack merge whole object u)

@@ -1,16 +1,17 @@
 -- What copies make of the upper layer, for an object at a path or without a name, and what lower layers show beside
 -- them.
-use Rattle.std.proofs.Common.{arith, ◌≡◌, ◌≢◌, refl, sym, ap, subst, ◌∙◌, true≢false, ℕ, suc, ◌+◌, nat_eq, eq-eqb, ne_eqb, Bool, true, false, cond, not, List, [], ◌∷◌, ◌++◌, length, map, Option, Some, None, is_some, slice_get, unwrap_or}
+use Rattle.std.proofs.lemmas.Grind.{common_steps}
+use Rattle.std.proofs.Common.{arith, ◌≡◌, ◌≢◌, refl, sym, ap, subst, ◌∙◌, true≢false, ℕ, suc, ◌+◌, nat_eq, eq-eqb, ne_eqb, Bool, true, false, cond, not, List, [], ◌∷◌, ◌++◌, length, map, Option, Some, None, is_some, unwrap_or}
 use Rattle.vt_spec.specs.FileTree.{FileTree, a_name, is_kind_in}
 use Rattle.vt_spec.specs.Language.Changes.{with_inode}
-use Rattle.vt_spec.specs.Lists.{Fresh, without_last, holds_of, then_some, when}
+use Rattle.vt_spec.specs.Lists.{Fresh, without_last, then_some, when}
 use Rattle.vt_spec.specs.Machine.CopyUp.{Merge, Stack, copied_content, copied_each, copied_up, copy_named, copy_of, copy_parent, is_directory_shown, is_in_upper, line_by, upper_of}
 use Rattle.vt_spec.specs.Machine.Invariants.{SameObject, number_at_path}
 use Rattle.vt_spec.specs.Machine.Layers.{OpenLayer, Shown, view_of}
 use Rattle.vt_spec.specs.Machine.Views.{View, cuts, shown_from, shown_over}
 use Rattle.vt_spec.specs.Machine.World.{Real, upper_object}
 use Rattle.vt_spec.specs.Machine.World.Real.{Lower, Upper}
-use Rattle.vt_spec.specs.Tree.{Node, is_directory_node}
+use Rattle.vt_spec.specs.Tree.{Node}
 use Rattle.vt_laws_trees.specs.Layers.Layers.Views.{view_in}
 use Rattle.vt_laws_trees.proofs.layers.layers.UpperLine.{is_reached_in, named_so}
 use Rattle.vt_laws_trees.proofs.layers.layers.UpperShown.{without_last_of_longer, way_to}
@@ -30,8 +31,7 @@ use Rattle.std.proofs.lemmas.Option.{same_Some}
 use Rattle.vt_spec.proofs.Options.{none_is_some}
 
 module _ (fresh : Fresh ℕ) (stack : Stack ℕ) (merge : Merge ℕ) (whole : IsWhole stack merge)
-    (new : AreNew fresh merge.upper) (object : ℕ)
-    (there : is_some (merge.files.tree.node object) ≡ true) where
+    (new : AreNew fresh merge.upper) (object : ℕ) (there : is_some (merge.files.tree.node object) ≡ true) where
   abbrev later : Merge ℕ
   later = copied_up nat_eq fresh merge object
 
@@ -47,8 +47,7 @@ module _ (fresh : Fresh ℕ) (stack : Stack ℕ) (merge : Merge ℕ) (whole : Is
       let real = upper_real later object
       (stands_copied stack fresh new.distinct merge object whole new.unused there) in (
         copied.is,
-        ap upper_object real
-            ∙ sym (named_above stack later line.copied.whole path object (upper_of later object)
+        ap upper_object real ∙ sym (named_above stack later line.copied.whole path object (upper_of later object)
             (ap (λ files. number_at_path files path) line.copied.files ∙ leads) real)
             ∙ copied.copies.on path [] (append-nil path),
       )
@@ -80,8 +79,7 @@ module _ (fresh : Fresh ℕ) (stack : Stack ℕ) (merge : Merge ℕ) (whole : Is
 
       alone : (o : Option (Node ℕ)) → merge.files.tree.node object ≡ o
           → later ≡ copy_of nat_eq merge object (fresh 0) o false
-      alone o e =
-          ap (λ n. copied_each nat_eq fresh 0 merge (line_by nat_eq merge.files object n)) (no_name is.1)
+      alone o e = ap (λ n. copied_each nat_eq fresh 0 merge (line_by nat_eq merge.files object n)) (no_name is.1)
           ∙ (λ i. copy_of nat_eq merge object (fresh 0) (e i) (low i))
 
       by : (o : Option (Node ℕ)) → merge.files.tree.node object ≡ o → (s : Option (Node ℕ))
@@ -96,15 +94,11 @@ module _ (fresh : Fresh ℕ) (stack : Stack ℕ) (merge : Merge ℕ) (whole : Is
       by (Some node) e (Some other) f same =
           let both : SameObject (Some node) (Some other) = subst (λ o. SameObject o (Some other)) e
           (subst (SameObject (merge.files.tree.node object)) f same) in (
-            ap (λ m. m.upper) (alone (Some node) e)
-                ∙ ap (λ o. copy_named nat_eq merge (fresh 0) o
-                (with_inode nat_eq merge.upper (fresh 0)
-                (record {
+            ap (λ m. m.upper) (alone (Some node) e) ∙ ap (λ o. copy_named nat_eq merge (fresh 0) o
+                (with_inode nat_eq merge.upper (fresh 0) (record {
                   attr = node.attr;
-                  content = copied_content
-                      (copy_parent merge (fresh 0) o) node.content;
-                }))) (no_name is.1)
-                ∙ (λ i. with_inode nat_eq merge.upper (fresh 0)
+                  content = copied_content (copy_parent merge (fresh 0) o) node.content;
+                }))) (no_name is.1) ∙ (λ i. with_inode nat_eq merge.upper (fresh 0)
                 (record { attr = both.0 i; content = same_copied (fresh 0) node.content other.content both.1 i }))
                 ∙ sym (ap (held_over fresh merge.upper) f),
             ap (λ m. upper_object (m.real object)) (alone (Some node) e)
@@ -122,8 +116,7 @@ copies_are_of_prefixes fresh stack merge object place whole new there is =
 
 -- what a path of an overlay leads to is there
 pub path_there : (stack : Stack ℕ) (merge : Merge ℕ) → IsWhole stack merge → (path : List (List ℕ)) (object : ℕ)
-    → number_at_path merge.files path ≡ Some object
-    → is_some (merge.files.tree.node object) ≡ true
+    → number_at_path merge.files path ≡ Some object → is_some (merge.files.tree.node object) ≡ true
 path_there stack merge whole path object leads =
     led_is_there (record { tree = merge.files.tree; directory = merge.files.tree.root }) whole.tree
     whole.tree.root_directory path object leads
@@ -148,8 +141,7 @@ prefixes_lead_to_copies fresh stack merge whole new path some = by (number_at_pa
 lower_place : (views : List (View ℕ)) (k : ℕ) (path : List (List ℕ)) (seen : Shown ℕ)
     → shown_from (k + 1) views path ≡ Some seen → (n : ℕ) × (seen.layer ≡ suc n)
 lower_place [] k path seen e = none_is_some seen e
-lower_place (view ∷ views) k path seen e = by (view.leads path) (cuts view path) e
-    (lower_place views (k + 1) path seen)
+lower_place (view ∷ views) k path seen e = by (view.leads path) (cuts view path) e (lower_place views (k + 1) path seen)
   where
     by : (o : Option ℕ) (b : Bool) → shown_over view (k + 1) o b (shown_from ((k + 1) + 1) views path) ≡ Some seen
         → (shown_from ((k + 1) + 1) views path ≡ Some seen → (n : ℕ) × (seen.layer ≡ suc n))
@@ -177,13 +169,7 @@ directory_below_any one other lowers path false = by (shown_from 1 (map view_of 
   where
     by : (o : Option (Shown ℕ)) → ((seen : Shown ℕ) → o ≡ Some seen → (n : ℕ) × (seen.layer ≡ suc n))
         → is_directory_shown (one ∷ lowers) o ≡ is_directory_shown (other ∷ lowers) o
-    by None low = refl
-    by (Some seen) low =
-        let place = low seen refl in
-        ap (λ n. holds_of (λ layer. is_directory_node (layer.tree.node seen.object))
-        (slice_get (one ∷ lowers) n)) place.1
-        ∙ sym (ap (λ n. holds_of (λ layer. is_directory_node (layer.tree.node seen.object))
-        (slice_get (other ∷ lowers) n)) place.1)
+    by o low = grind (arith, common_steps, low)
 
 module _ (stack : Stack ℕ) (one other : FileTree ℕ) (way : List (List ℕ)) (name : List ℕ)
     (cut : cuts (view_in other stack.directory) way ≡ cuts (view_in one stack.directory) way) where
@@ -191,14 +177,12 @@ module _ (stack : Stack ℕ) (one other : FileTree ℕ) (way : List (List ℕ)) 
   lower_seen = shown_from 1 (map view_of stack.lowers) (way ++ name ∷ [])
 
   pub seen_same : seen_below stack other (way ++ name ∷ []) ≡ seen_below stack one (way ++ name ∷ [])
-  seen_same =
-      ap (λ p. cond (cuts (view_in other stack.directory) p) None lower_seen) (without_last_of_longer way name)
+  seen_same = ap (λ p. cond (cuts (view_in other stack.directory) p) None lower_seen) (without_last_of_longer way name)
       ∙ ap (λ b. cond b None lower_seen) cut
       ∙ ap (λ p. cond (cuts (view_in one stack.directory) p) None lower_seen) (sym (without_last_of_longer way name))
 
   pub directory_same : directory_below stack other (way ++ name ∷ []) ≡ directory_below stack one (way ++ name ∷ [])
-  directory_same =
-      ap (is_directory_shown (layers_with stack other)) seen_same
+  directory_same = ap (is_directory_shown (layers_with stack other)) seen_same
       ∙ directory_below_any (record { tree = other.tree; directory = stack.directory })
       (record { tree = one.tree; directory = stack.directory })
       stack.lowers (way ++ name ∷ []) (cuts (view_in one stack.directory) (without_last (way ++ name ∷ [])))
@@ -221,8 +205,7 @@ copies_hide_nothing fresh stack merge whole new path way directory name some lea
         ∙ cuts_stay fresh new.distinct stack merge whole new.unused path object there e way directory leads.0 leads.1
         in (
           seen_same stack merge.upper (copied_to fresh stack merge.upper path) way name cut,
-          directory_same stack
-              merge.upper (copied_to fresh stack merge.upper path) way name cut,
+          directory_same stack merge.upper (copied_to fresh stack merge.upper path) way name cut,
         )
 
 -- what a path leads to in the upper layer is the real object of what is there
@@ -235,9 +218,7 @@ led_real stack merge whole path number u leads led = by (is_in_upper merge numbe
     there = path_there stack merge whole path number leads
 
     by : (b : Bool) → is_in_upper merge number ≡ b → merge.real number ≡ Some (Upper u)
-    by true stands =
-        upper_real merge number stands
-        ∙ ap (λ o. Some (Upper o)) (same_Some (upper_of merge number) u
+    by true stands = upper_real merge number stands ∙ ap (λ o. Some (Upper o)) (same_Some (upper_of merge number) u
         (sym (named_above stack merge whole path number (upper_of merge number) leads
         (upper_real merge number stands)) ∙ led))
     by false low = none_is_some u (sym (led_none (λ k. k) stack merge whole number there path leads low) ∙ led)

@@ -1,5 +1,6 @@
 -- What each kind of change makes of the upper layer.
-use Rattle.std.proofs.Common.{◌≡◌, refl, sym, ap, ◌∙◌, true≢false, ℕ, ◌+◌, ◌*◌, nat_eq, eqb-true, Bool, true, false, cond, if◌then◌else◌, List, [], ◌∷◌, ◌++◌, Option, Some, None, is_some, option_and_then, unwrap_or}
+use Rattle.std.proofs.Common.{arith, ◌≡◌, refl, sym, ap, ◌∙◌, true≢false, ℕ, ◌+◌, ◌*◌, nat_eq, eqb-true, Bool, true, false, cond, if◌then◌else◌, List, [], ◌∷◌, ◌++◌, Option, Some, None, is_some, option_and_then, unwrap_or}
+use Rattle.std.proofs.lemmas.Grind.{common_steps}
 use Rattle.vt_spec.specs.FileTree.{FileTree}
 use Rattle.vt_spec.specs.Language.Changes.{changed, changed_node, content_with_parent, node_with_attr, node_with_mark, with_moved}
 use Rattle.vt_spec.specs.Language.Changes.Change.{AddName, Make}
@@ -32,8 +33,7 @@ use Rattle.vt_spec.proofs.FreshNumbers.{evens-distinct, odds-distinct}
 module _ (stack : Stack ℕ) (c : Merge ℕ) (whole : IsWhole stack c) where
   -- what stands in the upper layer is at its path there
   pub object_is : (path : List (List ℕ)) (object : ℕ) → number_at_path c.files path ≡ Some object
-      → StandsInUpper c object
-      → upper_of c object ≡ object_above stack c.upper path
+      → StandsInUpper c object → upper_of c object ≡ object_above stack c.upper path
   object_is path object leads stands =
       sym (ap (λ o. unwrap_or o 0) (named_above stack c whole path object (upper_of c object) leads
       (upper_real c object stands)))
@@ -68,8 +68,7 @@ module _ (stack : Stack ℕ) (c : Merge ℕ) (whole : IsWhole stack c) where
               there.0,
               sym at_name ∙ there.1,
               ap upper_object there.2,
-              sym
-                  (directory_stands stack c whole there.0 u there.2) ∙ d,
+              sym (directory_stands stack c whole there.0 u there.2) ∙ d,
             )
 
         none : ((u : ℕ) → led_above stack c.upper (path ++ name ∷ []) ≡ Some u
@@ -87,15 +86,13 @@ module _ (stack : Stack ℕ) (c : Merge ℕ) (whole : IsWhole stack c) where
                 kind false d = refl
 
         some : (object : ℕ) → entry_at c.files.tree directory name ≡ Some object → (d : Bool)
-            → is_directory_node (c.files.tree.node object) ≡ d
-            → (r : Option ℕ) → upper_object (c.real object) ≡ r
+            → is_directory_node (c.files.tree.node object) ≡ d → (r : Option ℕ) → upper_object (c.real object) ≡ r
             → cond d r None ≡ directory_above stack c.upper (path ++ name ∷ [])
         some object e false d r u = none (λ n l is. let f = found n l is in
             true≢false (sym f.3 ∙ ap (λ o. is_directory_node (c.files.tree.node o))
             (same_Some f.0 object (sym f.1 ∙ e)) ∙ d))
         some object e true d None u = none (λ n l is. let f = found n l is in
-            none_is_some n (sym u ∙ ap (λ o. upper_object (c.real o)) (sym (same_Some f.0 object (sym f.1 ∙ e)))
-            ∙ f.2))
+            none_is_some n (sym u ∙ ap (λ o. upper_object (c.real o)) (sym (same_Some f.0 object (sym f.1 ∙ e))) ∙ f.2))
         some object e true d (Some n) u =
             let stands : StandsInUpper c object = ap is_some u in
             let real = upper_real c object stands in
@@ -107,8 +104,7 @@ module _ (stack : Stack ℕ) (c : Merge ℕ) (whole : IsWhole stack c) where
 
         by : (o : Option ℕ) → entry_at c.files.tree directory name ≡ o
             → then_some o (λ object. if is_directory_node (c.files.tree.node object) then upper_object
-            (c.real object) else None)
-            ≡ directory_above stack c.upper (path ++ name ∷ [])
+            (c.real object) else None) ≡ directory_above stack c.upper (path ++ name ∷ [])
         by None e = none (λ u l d. none_is_some (found u l d).0 (sym e ∙ (found u l d).1))
         by (Some object) e = some object e (is_directory_node (c.files.tree.node object)) refl
             (upper_object (c.real object)) refl
@@ -120,19 +116,11 @@ real_stays fresh k m [] object stands = refl
 real_stays fresh k m (first ∷ list) object stands =
     let same = by (m.files.tree.node first) (is_in_upper m first) refl in
     real_stays fresh (k + 1) (copy_of nat_eq m first (fresh k) (m.files.tree.node first)
-    (is_in_upper m first)) list object
-    (ap (λ r. is_some (upper_object r)) same ∙ stands)
-    ∙ same
+    (is_in_upper m first)) list object (ap (λ r. is_some (upper_object r)) same ∙ stands) ∙ same
   where
     by : (o : Option (Node ℕ)) (b : Bool) → is_in_upper m first ≡ b
         → (copy_of nat_eq m first (fresh k) o b).real object ≡ m.real object
-    by None b e = refl
-    by (Some node) true e = refl
-    by (Some node) false e = at (nat_eq object first) refl
-      where
-        at : (c : Bool) → nat_eq object first ≡ c → cond c (Some (Upper (fresh k))) (m.real object) ≡ m.real object
-        at true same = absurd (true≢false (sym stands ∙ ap (is_in_upper m) (eqb-true object first same) ∙ e))
-        at false same = refl
+    by o b e = grind (arith, common_steps, true≢false, stands, eqb-true)
 
 -- New numbers, in parts
 pub even_new : (fresh : Fresh ℕ) (upper : FileTree ℕ) → AreNew fresh upper → AreNew (evens fresh) upper
@@ -171,17 +159,11 @@ module _ (fresh : Fresh ℕ) (stack : Stack ℕ) (merge : Merge ℕ) (whole : Is
   still_below : (way : List (List ℕ)) (directory : ℕ) (name : List ℕ) → LeadsToDirectory merge way directory
       → (seen_below stack c.upper (way ++ name ∷ []) ≡ seen_below stack merge.upper (way ++ name ∷ []))
       × (directory_below stack c.upper (way ++ name ∷ []) ≡ directory_below stack merge.upper (way ++ name ∷ []))
-  still_below way directory name is =
-      let same = copies_hide_nothing fresh stack merge whole new path way directory name some_there is in (
-        ap (λ u. seen_below stack u (way ++ name ∷ [])) upper_is
-            ∙ same.0,
-        ap (λ u. directory_below stack u (way ++ name ∷ [])) upper_is ∙ same.1,
-      )
+  still_below way directory name is = grind (arith, common_steps, copies_hide_nothing, some_there, upper_is)
 
 -- Bytes, owner and mode, and mark
 set_above : (fresh : Fresh ℕ) (stack : Stack ℕ) (merge : Merge ℕ) → IsWhole stack merge → AreNew fresh merge.upper
-    → (object : ℕ) (place : Place)
-    → is_some (merge.files.tree.node object) ≡ true → IsAt merge object place
+    → (object : ℕ) (place : Place) → is_some (merge.files.tree.node object) ≡ true → IsAt merge object place
     → (change : Option (Node ℕ) → Option (Node ℕ))
     → (changed_both nat_eq (copied_up nat_eq fresh merge object) object change).upper
     ≡ upper_with fresh stack merge.upper place change
@@ -208,8 +190,7 @@ opened_is_copied fresh stack merge whole new object place there is =
 
 -- A new object
 abbrev made_by : ℕ → List ℕ → Node ℕ → Bool → FileTree ℕ → ℕ → FileTree ℕ
-made_by copy name node b u p =
-    with_mark nat_eq b (changed nat_eq u
+made_by copy name node b u p = with_mark nat_eq b (changed nat_eq u
     (Make p name copy (record { attr = node.attr; content = content_with_parent p node.content }))) copy
 
 pub made_above : MadeAbove
@@ -244,8 +225,7 @@ removed_above fresh stack merge whole new path directory name object is =
     let gone = named_is stack now whole_now path directory later name in
     (λ i. removed_by (odds fresh) stack name (is_some (left i)) now.upper (parent i) (gone i))
     ∙ (λ i. removed_by (odds fresh) stack name (is_some (seen_below stack merge.upper (path ++ name ∷ [])))
-    (upper i) (object_above stack (upper i) path)
-    (directory_above stack (upper i) (path ++ name ∷ [])))
+    (upper i) (object_above stack (upper i) path) (directory_above stack (upper i) (path ++ name ∷ [])))
 
 -- A further name
 pub linked_above : LinkedAbove
@@ -255,11 +235,9 @@ linked_above fresh stack merge whole new old path directory object name is used 
     let first_line = (object_copied stack (evens fresh) one.distinct merge object whole one.unused used).copied in
     let first_stands = stands_copied stack (evens fresh) one.distinct merge object whole one.unused used in
     let says = at_place (evens fresh) stack merge whole one object used old at_old in
-    let two : AreNew (odds fresh) first.upper =
-    record {
+    let two : AreNew (odds fresh) first.upper = record {
       distinct = odds-distinct fresh new.distinct;
-      unused = still_unused fresh stack merge whole new.distinct
-          new.unused object used;
+      unused = still_unused fresh stack merge whole new.distinct new.unused object used;
     } in
     let leads = ap (λ files. number_at_path files path) first_line.files ∙ is.0 in
     let second = copied_up nat_eq (odds fresh) first directory in
@@ -294,12 +272,9 @@ moved_above fresh stack merge whole new from_path to_path from to object old new
     let there = path_there stack merge whole path object leads in
     let first = copied_up nat_eq (evens fresh) merge object in
     let first_line = line (evens fresh) stack merge whole one object path leads in
-    let two : AreNew (evens (odds fresh)) first.upper =
-    even_new (odds fresh) first.upper
-    (record {
+    let two : AreNew (evens (odds fresh)) first.upper = even_new (odds fresh) first.upper (record {
       distinct = odds-distinct fresh new.distinct;
-      unused = still_unused fresh stack merge whole new.distinct
-          new.unused object there;
+      unused = still_unused fresh stack merge whole new.distinct new.unused object there;
     }) in
     let from_later = directory_later (evens fresh) stack merge whole one object path leads from_path from from_is in
     let to_later = directory_later (evens fresh) stack merge whole one object path leads to_path to to_is in
@@ -316,12 +291,10 @@ moved_above fresh stack merge whole new from_path to_path from to object old new
     let gone = named_is stack second ready.whole to_path to to_now new_name in
     let mark = hides_is stack second ready.whole to_path to to_now new_name
     ∙ (still_below (evens (odds fresh)) stack first first_line.whole two to to_path to_later.0 to_path to new_name
-    to_later).1
-    ∙ (still_below (evens fresh) stack merge whole one object path leads to_path to new_name to_is).1 in
+    to_later).1 ∙ (still_below (evens fresh) stack merge whole one object path leads to_path to new_name to_is).1 in
     let left = below_is stack second ready.whole from_path from from_now old
     ∙ (still_below (evens (odds fresh)) stack first first_line.whole two to to_path to_later.0 from_path from old
-    from_later).0
-    ∙ (still_below (evens fresh) stack merge whole one object path leads from_path from old from_is).0 in
+    from_later).0 ∙ (still_below (evens fresh) stack merge whole one object path leads from_path from old from_is).0 in
     let upper = upper_is (evens (odds fresh)) stack first first_line.whole two to to_path to_later.0
     ∙ ap (λ u. copied_to (evens (odds fresh)) stack u to_path)
     (upper_is (evens fresh) stack merge whole one object path leads) in

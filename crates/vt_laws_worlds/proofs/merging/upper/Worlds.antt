@@ -1,5 +1,6 @@
 -- The upper layer's files after a permitted call.
-use Rattle.std.proofs.Common.{◌≡◌, ◌≢◌, refl, sym, ap, subst, ◌∙◌, true≢false, ℕ, nat_eq, List, flat_map, map, Some, None, unwrap_or}
+use Rattle.std.proofs.Common.{arith, ◌≡◌, ◌≢◌, refl, sym, ap, subst, ◌∙◌, true≢false, ℕ, nat_eq, List, flat_map, map, Some, None, unwrap_or}
+use Rattle.std.proofs.lemmas.Grind.{common_steps}
 use Rattle.std.specs.List.{find}
 use Rattle.vt_spec.specs.Language.Changes.{Change}
 use Rattle.vt_spec.specs.Lists.{Fresh}
@@ -53,8 +54,7 @@ module _ (world now : World ℕ) (conditions : IsWorld nat_eq world) (same : now
   number = (mount_at nat_eq now location).filesystem
 
   same_numbered : (n : ℕ) → filesystem_numbered nat_eq now n ≡ filesystem_numbered nat_eq world n
-  same_numbered n = ap (λ list. unwrap_or (find (λ filesystem. nat_eq n filesystem.number) list)
-      (no_filesystem n)) same
+  same_numbered n = ap (λ list. unwrap_or (find (λ filesystem. nat_eq n filesystem.number) list) (no_filesystem n)) same
 
   is_before : (filesystem_numbered nat_eq world number).overlay ≡ Some overlay
   is_before = ap (λ f. f.overlay) (sym (same_numbered number)) ∙ is
@@ -75,15 +75,13 @@ module _ (world now : World ℕ) (conditions : IsWorld nat_eq world) (same : now
     abbrev changed_filesystem : Filesystem ℕ
     changed_filesystem = record (filesystem_numbered nat_eq now number) {
       files = merge.files;
-      overlay = Some
-          (record overlay { real = merge.real });
+      overlay = Some (record overlay { real = merge.real });
     }
 
     upper_after : (filesystem_numbered nat_eq
         (with_merge nat_eq now (filesystem_numbered nat_eq now number) overlay upper merge) upper.filesystem).files
         ≡ merge.upper
-    upper_after =
-        filesystem_there (λ f. f.files ≡ merge.upper) (with_filesystem nat_eq now changed_filesystem)
+    upper_after = filesystem_there (λ f. f.files ≡ merge.upper) (with_filesystem nat_eq now changed_filesystem)
         (with_files (filesystem_numbered nat_eq now upper.filesystem) merge.upper) upper.filesystem
         (sym (number_of_filesystem now upper.filesystem)) refl
         (λ none. absurd (used (sym (same_numbered upper.filesystem)
@@ -94,11 +92,8 @@ module _ (world now : World ℕ) (conditions : IsWorld nat_eq world) (same : now
       → (filesystem_numbered nat_eq (with_change nat_eq fresh now location change) upper.filesystem).files
       ≡ (merge_changed nat_eq fresh (stack_of nat_eq now overlay upper)
       (merge_of nat_eq now (filesystem_at nat_eq now location) overlay upper) change).upper
-  upper_changed fresh change =
-      ap (λ o. (filesystem_numbered nat_eq
-      (filesystem_changed nat_eq fresh now
-      (filesystem_at nat_eq now location) o change) upper.filesystem).files) is
-      ∙ ap (λ o. (filesystem_numbered nat_eq
+  upper_changed fresh change = ap (λ o. (filesystem_numbered nat_eq (filesystem_changed nat_eq fresh now
+      (filesystem_at nat_eq now location) o change) upper.filesystem).files) is ∙ ap (λ o. (filesystem_numbered nat_eq
       (overlay_changed nat_eq fresh now
       (filesystem_at nat_eq now location) overlay o change) upper.filesystem).files) has
       ∙ upper_after (merge_changed nat_eq fresh (stack_of nat_eq now overlay upper)
@@ -111,16 +106,14 @@ module _ (world now : World ℕ) (conditions : IsWorld nat_eq world) (same : now
       → (filesystem_numbered nat_eq (with_change nat_eq fresh now location change) upper.filesystem).files
       ≡ changed_above fresh (stack_of nat_eq world overlay upper)
       (filesystem_numbered nat_eq world upper.filesystem).files at
-  upper_by_layers fresh change at new asks =
-      upper_changed fresh change
+  upper_by_layers fresh change at new asks = upper_changed fresh change
       ∙ (λ i. (merge_changed nat_eq fresh (stack_of nat_eq (record now { filesystems = same i }) overlay upper)
       (merge_of nat_eq (record now { filesystems = same i })
       (filesystem_at nat_eq now location) overlay upper) change).upper)
       ∙ changes_are_by_layers fresh (stack_of nat_eq world overlay upper)
       (merge_of nat_eq world (filesystem_at nat_eq now location) overlay upper)
       (subst (λ f. IsWhole (stack_of nat_eq world overlay upper) (merge_of nat_eq world f overlay upper))
-      (sym (same_numbered number)) whole)
-      new change at asks
+      (sym (same_numbered number)) whole) new change at asks
 
 -- A change in a world from which mounts are taken away, as one in the world before
 module _ (world : World ℕ) (conditions : IsWorld nat_eq world) (gone : List ℕ) (location : Location ℕ)
@@ -130,8 +123,7 @@ module _ (world : World ℕ) (conditions : IsWorld nat_eq world) (gone : List �
   now = taken_away nat_eq world gone
 
   filesystem_same : filesystem_at nat_eq now location ≡ filesystem_at nat_eq world location
-  filesystem_same =
-      ap (filesystem_numbered nat_eq now) (shown-taken_away world gone location)
+  filesystem_same = ap (filesystem_numbered nat_eq now) (shown-taken_away world gone location)
       ∙ ap (λ list. unwrap_or (find (λ filesystem. nat_eq
       (mount_at nat_eq world location).filesystem filesystem.number) list)
       (no_filesystem (mount_at nat_eq world location).filesystem)) (filesystems-taken_away world gone)
@@ -173,8 +165,7 @@ module _ (fresh : Fresh ℕ) (world : World ℕ) (task : Task ℕ) (location : L
       upper_taken world conditions (map (λ mount. mount.number)
       (flat_map (mount_tree nat_eq world.mounts) (mounts_on nat_eq world replaced)))
       location overlay upper is has numbers change at new asks
-  after_call numbers permit change (does_open file access copied) new asks =
-      ap (λ b. (filesystem_numbered nat_eq
+  after_call numbers permit change (does_open file access copied) new asks = ap (λ b. (filesystem_numbered nat_eq
       (opened (with_copy nat_eq b fresh world file) task file access).world upper.filesystem).files) copied
       ∙ upper_by_layers world world conditions refl location overlay upper is has numbers change at new asks
   after_call numbers permit change (does_write file offset byte bytes) new asks =
@@ -186,11 +177,5 @@ upper_layers_after_calls fresh numbers world task permit location change at over
     after_call fresh world task location at overlay upper conditions is has numbers permit change does new asks
 
 pub upper_layers_after_whole_calls : UpperLayersAfterWholeCalls
-upper_layers_after_whole_calls fresh numbers world task call permit location change at overlay upper conditions judged
-    does is
-    has new asks =
-    ap (λ o. (filesystem_numbered nat_eq o.world upper.filesystem).files)
-    (call_is_judged_then_applied fresh world task call
-    ∙ ap (λ r. after world r (apply nat_eq fresh world task)) judged)
-    ∙ upper_layers_after_calls fresh numbers world task permit location change at overlay upper conditions does is has
-    new asks
+upper_layers_after_whole_calls fresh numbers world task call permit location change at overlay upper conditions judged does is has new asks =
+    grind (arith, common_steps, call_is_judged_then_applied, upper_layers_after_calls)

@@ -29,24 +29,19 @@ module _ (fresh : Fresh ℕ) (one other : World ℕ) (same : Alike one other) (i
 
   module _ (task again : Task ℕ) (alike : SameTask task again) where
     judged_alike : judge_in nat_eq fresh one task call ≡ judge_in nat_eq fresh other again call
-    judged_alike =
-        sym (judged_bare fresh one task call)
-        ∙ (λ i. judge_in nat_eq fresh one (alike i) call)
+    judged_alike = sym (judged_bare fresh one task call) ∙ (λ i. judge_in nat_eq fresh one (alike i) call)
         ∙ judged_bare fresh one again call
         ∙ invariant_worlds_judge_alike one other (same_from_alike one other same) is fresh again call
 
-    permitted_alike : (judgement : Judgement ℕ)
-        → OutcomesAlike (after one judgement (apply nat_eq fresh one task))
+    permitted_alike : (judgement : Judgement ℕ) → OutcomesAlike (after one judgement (apply nat_eq fresh one task))
         (after other judgement (apply nat_eq fresh other again))
     permitted_alike (Ok permit) = apply_alike fresh one other same copies task again alike permit
     permitted_alike (Err deny) = record { answer = refl; worlds = same }
 
     -- the outcome before the last step
-    outcome_alike :
-        OutcomesAlike (after one (judge_in nat_eq fresh one task call) (apply nat_eq fresh one task))
+    outcome_alike : OutcomesAlike (after one (judge_in nat_eq fresh one task call) (apply nat_eq fresh one task))
         (after other (judge_in nat_eq fresh other again call) (apply nat_eq fresh other again))
-    outcome_alike =
-        subst (λ judgement. OutcomesAlike
+    outcome_alike = subst (λ judgement. OutcomesAlike
         (after one (judge_in nat_eq fresh one task call) (apply nat_eq fresh one task))
         (after other judgement (apply nat_eq fresh other again)))
         judged_alike (permitted_alike (judge_in nat_eq fresh one task call))
@@ -58,8 +53,7 @@ module _ (fresh : Fresh ℕ) (one other : World ℕ) (same : Alike one other) (i
     last_alike true changed others under again alike = alike
     last_alike false changed others under again alike = record {
       answer = alike.answer;
-      worlds =
-          raised_alike one other name changed others _ _ (settled_alike under.world again.world alike.worlds);
+      worlds = raised_alike one other name changed others _ _ (settled_alike under.world again.world alike.worlds);
     }
 
     finished_alike : (changed others : List ℕ) (under again : Outcome ℕ) → OutcomesAlike under again
@@ -83,8 +77,7 @@ module _ (fresh : Fresh ℕ) (one other : World ℕ) (same : Alike one other) (i
     called_alike (Some task) (Some again) alike = finished_alike _ _ _ _ (outcome_alike task again alike)
 
     pub policy_alike : OutcomesAlike (policy nat_eq fresh one name call) (policy nat_eq fresh other name call)
-    policy_alike =
-        subst (λ outcome. OutcomesAlike outcome (policy nat_eq fresh other name call))
+    policy_alike = subst (λ outcome. OutcomesAlike outcome (policy nat_eq fresh other name call))
         (sym (policy_judges_then_applies fresh one name call))
         (subst (OutcomesAlike (after one (ok_or (task_called one name) (denial S2)) (by_task one)))
         (sym (policy_judges_then_applies fresh other name call))

@@ -48,8 +48,7 @@ module _ (fresh : Fresh ℕ) (one other : World ℕ) (same : Alike one other) (c
 
   copied_same : (file : Location ℕ) (access : Access)
       → is_copied_up nat_eq one file access ≡ is_copied_up nat_eq other file access
-  copied_same file access = λ i.
-      (opens_for_writing access)
+  copied_same file access = λ i. (opens_for_writing access)
       && overlay_or false (λ overlay. lies_only_in_lowers overlay file.node)
       ((here_alike one other same file).overlay i)
 
@@ -61,11 +60,9 @@ module _ (fresh : Fresh ℕ) (one other : World ℕ) (same : Alike one other) (c
   written_alike : (file : Location ℕ) (offset : ℕ) (bytes : List ℕ)
       → Alike (pwritten nat_eq fresh one file offset bytes) (pwritten nat_eq fresh other file offset bytes)
   written_alike file offset [] = same
-  written_alike file offset (byte ∷ bytes) =
-      subst (λ node. Alike (pwritten nat_eq fresh one file offset (byte ∷ bytes))
+  written_alike file offset (byte ∷ bytes) = subst (λ node. Alike (pwritten nat_eq fresh one file offset (byte ∷ bytes))
       (with_change nat_eq fresh other file (SetBytes file.node (overwritten offset (byte ∷ bytes) (bytes_in node)))))
-      (node_same one other same file)
-      (change_alike one other same copies fresh file
+      (node_same one other same file) (change_alike one other same copies fresh file
       (SetBytes file.node (overwritten offset (byte ∷ bytes) (bytes_in (node_at nat_eq one file)))))
 
   pub apply_alike : (permit : Permit ℕ)
@@ -94,16 +91,13 @@ module _ (fresh : Fresh ℕ) (one other : World ℕ) (same : Alike one other) (c
       done _ _ (change_alike (without_replaced nat_eq one replaced) (without_replaced nat_eq other replaced)
       (without_replaced_alike replaced one other same)
       (copies_stay one other (without_replaced nat_eq one replaced) (without_replaced nat_eq other replaced)
-      (filesystems-without_replaced one replaced)
-      (filesystems-without_replaced other replaced) copies) fresh from
+      (filesystems-without_replaced one replaced) (filesystems-without_replaced other replaced) copies) fresh from
       (Move from.node old to.node new object.node))
-  apply_alike (ToOpen file access) =
-      subst (λ copies. OutcomesAlike
+  apply_alike (ToOpen file access) = subst (λ copies. OutcomesAlike
       (opened (with_copy nat_eq (is_copied_up nat_eq one file access) fresh one file) task file access)
       (opened (with_copy nat_eq copies fresh other file) again file access)) (copied_same file access)
       (opened_alike _ _ (copy_alike (is_copied_up nat_eq one file access) file) file access)
-  apply_alike (ToOpenNew directory name node access) =
-      opened_alike _ _
+  apply_alike (ToOpenNew directory name node access) = opened_alike _ _
       (change_alike one other same copies (odds fresh) directory (Make directory.node name (evens fresh 0) node))
       (record { mount = directory.mount; node = evens fresh 0 }) access
   apply_alike (ToWritePart file offset bytes) = done _ _ (written_alike file offset bytes)
@@ -111,8 +105,7 @@ module _ (fresh : Fresh ℕ) (one other : World ℕ) (same : Alike one other) (c
       done _ _ (with_task_alike one other same _ _ (λ i. without_descriptor (alike i) descriptor))
   apply_alike (ToSetDirectory directory) =
       done _ _ (with_task_alike one other same _ _ (λ i. record (alike i) { directory = directory }))
-  apply_alike (ToSetRoot root) =
-      done _ _ (with_task_alike one other same _ _ (λ i. record (alike i) { root = root }))
+  apply_alike (ToSetRoot root) = done _ _ (with_task_alike one other same _ _ (λ i. record (alike i) { root = root }))
   apply_alike (ToSetUmask umask) =
       done _ _ (with_task_alike one other same _ _ (λ i. record (alike i) { umask = umask }))
   apply_alike (ToSetCredentials credentials) =
@@ -121,8 +114,7 @@ module _ (fresh : Fresh ℕ) (one other : World ℕ) (same : Alike one other) (c
     answer = λ i. Ok (Child (child_name (alike i)));
     worlds = with_child_alike one other same task again _ _ alike (λ i. child_of (alike i) credentials);
   }
-  apply_alike ToExit =
-      done _ _ (ended_alike _ _
+  apply_alike ToExit = done _ _ (ended_alike _ _
       (subst (λ name. Alike (without_task one task.name) (without_task other name)) (λ i. (alike i).name)
       (without_task_alike task.name one other same)))
   apply_alike ToUnshare = done _ _ (ended_alike _ _ (unshared_alike fresh task again alike one other same))
@@ -130,16 +122,12 @@ module _ (fresh : Fresh ℕ) (one other : World ℕ) (same : Alike one other) (c
       done _ _ (ended_alike _ _ (entered_alike namespace task again alike one other same))
   apply_alike (ToMountPlain place flags) =
       done _ _ (mounted_alike (odds fresh) place (plain_filesystem nat_eq fresh) flags one other same)
-  apply_alike (ToMountOverlay place overlay flags) =
-      done _ _
+  apply_alike (ToMountOverlay place overlay flags) = done _ _
       (subst (λ made. Alike (apply nat_eq fresh one task (ToMountOverlay place overlay flags)).world
-      (mounted nat_eq (odds fresh) other place made flags))
-      (overlay_made_alike (evens fresh) overlay one other same)
+      (mounted nat_eq (odds fresh) other place made flags)) (overlay_made_alike (evens fresh) overlay one other same)
       (mounted_alike (odds fresh) place (overlay_filesystem nat_eq (evens fresh) one overlay) flags one other same))
-  apply_alike (ToBind source place recursive) =
-      done _ _ (bind_alike fresh source place recursive one other same)
-  apply_alike (ToMove mount place) =
-      done _ _
+  apply_alike (ToBind source place recursive) = done _ _ (bind_alike fresh source place recursive one other same)
+  apply_alike (ToMove mount place) = done _ _
       (subst (λ mounts. Alike (apply nat_eq fresh one task (ToMove mount place)).world
       (attach nat_eq other fresh place true mounts))
       (λ i. mount_tree nat_eq (same.mounts i) (mount_in nat_eq (same.mounts i) mount))
@@ -148,9 +136,7 @@ module _ (fresh : Fresh ℕ) (one other : World ℕ) (same : Alike one other) (c
   apply_alike (ToUnmountLazily mount) = done _ _ (lazily_alike mount one other same)
   apply_alike (ToSetFlags mount flags) = done _ _ (flags_alike mount flags one other same)
   apply_alike (ToSetType mount word recursive) = done _ _ (type_alike fresh mount word recursive one other same)
-  apply_alike (ToPivot new put) =
-      done _ _
-      (subst (Alike (apply nat_eq fresh one task (ToPivot new put)).world)
+  apply_alike (ToPivot new put) = done _ _ (subst (Alike (apply nat_eq fresh one task (ToPivot new put)).world)
       (λ i. pivoted nat_eq other (alike i).namespace (mount_in nat_eq (same.mounts i) (alike i).root.mount)
       (mount_in nat_eq (same.mounts i) new) put)
       (pivoted_alike task.namespace (mount_at nat_eq one task.root) (mount_numbered nat_eq one new) put one other same))

@@ -1,5 +1,6 @@
 -- What is found in two worlds that are alike, and changes of their filesystems and tasks.
-use Rattle.std.proofs.Common.{◌≡◌, refl, sym, ap, subst, ℕ, nat_eq, List, Option, Some, None, map}
+use Rattle.std.proofs.Common.{arith, ◌≡◌, refl, sym, ap, subst, ℕ, nat_eq, List, Option, Some, None, map}
+use Rattle.std.proofs.lemmas.Grind.{common_steps}
 use Rattle.vt_laws_worlds.proofs.one_text.answered.AlikeCopies.{LinesAlike, MergesAlike, merge_changed_alike}
 use Rattle.vt_laws_worlds.proofs.one_text.answered.AlikeWorlds.{Alike}
 use Rattle.vt_laws_rules.proofs.same.SameMany.{same_filesystem_itself}
@@ -18,8 +19,7 @@ use Rattle.vt_spec.specs.Machine.World.{Filesystem, Layer, Overlay, Task, World,
 module _ (one other : World ℕ) (same : Alike one other) where
   pub found_alike : (number : ℕ)
       → SameFilesystem (filesystem_numbered nat_eq one number) (filesystem_numbered nat_eq other number)
-  found_alike number =
-      each_found SameFilesystem (λ filesystem. nat_eq number filesystem.number)
+  found_alike number = each_found SameFilesystem (λ filesystem. nat_eq number filesystem.number)
       (λ filesystem. nat_eq number filesystem.number) (λ a b alike. ap (nat_eq number) alike.number)
       (no_filesystem number) (no_filesystem number) (same_filesystem_itself (no_filesystem number)) one.filesystems
       other.filesystems same.filesystems
@@ -29,8 +29,7 @@ module _ (one other : World ℕ) (same : Alike one other) where
 
   pub here_alike : (location : Location ℕ)
       → SameFilesystem (filesystem_at nat_eq one location) (filesystem_at nat_eq other location)
-  here_alike location =
-      subst (λ mount. SameFilesystem (filesystem_at nat_eq one location)
+  here_alike location = subst (λ mount. SameFilesystem (filesystem_at nat_eq one location)
       (filesystem_numbered nat_eq other mount.filesystem))
       (mount_same location) (found_alike (mount_at nat_eq one location).filesystem)
 
@@ -38,18 +37,15 @@ module _ (one other : World ℕ) (same : Alike one other) where
   node_same location = λ i. ((here_alike location).files.tree i).node location.node
 
   pub opened_same : (layer : Layer ℕ) → open_layer nat_eq one layer ≡ open_layer nat_eq other layer
-  opened_same layer = λ i.
-      record { tree = (found_alike layer.filesystem).files.tree i; directory = layer.directory }
+  opened_same layer = λ i. record { tree = (found_alike layer.filesystem).files.tree i; directory = layer.directory }
 
   pub task_alike : (name : TaskName) → IfAny SameTask (task_called one name) (task_called other name)
-  task_alike name =
-      each_find SameTask (λ task. same_name name task.name) (λ task. same_name name task.name)
+  task_alike name = each_find SameTask (λ task. same_name name task.name) (λ task. same_name name task.name)
       (λ a b alike. ap (λ task. same_name name task.name) alike) one.tasks other.tasks same.tasks
 
   pub locations_same : all_locations one ≡ all_locations other
   locations_same =
-      each_flat SameTask locations_of locations_of (λ a b alike. ap locations_of alike) one.tasks other.tasks
-      same.tasks
+      each_flat SameTask locations_of locations_of (λ a b alike. ap locations_of alike) one.tasks other.tasks same.tasks
 
 pub with_filesystem_alike : (one other : World ℕ) → Alike one other → (new again : Filesystem ℕ)
     → SameFilesystem new again → Alike (with_filesystem nat_eq one new) (with_filesystem nat_eq other again)
@@ -67,8 +63,7 @@ with_filesystem_alike one other same new again alike = record {
 
 -- In each overlay with an upper layer what is copied up is copied alike.
 abbrev pub CopiesAlike : World ℕ → World ℕ → Type 0
-CopiesAlike one other =
-    (number : ℕ) (overlay again : Overlay ℕ) (upper next : Layer ℕ)
+CopiesAlike one other = (number : ℕ) (overlay again : Overlay ℕ) (upper next : Layer ℕ)
     → (filesystem_numbered nat_eq one number).overlay ≡ Some overlay → overlay.upper ≡ Some upper
     → (filesystem_numbered nat_eq other number).overlay ≡ Some again → again.upper ≡ Some next
     → LinesAlike (merge_of nat_eq one (filesystem_numbered nat_eq one number) overlay upper)
@@ -87,51 +82,35 @@ module _ (one other : World ℕ) (same : Alike one other) (fresh : Fresh ℕ) (f
     (here : SameFilesystem first second) (change : Change ℕ) where
   plain_alike : Alike (with_filesystem nat_eq one (with_files first (changed nat_eq first.files change)))
       (with_filesystem nat_eq other (with_files second (changed nat_eq second.files change)))
-  plain_alike =
-      with_filesystem_alike one other same _ _ (record {
-        number = here.number;
-        files = changed_alike first.files second.files here.files change;
-        overlay = here.overlay;
-      })
+  plain_alike = grind (arith, common_steps, with_filesystem_alike, changed_alike)
 
   module _ (overlay again : Overlay ℕ) (is : overlay ≡ again) where
     stacks_same : (upper next : Layer ℕ) → upper ≡ next
         → stack_of nat_eq one overlay upper ≡ stack_of nat_eq other again next
-    stacks_same upper next top = λ i. record {
-      directory = (top i).directory;
-      lowers = map (λ layer. opened_same one other same layer i) (is i).lowers;
-      mounter = (is i).mounter;
-    }
+    stacks_same upper next top = grind (arith, common_steps, opened_same)
 
     merges_alike : (upper next : Layer ℕ) → upper ≡ next
         → MergesAlike (merge_of nat_eq one first overlay upper) (merge_of nat_eq other second again next)
     merges_alike upper next top = record {
       files = here.files;
       real = λ i. (is i).real;
-      upper =
-          subst (λ layer. SameFiles (filesystem_numbered nat_eq one upper.filesystem).files
+      upper = subst (λ layer. SameFiles (filesystem_numbered nat_eq one upper.filesystem).files
           (filesystem_numbered nat_eq other layer.filesystem).files) top
           (found_alike one other same upper.filesystem).files;
     }
 
     with_merge_alike : (upper next : Layer ℕ) → upper ≡ next → (merge later : Merge ℕ) → MergesAlike merge later
         → Alike (with_merge nat_eq one first overlay upper merge) (with_merge nat_eq other second again next later)
-    with_merge_alike upper next top merge later alike =
-        with_filesystem_alike _ _
+    with_merge_alike upper next top merge later alike = with_filesystem_alike _ _
         (with_filesystem_alike one other same _ _ (record {
           number = here.number;
           files = alike.files;
           overlay = λ i. Some (record (is i) { real = alike.real i });
-        })) _ _ (record {
-          number = below.number;
-          files = alike.upper;
-          overlay = below.overlay;
-        })
+        })) _ _ (record { number = below.number; files = alike.upper; overlay = below.overlay })
       where
         below : SameFilesystem (filesystem_numbered nat_eq one upper.filesystem)
             (filesystem_numbered nat_eq other next.filesystem)
-        below =
-            subst (λ layer. SameFilesystem (filesystem_numbered nat_eq one upper.filesystem)
+        below = subst (λ layer. SameFilesystem (filesystem_numbered nat_eq one upper.filesystem)
             (filesystem_numbered nat_eq other layer.filesystem)) top (found_alike one other same upper.filesystem)
 
     overlay_alike : (upper next : Option (Layer ℕ)) → upper ≡ next
@@ -147,8 +126,7 @@ module _ (one other : World ℕ) (same : Alike one other) (fresh : Fresh ℕ) (f
         subst (λ stack. Alike (overlay_changed nat_eq fresh one first overlay (Some upper) change)
         (with_merge nat_eq other second again next
         (merge_changed nat_eq fresh stack (merge_of nat_eq other second again next) change)))
-        (stacks_same upper next layer)
-        (with_merge_alike upper next layer _ _
+        (stacks_same upper next layer) (with_merge_alike upper next layer _ _
         (merge_changed_alike fresh (stack_of nat_eq one overlay upper) _ _
         (merges_alike upper next layer) (lines upper next refl refl) change))
 
@@ -172,8 +150,7 @@ pub change_alike : (one other : World ℕ) → Alike one other → CopiesAlike o
 change_alike one other same copies fresh location change =
     subst (λ mount. Alike (with_change nat_eq fresh one location change)
     (filesystem_changed nat_eq fresh other (filesystem_numbered nat_eq other mount.filesystem)
-    (filesystem_numbered nat_eq other mount.filesystem).overlay change))
-    (mount_same one other same location)
+    (filesystem_numbered nat_eq other mount.filesystem).overlay change)) (mount_same one other same location)
     (filesystem_alike one other same fresh _ _
     (found_alike one other same (mount_at nat_eq one location).filesystem) change _ _
     (found_alike one other same (mount_at nat_eq one location).filesystem).overlay
@@ -181,15 +158,8 @@ change_alike one other same copies fresh location change =
 
 -- Tasks
 pub with_tasks_alike : (one other : World ℕ) → Alike one other → (tasks again : List (Task ℕ))
-    → Each SameTask tasks again
-    → Alike (record one { tasks = tasks }) (record other { tasks = again })
-with_tasks_alike one other same tasks again alike = record {
-  mounts = same.mounts;
-  master = same.master;
-  filesystems = same.filesystems;
-  namespaces = same.namespaces;
-  tasks = alike;
-}
+    → Each SameTask tasks again → Alike (record one { tasks = tasks }) (record other { tasks = again })
+with_tasks_alike one other same tasks again alike = grind (arith, common_steps)
 
 pub with_task_alike : (one other : World ℕ) → Alike one other → (task again : Task ℕ) → SameTask task again
     → Alike (with_task one task) (with_task other again)

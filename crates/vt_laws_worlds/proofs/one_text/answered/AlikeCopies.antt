@@ -1,13 +1,13 @@
 -- A change of an overlay, with the copies that it needs, in two overlays that are the same but for the order of the
 -- numbers beside trees.
 use Rattle.std.proofs.lemmas.Grind.{common_steps}
-use Rattle.std.proofs.Common.{arith, ◌≡◌, refl, sym, ap, subst, ◌∙◌, ◌⊎◌, inl, inr, ⊎_elim, true≢false, ℕ, nat_eq, ◌+◌, Bool, true, false, cond, List, [], ◌∷◌, ◌++◌, reverse, Option, Some, None, is_some, unwrap_or}
+use Rattle.std.proofs.Common.{arith, ◌≡◌, refl, sym, ap, subst, ◌∙◌, ◌⊎◌, ⊎_elim, true≢false, ℕ, nat_eq, ◌+◌, Bool, true, false, cond, List, [], ◌∷◌, ◌++◌, reverse, Option, Some, None, is_some, unwrap_or}
 use Rattle.std.specs.Prelude.{⊤}
 use Rattle.std.proofs.lemmas.List.Sorted.{IsPermutation-cons}
 use Rattle.vt_laws_rules.proofs.same.SameFiles.{ancestors_same, path_same}
 use Rattle.vt_laws_trees.proofs.runs.answered.AlikeChanges.{changed_alike}
-use Rattle.vt_spec.specs.FileTree.{FileTree, a_name, path_down}
-use Rattle.vt_spec.specs.Language.Changes.{Change, changed_node, content_with_parent, node_with_attr, node_with_mark, node_with_parent, node_without_entries, node_without_entry, with_inode, with_moved, with_name}
+use Rattle.vt_spec.specs.FileTree.{FileTree, a_name}
+use Rattle.vt_spec.specs.Language.Changes.{Change, changed_node, content_with_parent, node_with_attr, node_with_mark, node_without_entry, with_inode, with_moved, with_name}
 use Rattle.vt_spec.specs.Language.Changes.Change.{AddName, CopyUp, Make, Move, Remove, SetAttr, SetBytes, SetMark}
 use Rattle.vt_spec.specs.Lists.{Fresh, evens, odds, then_some}
 use Rattle.vt_spec.specs.Machine.CopyUp.{Merge, Stack, changed_both, copied_content, copied_each, copied_up, copy_named, copy_of, copy_of_node, copy_parent, hides_directory, is_directory_shown, is_in_upper, line_by, line_to, merge_changed, merge_with_link, merge_with_moved, merge_with_new, merge_without_name, name_left, name_left_by, shown_in_lowers_at, upper_directory_named, upper_of, with_mark, with_real, without_contents}
@@ -31,8 +31,7 @@ AllUpper merge (object ∷ rest) = (is_in_upper merge object ≡ true) × AllUpp
 -- The name by which an object is copied is the same in both, unless the object and all directories above it stand in
 -- the upper layer: then nothing is copied.
 abbrev pub LinesAlike : Merge ℕ → Merge ℕ → Type 0
-LinesAlike one other =
-    (object : ℕ) → (a_name nat_eq one.files object ≡ a_name nat_eq other.files object)
+LinesAlike one other = (object : ℕ) → (a_name nat_eq one.files object ≡ a_name nat_eq other.files object)
     ⊎ (AllUpper one (line_to nat_eq one.files object) × AllUpper other (line_to nat_eq other.files object))
 
 -- Trees
@@ -67,10 +66,8 @@ copy_stays merge object copy seen is = grind (arith, common_steps)
 all_stay : (fresh : Fresh ℕ) (k : ℕ) (merge : Merge ℕ) (list : List ℕ) → AllUpper merge list
     → copied_each nat_eq fresh k merge list ≡ merge
 all_stay fresh k merge [] all = refl
-all_stay fresh k merge (object ∷ rest) all =
-    ap (λ m. copied_each nat_eq fresh (k + 1) m rest)
-    (copy_stays merge object (fresh k) (merge.files.tree.node object) all.0)
-    ∙ all_stay fresh (k + 1) merge rest all.1
+all_stay fresh k merge (object ∷ rest) all = ap (λ m. copied_each nat_eq fresh (k + 1) m rest)
+    (copy_stays merge object (fresh k) (merge.files.tree.node object) all.0) ∙ all_stay fresh (k + 1) merge rest all.1
 
 copy_grows : (merge : Merge ℕ) (object copy : ℕ) (seen : Option (Node ℕ)) (b : Bool) (number : ℕ)
     → is_in_upper merge number ≡ true → is_in_upper (copy_of nat_eq merge object copy seen b) number ≡ true
@@ -116,27 +113,17 @@ module _ (one other : Merge ℕ) (same : MergesAlike one other) (object copy : �
 
   -- the upper layer with the copy, by the name that it gets
   abbrev with_copy : Merge ℕ → Node ℕ → Option (ℕ × List ℕ) → FileTree ℕ
-  with_copy merge node name =
-      copy_named nat_eq merge copy name
-      (with_inode nat_eq merge.upper copy
+  with_copy merge node name = copy_named nat_eq merge copy name (with_inode nat_eq merge.upper copy
       (record { attr = node.attr; content = copied_content (copy_parent merge copy name) node.content }))
 
   copied_alike : (node : Node ℕ) (name : Option (ℕ × List ℕ))
       → SameFiles (with_copy one node name) (with_copy other node name)
-  copied_alike node name =
-      made_alike name _ _
-      (inode_added one.upper other.upper same.upper copy _ _
+  copied_alike node name = made_alike name _ _ (inode_added one.upper other.upper same.upper copy _ _
       (λ i. record { attr = node.attr; content = copied_content (parent_same name i) node.content }))
 
   node_alike : (node : Node ℕ)
       → MergesAlike (copy_of_node nat_eq one object copy node) (copy_of_node nat_eq other object copy node)
-  node_alike node = record {
-    files = same.files;
-    real = λ i. with_real nat_eq (same.real i) object (Upper copy);
-    upper =
-        subst (λ name. SameFiles (with_copy one node (a_name nat_eq one.files object)) (with_copy other node name)) named
-        (copied_alike node (a_name nat_eq one.files object));
-  }
+  node_alike node = grind (arith, common_steps, copied_alike)
 
 -- An object of a line, if it stands in the upper layer or has one name in both
 copy_alike : (one other : Merge ℕ) → MergesAlike one other → LinesAlike one other → (object copy : ℕ)
@@ -154,34 +141,14 @@ copy_alike one other same lines object copy node again alike =
         → MergesAlike (copy_of nat_eq one object copy node b) (copy_of nat_eq other object copy node b)
     by None b is = same
     by (Some node) true is = same
-    by (Some node) false is =
-        ⊎_elim
-        (λ named. node_alike one other same object copy named node)
+    by (Some node) false is = ⊎_elim (λ named. node_alike one other same object copy named node)
         (λ all. absurd (true≢false (sym (line_ends one.files one object (a_name nat_eq one.files object) all.0) ∙ is)))
         (lines object)
 
 lines_after_copy : (one other : Merge ℕ) → LinesAlike one other → (object copy : ℕ) (node again : Option (Node ℕ))
-    (b c : Bool)
-    → LinesAlike (copy_of nat_eq one object copy node b) (copy_of nat_eq other object copy again c)
+    (b c : Bool) → LinesAlike (copy_of nat_eq one object copy node b) (copy_of nat_eq other object copy again c)
 lines_after_copy one other lines object copy node again b c number =
-    ⊎_elim
-    (λ named. inl ((λ i. a_name nat_eq (copy_files one object copy node b i) number) ∙ named
-    ∙ sym (λ i. a_name nat_eq (copy_files other object copy again c i) number)))
-    (λ all. inr (
-      still_upper one object copy node b all.0,
-      still_upper other object copy again c all.1,
-    ))
-    (lines number)
-  where
-    still_upper : (merge : Merge ℕ) (object copy : ℕ) (node : Option (Node ℕ)) (b : Bool)
-        → AllUpper merge (line_to nat_eq merge.files number)
-        → AllUpper (copy_of nat_eq merge object copy node b)
-        (line_to nat_eq (copy_of nat_eq merge object copy node b).files number)
-    still_upper merge object copy node b all =
-        subst (λ files. AllUpper (copy_of nat_eq merge object copy node b) (line_to nat_eq files number))
-        (sym (copy_files merge object copy node b))
-        (all_grow merge (copy_of nat_eq merge object copy node b) (copy_grows merge object copy node b)
-        (line_to nat_eq merge.files number) all)
+    grind (arith, common_steps, copy_files, all_grow, copy_grows)
 
 -- two overlays that are alike, and copy alike
 pub record CopyAlike (one other : Merge ℕ) : Type 0 where
@@ -191,12 +158,10 @@ pub record CopyAlike (one other : Merge ℕ) : Type 0 where
 each_alike : (fresh : Fresh ℕ) (k : ℕ) (one other : Merge ℕ) → CopyAlike one other → (list : List ℕ)
     → CopyAlike (copied_each nat_eq fresh k one list) (copied_each nat_eq fresh k other list)
 each_alike fresh k one other alike [] = alike
-each_alike fresh k one other alike (object ∷ rest) =
-    each_alike fresh (k + 1) _ _ (record {
-      same = copy_alike one other alike.same alike.lines object (fresh k) _ _
-          (λ i. (alike.same.files.tree i).node object);
-      lines = lines_after_copy one other alike.lines object (fresh k) _ _ _ _;
-    }) rest
+each_alike fresh k one other alike (object ∷ rest) = each_alike fresh (k + 1) _ _ (record {
+  same = copy_alike one other alike.same alike.lines object (fresh k) _ _ (λ i. (alike.same.files.tree i).node object);
+  lines = lines_after_copy one other alike.lines object (fresh k) _ _ _ _;
+}) rest
 
 -- the line to an object that has one name in both
 line_same : (one other : FileTree ℕ) → SameFiles one other → (object : ℕ) (named : Option (ℕ × List ℕ))
@@ -206,9 +171,7 @@ line_same one other same object (Some name) = λ i. reverse (ancestors_same one 
 
 pub copied_up_alike : (fresh : Fresh ℕ) (one other : Merge ℕ) → CopyAlike one other → (object : ℕ)
     → CopyAlike (copied_up nat_eq fresh one object) (copied_up nat_eq fresh other object)
-copied_up_alike fresh one other alike object =
-    ⊎_elim
-    (λ named.
+copied_up_alike fresh one other alike object = ⊎_elim (λ named.
     subst (λ line. CopyAlike (copied_up nat_eq fresh one object) (copied_each nat_eq fresh 0 other line))
     (line_same one.files other.files alike.same.files object (a_name nat_eq one.files object)
     ∙ (λ i. line_by nat_eq other.files object (named i)))
@@ -225,15 +188,7 @@ module _ (fresh : Fresh ℕ) (stack : Stack ℕ) (one other : Merge ℕ) (same :
 
   shown_same : (directory : ℕ) (name : List ℕ)
       → shown_in_lowers_at nat_eq stack one directory name ≡ shown_in_lowers_at nat_eq stack other directory name
-  shown_same directory name = λ i.
-      shown_in_lowers (record { tree = same.upper.tree i; directory = stack.directory }) stack.lowers
-      (unwrap_or (way i) [] ++ (name ∷ []))
-    where
-      way : path_down nat_eq one.files one.files.tree.root directory
-          ≡ path_down nat_eq other.files other.files.tree.root directory
-      way =
-          path_same one.files other.files same.files one.files.tree.root directory
-          ∙ (λ i. path_down nat_eq other.files (same.files.tree i).root directory)
+  shown_same directory name = grind (arith, common_steps, path_same)
 
   hides_same : (directory : ℕ) (name : List ℕ)
       → hides_directory nat_eq stack one directory name ≡ hides_directory nat_eq stack other directory name
@@ -247,47 +202,28 @@ module _ (fresh : Fresh ℕ) (stack : Stack ℕ) (one other : Merge ℕ) (same :
   left_alike files again alike directory name =
       subst (λ b. SameFiles (name_left nat_eq fresh stack one files directory name)
       (name_left_by nat_eq b fresh stack again (upper_of other directory) name))
-      (λ i. is_some (shown_same directory name i))
-      (by (is_some (shown_in_lowers_at nat_eq stack one directory name)))
+      (λ i. is_some (shown_same directory name i)) (by (is_some (shown_in_lowers_at nat_eq stack one directory name)))
     where
       by : (b : Bool) → SameFiles (name_left_by nat_eq b fresh stack files (upper_of one directory) name)
           (name_left_by nat_eq b fresh stack again (upper_of other directory) name)
-      by true =
-          name_added _ _ (inode_added files again alike (fresh 0) _ _ refl) (upper_of one directory)
+      by true = name_added _ _ (inode_added files again alike (fresh 0) _ _ refl) (upper_of one directory)
           (upper_of other directory) (fresh 0) (fresh 0) name (upper_is directory) refl
-      by false =
-          subst (λ d. SameFiles (name_left_by nat_eq false fresh stack files (upper_of one directory) name)
+      by false = subst (λ d. SameFiles (name_left_by nat_eq false fresh stack files (upper_of one directory) name)
           (name_left_by nat_eq false fresh stack again d name)) (upper_is directory)
           (node_changed files again alike (upper_of one directory) (node_without_entry name))
 
   named_same : (directory : ℕ) (name : List ℕ)
       → upper_directory_named one directory name ≡ upper_directory_named other directory name
-  named_same directory name = λ i.
-      then_some (entry_named name (entries_in ((same.files.tree i).node directory)))
+  named_same directory name = λ i. then_some (entry_named name (entries_in ((same.files.tree i).node directory)))
       (λ object. cond (is_directory_node ((same.files.tree i).node object)) (upper_object (same.real i object)) None)
 
   emptied_alike : (files again : FileTree ℕ) → SameFiles files again → (object also : Option ℕ) → object ≡ also
       → SameFiles (without_contents nat_eq files object) (without_contents nat_eq again also)
-  emptied_alike files again alike object also e =
-      subst (λ o. SameFiles (without_contents nat_eq files object) (without_contents nat_eq again o)) e (by object)
-    where
-      by : (object : Option ℕ)
-          → SameFiles (without_contents nat_eq files object) (without_contents nat_eq again object)
-      by None = alike
-      by (Some object) =
-          node_changed _ _ (node_changed files again alike object node_without_entries) object
-          (node_with_parent object)
+  emptied_alike files again alike object also e = grind (arith, common_steps, node_changed)
 
   mark_alike : (b c : Bool) → b ≡ c → (files again : FileTree ℕ) → SameFiles files again → (object also : ℕ)
-      → object ≡ also
-      → SameFiles (with_mark nat_eq b files object) (with_mark nat_eq c again also)
-  mark_alike b c is files again alike object also e =
-      subst (λ d. SameFiles (with_mark nat_eq b files object) (with_mark nat_eq d again also)) is
-      (subst (λ n. SameFiles (with_mark nat_eq b files object) (with_mark nat_eq b again n)) e (by b))
-    where
-      by : (b : Bool) → SameFiles (with_mark nat_eq b files object) (with_mark nat_eq b again object)
-      by true = node_changed files again alike object (node_with_mark true)
-      by false = alike
+      → object ≡ also → SameFiles (with_mark nat_eq b files object) (with_mark nat_eq c again also)
+  mark_alike b c is files again alike object also e = grind (arith, common_steps, node_changed)
 
   new_alike : (directory : ℕ) (name : List ℕ) (number : ℕ) (node : Node ℕ)
       → MergesAlike (merge_with_new nat_eq fresh stack one directory name number node)
@@ -295,9 +231,7 @@ module _ (fresh : Fresh ℕ) (stack : Stack ℕ) (one other : Merge ℕ) (same :
   new_alike directory name number node = record {
     files = changed_alike one.files other.files same.files (Make directory name number node);
     real = λ i. with_real nat_eq (same.real i) number (Upper (fresh 0));
-    upper =
-        mark_alike _ _ (hides_same directory name) _ _
-        (name_added _ _
+    upper = mark_alike _ _ (hides_same directory name) _ _ (name_added _ _
         (inode_added one.upper other.upper same.upper (fresh 0) _ _
         (λ i. record { attr = node.attr; content = content_with_parent (upper_is directory i) node.content }))
         (upper_of one directory) (upper_of other directory) (fresh 0) (fresh 0) name (upper_is directory) refl)
@@ -307,13 +241,7 @@ module _ (fresh : Fresh ℕ) (stack : Stack ℕ) (one other : Merge ℕ) (same :
   link_alike : (directory : ℕ) (name : List ℕ) (object : ℕ)
       → MergesAlike (merge_with_link nat_eq one directory name object)
       (merge_with_link nat_eq other directory name object)
-  link_alike directory name object = record {
-    files = changed_alike one.files other.files same.files (AddName directory name object);
-    real = same.real;
-    upper =
-        name_added one.upper other.upper same.upper (upper_of one directory) (upper_of other directory)
-        (upper_of one object) (upper_of other object) name (upper_is directory) (upper_is object);
-  }
+  link_alike directory name object = grind (arith, common_steps, changed_alike, name_added, upper_is)
 
   removed_alike : (directory : ℕ) (name : List ℕ) (object : ℕ)
       → MergesAlike (merge_without_name nat_eq fresh stack one directory name object)
@@ -321,8 +249,7 @@ module _ (fresh : Fresh ℕ) (stack : Stack ℕ) (one other : Merge ℕ) (same :
   removed_alike directory name object = record {
     files = changed_alike one.files other.files same.files (Remove directory name object);
     real = same.real;
-    upper =
-        emptied_alike _ _ (left_alike one.upper other.upper same.upper directory name) _ _
+    upper = emptied_alike _ _ (left_alike one.upper other.upper same.upper directory name) _ _
         (named_same directory name);
   }
 
@@ -340,24 +267,14 @@ module _ (fresh : Fresh ℕ) (stack : Stack ℕ) (one other : Merge ℕ) (same :
   moved_alike from old to new object = record {
     files = changed_alike one.files other.files same.files (Move from old to new object);
     real = same.real;
-    upper =
-        mark_alike _ _ (hides_same to new) _ _
-        (left_alike _ _
+    upper = mark_alike _ _ (hides_same to new) _ _ (left_alike _ _
         (moved_in_upper _ _ (emptied_alike one.upper other.upper same.upper _ _ (named_same to new)) from to object old
-        new) from old)
-        (upper_of one object) (upper_of other object) (upper_is object);
+        new) from old) (upper_of one object) (upper_of other object) (upper_is object);
   }
 
   both_alike : (object : ℕ) (change : Option (Node ℕ) → Option (Node ℕ))
       → MergesAlike (changed_both nat_eq one object change) (changed_both nat_eq other object change)
-  both_alike object change = record {
-    files = node_changed one.files other.files same.files object change;
-    real = same.real;
-    upper =
-        subst (λ n. SameFiles (changed_node nat_eq one.upper (upper_of one object) change)
-        (changed_node nat_eq other.upper n change)) (upper_is object)
-        (node_changed one.upper other.upper same.upper (upper_of one object) change);
-  }
+  both_alike object change = grind (arith, common_steps, node_changed, upper_is)
 
 pub merge_changed_alike : (fresh : Fresh ℕ) (stack : Stack ℕ) (one other : Merge ℕ) → MergesAlike one other
     → LinesAlike one other → (change : Change ℕ)

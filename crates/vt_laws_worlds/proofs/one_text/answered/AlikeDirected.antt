@@ -1,5 +1,6 @@
 -- Directives are answered alike in two worlds that are alike.
-use Rattle.std.proofs.Common.{◌≡◌, refl, sym, ap, subst, ◌∙◌, ℕ, nat_eq, Bool, true, false, not, ◌&&◌, ◌||◌, ◌+◌, List, [], ◌∷◌, ◌++◌, map, filter, flat_map, Option, Some, None, Ok, is_some, option_map}
+use Rattle.std.proofs.Common.{arith, ◌≡◌, refl, sym, ap, subst, ◌∙◌, ℕ, nat_eq, Bool, true, false, not, ◌&&◌, ◌||◌, ◌+◌, List, [], ◌∷◌, ◌++◌, map, filter, flat_map, Option, Some, None, Ok, is_some, option_map}
+use Rattle.std.proofs.lemmas.Grind.{common_steps}
 use Rattle.std.specs.List.{list_all, list_any}
 use Rattle.std.proofs.lemmas.List.Sorted.{list_any-IsPermutation}
 use Rattle.vt_laws_worlds.proofs.one_text.answered.AlikeApplied.{OutcomesAlike}
@@ -22,10 +23,10 @@ use Rattle.vt_spec.specs.Machine.Mounts.{Location, Mount}
 use Rattle.vt_spec.specs.Machine.Outcomes.{granted, judged}
 use Rattle.vt_spec.specs.Machine.Receives.{is_member_of}
 use Rattle.vt_spec.specs.Machine.Sealed.{all_named, change_layers, directed, holds_all_tasks, shares_no_events, share_events, is_lower_root, is_member_task, is_own_namespace, locations, members, no_outsider_on, no_outsider_on_mounts, no_such_task, outsiders, sealed, used_alone, used_directly, used_filesystems, wholly_locked}
-use Rattle.vt_spec.specs.Machine.World.{Filesystem, Layer, Namespace, Overlay, Task, World, filesystem_numbered, is_overlay, layers_of, locations_of, mount_at, task_called}
+use Rattle.vt_spec.specs.Machine.World.{Filesystem, Layer, Namespace, Overlay, Task, World, filesystem_numbered, is_overlay, locations_of, mount_at, task_called}
 use Rattle.std.specs.Prelude.{option_to_list}
 use Rattle.vt_spec.specs.Machine.SameWorlds.{SameFiles, SameFilesystem}
-use Rattle.vt_spec.specs.Machine.Settled.{has_layer_on, named_in}
+use Rattle.vt_spec.specs.Machine.Settled.{named_in}
 
 -- Peers
 module _ (one other : World ℕ) (same : Alike one (with_mounts_of one other)) where
@@ -40,21 +41,19 @@ module _ (one other : World ℕ) (same : Alike one (with_mounts_of one other)) w
 
   -- the lines of peers, by the mounts that are attached
   abbrev places_among : List (ℕ × ℕ × Mount ℕ) → (Mount ℕ → Bool) → List (ℕ × ℕ)
-  places_among attached test =
-      map (λ (mount : ℕ × ℕ × Mount ℕ). (mount.0, mount.1))
+  places_among attached test = map (λ (mount : ℕ × ℕ × Mount ℕ). (mount.0, mount.1))
       (filter (λ (mount : ℕ × ℕ × Mount ℕ). test mount.2) attached)
 
   abbrev seen_among : List (ℕ × ℕ × Mount ℕ) → List ℕ
   seen_among attached = groups_seen nat_eq one (map (λ (mount : ℕ × ℕ × Mount ℕ). mount.2) attached)
 
   abbrev lines_by : List (ℕ × ℕ × Mount ℕ) → List PeerLine
-  lines_by attached =
-      map (λ group. record {
-        group = number_among nat_eq (seen_among attached) group;
-        master = option_map (number_among nat_eq (seen_among attached)) (one.master group);
-        peers = places_among attached (is_member_of nat_eq group);
-        slaves = places_among attached (is_slave_of nat_eq group);
-      }) (seen_among attached)
+  lines_by attached = map (λ group. record {
+    group = number_among nat_eq (seen_among attached) group;
+    master = option_map (number_among nat_eq (seen_among attached)) (one.master group);
+    peers = places_among attached (is_member_of nat_eq group);
+    slaves = places_among attached (is_slave_of nat_eq group);
+  }) (seen_among attached)
 
   peers_same : peer_lines nat_eq one ≡ peer_lines nat_eq (with_mounts_of one other)
   peers_same = ap lines_by (attached_from 1 one.namespaces other.namespaces same.namespaces)
@@ -78,12 +77,10 @@ all_named_alike one other same =
     ∙ (λ i. list_all (λ number. nat_eq number (same.tree i).root || named number i) other.numbers)
   where
     named : (number : ℕ) → is_among nat_eq number (named_in one) ≡ is_among nat_eq number (named_in other)
-    named number =
-        list_any-IsPermutation (nat_eq number) (named_in one)
+    named number = list_any-IsPermutation (nat_eq number) (named_in one)
         (flat_map (λ directory. targets_in (one.tree.node directory)) other.numbers)
         (IsPermutation-flat_map (λ directory. targets_in (one.tree.node directory)) one.numbers other.numbers
-        same.numbers)
-        ∙ (λ i. is_among nat_eq number
+        same.numbers) ∙ (λ i. is_among nat_eq number
         (flat_map (λ directory. targets_in ((same.tree i).node directory)) other.numbers))
 
 -- the overlay has this root directory of the filesystem as a lower layer
@@ -97,8 +94,7 @@ module _ (one other : World ℕ) (same : Alike one (with_mounts_of one other)) (
   second = with_mounts_of one other
 
   pub members_alike : Each SameTask (members one names) (members second names)
-  members_alike =
-      each_filter SameTask (is_member_task names) (is_member_task names)
+  members_alike = each_filter SameTask (is_member_task names) (is_member_task names)
       (λ a b alike. ap (is_member_task names) alike) one.tasks other.tasks same.tasks
 
   outsiders_alike : Each SameTask (outsiders one names) (outsiders second names)
@@ -125,12 +121,10 @@ module _ (one other : World ℕ) (same : Alike one (with_mounts_of one other)) (
 
   namespaces_of : (ones others : List (Task ℕ)) → Each SameTask ones others
       → map (λ (task : Task ℕ). task.namespace) ones ≡ map (λ (task : Task ℕ). task.namespace) others
-  namespaces_of ones others each =
-      each_to_one SameTask (λ (task : Task ℕ). task.namespace)
+  namespaces_of ones others each = each_to_one SameTask (λ (task : Task ℕ). task.namespace)
       (λ (task : Task ℕ). task.namespace) (λ a b alike. ap (λ (task : Task ℕ). task.namespace) alike) ones others each
 
-  all_by_namespace : (test : ℕ → Bool) (tasks : List (Task ℕ))
-      → list_all (λ (task : Task ℕ). test task.namespace) tasks
+  all_by_namespace : (test : ℕ → Bool) (tasks : List (Task ℕ)) → list_all (λ (task : Task ℕ). test task.namespace) tasks
       ≡ list_all test (map (λ (task : Task ℕ). task.namespace) tasks)
   all_by_namespace test [] = refl
   all_by_namespace test (task ∷ rest) = ap (λ b. test task.namespace && b) (all_by_namespace test rest)
@@ -154,21 +148,17 @@ module _ (one other : World ℕ) (same : Alike one (with_mounts_of one other)) (
       (places_same (outsiders one names) (outsiders second names) outsiders_alike i)
 
   pub directly_same : used_directly nat_eq one names ≡ used_directly nat_eq second names
-  directly_same = λ i.
-      map (λ (mount : Mount ℕ). mount.filesystem) (own_by (own_same i))
+  directly_same = λ i. map (λ (mount : Mount ℕ). mount.filesystem) (own_by (own_same i))
       ++ map (λ (location : Location ℕ). (mount_at nat_eq one location).filesystem)
       (places_same (members one names) (members second names) members_alike i)
 
   layers_at : (number : ℕ)
       → change_layers (filesystem_numbered nat_eq one number) ≡ change_layers (filesystem_numbered nat_eq second number)
-  layers_at number =
-      ap (overlay_or [] (λ (overlay : Overlay ℕ). map (λ (layer : Layer ℕ). layer.filesystem)
-      (option_to_list overlay.upper ++ option_to_list overlay.work)))
-      (found_alike one second same number).overlay
+  layers_at number = ap (overlay_or [] (λ (overlay : Overlay ℕ). map (λ (layer : Layer ℕ). layer.filesystem)
+      (option_to_list overlay.upper ++ option_to_list overlay.work))) (found_alike one second same number).overlay
 
   pub used_same : used_filesystems nat_eq one names ≡ used_filesystems nat_eq second names
-  used_same = λ i.
-      each_once nat_eq (directly_same i ++ flat_map (λ number. layers_at number i) (directly_same i))
+  used_same = λ i. each_once nat_eq (directly_same i ++ flat_map (λ number. layers_at number i) (directly_same i))
 
   no_outsider_same : (filesystem : ℕ)
       → no_outsider_on nat_eq one names filesystem ≡ no_outsider_on nat_eq second names filesystem
@@ -178,45 +168,28 @@ module _ (one other : World ℕ) (same : Alike one (with_mounts_of one other)) (
       (places_same (outsiders one names) (outsiders second names) outsiders_alike i))
 
   alone_same : (filesystem : ℕ) → used_alone nat_eq one names filesystem ≡ used_alone nat_eq second names filesystem
-  alone_same filesystem = λ i.
-      no_outsider_same filesystem i
-      && each_all SameFilesystem (λ merged. not (has_layer_on nat_eq filesystem merged)
-      || no_outsider_on nat_eq one names merged.number)
-      (λ merged. not (has_layer_on nat_eq filesystem merged) || no_outsider_on nat_eq second names merged.number)
-      (λ a b alike. λ j.
-      not (overlay_or false (λ overlay. list_any (λ layer. nat_eq filesystem layer.filesystem) (layers_of overlay))
-      (alike.overlay j))
-      || (no_outsider_same a.number ∙ (λ k. no_outsider_on nat_eq second names (alike.number k))) j)
-      (overlays one) (overlays second)
-      (overlays_alike one.filesystems other.filesystems same.filesystems) i
+  alone_same filesystem = grind (arith, common_steps, no_outsider_same, each_all, overlays_alike)
 
-  named_same : (filesystem : ℕ)
-      → all_named nat_eq (filesystem_numbered nat_eq one filesystem).files
+  named_same : (filesystem : ℕ) → all_named nat_eq (filesystem_numbered nat_eq one filesystem).files
       ≡ all_named nat_eq (filesystem_numbered nat_eq second filesystem).files
   named_same filesystem = all_named_alike _ _ (found_alike one second same filesystem).files
 
   locked_same : (filesystem : ℕ)
       → wholly_locked nat_eq one names filesystem ≡ wholly_locked nat_eq second names filesystem
-  locked_same filesystem = λ i.
-      each_any SameFilesystem
+  locked_same filesystem = λ i. each_any SameFilesystem
       (λ merged. is_lower_root nat_eq filesystem (filesystem_numbered nat_eq one filesystem).files.tree.root merged
       && used_alone nat_eq one names merged.number)
       (λ merged. is_lower_root nat_eq filesystem (filesystem_numbered nat_eq second filesystem).files.tree.root merged
-      && used_alone nat_eq second names merged.number)
-      (λ a b alike. λ j.
+      && used_alone nat_eq second names merged.number) (λ a b alike. λ j.
       overlay_or false (λ overlay. lower_root_by filesystem
       ((found_alike one second same filesystem).files.tree j).root overlay) (alike.overlay j)
       && (alone_same a.number ∙ (λ k. used_alone nat_eq second names (alike.number k))) j)
-      (overlays one) (overlays second)
-      (overlays_alike one.filesystems other.filesystems same.filesystems) i
+      (overlays one) (overlays second) (overlays_alike one.filesystems other.filesystems same.filesystems) i
       && named_same filesystem i
 
   sealed_same : sealed nat_eq one names ≡ sealed nat_eq second names
   unfolding sealed
-  sealed_same = λ i.
-      holds_all_same i
-      && no_link_same i
-      && on_mounts_same i
+  sealed_same = λ i. holds_all_same i && no_link_same i && on_mounts_same i
       && list_all (λ filesystem. alone_same filesystem i || locked_same filesystem i) (used_same i)
 
 pub sealed_alike : (names : List TaskName) (one other : World ℕ) → Alike one other
@@ -242,8 +215,7 @@ directed_alike one other same AskPeers =
 directed_alike one other same (AskSealed names) =
     subst (λ missing. OutcomesAlike (directed nat_eq one (AskSealed names))
     (judged other ((missing, S2) ∷ []) (granted (YesNo (sealed nat_eq other names)) other)))
-    (λ i. list_any (λ name. missing_same one other same name i) names)
-    (by (list_any (no_such_task one) names))
+    (λ i. list_any (λ name. missing_same one other same name i) names) (by (list_any (no_such_task one) names))
   where
     by : (missing : Bool)
         → OutcomesAlike (judged one ((missing, S2) ∷ []) (granted (YesNo (sealed nat_eq one names)) one))

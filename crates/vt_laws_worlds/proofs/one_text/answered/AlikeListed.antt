@@ -14,13 +14,11 @@ module _ (one other : World ℕ) (same : Alike one (with_mounts_of one other)) w
   line_same mounts mount =
       let shown = found_alike one (with_mounts_of one other) same mount.filesystem in
       λ i. record {
-        mount_point =
-            option_map (λ (place : Location ℕ). (
-              number_among nat_eq (map (λ (one : Mount ℕ). one.number) mounts) place.mount,
-              spot_of (path_same _ _ (here_alike one (with_mounts_of one other) same place).files
-                  (mount_at nat_eq one place).root place.node i),
-            ))
-            mount.mount_point;
+        mount_point = option_map (λ (place : Location ℕ). (
+          number_among nat_eq (map (λ (one : Mount ℕ). one.number) mounts) place.mount,
+          spot_of (path_same _ _ (here_alike one (with_mounts_of one other) same place).files
+              (mount_at nat_eq one place).root place.node i),
+        )) mount.mount_point;
         overlay = is_some (shown.overlay i);
         filesystem = number_among nat_eq (filesystems_seen nat_eq mounts) mount.filesystem;
         root = spot_of (path_same _ _ shown.files (shown.files.tree i).root mount.root i);

@@ -1,5 +1,6 @@
 -- Calls on mounts and namespaces in two worlds that are alike.
-use Rattle.std.proofs.Common.{◌≡◌, refl, subst, ℕ, nat_eq, Bool, true, false, List, [], ◌∷◌, map, filter, flat_map, Option, Some, None, is_some}
+use Rattle.std.proofs.Common.{arith, ◌≡◌, refl, subst, ℕ, nat_eq, Bool, List, [], ◌∷◌, map, filter, flat_map, Option, Some, None, is_some}
+use Rattle.std.proofs.lemmas.Grind.{common_steps}
 use Rattle.std.specs.List.{list_any}
 use Rattle.vt_laws_worlds.proofs.one_text.answered.AlikeChanges.{here_alike}
 use Rattle.vt_laws_worlds.proofs.one_text.answered.AlikeWorlds.{Alike, mounts_of_one}
@@ -17,23 +18,15 @@ use Rattle.vt_spec.specs.Machine.World.{World, filesystem_at, mount_numbered, wi
 -- worlds that are alike, with other mounts
 pub with_mounts_alike : (one other : World ℕ) → Alike one other → (mounts again : List (Mount ℕ)) → mounts ≡ again
     → Alike (with_mounts one mounts) (with_mounts other again)
-with_mounts_alike one other same mounts again alike = record {
-  mounts = alike;
-  master = same.master;
-  filesystems = same.filesystems;
-  namespaces = same.namespaces;
-  tasks = same.tasks;
-}
+with_mounts_alike one other same mounts again alike = grind (arith, common_steps)
 
 -- the two worlds with the same mounts
 abbrev pub Keeps : (World ℕ → World ℕ) → Type 0
 Keeps step = (one other : World ℕ) → Alike one other → Alike (step one) (step other)
 
 -- it is enough to show it where the mounts are the very ones
-pub of_one : (step : World ℕ → World ℕ)
-    → ((one other : World ℕ) → Alike one (with_mounts_of one other)
-    → Alike (step one) (step (with_mounts_of one other)))
-    → Keeps step
+pub of_one : (step : World ℕ → World ℕ) → ((one other : World ℕ) → Alike one (with_mounts_of one other)
+    → Alike (step one) (step (with_mounts_of one other))) → Keeps step
 of_one step keeps one other same =
     mounts_of_one (λ world. Alike one world → Alike (step one) (step world)) one other same (keeps one other) same
 
@@ -43,14 +36,7 @@ regrouped_alike = of_one (regrouped nat_eq)
   where
     by : (one other : World ℕ) → Alike one (with_mounts_of one other) → (b : Bool)
         → Alike (regrouped_by nat_eq b one) (regrouped_by nat_eq b (with_mounts_of one other))
-    by one other same true = record {
-      mounts = refl;
-      master = refl;
-      filesystems = same.filesystems;
-      namespaces = same.namespaces;
-      tasks = same.tasks;
-    }
-    by one other same false = same
+    by one other same b = grind (arith, common_steps)
 
 pub taken_alike : (one other : World ℕ) → Alike one other → (gone again : List ℕ) → gone ≡ again
     → Alike (taken_away nat_eq one gone) (taken_away nat_eq other again)
@@ -59,8 +45,7 @@ taken_alike one other same gone again alike =
     (of_one (λ world. taken_away nat_eq world gone) (λ first second same.
     regrouped_alike _ _
     (with_mounts_alike first (with_mounts_of first second) same (map (after_going nat_eq first gone) first.mounts)
-    (map (after_going nat_eq first gone) first.mounts) refl))
-    one other same)
+    (map (after_going nat_eq first gone) first.mounts) refl)) one other same)
 
 pub unmounted_alike : (number : ℕ) (one other : World ℕ) → Alike one other
     → Alike (unmounted nat_eq one number) (unmounted nat_eq other number)
@@ -95,18 +80,9 @@ retyped_first fresh word named world = record world {
 }
 
 retyped_alike : (fresh : Fresh ℕ) (word : TypeWord) (named : List (Mount ℕ)) (one other : World ℕ)
-    → Alike one (with_mounts_of one other)
-    → Alike (regrouped nat_eq (retyped_first fresh word named one))
+    → Alike one (with_mounts_of one other) → Alike (regrouped nat_eq (retyped_first fresh word named one))
     (regrouped nat_eq (retyped_first fresh word named (with_mounts_of one other)))
-retyped_alike fresh word named one other same =
-    regrouped_alike (retyped_first fresh word named one) (retyped_first fresh word named (with_mounts_of one other))
-    (record {
-      mounts = refl;
-      master = refl;
-      filesystems = same.filesystems;
-      namespaces = same.namespaces;
-      tasks = same.tasks;
-    })
+retyped_alike fresh word named one other same = grind (arith, common_steps, regrouped_alike, with_mounts_of)
 
 pub type_alike : (fresh : Fresh ℕ) (number : ℕ) (word : TypeWord) (recursive : Bool) (one other : World ℕ)
     → Alike one other
@@ -115,12 +91,10 @@ type_alike fresh number word recursive =
     of_one (λ world. with_type nat_eq fresh world number word recursive) (λ one other same.
     retyped_alike fresh word (named_mounts nat_eq one number recursive) one other same)
 
-pub flags_alike : (number : ℕ) (flags : MountFlags) (one other : World ℕ) → Alike one other
-    → Alike
+pub flags_alike : (number : ℕ) (flags : MountFlags) (one other : World ℕ) → Alike one other → Alike
     (with_mounts one (with_mount nat_eq one.mounts (record (mount_numbered nat_eq one number) { flags = flags })))
     (with_mounts other (with_mount nat_eq other.mounts (record (mount_numbered nat_eq other number) { flags = flags })))
-flags_alike number flags = of_one
-    (λ world. with_mounts world
+flags_alike number flags = of_one (λ world. with_mounts world
     (with_mount nat_eq world.mounts (record (mount_numbered nat_eq world number) { flags = flags })))
     (λ one other same. with_mounts_alike one (with_mounts_of one other) same _ _ refl)
 

@@ -1,6 +1,6 @@
 -- Calls on namespaces and tasks in two worlds that are alike.
-use Rattle.std.proofs.Common.{◌≡◌, refl, ap, ℕ, nat_eq, not, ◌&&◌, [], ◌∷◌, ◌++◌, ◌+◌, map, filter}
-use Rattle.std.specs.Prelude.{unwrap_or}
+use Rattle.std.proofs.Common.{arith, ◌≡◌, refl, ap, ℕ, nat_eq, not, ◌&&◌, [], ◌∷◌, ◌++◌, ◌+◌, map, filter}
+use Rattle.std.proofs.lemmas.Grind.{common_steps}
 use Rattle.std.specs.List.{list_any}
 use Rattle.vt_laws_worlds.proofs.one_text.answered.AlikeChanges.{with_task_alike, with_tasks_alike}
 use Rattle.vt_laws_worlds.proofs.one_text.answered.AlikeMounts.{of_one, taken_alike}
@@ -11,22 +11,20 @@ use Rattle.vt_laws_trees.proofs.runs.Each.{chosen, each_any, each_append, each_f
 use Rattle.vt_spec.specs.Language.Calls.{TaskName, same_name}
 use Rattle.vt_spec.specs.Lists.{Fresh, evens, holds_of, odds}
 use Rattle.vt_spec.specs.Machine.Mounts.{Location, Mount, numbers_by}
-use Rattle.vt_spec.specs.Machine.Namespaces.{copied_mount, entered_at, has_tasks, is_in_ended, namespace_entered, namespace_root, namespaces_ended, pivoted, pivoted_location, pivoted_task, unshared, unshared_task}
+use Rattle.vt_spec.specs.Machine.Namespaces.{copied_mount, has_tasks, is_in_ended, namespace_entered, namespaces_ended, pivoted, unshared, unshared_task}
 use Rattle.vt_spec.specs.Machine.Tasks.{with_child}
 use Rattle.vt_spec.specs.Machine.World.{Namespace, Task, World, mounts_of, without_task}
 
 -- Tasks
 pub without_task_alike : (name : TaskName) (one other : World ℕ) → Alike one other
     → Alike (without_task one name) (without_task other name)
-without_task_alike name one other same =
-    with_tasks_alike one other same _ _
+without_task_alike name one other same = with_tasks_alike one other same _ _
     (each_filter SameTask (λ task. not (same_name name task.name)) (λ task. not (same_name name task.name))
     (λ a b alike. ap (λ task. not (same_name name task.name)) alike) one.tasks other.tasks same.tasks)
 
 pub with_child_alike : (one other : World ℕ) → Alike one other → (task again child : Task ℕ) (newborn : Task ℕ)
     → SameTask task again → SameTask child newborn → Alike (with_child one task child) (with_child other again newborn)
-with_child_alike one other same task again child newborn alike born =
-    with_tasks_alike one other same _ _
+with_child_alike one other same task again child newborn alike born = with_tasks_alike one other same _ _
     (each_append SameTask _ _ (child ∷ []) (newborn ∷ [])
     (replaced_alike one.tasks other.tasks same.tasks _ _ (λ i. record (alike i) { forks = (alike i).forks + 1 }))
     (born, tt))
@@ -43,11 +41,7 @@ module _ (one other : World ℕ) (same : Alike one other) where
       one.namespaces
       ≡ list_any (λ (namespace : Namespace ℕ). nat_eq number namespace.number && has_tasks nat_eq other namespace)
       other.namespaces
-  lives_same number =
-      each_any SameNamespace (λ namespace. nat_eq number namespace.number && has_tasks nat_eq one namespace)
-      (λ namespace. nat_eq number namespace.number && has_tasks nat_eq other namespace)
-      (λ a b alike. λ i. nat_eq number (alike i).number && has_tasks_same a b alike i)
-      one.namespaces other.namespaces same.namespaces
+  lives_same number = grind (arith, common_steps, each_any, has_tasks_same)
 
 pub ended_alike : (one other : World ℕ) → Alike one other
     → Alike (namespaces_ended nat_eq one) (namespaces_ended nat_eq other)
@@ -62,28 +56,24 @@ ended_alike = of_one (namespaces_ended nat_eq) (λ one other same.
       mounts = taken.mounts;
       master = taken.master;
       filesystems = taken.filesystems;
-      namespaces =
-          each_filter SameNamespace (has_tasks nat_eq one) (has_tasks nat_eq (with_mounts_of one other))
+      namespaces = each_filter SameNamespace (has_tasks nat_eq one) (has_tasks nat_eq (with_mounts_of one other))
           (has_tasks_same one (with_mounts_of one other) same) one.namespaces other.namespaces same.namespaces;
       tasks = taken.tasks;
     })
 
 pub unshared_alike : (fresh : Fresh ℕ) (task again : Task ℕ) → SameTask task again → (one other : World ℕ)
     → Alike one other → Alike (unshared nat_eq one fresh task) (unshared nat_eq other fresh again)
-unshared_alike fresh task again alike one other same =
-    mounts_of_one
+unshared_alike fresh task again alike one other same = mounts_of_one
     (λ world. Alike one world → Alike (unshared nat_eq one fresh task) (unshared nat_eq world fresh again)) one other
     same (λ same. record {
       mounts = λ i. one.mounts
           ++ map (copied_mount (numbers_by nat_eq (odds fresh) (copied i)) (evens fresh 0)) (copied i);
       master = refl;
       filesystems = same.filesystems;
-      namespaces =
-          each_append SameNamespace one.namespaces other.namespaces
+      namespaces = each_append SameNamespace one.namespaces other.namespaces
           (record { number = evens fresh 0; change = 0 } ∷ []) (record { number = evens fresh 0; change = 0 } ∷ [])
           same.namespaces (refl, tt);
-      tasks =
-          replaced_alike one.tasks other.tasks same.tasks _ _
+      tasks = replaced_alike one.tasks other.tasks same.tasks _ _
           (λ i. unshared_task nat_eq (copied i) (numbers_by nat_eq (odds fresh) (copied i)) (evens fresh 0) (alike i));
     }) same
   where
@@ -94,33 +84,8 @@ pub entered_alike : (namespace : ℕ) (task again : Task ℕ) → SameTask task 
     → Alike one other
     → Alike (namespace_entered nat_eq one task namespace) (namespace_entered nat_eq other again namespace)
 entered_alike namespace task again alike one other same =
-    mounts_of_one
-    (λ world. Alike one world
-    → Alike (namespace_entered nat_eq one task namespace) (namespace_entered nat_eq world again namespace)) one other
-    same (λ same.
-    with_task_alike one (with_mounts_of one other) same _ _
-    (λ i. entered_at (alike i) namespace (unwrap_or (namespace_root nat_eq one namespace) (alike i).root))) same
+    grind (arith, common_steps, mounts_of_one, with_task_alike, with_mounts_of)
 
 pub pivoted_alike : (namespace : ℕ) (root new : Mount ℕ) (put : Location ℕ) (one other : World ℕ) → Alike one other
     → Alike (pivoted nat_eq one namespace root new put) (pivoted nat_eq other namespace root new put)
-pivoted_alike namespace root new put = of_one (λ world. pivoted nat_eq world namespace root new put) (λ one other same.
-    record {
-      mounts = refl;
-      master = refl;
-      filesystems = same.filesystems;
-      namespaces = same.namespaces;
-      tasks =
-          each_map SameTask SameTask (pivoted_task nat_eq namespace root new) (pivoted_task nat_eq namespace root new)
-          moved one.tasks other.tasks same.tasks;
-    })
-  where
-    moved : (task again : Task ℕ) → SameTask task again
-        → SameTask (pivoted_task nat_eq namespace root new task) (pivoted_task nat_eq namespace root new again)
-    moved task again alike =
-        chosen SameTask (nat_eq namespace task.namespace) (nat_eq namespace again.namespace)
-        (λ i. nat_eq namespace (alike i).namespace) _ task _ again
-        (λ i. record (alike i) {
-          root = pivoted_location nat_eq root new (alike i).root;
-          directory = pivoted_location nat_eq root new (alike i).directory;
-        })
-        alike
+pivoted_alike namespace root new put = grind (arith, common_steps, of_one, each_map, chosen)

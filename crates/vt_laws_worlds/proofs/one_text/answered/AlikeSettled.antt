@@ -1,6 +1,6 @@
 -- What nothing uses goes alike in two worlds that are alike.
 use Rattle.std.proofs.lemmas.Grind.{common_steps}
-use Rattle.std.proofs.Common.{arith, ◌≡◌, refl, ap, subst, ◌∙◌, ℕ, nat_eq, Bool, true, false, cond, not, ◌&&◌, ◌||◌, List, [], ◌∷◌, ◌++◌, map, filter, filter_map, flat_map, Option, Some, None, is_some, option_map, option_to_list, if◌then◌else◌}
+use Rattle.std.proofs.Common.{arith, ◌≡◌, refl, ap, subst, ◌∙◌, ℕ, nat_eq, Bool, true, false, cond, not, ◌&&◌, ◌||◌, List, [], ◌∷◌, ◌++◌, map, filter, filter_map, flat_map, Option, Some, None, is_some, option_to_list, if◌then◌else◌}
 use Rattle.std.specs.List.{list_all, list_any}
 use Rattle.std.specs.List.Sorted.{IsPermutation}
 use Rattle.std.proofs.lemmas.List.Sorted.{IsPermutation-append_left, IsPermutation-append_right, IsPermutation-cons, IsPermutation-refl, IsPermutation-trans, list_any-IsPermutation}
@@ -17,9 +17,8 @@ use Rattle.vt_spec.specs.Machine.Filesystems.{raised, raised_if_changed}
 use Rattle.vt_spec.specs.Machine.Locked.{of_overlay, overlay_or}
 use Rattle.vt_spec.specs.Machine.Mounts.{Location, Mount, mount_in, root_of}
 use Rattle.vt_spec.specs.Machine.Policy.{numbers_raised, raised_namespace, raised_task}
-use Rattle.vt_spec.specs.Machine.Receives.{has_members}
 use Rattle.vt_spec.specs.Machine.SameWorlds.{SameFiles, SameFilesystem}
-use Rattle.vt_spec.specs.Machine.Settled.{filesystem_lives, has_layer_on, layers_in, located_in, objects_of_overlay, only_among, only_used, only_used_by, only_used_of, settled, used_in, without_dead_filesystems, without_dead_groups, without_dead_in, without_dead_inodes, without_dead_mounts}
+use Rattle.vt_spec.specs.Machine.Settled.{filesystem_lives, layers_in, located_in, objects_of_overlay, only_among, only_used, only_used_by, only_used_of, settled, used_in, without_dead_filesystems, without_dead_groups, without_dead_in, without_dead_inodes, without_dead_mounts}
 use Rattle.vt_spec.specs.Machine.World.{Filesystem, Namespace, Overlay, Task, World, is_overlay, layers_of, upper_object}
 
 filter_map_as_flat_map : {A B : Type 0} (h : A → Option B) (xs : List A)
@@ -29,8 +28,7 @@ filter_map_as_flat_map h (x ∷ xs) = grind (arith, common_steps, filter_map_as_
 
 filter_map_permuted : {A B : Type 0} (h : A → Option B) (xs ys : List A) → IsPermutation xs ys
     → IsPermutation (filter_map h xs) (filter_map h ys)
-filter_map_permuted h xs ys permuted =
-    rw (filter_map_as_flat_map h xs, filter_map_as_flat_map h ys)
+filter_map_permuted h xs ys permuted = rw (filter_map_as_flat_map h xs, filter_map_as_flat_map h ys)
     (IsPermutation-flat_map (λ x. option_to_list (h x)) xs ys permuted)
 
 -- what is made of two lists, where of each two elements the same is made in another order
@@ -46,8 +44,7 @@ each_permuted R f g alike (a ∷ ones) (b ∷ others) each =
 
 -- the upper inodes that are real objects of an overlay
 abbrev pub objects_by : ℕ → Filesystem ℕ → Overlay ℕ → List ℕ
-objects_by filesystem merged overlay =
-    if holds_of (λ layer. nat_eq filesystem layer.filesystem) overlay.upper
+objects_by filesystem merged overlay = if holds_of (λ layer. nat_eq filesystem layer.filesystem) overlay.upper
     then filter_map (λ number. upper_object (overlay.real number)) merged.files.numbers else []
 
 -- the numbers in use are the same in another order
@@ -61,8 +58,7 @@ among_alike one other same used again among = record {
     root = (same.tree i).root;
     node = λ number. cond (among number i) ((same.tree i).node number) None;
   };
-  numbers =
-      subst (IsPermutation (filter (λ number. is_among nat_eq number used) one.numbers))
+  numbers = subst (IsPermutation (filter (λ number. is_among nat_eq number used) one.numbers))
       (λ i. filter (λ number. among number i) other.numbers)
       (IsPermutation-filter (λ number. is_among nat_eq number used) one.numbers other.numbers same.numbers);
 }
@@ -75,35 +71,22 @@ used_alike one other same used again among =
   where
     all_alike : list_all (λ number. is_among nat_eq number used) one.files.numbers
         ≡ list_all (λ number. is_among nat_eq number again) other.files.numbers
-    all_alike =
-        list_all-IsPermutation (λ number. is_among nat_eq number used) one.files.numbers other.files.numbers
-        same.files.numbers
-        ∙ (λ i. list_all (λ number. among number i) other.files.numbers)
+    all_alike = list_all-IsPermutation (λ number. is_among nat_eq number used) one.files.numbers other.files.numbers
+        same.files.numbers ∙ (λ i. list_all (λ number. among number i) other.files.numbers)
 
     by : (b : Bool) → SameFilesystem (only_used_by nat_eq b used one) (only_used_by nat_eq b again other)
-    by true = same
-    by false = record {
-      number = same.number;
-      files = among_alike one.files other.files same.files used again among;
-      overlay = λ i.
-          option_map (λ (overlay : Overlay ℕ). record overlay {
-            real = λ number. cond (among number i) (overlay.real number) None;
-          }) (same.overlay i);
-    }
+    by b = grind (arith, common_steps, among_alike)
 
 module _ (one other : World ℕ) (same : Alike one other) where
   layers_same : (a b : ℕ) → a ≡ b → layers_in nat_eq one a ≡ layers_in nat_eq other b
-  layers_same a b alike = λ i.
-      map (λ layer. layer.directory) (filter (λ layer. nat_eq (alike i) layer.filesystem)
+  layers_same a b alike = λ i. map (λ layer. layer.directory) (filter (λ layer. nat_eq (alike i) layer.filesystem)
       (each_flat SameFilesystem (of_overlay [] layers_of) (of_overlay [] layers_of)
       (λ first second known. ap (overlay_or [] layers_of) known.overlay)
       one.filesystems other.filesystems same.filesystems i))
 
-  objects_permuted : (a b : ℕ) → a ≡ b
-      → IsPermutation (flat_map (objects_of_overlay nat_eq a) one.filesystems)
+  objects_permuted : (a b : ℕ) → a ≡ b → IsPermutation (flat_map (objects_of_overlay nat_eq a) one.filesystems)
       (flat_map (objects_of_overlay nat_eq b) other.filesystems)
-  objects_permuted a b alike =
-      subst (λ n. IsPermutation (flat_map (objects_of_overlay nat_eq a) one.filesystems)
+  objects_permuted a b alike = subst (λ n. IsPermutation (flat_map (objects_of_overlay nat_eq a) one.filesystems)
       (flat_map (objects_of_overlay nat_eq n) other.filesystems)) alike
       (each_permuted SameFilesystem (objects_of_overlay nat_eq a) (objects_of_overlay nat_eq a) of_one
       one.filesystems other.filesystems same.filesystems)
@@ -124,33 +107,27 @@ module _ (one other : World ℕ) (same : Alike one other) where
 
       of_one : (first second : Filesystem ℕ) → SameFilesystem first second
           → IsPermutation (objects_of_overlay nat_eq a first) (objects_of_overlay nat_eq a second)
-      of_one first second known =
-          subst (λ overlay. IsPermutation (objects_of_overlay nat_eq a first)
+      of_one first second known = subst (λ overlay. IsPermutation (objects_of_overlay nat_eq a first)
           (overlay_or [] (objects_by a second) overlay)) known.overlay (over first second known first.overlay)
 
   located_same : (a b : ℕ) → a ≡ b → located_in nat_eq one a ≡ located_in nat_eq other b
-  located_same a b alike = λ i.
-      map (λ (location : Location ℕ). location.node)
+  located_same a b alike = λ i. map (λ (location : Location ℕ). location.node)
       (filter (λ (location : Location ℕ). nat_eq (alike i) (mount_in nat_eq (same.mounts i) location.mount).filesystem)
       (locations_same one other same i ++ map root_of (same.mounts i)
       ++ filter_map (λ (mount : Mount ℕ). mount.mount_point) (same.mounts i)))
 
   pub used_permuted : (a b : Filesystem ℕ) → SameFilesystem a b
       → IsPermutation (used_in nat_eq one a) (used_in nat_eq other b)
-  used_permuted a b alike =
-      subst (IsPermutation (used_in nat_eq one a))
-      (λ i. (alike.files.tree i).root
+  used_permuted a b alike = subst (IsPermutation (used_in nat_eq one a)) (λ i. (alike.files.tree i).root
       ∷ (flat_map (λ directory. targets_in ((alike.files.tree i).node directory)) b.files.numbers
       ++ located_same a.number b.number alike.number i ++ layers_same a.number b.number alike.number i
-      ++ flat_map (objects_of_overlay nat_eq b.number) other.filesystems))
-      (IsPermutation-cons a.files.tree.root _ _
+      ++ flat_map (objects_of_overlay nat_eq b.number) other.filesystems)) (IsPermutation-cons a.files.tree.root _ _
       (IsPermutation-trans _ _ _
       (IsPermutation-append_left (flat_map (objects_of_overlay nat_eq a.number) one.filesystems) _ _
       (IsPermutation-append_left (layers_in nat_eq one a.number) _ _
       (IsPermutation-append_left (located_in nat_eq one a.number) _ _
       (IsPermutation-flat_map (λ directory. targets_in (a.files.tree.node directory)) a.files.numbers
-      b.files.numbers alike.files.numbers))))
-      (IsPermutation-append_right
+      b.files.numbers alike.files.numbers)))) (IsPermutation-append_right
       (flat_map (λ directory. targets_in (a.files.tree.node directory)) b.files.numbers
       ++ located_in nat_eq one a.number ++ layers_in nat_eq one a.number) _ _
       (objects_permuted a.number b.number alike.number))))
@@ -171,8 +148,7 @@ module _ (one other : World ℕ) (same : Alike one other) where
     master = same.master;
     filesystems =
         each_map SameFilesystem SameFilesystem (λ filesystem. only_used nat_eq one (chosen filesystem) filesystem)
-        (λ filesystem. only_used nat_eq other (chosen filesystem) filesystem)
-        (λ first second alike.
+        (λ filesystem. only_used nat_eq other (chosen filesystem) filesystem) (λ first second alike.
         subst (λ b. SameFilesystem (only_used nat_eq one (chosen first) first) (only_used nat_eq other b second))
         (by_one first second alike) (only_used_alike (chosen first) first second alike))
         one.filesystems other.filesystems same.filesystems;
@@ -181,8 +157,7 @@ module _ (one other : World ℕ) (same : Alike one other) where
   }
 
   without_dead_mounts_alike : Alike (without_dead_mounts nat_eq one) (without_dead_mounts nat_eq other)
-  without_dead_mounts_alike =
-      with_mounts_alike one other same _ _
+  without_dead_mounts_alike = with_mounts_alike one other same _ _
       (λ i. filter (λ (mount : Mount ℕ). is_some mount.namespace
       || list_any (λ (location : Location ℕ). nat_eq mount.number location.mount) (locations_same one other same i))
       (same.mounts i))
@@ -192,62 +167,37 @@ module _ (one other : World ℕ) (same : Alike one other) where
 
   pub lives_same : (first second : Filesystem ℕ) → SameFilesystem first second
       → filesystem_lives nat_eq one first ≡ filesystem_lives nat_eq other second
-  lives_same first second alike = λ i.
-      is_shown (same.mounts i) (alike.number i)
-      || each_any SameFilesystem
-      (λ merged. has_layer_on nat_eq first.number merged && is_shown one.mounts merged.number)
-      (λ merged. has_layer_on nat_eq second.number merged && is_shown other.mounts merged.number)
-      (λ a b known. λ j.
-      overlay_or false (λ overlay. list_any (λ layer. nat_eq (alike.number j) layer.filesystem) (layers_of overlay))
-      (known.overlay j)
-      && is_shown (same.mounts j) (known.number j))
-      one.filesystems other.filesystems same.filesystems i
+  lives_same first second alike = grind (arith, common_steps, each_any)
 
   without_dead_filesystems_alike : Alike (without_dead_filesystems nat_eq one) (without_dead_filesystems nat_eq other)
   without_dead_filesystems_alike = record {
     mounts = same.mounts;
     master = same.master;
-    filesystems =
-        each_filter SameFilesystem (filesystem_lives nat_eq one) (filesystem_lives nat_eq other) lives_same
+    filesystems = each_filter SameFilesystem (filesystem_lives nat_eq one) (filesystem_lives nat_eq other) lives_same
         one.filesystems other.filesystems same.filesystems;
     namespaces = same.namespaces;
     tasks = same.tasks;
   }
 
   without_dead_groups_alike : Alike (without_dead_groups nat_eq one) (without_dead_groups nat_eq other)
-  without_dead_groups_alike = record {
-    mounts = same.mounts;
-    master = λ i group. cond (has_members nat_eq (same.mounts i) group) (same.master i group) None;
-    filesystems = same.filesystems;
-    namespaces = same.namespaces;
-    tasks = same.tasks;
-  }
+  without_dead_groups_alike = grind (arith, common_steps)
 
 without_dead_inodes_alike : (one other : World ℕ) → Alike one other
     → Alike (without_dead_inodes nat_eq one) (without_dead_inodes nat_eq other)
 without_dead_inodes_alike one other same =
     without_dead_in_alike (without_dead_in nat_eq is_overlay one) (without_dead_in nat_eq is_overlay other)
-    (without_dead_in_alike one other same is_overlay
-    (λ first second alike. ap is_some alike.overlay))
+    (without_dead_in_alike one other same is_overlay (λ first second alike. ap is_some alike.overlay))
     (λ filesystem. not (is_overlay filesystem))
     (λ first second alike. ap (λ overlay. not (is_some overlay)) alike.overlay)
 
 pub settled_alike : (one other : World ℕ) → Alike one other → Alike (settled nat_eq one) (settled nat_eq other)
-settled_alike one other same =
-    without_dead_groups_alike _ _
-    (without_dead_inodes_alike _ _
+settled_alike one other same = without_dead_groups_alike _ _ (without_dead_inodes_alike _ _
     (without_dead_filesystems_alike _ _ (without_dead_mounts_alike one other same)))
 
 -- Change numbers, however they are raised
 filesystem_raised : (a b : Filesystem ℕ) → SameFilesystem a b → (raise again : Bool) (change other : ℕ)
     → SameFilesystem (cond raise (record a { change = change }) a) (cond again (record b { change = other }) b)
-filesystem_raised a b alike true true change other =
-    record { number = alike.number; files = alike.files; overlay = alike.overlay }
-filesystem_raised a b alike true false change other =
-    record { number = alike.number; files = alike.files; overlay = alike.overlay }
-filesystem_raised a b alike false true change other =
-    record { number = alike.number; files = alike.files; overlay = alike.overlay }
-filesystem_raised a b alike false false change other = alike
+filesystem_raised a b alike raise again change other = grind (arith, common_steps)
 
 namespace_raised : (a b : Namespace ℕ) → SameNamespace a b → (keep again : Bool) (change other : ℕ)
     → SameNamespace (cond keep a (record a { change = change })) (cond again b (record b { change = other }))
@@ -277,8 +227,6 @@ raised_alike before again name changed others one other same = record {
       each_map SameNamespace SameNamespace (raised_namespace nat_eq before one) (raised_namespace nat_eq again other)
       (λ a b alike. namespace_raised a b alike _ _ (raised a.change) (raised b.change))
       one.namespaces other.namespaces same.namespaces;
-  tasks =
-      each_map SameTask SameTask (raised_task name) (raised_task name)
-      (λ a b alike. task_raised a b alike _ _ (raised a.change) (raised b.change))
-      one.tasks other.tasks same.tasks;
+  tasks = each_map SameTask SameTask (raised_task name) (raised_task name)
+      (λ a b alike. task_raised a b alike _ _ (raised a.change) (raised b.change)) one.tasks other.tasks same.tasks;
 }

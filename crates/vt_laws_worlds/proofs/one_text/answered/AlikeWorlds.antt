@@ -1,5 +1,6 @@
 -- Worlds that are the same but for change numbers and the order of numbers beside trees, list by list.
-use Rattle.std.proofs.Common.{◌≡◌, sym, subst, ◌∙◌, ℕ, List, [], ◌∷◌}
+use Rattle.std.proofs.Common.{arith, ◌≡◌, sym, subst, ◌∙◌, ℕ, List, [], ◌∷◌}
+use Rattle.std.proofs.lemmas.Grind.{common_steps}
 use Rattle.vt_laws_rules.proofs.judged.NumbersRaised.{bare_namespace, bare_task}
 use Rattle.vt_laws_trees.proofs.runs.answered.AlikeWorlds.{SameNamespace, SameTask, files_back, files_onward, with_mounts_of}
 use Rattle.vt_laws_trees.proofs.runs.Each.{Each, each_back, each_onward, each_to_one, each_told}
@@ -40,22 +41,10 @@ alike_from_same one other same = record {
 }
 
 pub same_from_alike : (one other : World ℕ) → Alike one other → SameWorlds one other
-same_from_alike one other same = record {
-  mounts = same.mounts;
-  master = same.master;
-  filesystems = all_filesystems one.filesystems other.filesystems same.filesystems;
-  namespaces =
-      each_to_one SameNamespace bare_namespace bare_namespace (λ a b e. e) one.namespaces other.namespaces
-      same.namespaces;
-  tasks = each_to_one SameTask bare_task bare_task (λ a b e. e) one.tasks other.tasks same.tasks;
-}
+same_from_alike one other same = grind (arith, common_steps, all_filesystems, each_to_one, bare_namespace, bare_task)
 
 pub filesystem_back : (a b : Filesystem ℕ) → SameFilesystem a b → SameFilesystem b a
-filesystem_back a b same = record {
-  number = sym same.number;
-  files = files_back a.files b.files same.files;
-  overlay = sym same.overlay;
-}
+filesystem_back a b same = grind (arith, common_steps, files_back)
 
 pub alike_back : (one other : World ℕ) → Alike one other → Alike other one
 alike_back one other same = record {
@@ -70,16 +59,13 @@ pub alike_onward : (one other last : World ℕ) → Alike one other → Alike ot
 alike_onward one other last same next = record {
   mounts = same.mounts ∙ next.mounts;
   master = same.master ∙ next.master;
-  filesystems =
-      each_onward SameFilesystem (λ a b c first second. record {
-        number = first.number ∙ second.number;
-        files = files_onward a.files b.files c.files first.files second.files;
-        overlay = first.overlay ∙ second.overlay;
-      }) one.filesystems other.filesystems last.filesystems same.filesystems next.filesystems;
-  namespaces =
-      each_onward SameNamespace (λ a b c first second. first ∙ second) one.namespaces other.namespaces
+  filesystems = each_onward SameFilesystem (λ a b c first second. record {
+    number = first.number ∙ second.number;
+    files = files_onward a.files b.files c.files first.files second.files;
+    overlay = first.overlay ∙ second.overlay;
+  }) one.filesystems other.filesystems last.filesystems same.filesystems next.filesystems;
+  namespaces = each_onward SameNamespace (λ a b c first second. first ∙ second) one.namespaces other.namespaces
       last.namespaces same.namespaces next.namespaces;
-  tasks =
-      each_onward SameTask (λ a b c first second. first ∙ second) one.tasks other.tasks last.tasks same.tasks
+  tasks = each_onward SameTask (λ a b c first second. first ∙ second) one.tasks other.tasks last.tasks same.tasks
       next.tasks;
 }

@@ -46,8 +46,7 @@ name_told files object directory = among (entries_in (files.tree.node directory)
 name_same : (one other : FileTree ℕ) → SameFiles one other → (object : ℕ)
     → ((a b : ℕ) → has_entry_to nat_eq one.tree a object ≡ true → has_entry_to nat_eq one.tree b object ≡ true → a ≡ b)
     → a_name nat_eq one object ≡ a_name nat_eq other object
-name_same one other same object alone =
-    first_told (name_in nat_eq one object) one.numbers
+name_same one other same object alone = first_told (name_in nat_eq one object) one.numbers
     ∙ ap (λ found. then_some found (name_in nat_eq one object))
     (one_found (λ directory. is_some (name_in nat_eq one object directory)) one.numbers other.numbers same.numbers
     (λ a b first second. alone a b (sym (name_told one object a) ∙ first) (sym (name_told one object b) ∙ second)))
@@ -59,8 +58,7 @@ name_same one other same object alone =
 
 -- each directory that has an entry for what stands in the upper layer stands there
 abbrev HasUppersAbove : Tree ℕ → (ℕ → Option (Real ℕ)) → Type 0
-HasUppersAbove tree real =
-    (directory : ℕ) (name : List ℕ) (object : ℕ) → entry_at tree directory name ≡ Some object
+HasUppersAbove tree real = (directory : ℕ) (name : List ℕ) (object : ℕ) → entry_at tree directory name ≡ Some object
     → is_some (upper_object (real object)) ≡ true → is_some (upper_object (real directory)) ≡ true
 
 parent_has : (tree : Tree ℕ) (directory parent : ℕ) → named_parent nat_eq tree directory ≡ Some parent
@@ -83,8 +81,7 @@ module _ (merge : Merge ℕ) (tree : IsTree merge.files.tree) (above : HasUppers
     where
       by : (o : Option ℕ) → named_parent nat_eq merge.files.tree directory ≡ o
           → ((parent : ℕ) → is_in_upper merge parent ≡ true
-          → AllUpper merge (chain most (named_parent nat_eq merge.files.tree) parent))
-          → AllUpper merge
+          → AllUpper merge (chain most (named_parent nat_eq merge.files.tree) parent)) → AllUpper merge
           (elim o [ None ↦ directory ∷ [] | Some b ↦ directory ∷ chain most (named_parent nat_eq merge.files.tree) b ])
       by None e later = (stands, tt)
       by (Some parent) e later = (stands, later parent (parent_upper directory parent e stands))
@@ -95,8 +92,7 @@ module _ (merge : Merge ℕ) (tree : IsTree merge.files.tree) (above : HasUppers
 
   all_reversed : (list : List ℕ) → AllUpper merge list → AllUpper merge (reverse list)
   all_reversed [] all = tt
-  all_reversed (object ∷ rest) all =
-      subst (AllUpper merge) (sym (reverse-cons object rest))
+  all_reversed (object ∷ rest) all = subst (AllUpper merge) (sym (reverse-cons object rest))
       (all_append (reverse rest) (object ∷ []) (all_reversed rest all.1) (all.0, tt))
 
   line_upper : (object : ℕ) → is_in_upper merge object ≡ true → AllUpper merge (line_to nat_eq merge.files object)
@@ -105,29 +101,23 @@ module _ (merge : Merge ℕ) (tree : IsTree merge.files.tree) (above : HasUppers
       by : (named : Option (ℕ × List ℕ)) → a_name nat_eq merge.files object ≡ named
           → AllUpper merge (line_by nat_eq merge.files object named)
       by None e = (stands, tt)
-      by (Some name) e =
-          all_append (reverse (ancestors nat_eq merge.files name.0)) (object ∷ [])
-          (all_reversed (ancestors nat_eq merge.files name.0)
-          (chain_upper (length merge.files.numbers) name.0
-          (above name.0 name.1 object (named_so merge.files tree object name e) stands)))
-          (stands, tt)
+      by (Some name) e = all_append (reverse (ancestors nat_eq merge.files name.0)) (object ∷ [])
+          (all_reversed (ancestors nat_eq merge.files name.0) (chain_upper (length merge.files.numbers) name.0
+          (above name.0 name.1 object (named_so merge.files tree object name e) stands))) (stands, tt)
 
 -- two overlays that are alike copy alike, if this holds of one of them
 lines_alike : (one other : Merge ℕ) → MergesAlike one other → IsTree one.files.tree
     → HasUppersAbove one.files.tree one.real
     → ((object a b : ℕ) → is_in_upper one object ≡ false → has_entry_to nat_eq one.files.tree a object ≡ true
-    → has_entry_to nat_eq one.files.tree b object ≡ true → a ≡ b)
-    → LinesAlike one other
+    → has_entry_to nat_eq one.files.tree b object ≡ true → a ≡ b) → LinesAlike one other
 lines_alike one other same tree above alone object = by (is_in_upper one object) refl
   where
     above_too : HasUppersAbove other.files.tree other.real
     above_too =
         subst (λ t. HasUppersAbove t other.real) same.files.tree (subst (HasUppersAbove one.files.tree) same.real above)
 
-    by : (b : Bool) → is_in_upper one object ≡ b
-        → (a_name nat_eq one.files object ≡ a_name nat_eq other.files object)
-        ⊎ (AllUpper one (line_to nat_eq one.files object)
-        × AllUpper other (line_to nat_eq other.files object))
+    by : (b : Bool) → is_in_upper one object ≡ b → (a_name nat_eq one.files object ≡ a_name nat_eq other.files object)
+        ⊎ (AllUpper one (line_to nat_eq one.files object) × AllUpper other (line_to nat_eq other.files object))
     by true stands = inr (
       line_upper one tree above object stands,
       line_upper other (subst IsTree same.files.tree tree) above_too object
@@ -136,17 +126,13 @@ lines_alike one other same tree above alone object = by (is_in_upper one object)
     by false low = inl (name_same one.files other.files same.files object (λ a b. alone object a b low))
 
 pub copies_of_worlds : (one other : World ℕ) → Alike one other → IsWorld nat_eq one → CopiesAlike one other
-copies_of_worlds one other same is number overlay again upper next merged has over top =
-    lines_alike _ _ (record {
-      files = (found_alike one other same number).files;
-      real = λ i. (alike i).real;
-      upper =
-          subst (λ layer. SameFiles (filesystem_numbered nat_eq one upper.filesystem).files
-          (filesystem_numbered nat_eq other layer.filesystem).files) below
-          (found_alike one other same upper.filesystem).files;
-    })
-    (overlay_tree one is number overlay merged)
-    (above_upper one is number overlay merged upper has)
+copies_of_worlds one other same is number overlay again upper next merged has over top = lines_alike _ _ (record {
+  files = (found_alike one other same number).files;
+  real = λ i. (alike i).real;
+  upper = subst (λ layer. SameFiles (filesystem_numbered nat_eq one upper.filesystem).files
+      (filesystem_numbered nat_eq other layer.filesystem).files) below
+      (found_alike one other same upper.filesystem).files;
+}) (overlay_tree one is number overlay merged) (above_upper one is number overlay merged upper has)
     (λ object a b low. worlds_have_one_name one is number overlay merged object a b (ap not low))
   where
     alike : overlay ≡ again

@@ -1,5 +1,6 @@
 -- Each number that a world has is in use, those of its overlays too.
-use Rattle.std.proofs.Common.{eqb-true, ◌≡◌, refl, sym, ap, subst, ◌∙◌, ⊎_elim, inl, inr, true≢false, ℕ, nat_eq, Bool, true, false, cond, not, List, [], ◌∷◌, ◌++◌, map, flat_map, Option, Some, None, is_some}
+use Rattle.std.proofs.Common.{arith, eqb-true, ◌≡◌, refl, sym, ap, subst, ◌∙◌, ⊎_elim, inl, inr, true≢false, ℕ, nat_eq, Bool, true, false, cond, not, List, [], ◌∷◌, ◌++◌, map, flat_map, Option, Some, None, is_some}
+use Rattle.std.proofs.lemmas.Grind.{common_steps}
 use Rattle.std.specs.Prelude.{option_to_list}
 use Rattle.std.specs.List.{list_all}
 use Rattle.std.proofs.lemmas.Bool.{and_parts}
@@ -17,9 +18,8 @@ use Rattle.vt_spec.specs.Machine.Mounts.{Location, Mount, Propagation, group_of,
 use Rattle.vt_spec.specs.Machine.Mounts.Propagation.{Private, Shared, Slave, Unbindable}
 use Rattle.vt_spec.specs.Machine.Receives.{has_members, is_member_of}
 use Rattle.vt_spec.specs.Machine.Run.{numbers_in_use, used_by_filesystem, used_by_mount}
-use Rattle.vt_spec.specs.Machine.World.{Descriptor, Filesystem, Layer, Namespace, Overlay, Real, Task, World, all_locations, filesystem_numbered, is_overlay, layers_of, locations_of, mount_at, node_at}
+use Rattle.vt_spec.specs.Machine.World.{Descriptor, Filesystem, Layer, Namespace, Overlay, Real, Task, World, all_locations, filesystem_numbered, is_overlay, locations_of, mount_at, node_at}
 use Rattle.vt_spec.specs.Machine.World.Real.{Lower, Upper}
-use Rattle.vt_spec.specs.Machine.Locked.{of_overlay, overlay_or}
 use Rattle.vt_spec.specs.Machine.Invariants.{HasLivingGroups, IsMerged, IsWorld, ListsNumbers, has_its_root, is_listed, is_located_well, is_plain_layer, is_there}
 use Rattle.vt_spec.specs.Tree.{Content, Entries, Node, Tree, entries_in, entry_named, is_directory_node, name_cmp, parent_in}
 use Rattle.vt_spec.specs.Tree.Content.{Directory, Regular, Symlink, Whiteout}
@@ -51,8 +51,7 @@ found_by_name (first ∷ entries) entry sorted (inr among) =
 
     by : (tied : Bool) → eq_by_cmp name_cmp entry.0 first.0 ≡ tied → entry_named entry.0 entries ≡ Some entry.1
         → cond tied (Some first.1) (entry_named entry.0 entries) ≡ Some entry.1
-    by true t named =
-        absurd (true≢false (ap there
+    by true t named = absurd (true≢false (ap there
         (sym named ∙ ap (λ n. entry_named n entries) (same_name entry.0 first.0 t)
         ∙ entry_named-below first.0 entries parts.0)))
     by false t named = named
@@ -80,52 +79,44 @@ module _ (world : World ℕ) (whole : IsWorld nat_eq world) where
 
   used_mount : (mount : Mount ℕ) (number : ℕ) → Among mount world.mounts → Among number (used_by_mount mount)
       → Used number
-  used_mount mount number there among =
-      is_among_numbers number (numbers_in_use world)
+  used_mount mount number there among = is_among_numbers number (numbers_in_use world)
       (among-append_left (of_mounts ++ of_filesystems) of_namespaces number
       (among-append_left of_mounts of_filesystems number
       (among-flat_map used_by_mount world.mounts mount number there among)))
 
   used_filesystem : (filesystem : Filesystem ℕ) (number : ℕ) → Among filesystem world.filesystems
       → Among number (used_by_filesystem filesystem) → Used number
-  used_filesystem filesystem number there among =
-      is_among_numbers number (numbers_in_use world)
+  used_filesystem filesystem number there among = is_among_numbers number (numbers_in_use world)
       (among-append_left (of_mounts ++ of_filesystems) of_namespaces number
       (among-append_right of_mounts of_filesystems number
       (among-flat_map used_by_filesystem world.filesystems filesystem number there among)))
 
   used_namespace : (number : ℕ) → is_listed nat_eq world number ≡ true → Used number
-  used_namespace number listed =
-      is_among_numbers number (numbers_in_use world)
+  used_namespace number listed = is_among_numbers number (numbers_in_use world)
       (among-append_right (of_mounts ++ of_filesystems) of_namespaces number
       (among_numbers number of_namespaces listed))
 
   -- Inodes
   listed_used : (filesystem : Filesystem ℕ) → Among filesystem world.filesystems → (number : ℕ)
       → is_some (filesystem.files.tree.node number) ≡ true → Used number
-  listed_used filesystem there number is =
-      used_filesystem filesystem number there
+  listed_used filesystem there number is = used_filesystem filesystem number there
       (inr (among_numbers number filesystem.files.numbers
       (among_from_all (λ (f : Filesystem ℕ). ListsNumbers nat_eq f.files) world.filesystems whole.files.numbers
-      filesystem
-      there number ∙ is)))
+      filesystem there number ∙ is)))
 
   abbrev ThereIsUsed : Filesystem ℕ → Type 0
-  ThereIsUsed filesystem =
-      Used filesystem.number
+  ThereIsUsed filesystem = Used filesystem.number
       × ((number : ℕ) → is_some (filesystem.files.tree.node number) ≡ true → Used number)
 
   -- of a filesystem in which some inode is
   found_used : (filesystem number : ℕ)
       → is_some ((filesystem_numbered nat_eq world filesystem).files.tree.node number) ≡ true
       → Used filesystem × Used number
-  found_used filesystem number is =
-      ⊎_elim
+  found_used filesystem number is = ⊎_elim
       (λ used. (subst Used (number_numbered filesystem world.filesystems) used.0, used.1 number is))
       (λ missing. absurd (true≢false
       (sym is ∙ ap (λ (f : Filesystem ℕ). is_some (f.files.tree.node number)) missing.0)))
-      (numbered_all ThereIsUsed filesystem world.filesystems
-      (all_from_among ThereIsUsed world.filesystems (λ f there. (
+      (numbered_all ThereIsUsed filesystem world.filesystems (all_from_among ThereIsUsed world.filesystems (λ f there. (
         used_filesystem f f.number there (inl refl),
         listed_used f there,
       ))))
@@ -135,8 +126,7 @@ module _ (world : World ℕ) (whole : IsWorld nat_eq world) where
       → location_named (is_in_use world) location ≡ true
   located_named location is =
       let parts = and_parts _ _ is in
-      let found =
-      among-from_map (λ (mount : Mount ℕ). mount.number) world.mounts location.mount
+      let found = among-from_map (λ (mount : Mount ℕ). mount.number) world.mounts location.mount
       (among_numbers location.mount (map (λ (mount : Mount ℕ). mount.number) world.mounts) parts.0) in
       both (is_in_use world location.mount) (is_in_use world location.node)
       (used_mount found.0 location.mount found.1 (inl found.2))
@@ -179,11 +169,9 @@ module _ (world : World ℕ) (whole : IsWorld nat_eq world) where
       only number (Some above) e false f = absurd (true≢false (ap is_some (sym e ∙ masterless number f)))
       only number (Some above) e true f =
           let found = member_of number f in
-          members_used above
-          (master_has_members world.master (has_members nat_eq world.mounts) number above
+          members_used above (master_has_members world.master (has_members nat_eq world.mounts) number above
           (among_from_all (HasLivingGroups nat_eq world) world.mounts whole.mounts.groups found.0 found.1 number
-          found.2)
-          e)
+          found.2) e)
 
   propagation_of : (mount : Mount ℕ) → Among mount world.mounts → (kind : Propagation ℕ) → mount.propagation ≡ kind
       → propagation_named (is_in_use world) kind ≡ true
@@ -203,28 +191,20 @@ module _ (world : World ℕ) (whole : IsWorld nat_eq world) where
   place_of mount there None e = refl
   place_of mount there (Some place) e =
       let shown = (world_shows world whole mount there).mount_point place e in
-      located_named place
-      (both _ (is_some (node_at nat_eq world place)) shown.listed
+      located_named place (both _ (is_some (node_at nat_eq world place)) shown.listed
       (directory_is_there (node_at nat_eq world place) shown.directory))
 
   mount_is : (mount : Mount ℕ) → Among mount world.mounts → mount_named (is_in_use world) mount ≡ true
   mount_is mount there =
-      let root =
-      found_used mount.filesystem mount.root
+      let root = found_used mount.filesystem mount.root
       (directory_is_there ((filesystem_numbered nat_eq world mount.filesystem).files.tree.node mount.root)
       (and_parts _ _ (passes (has_its_root nat_eq world) world.mounts whole.roots mount there)).0) in
-      both _ (propagation_named (is_in_use world) mount.propagation)
-      (both _ (is_in_use world mount.root)
-      (both _ (is_in_use world mount.filesystem)
-      (both _ (none_or (location_named (is_in_use world)) mount.mount_point)
+      both _ (propagation_named (is_in_use world) mount.propagation) (both _ (is_in_use world mount.root)
+      (both _ (is_in_use world mount.filesystem) (both _ (none_or (location_named (is_in_use world)) mount.mount_point)
       (both (is_in_use world mount.number) (none_or (is_in_use world) mount.namespace)
-      (used_mount mount mount.number there (inl refl))
-      (namespace_of mount.namespace
+      (used_mount mount mount.number there (inl refl)) (namespace_of mount.namespace
       (passes (λ (m : Mount ℕ). list_all (is_listed nat_eq world) (option_to_list m.namespace)) world.mounts
-      whole.namespaces.mounts_listed mount there)))
-      (place_of mount there mount.mount_point refl))
-      root.0)
-      root.1)
+      whole.namespaces.mounts_listed mount there))) (place_of mount there mount.mount_point refl)) root.0) root.1)
       (propagation_of mount there mount.propagation refl)
 
   -- Filesystems
@@ -242,15 +222,12 @@ module _ (world : World ℕ) (whole : IsWorld nat_eq world) where
         let here : tree.node number ≡ Some (record { attr = node.attr; content = Directory parent entries opaque }) =
         e ∙ (λ i. Some (record { attr = node.attr; content = f i })) in
         both (is_in_use world parent) (list_all (λ (entry : List ℕ × ℕ). is_in_use world entry.1) entries)
-        (listed_used filesystem there parent
-        (directory_used tree parent
+        (listed_used filesystem there parent (directory_used tree parent
         (subst (λ (o : Option (Node ℕ)). is_directory_node (tree.node (parent_in number o)) ≡ true) here
         (is_tree.parent_directory number (ap is_directory_node here)))))
         (all_pass (λ (entry : List ℕ × ℕ). is_in_use world entry.1) entries (λ entry among.
-        listed_used filesystem there entry.1
-        (is_tree.alive number entry.0 entry.1
-        (ap (λ (o : Option (Node ℕ)). entry_named entry.0 (entries_in o)) here
-        ∙ found_by_name entries entry
+        listed_used filesystem there entry.1 (is_tree.alive number entry.0 entry.1
+        (ap (λ (o : Option (Node ℕ)). entry_named entry.0 (entries_in o)) here ∙ found_by_name entries entry
         (ap (λ (o : Option (Node ℕ)). is_sorted name_cmp (entries_in o)) (sym here) ∙ is_tree.in_order number) among))))
     content_is number node (Regular bytes) e f = refl
     content_is number node (Symlink text) e f = refl
@@ -299,8 +276,7 @@ module _ (world : World ℕ) (whole : IsWorld nat_eq world) where
 
         all_layers : (layers : List (Layer ℕ)) → list_all (is_plain_layer nat_eq world) layers ≡ true
             → list_all (layer_named (is_in_use world)) layers ≡ true
-        all_layers layers is =
-            all_pass (layer_named (is_in_use world)) layers
+        all_layers layers is = all_pass (layer_named (is_in_use world)) layers
             (λ layer among. layer_is layer (passes (is_plain_layer nat_eq world) layers is layer among))
 
         some_layer : (o : Option (Layer ℕ)) → list_all (is_plain_layer nat_eq world) (option_to_list o) ≡ true
@@ -310,24 +286,14 @@ module _ (world : World ℕ) (whole : IsWorld nat_eq world) where
 
         layers : (list_all (is_plain_layer nat_eq world) (option_to_list overlay.upper ++ option_to_list overlay.work)
             ≡ true) × (list_all (is_plain_layer nat_eq world) overlay.lowers ≡ true)
-        layers =
-            and_parts (list_all (is_plain_layer nat_eq world)
-            (option_to_list overlay.upper ++ option_to_list overlay.work))
-            (list_all (is_plain_layer nat_eq world) overlay.lowers)
-            (sym (list_all-append (is_plain_layer nat_eq world)
-            (option_to_list overlay.upper ++ option_to_list overlay.work) overlay.lowers)
-            ∙ sym (ap (overlay_or true (λ (o : Overlay ℕ). list_all (is_plain_layer nat_eq world) (layers_of o))) e)
-            ∙ passes (of_overlay true (λ o. list_all (is_plain_layer nat_eq world) (layers_of o))) world.filesystems
-            whole.overlays.plain_layers filesystem there)
+        layers = grind (arith, common_steps, and_parts, list_all-append, passes)
 
         above : (list_all (is_plain_layer nat_eq world) (option_to_list overlay.upper) ≡ true)
             × (list_all (is_plain_layer nat_eq world) (option_to_list overlay.work) ≡ true)
-        above =
-            and_parts (list_all (is_plain_layer nat_eq world) (option_to_list overlay.upper))
+        above = and_parts (list_all (is_plain_layer nat_eq world) (option_to_list overlay.upper))
             (list_all (is_plain_layer nat_eq world) (option_to_list overlay.work))
             (sym (list_all-append (is_plain_layer nat_eq world) (option_to_list overlay.upper)
-            (option_to_list overlay.work))
-            ∙ layers.0)
+            (option_to_list overlay.work)) ∙ layers.0)
 
         upper_is : (object : ℕ) (upper : Option (Layer ℕ))
             → holds_of (λ layer. is_there nat_eq world layer.filesystem object) upper ≡ true
@@ -356,23 +322,18 @@ module _ (world : World ℕ) (whole : IsWorld nat_eq world) where
 
   -- Tasks
   task_is : (task : Task ℕ) → Among task world.tasks → task_named (is_in_use world) task ≡ true
-  task_is task there =
-      both _ (list_all (descriptor_named (is_in_use world)) task.descriptors)
+  task_is task there = both _ (list_all (descriptor_named (is_in_use world)) task.descriptors)
       (both _ (location_named (is_in_use world) task.directory)
-      (both (is_in_use world task.namespace) (location_named (is_in_use world) task.root)
-      (used_namespace task.namespace
+      (both (is_in_use world task.namespace) (location_named (is_in_use world) task.root) (used_namespace task.namespace
       (passes (λ (t : Task ℕ). is_listed nat_eq world t.namespace) world.tasks whole.namespaces.tasks_listed task
-      there))
-      (of_location task.root (inl refl)))
-      (of_location task.directory (inr (inl refl))))
+      there)) (of_location task.root (inl refl))) (of_location task.directory (inr (inl refl))))
       (all_pass (descriptor_named (is_in_use world)) task.descriptors (λ descriptor among.
       of_location descriptor.location
       (inr (inr (among-map (λ (d : Descriptor ℕ). d.location) task.descriptors descriptor among)))))
     where
       of_location : (location : Location ℕ) → Among location (locations_of task)
           → location_named (is_in_use world) location ≡ true
-      of_location location among =
-          located_named location
+      of_location location among = located_named location
           (passes (is_located_well nat_eq world) (all_locations world) whole.tasks.locations_live location
           (among-flat_map locations_of world.tasks task location there among))
 
@@ -382,8 +343,7 @@ module _ (world : World ℕ) (whole : IsWorld nat_eq world) where
     masters = masters;
     filesystems = all_from_among (FilesystemNamed (is_in_use world)) world.filesystems filesystem_is;
     namespaces = all_pass (namespace_named (is_in_use world)) world.namespaces (λ namespace among.
-        used_namespace namespace.number
-        (is_among_numbers namespace.number of_namespaces
+        used_namespace namespace.number (is_among_numbers namespace.number of_namespaces
         (among-map (λ (n : Namespace ℕ). n.number) world.namespaces namespace among)));
     tasks = all_pass (task_named (is_in_use world)) world.tasks task_is;
   }

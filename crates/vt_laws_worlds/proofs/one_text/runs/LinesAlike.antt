@@ -23,8 +23,7 @@ pub record StepsAlike (one other : World ℕ) (step again : Step ℕ) : Type 0 w
 module _ (one other : World ℕ) (same : Alike one other) (is : IsWorld nat_eq one) where
   answered : (outcome again : Outcome ℕ) → OutcomesAlike outcome again
       → StepsAlike one other (Answered outcome) (Answered again)
-  answered outcome again alike =
-      record { text = λ number. ap (reply_line number) alike.answer; worlds = alike.worlds }
+  answered outcome again alike = record { text = λ number. ap (reply_line number) alike.answer; worlds = alike.worlds }
 
   requested_alike : (request : Option Request) (fresh : Fresh ℕ)
       → OutcomesAlike (requested nat_eq one request fresh) (requested nat_eq other request fresh)
@@ -41,8 +40,7 @@ module _ (one other : World ℕ) (same : Alike one other) (is : IsWorld nat_eq o
       → StepsAlike one other (line_step nat_eq grammar one line fresh) (line_step nat_eq grammar other line fresh)
   line_step_alike grammar line fresh = by (nat_lt longest_line (length line)) (is_silent line)
     where
-      by : (long silent : Bool)
-          → StepsAlike one other (line_step_by nat_eq long silent grammar one line fresh)
+      by : (long silent : Bool) → StepsAlike one other (line_step_by nat_eq long silent grammar one line fresh)
           (line_step_by nat_eq long silent grammar other line fresh)
       by true silent = answered _ _ (record { answer = refl; worlds = same })
       by false true = record { text = λ number. refl; worlds = same }

@@ -75,13 +75,11 @@ module _ (grammar : Grammar) (in_hand : ℕ → Bool) where
       let supplied = λ (k : ℕ).
       joined-new grammar m renaming in_hand world (renamed renaming.there renaming.back world) refl early allotment
       tells.1.serves (allotment.new k) k (allotment.new_lot k) in
-      let again : Alike other here =
-      subst (Alike other)
+      let again : Alike other here = subst (Alike other)
       (sym (joined-same grammar m renaming in_hand world (renamed renaming.there renaming.back world) refl early
       allotment tells.1.serves)) alike in
       let steps = line_step_alike other here again is grammar line (Some (spread (suc m))) in
-      let written =
-      line_alike joint grammar world here refl line allotment.new (spread (suc m)) supplied number
+      let written = line_alike joint grammar world here refl line allotment.new (spread (suc m)) supplied number
       ∙ sym (steps.text number) in
       let serves = stage_serves grammar m mine other keeps mine_early in (
         stage m mine mine_early,
@@ -111,8 +109,7 @@ pub every_run_has_one_text : EveryRunHasOneText
 every_run_has_one_text grammar refused script text in_hand fresh leaves opens tells =
     whole_machine_has_one_text grammar refused script text
     (told_alike grammar in_hand (lines_of script) refused 0 1 start.renaming
-    (opening nat_eq fresh) first_world first_four
-    (subst (Alike first_world) (sym opened)
+    (opening nat_eq fresh) first_world first_four (subst (Alike first_world) (sym opened)
     (alike_from_same first_world first_world (sameness_is_an_equivalence.itself first_world)))
     (opening_is_a_world (λ place. place) (λ j k e. e)).0
     (λ k is. let first : row (start.renaming.there k) ≡ 0 = start.early k is in omega arith)
@@ -122,8 +119,7 @@ every_run_has_one_text grammar refused script text in_hand fresh leaves opens te
     start = started in_hand leaves fresh opens
 
     opened : renamed start.renaming.there start.renaming.back (opening nat_eq fresh) ≡ first_world
-    opened =
-        sym (opening_renamed start.renaming fresh)
+    opened = sym (opening_renamed start.renaming fresh)
         ∙ opening_alike (λ k. start.renaming.there (fresh k)) (λ place. place) (start.fixed 0 (omega arith))
         (start.fixed 1 (omega arith)) (start.fixed 2 (omega arith)) (start.fixed 3 (omega arith))
 

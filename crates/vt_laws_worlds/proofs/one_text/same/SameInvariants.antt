@@ -1,8 +1,8 @@
 -- The invariants of trees, mounts, namespaces and tasks go along worlds that are the same.
-use Rattle.std.proofs.Common.{◌≤◌, ◌≡◌, refl, sym, ap, subst, ◌∙◌, ℕ, nat_eq, nat_lt, Bool, ◌&&◌, [], ◌∷◌, ◌++◌, map, length, Option, is_some}
+use Rattle.std.proofs.Common.{arith, ◌≤◌, ◌≡◌, sym, ap, subst, ◌∙◌, ℕ, nat_eq, Bool, ◌&&◌, [], ◌∷◌, ◌++◌, map, Option, is_some}
+use Rattle.std.proofs.lemmas.Grind.{common_steps}
 use Rattle.std.specs.Prelude.{option_to_list}
 use Rattle.std.specs.List.{list_all, list_any}
-use Rattle.std.proofs.lemmas.List.Elements.{All-weaker}
 use Rattle.std.proofs.lemmas.List.Sorted.{list_any-IsPermutation}
 use Rattle.vt_laws_worlds.proofs.permits.same.EachHas.{each_all, each_among, each_holds, each_pair}
 use Rattle.vt_laws_worlds.proofs.one_text.answered.AlikeChanges.{found_alike, locations_same}
@@ -13,12 +13,11 @@ use Rattle.vt_laws_trees.proofs.runs.Permuted.{list_all-IsPermutation}
 use Rattle.vt_spec.specs.declared.attributes.Kind.TheVariants.{File}
 use Rattle.vt_spec.specs.FileTree.{FileTree, is_kind_in}
 use Rattle.vt_spec.specs.Language.Calls.{same_name}
-use Rattle.vt_spec.specs.Language.Limits.{most_mounts}
 use Rattle.vt_spec.specs.Lists.{is_among}
 use Rattle.vt_spec.specs.Machine.Mounts.{Location, Mount}
 use Rattle.vt_spec.specs.Machine.SameWorlds.{SameFiles, SameFilesystem}
 use Rattle.vt_spec.specs.Machine.World.{Descriptor, Filesystem, Namespace, Task, World, all_locations, filesystem_numbered, mount_at, mounts_of}
-use Rattle.vt_spec.specs.Machine.Invariants.{ForksAreCounted, ListsNumbers, MountInvariants, NamespaceInvariants, Stands, TaskInvariants, TreeInvariants, has_fit_names, has_fit_text, has_one_root, is_fit_filesystem, is_listed, is_no_larger, is_within_limits}
+use Rattle.vt_spec.specs.Machine.Invariants.{ForksAreCounted, ListsNumbers, MountInvariants, NamespaceInvariants, TaskInvariants, TreeInvariants, has_fit_names, has_fit_text, is_fit_filesystem, is_no_larger, is_within_limits}
 use Rattle.vt_spec.proofs.Lists.{among_from_contains, contains_from_among}
 use Rattle.vt_spec.specs.Tree.{Node, Tree, is_directory_node}
 use Rattle.vt_spec.specs.TreeInvariant.{HasOwnParents, IsTree}
@@ -35,19 +34,16 @@ trees_by world number = (filesystem_numbered nat_eq world number).files.tree
 -- One tree with its numbers in another order
 module _ (one other : FileTree ℕ) (same : SameFiles one other) where
   numbers_listed : ListsNumbers nat_eq one → ListsNumbers nat_eq other
-  numbers_listed lists number =
-      sym (list_any-IsPermutation (nat_eq number) one.numbers other.numbers same.numbers)
+  numbers_listed lists number = sym (list_any-IsPermutation (nat_eq number) one.numbers other.numbers same.numbers)
       ∙ lists number ∙ (λ i. is_some ((same.tree i).node number))
 
   abbrev fits : Tree ℕ → ℕ → Bool
-  fits tree number =
-      is_no_larger (record { tree = tree; numbers = [] }) number
+  fits tree number = is_no_larger (record { tree = tree; numbers = [] }) number
       && has_fit_names (record { tree = tree; numbers = [] }) number
       && has_fit_text (record { tree = tree; numbers = [] }) number
 
   fit_alike : list_all (fits one.tree) one.numbers ≡ list_all (fits other.tree) other.numbers
-  fit_alike =
-      list_all-IsPermutation (fits one.tree) one.numbers other.numbers same.numbers
+  fit_alike = list_all-IsPermutation (fits one.tree) one.numbers other.numbers same.numbers
       ∙ (λ i. list_all (fits (same.tree i)) other.numbers)
 
 -- Two worlds with the very same mounts
@@ -60,8 +56,7 @@ module _ (one second : World ℕ) (same : Alike one (with_mounts_of one second))
 
   listed_same : map (λ (namespace : Namespace ℕ). namespace.number) one.namespaces
       ≡ map (λ (namespace : Namespace ℕ). namespace.number) other.namespaces
-  listed_same =
-      each_to_one SameNamespace (λ (namespace : Namespace ℕ). namespace.number)
+  listed_same = each_to_one SameNamespace (λ (namespace : Namespace ℕ). namespace.number)
       (λ (namespace : Namespace ℕ). namespace.number) (λ a b e. λ i. (e i).number) one.namespaces other.namespaces
       same.namespaces
 
@@ -76,68 +71,20 @@ module _ (one second : World ℕ) (same : Alike one (with_mounts_of one second))
     numbers = each_holds SameFilesystem (λ f. ListsNumbers nat_eq f.files) (λ f. ListsNumbers nat_eq f.files)
         (λ a b alike holds. numbers_listed a.files b.files alike.files holds) one.filesystems other.filesystems
         same.filesystems is.numbers;
-    one_filesystem =
-        sym (each_pair SameFilesystem (λ (a b : Filesystem ℕ). nat_eq a.number b.number)
+    one_filesystem = sym (each_pair SameFilesystem (λ (a b : Filesystem ℕ). nat_eq a.number b.number)
         (λ (a b : Filesystem ℕ). nat_eq a.number b.number)
         (λ a b c d first next. λ i. nat_eq (first.number i) (next.number i)) one.filesystems other.filesystems
-        same.filesystems)
-        ∙ is.one_filesystem;
-    fit_filesystems =
-        sym (each_all SameFilesystem is_fit_filesystem is_fit_filesystem
+        same.filesystems) ∙ is.one_filesystem;
+    fit_filesystems = sym (each_all SameFilesystem is_fit_filesystem is_fit_filesystem
         (λ a b alike. fit_alike a.files b.files alike.files) one.filesystems other.filesystems same.filesystems)
         ∙ is.fit_filesystems;
   }
 
   pub mounts_keep : MountInvariants nat_eq one → MountInvariants nat_eq other
-  mounts_keep is = record {
-    one_number = is.one_number;
-    one_child = is.one_child;
-    standing = All-weaker (λ (mount : Mount ℕ). Stands nat_eq one mount.number)
-        (λ mount. Stands nat_eq other mount.number)
-        (λ mount stands. stands_alike one other (λ number. refl) mount.number stands) one.mounts is.standing;
-    nowhere = is.nowhere;
-    groups = is.groups;
-  }
+  mounts_keep is = grind (arith, common_steps, stands_alike)
 
   pub namespaces_keep : NamespaceInvariants nat_eq one → NamespaceInvariants nat_eq other
-  namespaces_keep is = record {
-    one_namespace =
-        sym (each_pair SameNamespace (λ (a b : Namespace ℕ). nat_eq a.number b.number)
-        (λ (a b : Namespace ℕ). nat_eq a.number b.number)
-        (λ a b c d first next. λ i. nat_eq (first i).number (next i).number) one.namespaces other.namespaces
-        same.namespaces)
-        ∙ is.one_namespace;
-    mounts_listed =
-        (λ i. list_all (λ (mount : Mount ℕ).
-        list_all (λ number. is_among nat_eq number (sym listed_same i)) (option_to_list mount.namespace)) one.mounts)
-        ∙ is.mounts_listed;
-    tasks_listed =
-        (λ i. list_all (λ (task : Task ℕ). is_among nat_eq task.namespace (sym listed_same i)) other.tasks)
-        ∙ sym (each_all SameTask (λ (task : Task ℕ). is_listed nat_eq one task.namespace)
-        (λ (task : Task ℕ). is_listed nat_eq one task.namespace)
-        (λ a b e. λ i. is_listed nat_eq one (e i).namespace) one.tasks other.tasks same.tasks)
-        ∙ is.tasks_listed;
-    root_mounts =
-        sym (each_all SameNamespace (has_one_root nat_eq one) (has_one_root nat_eq other)
-        (λ a b e. λ i. has_one_root nat_eq one (e i)) one.namespaces other.namespaces same.namespaces)
-        ∙ is.root_mounts;
-    namespaces_live =
-        sym (each_all SameNamespace
-        (λ namespace. list_any (λ (task : Task ℕ). nat_eq namespace.number task.namespace) one.tasks)
-        (λ namespace. list_any (λ (task : Task ℕ). nat_eq namespace.number task.namespace) other.tasks)
-        (λ a b e. each_any SameTask (λ (task : Task ℕ). nat_eq a.number task.namespace)
-        (λ (task : Task ℕ). nat_eq b.number task.namespace)
-        (λ c d f. λ i. nat_eq (e i).number (f i).namespace) one.tasks other.tasks same.tasks)
-        one.namespaces other.namespaces same.namespaces)
-        ∙ is.namespaces_live;
-    few_mounts =
-        sym (each_any SameNamespace
-        (λ (namespace : Namespace ℕ). nat_lt most_mounts (length (mounts_of nat_eq one namespace.number)))
-        (λ (namespace : Namespace ℕ). nat_lt most_mounts (length (mounts_of nat_eq one namespace.number)))
-        (λ a b e. λ i. nat_lt most_mounts (length (mounts_of nat_eq one (e i).number)))
-        one.namespaces other.namespaces same.namespaces)
-        ∙ is.few_mounts;
-  }
+  namespaces_keep is = grind (arith, common_steps, each_pair, listed_same, each_all, each_any)
 
   -- what is asked of a location, by the trees
   abbrev node_by : TreesBy → Location ℕ → Option (Node ℕ)
@@ -148,8 +95,7 @@ module _ (one second : World ℕ) (same : Alike one (with_mounts_of one second))
       is_among nat_eq location.mount (map (λ mount. mount.number) one.mounts) && is_some (node_by trees location)
 
   abbrev is_seen_by : TreesBy → ℕ → Location ℕ → Bool
-  is_seen_by trees namespace location =
-      is_directory_node (node_by trees location)
+  is_seen_by trees namespace location = is_directory_node (node_by trees location)
       && list_all (nat_eq namespace) (option_to_list (mount_at nat_eq one location).namespace)
 
   abbrev stands_by : TreesBy → Task ℕ → Bool
@@ -160,8 +106,7 @@ module _ (one second : World ℕ) (same : Alike one (with_mounts_of one second))
       list_all (λ (descriptor : Descriptor ℕ). is_kind_in File (node_by trees descriptor.location)) task.descriptors
 
   abbrev has_root_by : TreesBy → Mount ℕ → Bool
-  has_root_by trees mount =
-      is_directory_node ((trees mount.filesystem).node mount.root)
+  has_root_by trees mount = is_directory_node ((trees mount.filesystem).node mount.root)
       && list_all (λ place. is_directory_node (node_by trees place)) (option_to_list mount.mount_point)
 
   forks_keep : ForksAreCounted one → ForksAreCounted other
@@ -181,23 +126,16 @@ module _ (one second : World ℕ) (same : Alike one (with_mounts_of one second))
         ∙ is.one_task;
     small_tasks =
         sym (each_all SameTask is_within_limits is_within_limits (λ a b e. ap is_within_limits e) one.tasks other.tasks
-        same.tasks)
-        ∙ is.small_tasks;
+        same.tasks) ∙ is.small_tasks;
     forks_counted = forks_keep is.forks_counted;
-    locations_live =
-        (λ i. list_all (is_located_by (sym trees_same i)) (all_locations other))
-        ∙ ap (list_all (is_located_by (trees_by one))) (sym (locations_same one other same))
-        ∙ is.locations_live;
-    directories =
-        (λ i. list_all (stands_by (sym trees_same i)) other.tasks)
+    locations_live = (λ i. list_all (is_located_by (sym trees_same i)) (all_locations other))
+        ∙ ap (list_all (is_located_by (trees_by one))) (sym (locations_same one other same)) ∙ is.locations_live;
+    directories = (λ i. list_all (stands_by (sym trees_same i)) other.tasks)
         ∙ sym (each_all SameTask (stands_by (trees_by one)) (stands_by (trees_by one))
-        (λ a b e. ap (stands_by (trees_by one)) e) one.tasks other.tasks same.tasks)
-        ∙ is.directories;
-    open_files =
-        (λ i. list_all (has_open_by (sym trees_same i)) other.tasks)
+        (λ a b e. ap (stands_by (trees_by one)) e) one.tasks other.tasks same.tasks) ∙ is.directories;
+    open_files = (λ i. list_all (has_open_by (sym trees_same i)) other.tasks)
         ∙ sym (each_all SameTask (has_open_by (trees_by one)) (has_open_by (trees_by one))
-        (λ a b e. ap (has_open_by (trees_by one)) e) one.tasks other.tasks same.tasks)
-        ∙ is.open_files;
+        (λ a b e. ap (has_open_by (trees_by one)) e) one.tasks other.tasks same.tasks) ∙ is.open_files;
   }
 
   pub roots_keep : MountsShow one → MountsShow other

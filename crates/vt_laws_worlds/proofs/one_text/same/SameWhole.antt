@@ -1,8 +1,8 @@
 -- Worlds that are the same have the same invariants.
-use Rattle.std.proofs.Common.{ℕ}
+use Rattle.std.proofs.Common.{arith, ℕ}
+use Rattle.std.proofs.lemmas.Grind.{common_steps}
 use Rattle.vt_laws_mounts.proofs.letting_go.sweeps.InUse.{nothing_goes}
 use Rattle.vt_laws_mounts.proofs.letting_go.sweeps.OfWorlds.{all_in_use}
-use Rattle.vt_laws_mounts.specs.LettingGo.InUse.{AllInUse}
 use Rattle.vt_laws_worlds.proofs.one_text.answered.AlikeWorlds.{Alike, alike_from_same, mounts_of_one}
 use Rattle.vt_laws_worlds.proofs.one_text.same.SameInUse.{in_use}
 use Rattle.vt_laws_worlds.proofs.one_text.same.SameInvariants.{mounts_keep, namespaces_keep, roots_keep, tasks_keep, trees_keep}
@@ -31,24 +31,13 @@ any_same_worlds_are_under_way one other same is overlays =
     )
 
 pub any_same_worlds_are_worlds : AnySameWorldsAreWorlds
-any_same_worlds_are_worlds one other same is =
-    let alike = alike_from_same one other same in
-    let kept = any_same_worlds_are_under_way one other same (record {
-      files = is.files;
-      mounts = is.mounts;
-      namespaces = is.namespaces;
-      tasks = is.tasks;
-      roots = is.roots;
-    }) is.overlays in
-    record {
-      files = kept.0.files;
-      overlays = kept.1;
-      mounts = kept.0.mounts;
-      namespaces = kept.0.namespaces;
-      tasks = kept.0.tasks;
-      roots = kept.0.roots;
-      nothing_unused =
-          nothing_goes other
-          (mounts_of_one (λ world. Alike one world → AllInUse world) one other alike
-          (λ whole. in_use one other whole (all_in_use one is)) alike);
-    }
+any_same_worlds_are_worlds one other same is = grind (
+  arith,
+  common_steps,
+  alike_from_same,
+  any_same_worlds_are_under_way,
+  nothing_goes,
+  mounts_of_one,
+  in_use,
+  all_in_use,
+)

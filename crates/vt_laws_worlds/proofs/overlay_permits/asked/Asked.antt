@@ -1,5 +1,6 @@
 -- What each way in which a call is granted asks for: what may be done.
-use Rattle.std.proofs.Common.{Bool, List, None, Option, Some, [], ap, arith, drop, false, inl, inr, is_some, le-leb, leb-true, ltb-false, nat_eq, nat_le, not, refl, sym, take, true, true≢false, ℕ, ◌&&◌, ◌*◌, ◌+◌, ◌==◌, ◌∙◌, ◌∷◌, ◌≡◌}
+use Rattle.std.proofs.lemmas.Grind.{common_steps}
+use Rattle.std.proofs.Common.{List, None, Option, Some, [], ap, arith, drop, false, inl, inr, is_some, le-leb, leb-true, ltb-false, nat_eq, nat_le, not, refl, sym, take, true, true≢false, ℕ, ◌&&◌, ◌*◌, ◌+◌, ◌==◌, ◌∙◌, ◌∷◌, ◌≡◌}
 use Rattle.vt_spec.specs.Errors.{NoneFails}
 use Rattle.std.proofs.lemmas.List.{length-append, length-drop, length-take}
 use Rattle.std.specs.Prelude.{length, nat_lt, ◌++◌}
@@ -20,12 +21,11 @@ use Rattle.vt_spec.proofs.Walk.{new_name_rules}
 use Rattle.vt_spec.proofs.Worlds.{special_word}
 use Rattle.vt_spec.specs.FileTree.{is_kind, is_kind_in}
 use Rattle.vt_spec.specs.Language.Calls.{Access, Call}
-use Rattle.vt_spec.specs.Language.Changes.Change.{CopyUp}
 use Rattle.vt_spec.specs.Language.Limits.{largest_file, longest_path}
 use Rattle.vt_spec.specs.Laws.Trees.{IsNewIn}
-use Rattle.vt_spec.specs.Lists.{Fresh, evens, when}
+use Rattle.vt_spec.specs.Lists.{Fresh, evens}
 use Rattle.vt_spec.specs.Machine.Apply.{overfills}
-use Rattle.vt_spec.specs.Machine.Descriptors.{is_copied_up, overwritten, padded}
+use Rattle.vt_spec.specs.Machine.Descriptors.{overwritten, padded}
 use Rattle.vt_spec.specs.Machine.Invariants.{IsWorld, ListsNumbers, has_regular_files_open, is_fit_filesystem}
 use Rattle.vt_spec.specs.Machine.Judge.{make_permit}
 use Rattle.vt_spec.specs.Machine.Looks.{Looks, looks_of}
@@ -39,9 +39,7 @@ use Rattle.vt_spec.specs.Machine.Run.{Serves}
 use Rattle.vt_spec.specs.Machine.Walking.{Here, Place, is_directory_there, is_special, name_of, object_walk, symlink_walk}
 use Rattle.vt_spec.specs.Machine.World.{Descriptor, Filesystem, Task, World, files_at, mount_at, node_at, task_called}
 use Rattle.vt_spec.specs.PathText.{is_empty}
-use Rattle.vt_spec.specs.Tree.{Content, Node, bytes_in, entries_in, is_directory_node, kind_of}
-use Rattle.vt_spec.specs.Tree.Content.{Directory, Regular, Symlink, Whiteout}
-use Rattle.vt_spec.specs.declared.attributes.Attr.{Attr}
+use Rattle.vt_spec.specs.Tree.{Node, bytes_in, entries_in, is_directory_node, kind_of}
 use Rattle.vt_spec.specs.declared.attributes.Kind.TheVariants.{File, White}
 use Rattle.vt_laws_trees.proofs.trees.ChangesByLinks.{may_link}
 use Rattle.vt_laws_trees.proofs.trees.ChangesByRemoving.{may_move, old_removable}
@@ -57,8 +55,7 @@ use Rattle.vt_laws_worlds.proofs.worlds.ReachedWalks.{Found, link_walk_found, ob
 use Rattle.vt_laws_trees.proofs.trees.PlacesReached.{NewPlace, file_is, new_is, new_leaf_is, old_is, old_leaf_is, rename_new_is}
 
 module _ (world : World ℕ) (whole : IsWorld nat_eq world) (task : Task ℕ)
-    (called : task_called world task.name ≡ Some task)
-    (fresh : Fresh ℕ) (serves : Serves nat_eq world fresh) where
+    (called : task_called world task.name ≡ Some task) (fresh : Fresh ℕ) (serves : Serves nat_eq world fresh) where
   abbrev looks : Looks ℕ
   looks = looks_of nat_eq world
 
@@ -71,8 +68,7 @@ module _ (world : World ℕ) (whole : IsWorld nat_eq world) (task : Task ℕ)
       → is_special place.last ≡ false → is_some place.object ≡ false → IsNewIn place.parent.node node
       → MayMake (files_at nat_eq world place.parent).tree place.parent.node (name_of place.last) (evens fresh 0) node
   may_be_made place node is passed named missing fits = record {
-    name_is_free =
-        place_is_free world place is named missing passed
+    name_is_free = place_is_free world place is named missing passed
         (tree_here world whole place.parent (file_named world place.parent place.last place.object named is).0);
     number_is_new = new_at fresh world place.parent (new_numbers world fresh whole serves) (2 * 0);
     fits = fits;
@@ -104,19 +100,13 @@ module _ (world : World ℕ) (whole : IsWorld nat_eq world) (task : Task ℕ)
   -- open(2) of a file that exists
   opened_asked : (file : Location ℕ) (access : Access) → is_some (node_at nat_eq world file) ≡ true
       → Asks (ToOpen file access)
-  opened_asked file access = by (is_copied_up nat_eq world file access)
-    where
-      by : (b : Bool) → is_some (node_at nat_eq world file) ≡ true
-          → AsksWellIf world (when b (file, CopyUp file.node))
-      by true there = (there, tt)
-      by false there = tt
+  opened_asked file access = grind (arith, common_steps)
 
   -- the object of an old place is seen through its directory's mount
   seen_in : (place : Place ℕ) (plain : is_special place.last ≡ false) (is : IsOldPlace world task place)
       → node_at nat_eq world (object_there place)
       ≡ (files_at nat_eq world place.parent).tree.node (object_there place).node
-  seen_in place plain is =
-      ap (λ m. node_at nat_eq world (record { mount = m; node = (object_there place).node }))
+  seen_in place plain is = ap (λ m. node_at nat_eq world (record { mount = m; node = (object_there place).node }))
       (old_mount world task place plain is)
 
   -- an open file is a regular one
@@ -131,24 +121,12 @@ module _ (world : World ℕ) (whole : IsWorld nat_eq world) (task : Task ℕ)
   -- whose bytes are within the limit
   bytes_small : (o : Option (Node ℕ)) → is_kind_in File o ≡ true → fits o ≡ true
       → nat_le (length (bytes_in o)) largest_file ≡ true
-  bytes_small None e k = absurd (true≢false (sym e))
-  bytes_small (Some node) e k = by node.attr node.content e k
-    where
-      by : (attr : Attr) (content : Content ℕ)
-          → is_kind_in File (Some (record { attr = attr; content = content })) ≡ true
-          → fits (Some (record { attr = attr; content = content })) ≡ true
-          → nat_le (length (bytes_in (Some (record { attr = attr; content = content })))) largest_file ≡ true
-      by attr (Directory parent entries opaque) f g = absurd (true≢false (sym f))
-      by attr (Regular bytes) f g = and_true_first _ _ _ g
-      by attr (Symlink text) f g = absurd (true≢false (sym f))
-      by attr Whiteout f g = absurd (true≢false (sym f))
+  bytes_small o e k = grind (arith, common_steps, true≢false, fits, and_true_first)
 
   file_fits : (file : Location ℕ) → is_some (node_at nat_eq world file) ≡ true → fits (node_at nat_eq world file) ≡ true
-  file_fits file there =
-      fits_here (files_at nat_eq world file)
+  file_fits file there = fits_here (files_at nat_eq world file)
       (numbered_anyhow (λ (f : Filesystem ℕ). ListsNumbers nat_eq f.files)
-      (mount_at nat_eq world file).filesystem world.filesystems
-      whole.files.numbers (λ k. refl))
+      (mount_at nat_eq world file).filesystem world.filesystems whole.files.numbers (λ k. refl))
       (numbered_anyhow (λ (f : Filesystem ℕ). is_fit_filesystem f ≡ true)
       (mount_at nat_eq world file).filesystem world.filesystems
       (all_from_among (λ (f : Filesystem ℕ). is_fit_filesystem f ≡ true) world.filesystems
@@ -166,17 +144,15 @@ module _ (world : World ℕ) (whole : IsWorld nat_eq world) (task : Task ℕ)
       (bytes_small (node_at nat_eq world file) kind (file_fits file there)) in
       let room = ltb-false largest_file (offset + length (byte ∷ bytes)) short in (
         there,
-        le-leb (length (overwritten offset (byte ∷ bytes) old)) largest_file
-            (omega (
-              arith,
-              length-append (take offset (padded offset old) ++ (byte ∷ bytes))
-                  (drop (offset + length (byte ∷ bytes)) old),
-              length-append (take offset (padded offset old)) (byte ∷ bytes),
-              length-drop (offset + length (byte ∷ bytes)) old,
-              length-take offset (padded offset old),
-              room,
-              small,
-            )),
+        le-leb (length (overwritten offset (byte ∷ bytes) old)) largest_file (omega (
+          arith,
+          length-append (take offset (padded offset old) ++ (byte ∷ bytes)) (drop (offset + length (byte ∷ bytes)) old),
+          length-append (take offset (padded offset old)) (byte ∷ bytes),
+          length-drop (offset + length (byte ∷ bytes)) old,
+          length-take offset (padded offset old),
+          room,
+          small,
+        )),
       )
 
   pub granted_asks : (call : Call) (permit : Permit ℕ)
@@ -209,8 +185,7 @@ module _ (world : World ℕ) (whole : IsWorld nat_eq world) (task : Task ℕ)
       at_end (λ (here : Here ℕ). Found world whole task called here.location) (symlink_walk nat_eq looks task old)
       from (link_walk_found world whole task called old) from_end in
       let is = new_leaf_is world task new place end in (
-        may_link world task from.location place found.1 is.0 named.0 passed
-            (tree_here world whole place.parent
+        may_link world task from.location place found.1 is.0 named.0 passed (tree_here world whole place.parent
             (place_named world place.parent place.last place.object named.0 is.0.0).0),
         fit_name_of place.last named.0 is.1,
       )

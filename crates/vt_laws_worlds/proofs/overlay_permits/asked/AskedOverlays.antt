@@ -1,9 +1,9 @@
 -- What a permit asks of an overlay with an upper layer.
-use Rattle.std.proofs.Common.{◌≡◌, refl, sym, ap, subst, ◌∙◌, ℕ, nat_eq, true, false, List, [], ◌∷◌, map, Option, Some, is_some}
+use Rattle.std.proofs.Common.{arith, ◌≡◌, ap, subst, ◌∙◌, ℕ, nat_eq, true, false, List, [], ◌∷◌, map, Option, Some, is_some}
+use Rattle.std.proofs.lemmas.Grind.{common_steps}
 use Rattle.std.specs.Prelude.{option_to_list}
 use Rattle.vt_spec.specs.Language.Changes.{Change}
-use Rattle.vt_spec.specs.Language.Changes.Change.{AddName, CopyUp, Make, Move, Remove, SetAttr, SetBytes, SetMark}
-use Rattle.vt_spec.specs.Machine.Filesystems.{merge_of, path_of_name, stack_of}
+use Rattle.vt_spec.specs.Machine.Filesystems.{merge_of, stack_of}
 use Rattle.vt_spec.specs.Machine.Layers.{has_lower_directory}
 use Rattle.vt_spec.specs.Machine.Locked.{overlay_or}
 use Rattle.vt_spec.specs.Machine.Mounts.{Location}
@@ -15,14 +15,7 @@ use Rattle.vt_laws_worlds.proofs.overlay_permits.asked.Asked.{permits_ask_well}
 
 proper : (world : World ℕ) (location : Location ℕ) (change : Change ℕ) → AsksWell world location change
     → IsProper (files_at nat_eq world location).tree change
-proper world location (Make d w number node) asked = asked.0
-proper world location (AddName d w object) asked = asked
-proper world location (Remove d w object) asked = asked
-proper world location (Move from old to new object) asked = asked.0
-proper world location (SetBytes file bytes) asked = tt
-proper world location (SetAttr object attr) asked = tt
-proper world location (SetMark d opaque) asked = tt
-proper world location (CopyUp object) asked = tt
+proper world location change asked = grind (arith, common_steps)
 
 pub permits_ask_properly : PermitsAskProperly
 permits_ask_properly world fresh task call permit location change whole serves called judged asks =
@@ -38,37 +31,19 @@ module _ (world : World ℕ) (location : Location ℕ) (overlay : Overlay ℕ) (
 
   -- O1, in the words of a change of an overlay
   below_by : (o : Option (Overlay ℕ)) (u : Option (Layer ℕ)) (path : List (List ℕ)) → (overlay.upper ≡ u)
-      → (o ≡ Some overlay)
-      → u ≡ Some upper
-      → overlay_or false (λ (v : Overlay ℕ). has_lower_directory
+      → (o ≡ Some overlay) → u ≡ Some upper → overlay_or false (λ (v : Overlay ℕ). has_lower_directory
       (map (open_layer nat_eq world) (option_to_list v.upper)) (map (open_layer nat_eq world) v.lowers) path) o
       ≡ has_lower_directory (open_layer nat_eq world upper ∷ []) (map (open_layer nat_eq world) overlay.lowers) path
-  below_by o u path e f g =
-      ap (overlay_or false (λ (v : Overlay ℕ). has_lower_directory
+  below_by o u path e f g = ap (overlay_or false (λ (v : Overlay ℕ). has_lower_directory
       (map (open_layer nat_eq world) (option_to_list v.upper)) (map (open_layer nat_eq world) v.lowers) path)) f
       ∙ ap (λ x. has_lower_directory (map (open_layer nat_eq world) (option_to_list x))
       (map (open_layer nat_eq world) overlay.lowers) path) (e ∙ g)
 
-  asked_well : (change : Change ℕ) → AsksWell world location change
-      → IsAskedWell (stack_of nat_eq world overlay upper)
+  asked_well : (change : Change ℕ) → AsksWell world location change → IsAskedWell (stack_of nat_eq world overlay upper)
       (merge_of nat_eq world (filesystem_at nat_eq world location) overlay upper) change
-  asked_well (Make d w number node) asked = (asked.0, asked.1 an_overlay)
-  asked_well (AddName d w object) asked = asked
-  asked_well (Remove d w object) asked = asked
-  asked_well (Move from old to new object) asked = (
-    asked.0,
-    λ directory.
-        sym (below_by (filesystem_at nat_eq world location).overlay overlay.upper
-        (path_of_name nat_eq world (record { mount = location.mount; node = from }) old) refl is has)
-        ∙ asked.1 directory,
-  )
-  asked_well (SetBytes file bytes) asked = asked
-  asked_well (SetAttr object attr) asked = asked
-  asked_well (SetMark d opaque) asked = Rattle.std.proofs.Common.true≢false (sym an_overlay ∙ asked)
-  asked_well (CopyUp object) asked = asked
+  asked_well change asked = grind (arith, common_steps, an_overlay, below_by)
 
 pub permits_ask_overlays_well : PermitsAskOverlaysWell
 permits_ask_overlays_well world fresh task call permit location change overlay upper whole serves called judged asks is
-    has =
-    asked_well world location overlay upper is has change
+    has = asked_well world location overlay upper is has change
     (subst (AsksWellIf world) asks (permits_ask_well world fresh task call permit whole serves called judged)).0

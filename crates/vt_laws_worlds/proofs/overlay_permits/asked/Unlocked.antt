@@ -1,5 +1,6 @@
 -- What each way in which a call is granted asks for spares what is locked.
-use Rattle.std.proofs.Common.{Bool, List, Some, [], ap, eqb-true, false, nat_eq, option_map, refl, sym, true, true≢false, ℕ, ◌||◌, ◌∙◌, ◌∷◌, ◌≡◌}
+use Rattle.std.proofs.Common.{arith, List, Some, [], ap, eqb-true, false, nat_eq, refl, sym, true, true≢false, ℕ, ◌||◌, ◌∙◌, ◌∷◌, ◌≡◌}
+use Rattle.std.proofs.lemmas.Grind.{common_steps}
 use Rattle.std.proofs.lemmas.Bool.{or_parts}
 use Rattle.std.specs.List.{list_any}
 use Rattle.std.specs.Prelude.{option_to_list, ◌≢◌}
@@ -13,10 +14,8 @@ use Rattle.vt_laws_worlds.proofs.permits.sees.SeesNames.{old_mount}
 use Rattle.vt_spec.proofs.Truths.{or_false_left, or_false_right}
 use Rattle.vt_spec.proofs.Worlds.{special_word}
 use Rattle.vt_spec.specs.Language.Calls.{Access, Call}
-use Rattle.vt_spec.specs.Language.Changes.Change.{CopyUp}
-use Rattle.vt_spec.specs.Lists.{Fresh, when}
+use Rattle.vt_spec.specs.Lists.{Fresh}
 use Rattle.vt_spec.specs.Machine.Apply.{overfills}
-use Rattle.vt_spec.specs.Machine.Descriptors.{is_copied_up}
 use Rattle.vt_spec.specs.Machine.Judge.{make_permit}
 use Rattle.vt_spec.specs.Machine.Locked.{is_locked, is_locked_at}
 use Rattle.vt_spec.specs.Machine.Looks.{Looks, looks_of}
@@ -56,55 +55,30 @@ module _ (world : World ℕ) (task : Task ℕ) (fresh : Fresh ℕ) where
 
   -- open(2) of a file that exists
   opened_spared : (file : Location ℕ) (access : Access) → Spares (ToOpen file access)
-  opened_spared file access = by (is_copied_up nat_eq world file access)
-    where
-      by : (b : Bool) → SparesLockedIf world (when b (file, CopyUp file.node))
-      by true = record { spares = λ inode locked. tt; layer = tt }
-      by false = tt
+  opened_spared file access = grind (arith, common_steps)
 
   -- The object of an old place is in the filesystem of its directory
   in_it : (place : Place ℕ) → is_special place.last ≡ false → IsOldPlace world task place
       → (mount_at nat_eq world (object_there place)).filesystem ≡ (mount_at nat_eq world place.parent).filesystem
-  in_it place plain is =
-      ap (λ m. (mount_at nat_eq world (record { mount = m; node = 0 })).filesystem)
+  in_it place plain is = ap (λ m. (mount_at nat_eq world (record { mount = m; node = 0 })).filesystem)
       (old_mount world task place plain is)
 
   -- unlink(2) and rmdir(2)
   removed_spared : (place : Place ℕ) → is_special place.last ≡ false → IsOldPlace world task place
       → (is_locked_at nat_eq world (object_there place) || is_locked_at nat_eq world place.parent) ≡ false
       → SparesLocked world place.parent (removing place (object_there place))
-  removed_spared place named is unlocked =
-      let parted = or_parts (is_locked_at nat_eq world (object_there place)) (is_locked_at nat_eq world place.parent)
-      unlocked in
-      record {
-        spares = λ inode locked. (
-          differs place.parent parted.1 _ refl inode locked,
-          differs (object_there place) parted.0 _ (in_it place named is) inode locked,
-        );
-        layer = tt;
-      }
+  removed_spared place named is unlocked = grind (arith, common_steps, or_parts, differs, in_it)
 
   -- what has the new name is not locked
   not_replaced : (to : Place ℕ) → is_special to.last ≡ false → IsNewPlace world task to
       → list_any (is_locked_at nat_eq world) (option_to_list to.object) ≡ false
       → (inode : ℕ) → is_locked nat_eq world (mount_at nat_eq world to.parent).filesystem inode ≡ true
       → entry_at (files_at nat_eq world to.parent).tree to.parent.node (name_of to.last) ≢ Some inode
-  not_replaced to named is unlocked inode locked e =
-      true≢false (sym locked ∙ or_false_left
-      (is_locked_at nat_eq world (record { mount = to.parent.mount; node = inode })) false
-      (ap (λ o. list_any (is_locked_at nat_eq world) (option_to_list o))
-      (sym ((place_named world to.parent to.last to.object named is.0).1
-      ∙ ap (option_map (λ number. record { mount = to.parent.mount; node = number })) e)) ∙ unlocked))
+  not_replaced to named is unlocked inode locked e = grind (arith, common_steps, true≢false, or_false_left, place_named)
 
   written_spared : (file : Location ℕ) (offset : ℕ) (bytes : List ℕ) → is_locked_at nat_eq world file ≡ false
       → SparesLockedIf world (written_if_some world file offset bytes)
-  written_spared file offset [] unlocked = tt
-  written_spared file offset (byte ∷ bytes) unlocked =
-      record {
-        spares = λ inode locked. differs file unlocked _ refl inode
-            locked;
-        layer = tt;
-      }
+  written_spared file offset bytes unlocked = grind (arith, common_steps, differs)
 
   granted_spares : (call : Call) (permit : Permit ℕ)
       → IsGranted nat_eq looks (overfills nat_eq fresh world task) task call permit → Spares permit
@@ -119,8 +93,7 @@ module _ (world : World ℕ) (task : Task ℕ) (fresh : Fresh ℕ) where
   granted_spares call permit (makes_whiteout path place end passed) =
       made_spared place (whiteout_made task) passed.1.1.1.1.0 passed.1.1.1.0
   granted_spares call permit (makes_hard_link old new from place from_end end named passed) = record {
-    spares = λ inode locked.
-        differs place.parent (or_false_right (is_locked_at nat_eq world from.location)
+    spares = λ inode locked. differs place.parent (or_false_right (is_locked_at nat_eq world from.location)
         (is_locked_at nat_eq world place.parent) passed.1.1.1.1.0) _ refl inode locked;
     layer = tt;
   }

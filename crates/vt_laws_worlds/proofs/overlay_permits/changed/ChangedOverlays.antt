@@ -1,7 +1,8 @@
 -- The change of an overlay that a permit asks for can be made.
+use Rattle.std.proofs.lemmas.Grind.{common_steps}
 use Rattle.std.proofs.Common.{arith, ◌≡◌, refl, ◌*◌, ◌+◌, ℕ, nat_eq, None}
 use Rattle.vt_spec.specs.Language.Changes.{Change}
-use Rattle.vt_spec.specs.Language.Changes.Change.{AddName, CopyUp, Make, Move, Remove, SetAttr, SetBytes, SetMark}
+use Rattle.vt_spec.specs.Language.Changes.Change.{Make}
 use Rattle.vt_spec.specs.Lists.{Fresh, odds}
 use Rattle.vt_spec.specs.Machine.CopyUp.{Merge, Stack}
 use Rattle.vt_spec.specs.Machine.Filesystems.{merge_of, stack_of}
@@ -26,27 +27,11 @@ use Rattle.vt_laws_trees.specs.Trees.Settling.{inode_in}
 
 may_change : (stack : Stack ℕ) (merge : Merge ℕ) (change : Change ℕ) → IsAskedWell stack merge change
     → MayChange merge.files change
-may_change stack merge (Make d w number node) asked =
-    record { in_directory = asked.0.name_is_free.in_directory; is_new = asked.0.number_is_new }
-may_change stack merge (AddName d w object) asked = tt
-may_change stack merge (Remove d w object) asked = tt
-may_change stack merge (Move old_d old to new object) asked =
-    record { named = asked.0.named; in_directory = asked.0.in_directory }
-may_change stack merge (SetBytes file bytes) asked = tt
-may_change stack merge (SetAttr object attr) asked = tt
-may_change stack merge (SetMark d opaque) asked = tt
-may_change stack merge (CopyUp object) asked = tt
+may_change stack merge change asked = grind (arith, common_steps)
 
 name_there : (stack : Stack ℕ) (merge : Merge ℕ) (change : Change ℕ) → IsAskedWell stack merge change
     → NameIsThere merge.files change
-name_there stack merge (Make d w number node) asked = tt
-name_there stack merge (AddName d w object) asked = tt
-name_there stack merge (Remove d w object) asked = asked.named
-name_there stack merge (Move old_d old to new object) asked = tt
-name_there stack merge (SetBytes file bytes) asked = tt
-name_there stack merge (SetAttr object attr) asked = tt
-name_there stack merge (SetMark d opaque) asked = tt
-name_there stack merge (CopyUp object) asked = tt
+name_there stack merge change asked = grind (arith, common_steps)
 
 pub asked_changes_can_be_made : AskedChangesCanBeMade
 asked_changes_can_be_made fresh world location change overlay upper conditions is has distinct unused asked =
@@ -94,8 +79,7 @@ module _ (world : World ℕ) (fresh : Fresh ℕ) (conditions : IsWorld nat_eq wo
   every_second : AreLeft (odds fresh)
   every_second = (
     λ j k e. let same = served-distinct world fresh serves _ _ e in omega (arith, same),
-    λ filesystem k. unused filesystem
-        (2 * k + 1),
+    λ filesystem k. unused filesystem (2 * k + 1),
   )
 
   pub are_left : (permit : Permit ℕ) → AreLeft (numbers_left fresh permit)

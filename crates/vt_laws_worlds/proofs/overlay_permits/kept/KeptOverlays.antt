@@ -1,5 +1,6 @@
 -- A granted call that changes an overlay keeps the invariants of overlays.
-use Rattle.std.proofs.Common.{◌≡◌, refl, sym, ap, subst, ◌∙◌, ℕ, nat_eq, Bool, true, false, List, [], ◌∷◌, Option, Some, None}
+use Rattle.std.proofs.Common.{arith, ◌≡◌, refl, sym, ap, subst, ◌∙◌, ℕ, nat_eq, Bool, true, false, List, [], ◌∷◌, Option, Some, None}
+use Rattle.std.proofs.lemmas.Grind.{common_steps}
 use Rattle.std.specs.Prelude.{⊤}
 use Rattle.vt_spec.specs.Language.Changes.{Change}
 use Rattle.vt_spec.specs.Language.Changes.Change.{CopyUp, Move, Remove}
@@ -12,7 +13,7 @@ use Rattle.vt_spec.specs.Machine.Mounts.{Location}
 use Rattle.vt_spec.specs.Machine.Descriptors.{is_copied_up, with_copy}
 use Rattle.vt_spec.specs.Machine.Permits.{Permit}
 use Rattle.vt_spec.specs.Machine.Permits.Permit.{ToChange, ToMake, ToOpen, ToOpenNew, ToRemoveDirectory, ToRename, ToWritePart}
-use Rattle.vt_spec.specs.Machine.World.{Filesystem, Layer, Overlay, Task, World, filesystem_numbered, mount_at}
+use Rattle.vt_spec.specs.Machine.World.{Filesystem, Overlay, Task, World, filesystem_numbered, mount_at}
 use Rattle.vt_laws_trees.proofs.layers.layers.LowersMounts.{same_filesystems_without, same_mounted_without}
 use Rattle.vt_laws_trees.proofs.overlays.whole.ApartInvariants.{overlay_invariants_stay, tree_invariants_stay}
 use Rattle.vt_laws_worlds.specs.OverlayPermits.Asked.{change_asked}
@@ -24,28 +25,18 @@ use Rattle.vt_laws_worlds.proofs.overlay_permits.changed.ChangedOverlays.{are_le
 -- A change of filesystems depends on filesystems alone
 module _ (fresh : Fresh ℕ) (change : Change ℕ) where
   after_in : World ℕ → ℕ → List (Filesystem ℕ)
-  after_in w n =
-      (filesystem_changed nat_eq fresh w (filesystem_numbered nat_eq w n)
+  after_in w n = (filesystem_changed nat_eq fresh w (filesystem_numbered nat_eq w n)
       (filesystem_numbered nat_eq w n).overlay change).filesystems
 
   -- worlds that differ elsewhere
   by_overlay : (a b : World ℕ) (f : Filesystem ℕ) (o : Option (Overlay ℕ))
       → (filesystem_changed nat_eq fresh (record a { filesystems = b.filesystems }) f o change).filesystems
       ≡ (filesystem_changed nat_eq fresh b f o change).filesystems
-  by_overlay a b f None = refl
-  by_overlay a b f (Some v) = by v.upper
-    where
-      by : (u : Option (Layer ℕ))
-          → (Rattle.vt_spec.specs.Machine.Filesystems.overlay_changed nat_eq fresh
-          (record a { filesystems = b.filesystems }) f v u change).filesystems
-          ≡ (Rattle.vt_spec.specs.Machine.Filesystems.overlay_changed nat_eq fresh b f v u change).filesystems
-      by None = refl
-      by (Some u) = refl
+  by_overlay a b f o = grind (arith, common_steps)
 
   after_same : (a b : World ℕ) → a.filesystems ≡ b.filesystems → (n : ℕ) → after_in a n ≡ after_in b n
   unfolding after_in
-  after_same a b same n =
-      ap (λ fs. (filesystem_changed nat_eq fresh (record a { filesystems = fs })
+  after_same a b same n = ap (λ fs. (filesystem_changed nat_eq fresh (record a { filesystems = fs })
       (filesystem_numbered nat_eq (record a { filesystems = fs }) n)
       (filesystem_numbered nat_eq (record a { filesystems = fs }) n).overlay change).filesystems) same
       ∙ by_overlay a b (filesystem_numbered nat_eq b n) (filesystem_numbered nat_eq b n).overlay
@@ -61,8 +52,7 @@ module _ (fresh : Fresh ℕ) (change : Change ℕ) where
 -- the filesystems after a permit
 abbrev Makes : World ℕ → Fresh ℕ → Task ℕ → Permit ℕ → Option (Location ℕ × Change ℕ) → Type 0
 Makes world fresh task permit None = ⊤
-Makes world fresh task permit (Some made) =
-    (apply nat_eq fresh world task permit).world.filesystems
+Makes world fresh task permit (Some made) = (apply nat_eq fresh world task permit).world.filesystems
     ≡ (with_change nat_eq (numbers_left fresh permit) world made.0 made.1).filesystems
 
 -- open(2), with a copy or without one
@@ -107,40 +97,21 @@ permits_make_their_change world fresh task permit location change asks = subst (
 -- Invariants of overlays depend on filesystems alone
 merged_in : (a b : World ℕ) (f : Filesystem ℕ) (o : Overlay ℕ) → IsMerged nat_eq b f o
     → IsMerged nat_eq (record a { filesystems = b.filesystems }) f o
-merged_in a b f o is = record {
-  shows = is.shows;
-  names = is.names;
-  real_objects = λ n. is.real_objects n;
-  real_there = is.real_there;
-  no_whiteout = is.no_whiteout;
-  no_mark = is.no_mark;
-  upper_there = is.upper_there;
-  one_to_one = is.one_to_one;
-}
+merged_in a b f o is = grind (arith, common_steps)
 
 pub overlays_in : (a b : World ℕ) → a.filesystems ≡ b.filesystems → OverlayInvariants nat_eq b
     → OverlayInvariants nat_eq a
-overlays_in a b same is =
-    subst (λ fs. OverlayInvariants nat_eq (record a { filesystems = fs })) (sym same)
-    (record {
-      overlays_merge = λ n o e. merged_in a b (filesystem_numbered nat_eq b n) o (is.overlays_merge n o e);
-      fit_layers = is.fit_layers;
-      plain_layers = is.plain_layers;
-      changed_apart = is.changed_apart;
-      lowers_apart = is.lowers_apart;
-      uppers_reached = is.uppers_reached;
-    })
+overlays_in a b same is = subst (λ fs. OverlayInvariants nat_eq (record a { filesystems = fs })) (sym same) (record {
+  overlays_merge = λ n o e. merged_in a b (filesystem_numbered nat_eq b n) o (is.overlays_merge n o e);
+  fit_layers = is.fit_layers;
+  plain_layers = is.plain_layers;
+  changed_apart = is.changed_apart;
+  lowers_apart = is.lowers_apart;
+  uppers_reached = is.uppers_reached;
+})
 
 pub trees_in : (a b : World ℕ) → a.filesystems ≡ b.filesystems → TreeInvariants nat_eq b → TreeInvariants nat_eq a
-trees_in a b same is =
-    subst (λ fs. TreeInvariants nat_eq (record a { filesystems = fs })) (sym same)
-    (record {
-      trees = is.trees;
-      own_parents = is.own_parents;
-      numbers = is.numbers;
-      one_filesystem = is.one_filesystem;
-      fit_filesystems = is.fit_filesystems;
-    })
+trees_in a b same is = grind (arith, common_steps)
 
 pub permits_keep_overlay_invariants : PermitsKeepOverlayInvariants
 permits_keep_overlay_invariants world fresh task call permit location change overlay upper conditions serves called

@@ -1,5 +1,6 @@
 -- A granted call goes through the filesystem of the location that it changes.
-use Rattle.std.proofs.Common.{◌≡◌, ◌≢◌, refl, sym, ap, subst, ◌∙◌, true≢false, ne_eqb, ℕ, nat_eq, ◌*◌, ◌+◌, Bool, true, false, [], ◌∷◌, Option, Some, None, Ok, is_some}
+use Rattle.std.proofs.Common.{arith, ◌≡◌, ◌≢◌, refl, sym, ap, subst, ◌∙◌, true≢false, ne_eqb, ℕ, nat_eq, ◌*◌, ◌+◌, Bool, true, false, [], ◌∷◌, Option, Some, None, Ok, is_some}
+use Rattle.std.proofs.lemmas.Grind.{common_steps}
 use Rattle.std.specs.Prelude.{⊤}
 use Rattle.vt_spec.specs.FileTree.{FileTree}
 use Rattle.vt_spec.specs.Language.Calls.{Call}
@@ -12,10 +13,10 @@ use Rattle.vt_spec.specs.Machine.Judge.{judge_in}
 use Rattle.vt_spec.specs.Machine.Locked.{lies_or_counts_under, live_layers, upper_and_work}
 use Rattle.vt_spec.specs.Machine.Looks.{looks_of}
 use Rattle.vt_spec.specs.Machine.Mounts.{Location}
-use Rattle.vt_spec.specs.Machine.Descriptors.{is_copied_up, with_copy}
+use Rattle.vt_spec.specs.Machine.Descriptors.{is_copied_up}
 use Rattle.vt_spec.specs.Machine.Outcomes.{Outcome, after}
 use Rattle.vt_spec.specs.Machine.Permits.{Permit}
-use Rattle.vt_spec.specs.Machine.Permits.Permit.{ToBind, ToChange, ToEnterNamespace, ToExit, ToMake, ToMountOverlay, ToMountPlain, ToMove, ToOpen, ToOpenNew, ToPivot, ToRemoveDirectory, ToRename, ToSetFlags, ToSetType, ToUnmount, ToUnmountLazily, ToUnshare, ToWritePart}
+use Rattle.vt_spec.specs.Machine.Permits.Permit.{ToChange, ToMake, ToOpen, ToOpenNew, ToWritePart}
 use Rattle.vt_spec.specs.Machine.Policy.{call_outcome}
 use Rattle.vt_spec.specs.Machine.World.{Task, World, files_at, filesystem_at, filesystem_numbered, is_overlay, layers_of, mount_at}
 use Rattle.vt_spec.proofs.Lists.{Among, among-append_left, any_from_among, among_from_contains}
@@ -43,8 +44,7 @@ use Rattle.vt_spec.proofs.Options.{none_is_some}
 
 -- A change of a filesystem goes through it
 goes_by_change : (fresh : Fresh ℕ) (world later : World ℕ) → IsWorld nat_eq world
-    → (change : IsChanged world fresh later.filesystems)
-    → GoesThrough fresh world later change.mounted
+    → (change : IsChanged world fresh later.filesystems) → GoesThrough fresh world later change.mounted
 goes_by_change fresh world later conditions change = record {
   elsewhere = λ number differ upper.
       same_filesystem (changed_in change.supply world change.mounted change.change) later number change.so
@@ -58,8 +58,7 @@ goes_by_change fresh world later conditions change = record {
       (any_from_among (lies_or_counts_under nat_eq world layer.filesystem inode) (live_layers world) layer
       (layer_among world layers_of number overlay is layer in_layers) lies)
       new (no_overlay_in world conditions layer (layer_plain world conditions number overlay is layer in_layers))
-      later change
-      (λ other upper i has at object.
+      later change (λ other upper i has at object.
       no_other world conditions change.mounted other i upper has inode object number differ overlay is layer m
       (subst (λ n. lies_or_counts_under nat_eq world n inode layer ≡ true) at lies));
 }
@@ -99,14 +98,7 @@ module _ (world : World ℕ) (fresh : Fresh ℕ) (task : Task ℕ) (call : Call)
 
   changes : (location : Location ℕ) (change : Change ℕ)
       → IsFor (looks_of nat_eq world) task call (ToChange location change) → MakesNew fresh change
-  changes location (Make directory name number node) for = absurd for
-  changes location (AddName directory name object) for = tt
-  changes location (Remove directory name object) for = tt
-  changes location (Move from old to new object) for = tt
-  changes location (SetBytes file bytes) for = tt
-  changes location (SetAttr object attr) for = tt
-  changes location (SetMark directory opaque) for = tt
-  changes location (CopyUp object) for = tt
+  changes location change for = grind (arith, common_steps)
 
   draws : (permit : Permit ℕ) → IsFor (looks_of nat_eq world) task call permit → Draws permit
   draws (ToChange location change) for = (all, changes location change for)
@@ -126,87 +118,30 @@ module _ (world : World ℕ) (fresh : Fresh ℕ) (task : Task ℕ) (call : Call)
 
   leaves_them : (permit : Permit ℕ) → IsFor (looks_of nat_eq world) task call permit → changes_no_mount call ≡ true
       → change_asked fresh world permit ≡ None → LeavesThem permit
-  leaves_them (ToChange location change) for c e = none_is_some _ (sym e)
-  leaves_them (ToMake directory name node) for c e = none_is_some _ (sym e)
-  leaves_them (ToRemoveDirectory parent name directory) for c e = none_is_some _ (sym e)
-  leaves_them (ToRename from old to new object replaced) for c e = none_is_some _ (sym e)
-  leaves_them (ToOpen file access) for c e = opened (is_copied_up nat_eq world file access) e
-    where
-      opened : (b : Bool) → when {A = Location ℕ × Change ℕ} b (file, CopyUp file.node) ≡ None
-          → (with_copy nat_eq b fresh world file).filesystems ≡ world.filesystems
-      opened true h = none_is_some _ (sym h)
-      opened false h = refl
-  leaves_them (ToOpenNew directory name node access) for c e = none_is_some _ (sym e)
-  leaves_them (ToWritePart file offset []) for c e = refl
-  leaves_them (ToWritePart file offset (byte ∷ bytes)) for c e = none_is_some _ (sym e)
-  leaves_them ToExit for c e = absurd (on_mounts _ for refl c)
-  leaves_them ToUnshare for c e = absurd (on_mounts _ for refl c)
-  leaves_them (ToEnterNamespace namespace) for c e = absurd (on_mounts _ for.1 refl c)
-  leaves_them (ToMountPlain place flags) for c e = absurd (on_mounts _ for.1 refl c)
-  leaves_them (ToMountOverlay place overlay flags) for c e = absurd (on_mounts _ for.2 refl c)
-  leaves_them (ToBind source place recursive) for c e = absurd (on_mounts _ for.2 refl c)
-  leaves_them (ToMove mount place) for c e = absurd (on_mounts _ for.2 refl c)
-  leaves_them (ToUnmount mount) for c e = absurd (on_mounts _ for.1 refl c)
-  leaves_them (ToUnmountLazily mount) for c e = absurd (on_mounts _ for.1 refl c)
-  leaves_them (ToSetFlags mount flags) for c e = absurd (on_mounts _ for.1 refl c)
-  leaves_them (ToSetType mount word recursive) for c e = absurd (on_mounts _ for.1 refl c)
-  leaves_them (ToPivot new put) for c e = absurd (on_mounts _ for.2 refl c)
-  leaves_them permit for c e = refl
+  leaves_them permit for c e = grind (arith, common_steps, none_is_some, on_mounts)
 
 -- What spares what is locked changes no inode that is
 unlocked : (fresh : Fresh ℕ) (files : FileTree ℕ) (change : Change ℕ) (inode : ℕ) → SparesInode files change inode
-    → MakesNew fresh change
-    → ((k : ℕ) → inode ≢ fresh k) → is_among nat_eq inode (inodes_changed change) ≡ false
-unlocked fresh files (Make directory name number node) inode spares made new =
-    or_from (nat_eq inode number) _ (ne_eqb inode number (λ e. new 0 (e ∙ made)))
-    (or_from (nat_eq inode directory) false (ne_eqb inode directory spares) refl)
-unlocked fresh files (AddName directory name object) inode spares made new =
-    or_from (nat_eq inode directory) false (ne_eqb inode directory spares) refl
-unlocked fresh files (Remove directory name object) inode spares made new =
-    or_from (nat_eq inode directory) false (ne_eqb inode directory spares.0) refl
-unlocked fresh files (Move from old to name object) inode spares made new =
-    or_from (nat_eq inode from) _ (ne_eqb inode from spares.0)
-    (or_from (nat_eq inode to) false (ne_eqb inode to spares.1) refl)
-unlocked fresh files (SetBytes file bytes) inode spares made new = or_from (nat_eq inode file) false
-    (ne_eqb inode file spares) refl
-unlocked fresh files (SetAttr object attr) inode spares made new = or_from (nat_eq inode object) false
-    (ne_eqb inode object spares) refl
-unlocked fresh files (SetMark directory opaque) inode spares made new =
-    or_from (nat_eq inode directory) false (ne_eqb inode directory spares) refl
-unlocked fresh files (CopyUp object) inode spares made new = refl
+    → MakesNew fresh change → ((k : ℕ) → inode ≢ fresh k) → is_among nat_eq inode (inodes_changed change) ≡ false
+unlocked fresh files change inode spares made new = grind (arith, common_steps, made, or_from, ne_eqb)
 
 -- What is asked of an overlay is of what is there
 speaks : (world : World ℕ) (location : Location ℕ) (change : Change ℕ)
     → is_overlay (filesystem_at nat_eq world location) ≡ true
     → AsksWell world location change → SpeaksOfWhatIsThere (files_at nat_eq world location) change
-speaks world location (Make directory name number node) over asked =
-    directory_used (files_at nat_eq world location).tree directory asked.0.name_is_free.in_directory
-speaks world location (AddName directory name object) over asked =
-    (directory_used (files_at nat_eq world location).tree directory asked.name_is_free.in_directory, asked.is_there)
-speaks world location (Remove directory name object) over asked =
-    directory_used (files_at nat_eq world location).tree directory
-    (has_entries (files_at nat_eq world location).tree directory name object asked.named)
-speaks world location (Move from old to new object) over asked =
-    (asked.0.named, directory_used (files_at nat_eq world location).tree to asked.0.in_directory)
-speaks world location (SetBytes file bytes) over asked = asked
-speaks world location (SetAttr object attr) over asked = asked
-speaks world location (SetMark directory opaque) over asked = absurd (true≢false (sym over ∙ asked))
-speaks world location (CopyUp object) over asked = asked
+speaks world location change over asked = grind (arith, common_steps, asked, directory_used, has_entries, true≢false)
 
 -- A granted call leaves the filesystems that its permit leaves
 pub as_permitted : (world : World ℕ) (fresh : Fresh ℕ) (task : Task ℕ) (call : Call) (permit : Permit ℕ)
-    → judge_in nat_eq fresh world task call ≡ Ok permit
-    → (call_outcome nat_eq fresh world task call).world.filesystems
+    → judge_in nat_eq fresh world task call ≡ Ok permit → (call_outcome nat_eq fresh world task call).world.filesystems
     ≡ (apply nat_eq fresh world task permit).world.filesystems
-as_permitted world fresh task call permit granted =
-    ap (λ (o : Outcome ℕ). o.world.filesystems)
+as_permitted world fresh task call permit granted = ap (λ (o : Outcome ℕ). o.world.filesystems)
     (call_is_judged_then_applied fresh world task call
     ∙ ap (λ j. after world j (apply nat_eq fresh world task)) granted)
 
 pub calls_go_through_their_location : CallsGoThroughTheirLocation
 calls_go_through_their_location world fresh task call permit location change is serves called granted asks =
-    goes_by_change fresh world (call_outcome nat_eq fresh world task call).world is
-    (record {
+    goes_by_change fresh world (call_outcome nat_eq fresh world task call).world is (record {
       supply = numbers_left fresh permit;
       mounted = (mount_at nat_eq world location).filesystem;
       change = change;
@@ -235,6 +170,5 @@ calls_go_through_their_location world fresh task call permit location change is 
 
 pub other_calls_leave_filesystems : OtherCallsLeaveFilesystems
 other_calls_leave_filesystems world fresh task call permit granted asks files =
-    as_permitted world fresh task call permit granted
-    ∙ leaves_them world fresh task call permit
+    as_permitted world fresh task call permit granted ∙ leaves_them world fresh task call permit
     (permits_are_for_their_calls fresh world task call permit granted) files asks

@@ -99,17 +99,14 @@ module _ (world : World ℕ) (is : IsWorld nat_eq world) (number : ℕ) (overlay
 
   grown_leads : (new : Filesystem ℕ) → left.filesystems ≡ world.filesystems ++ (new ∷ [])
       → LeadsAsBefore world left layer
-  grown_leads new more =
-      leads_same world left layer
-      (shown_still world left new more layer.filesystem layer.directory
+  grown_leads new more = leads_same world left layer (shown_still world left new more layer.filesystem layer.directory
       (directory_used (filesystem_numbered nat_eq world layer.filesystem).files.tree layer.directory
       (and_true_right (not (is_overlay (filesystem_numbered nat_eq world layer.filesystem))) _
       (layer_plain world is number overlay was layer m))))
 
   pub left_leads :
       ((location : Location ℕ) (change : Change ℕ) → change_asked fresh world permit ≡ Some (location, change)
-      → number ≢ (mount_at nat_eq world location).filesystem)
-      → LeadsAsBefore world left layer
+      → number ≢ (mount_at nat_eq world location).filesystem) → LeadsAsBefore world left layer
   left_leads elsewhere = by (change_asked fresh world permit) refl
     where
       permitted : left.filesystems ≡ (apply nat_eq fresh world task permit).world.filesystems
@@ -125,8 +122,7 @@ module _ (world : World ℕ) (is : IsWorld nat_eq world) (number : ℕ) (overlay
       by None e = as_left (unchanged world fresh task permit e)
       by (Some made) e =
           (calls_leave_other_layers world fresh task call permit made.0 made.1 number overlay layer is serves called
-          granted e
-          (elsewhere made.0 made.1 e) was contains).paths
+          granted e (elsewhere made.0 made.1 e) was contains).paths
 
   pub swept_granted : names_few_groups call ≡ true → (mounts : Bool) → mounts_overlay call ≡ mounts → (now : Overlay ℕ)
       → (filesystem_numbered nat_eq (settled nat_eq left) number).overlay ≡ Some now
@@ -134,18 +130,15 @@ module _ (world : World ℕ) (is : IsWorld nat_eq world) (number : ℕ) (overlay
   swept_granted few false other now e =
       swept_leads left (under world fresh task call permit is serves called other few granted)
       (overlays_kept world fresh task call permit is serves called other few granted) number now e stays.after stays.is
-      layer
-      (subst (Among layer) (λ i. option_to_list (sym stays.upper i) ++ option_to_list (sym stays.work i)
-      ++ sym stays.lowers i)
-      m)
+      layer (subst (Among layer) (λ i. option_to_list (sym stays.upper i) ++ option_to_list (sym stays.work i)
+      ++ sym stays.lowers i) m)
     where
       stays : OverlayStays world left number overlay
       stays = call_stays world is number overlay was fresh serves task call permit called granted
   swept_granted few true mounts now e =
       subst (λ w. LeadsAsBefore left w layer) (sym (mounted call mounts)) (leads_by_files left left layer refl)
     where
-      mounted : (c : Call) → mounts_overlay c ≡ true
-          → settled nat_eq (call_outcome nat_eq fresh world task c).world
+      mounted : (c : Call) → mounts_overlay c ≡ true → settled nat_eq (call_outcome nat_eq fresh world task c).world
           ≡ (call_outcome nat_eq fresh world task c).world
       mounted (MountOverlay path options flags) f =
           (mounting_leaves_a_world fresh world task path options flags is serves called).nothing_unused
@@ -154,8 +147,7 @@ module _ (world : World ℕ) (is : IsWorld nat_eq world) (number : ℕ) (overlay
   finished_leads : ((location : Location ℕ) (change : Change ℕ)
       → change_asked fresh world permit ≡ Some (location, change)
       → number ≢ (mount_at nat_eq world location).filesystem)
-      → names_few_groups call ≡ true → (name : TaskName) (changed : List ℕ)
-      → is_live (last name changed) number ≡ true
+      → names_few_groups call ≡ true → (name : TaskName) (changed : List ℕ) → is_live (last name changed) number ≡ true
       → LeadsAsBefore world (last name changed) layer
   finished_leads elsewhere few name changed live = by
       (filesystem_numbered nat_eq (settled nat_eq left) number).overlay refl
@@ -164,8 +156,7 @@ module _ (world : World ℕ) (is : IsWorld nat_eq world) (number : ℕ) (overlay
           → LeadsAsBefore world (last name changed) layer
       by None e = absurd (true≢false
           (sym live ∙ ap is_some (raised_overlay world name changed (settled nat_eq left) number ∙ e)))
-      by (Some now) e =
-          leads_both world left (last name changed) layer (left_leads elsewhere)
+      by (Some now) e = leads_both world left (last name changed) layer (left_leads elsewhere)
           (leads_both left (settled nat_eq left) (last name changed) layer
           (swept_granted few (mounts_overlay call) refl now e)
           (leads_by_files (settled nat_eq left) (last name changed) layer
@@ -182,10 +173,8 @@ every_call_leaves_other_layers world fresh name call number overlay is serves fe
       lowers = lower.lowers;
       paths = λ layer contains.
           named_leads (λ w. is_live w number ≡ true → LeadsAsBefore world w layer) world fresh name call
-          (λ there. leads_by_files world world layer refl)
-          (λ task found permit changed granted.
+          (λ there. leads_by_files world world layer refl) (λ task found permit changed granted.
           finished_leads world is number overlay was layer contains fresh serves task call permit
           (ap (task_called world) (sym (name_found world name task found)) ∙ found) granted
-          (λ location change asks. alone task permit location change found granted asks) few name changed)
-          live;
+          (λ location change asks. alone task permit location change found granted asks) few name changed) live;
     }

@@ -1,7 +1,8 @@
 -- Over whole scripts each layer of an overlay stays as it was while nothing is changed through the overlay, and it is
 -- live.
-use Rattle.std.proofs.Common.{◌≡◌, refl, sym, subst, ◌∙◌, ◌++◌, ℕ, nat_eq, Bool, true, false, List, [], ◌∷◌, Option, Some, None}
-use Rattle.std.specs.Prelude.{Contains, length, nat_lt, option_to_list}
+use Rattle.std.proofs.Common.{arith, ◌≡◌, refl, sym, subst, ◌∙◌, ◌++◌, ℕ, nat_eq, Bool, true, false, List, [], ◌∷◌, Option, Some, None}
+use Rattle.std.proofs.lemmas.Grind.{common_steps}
+use Rattle.std.specs.Prelude.{length, nat_lt}
 use Rattle.vt_spec.specs.Language.Calls.{Call, TaskName}
 use Rattle.vt_spec.specs.Language.Limits.{longest_line}
 use Rattle.vt_spec.specs.Language.Script.{Grammar, Request, is_silent, request_of}
@@ -9,7 +10,7 @@ use Rattle.vt_spec.specs.Language.Script.Request.{Asking, Calling}
 use Rattle.vt_spec.specs.Lists.{Fresh}
 use Rattle.vt_spec.specs.Machine.Invariants.{IsWorld}
 use Rattle.vt_spec.specs.Machine.Run.{Serves, line_step, line_step_by, requested, step_world}
-use Rattle.vt_spec.specs.Machine.World.{Layer, Overlay, World, filesystem_numbered, layers_of, opening}
+use Rattle.vt_spec.specs.Machine.World.{Layer, Overlay, World, filesystem_numbered, opening}
 use Rattle.vt_laws_rules.proofs.denials.Unchanged.{directive_changes_nothing, refused_memory_changes_nothing}
 use Rattle.vt_laws_worlds.proofs.opening.OpeningWorld.{opening_is_a_world}
 use Rattle.vt_laws_worlds.proofs.worlds.WordsFew.{lines_name_few, request_names_few}
@@ -20,33 +21,12 @@ use Rattle.vt_laws_worlds.proofs.overlay_permits.through.LayersLater.{every_call
 use Rattle.vt_laws_worlds.proofs.overlay_permits.worlds.LowersGoOn.{leads_both, leads_by_files}
 
 layers_there : (world : World ℕ) (number : ℕ) (overlay : Overlay ℕ)
-    → (filesystem_numbered nat_eq world number).overlay ≡ Some overlay
-    → LayersStay world world number overlay
-layers_there world number overlay was = record {
-  after = overlay;
-  is = was;
-  upper = refl;
-  work = refl;
-  lowers = refl;
-  paths = λ layer contains. leads_by_files world world layer refl;
-}
+    → (filesystem_numbered nat_eq world number).overlay ≡ Some overlay → LayersStay world world number overlay
+layers_there world number overlay was = grind (arith, common_steps, leads_by_files)
 
 layers_both : (a b c : World ℕ) (number : ℕ) (overlay : Overlay ℕ) (first : LayersStay a b number overlay)
     → LayersStay b c number first.after → LayersStay a c number overlay
-layers_both a b c number overlay first second = record {
-  after = second.after;
-  is = second.is;
-  upper = second.upper ∙ first.upper;
-  work = second.work ∙ first.work;
-  lowers = second.lowers ∙ first.lowers;
-  paths = λ layer contains. leads_both a b c layer (first.paths layer contains)
-      (second.paths layer (again layer contains));
-}
-  where
-    again : (layer : Layer ℕ) → Contains (layers_of overlay) layer → Contains (layers_of first.after) layer
-    again layer contains =
-        subst (λ (list : List (Layer ℕ)). Contains list layer)
-        (λ i. option_to_list (sym first.upper i) ++ option_to_list (sym first.work i) ++ sym first.lowers i) contains
+layers_both a b c number overlay first second = grind (arith, common_steps, leads_both)
 
 -- A line that changes nothing through the overlay, and leaves it live
 module _ (world : World ℕ) (is : IsWorld nat_eq world) (number : ℕ) (overlay : Overlay ℕ)
@@ -91,13 +71,11 @@ lines_leave grammar number world (line ∷ lines) (false ∷ refused) left overl
     let first : LayersStay world next number overlay =
     line_leaves world is number overlay was leads.0 leads.1 (nat_lt longest_line (length line))
     (is_silent line) grammar line leads.2 leads.3 in
-    layers_both world next left number overlay first
-    (lines_leave grammar number next lines refused left first.after
+    layers_both world next left number overlay first (lines_leave grammar number next lines refused left first.after
     (line_keeps (nat_lt longest_line (length line))
     (is_silent line) grammar world line leads.0 is leads.1) first.is leads.4)
 
 pub layers_stay_over_scripts : LayersStayOverScripts
 layers_stay_over_scripts grammar first next refused refused_next fresh mounted left number overlay apart leads was
-    alone =
-    lines_leave grammar number mounted next refused_next left overlay
+    alone = lines_leave grammar number mounted next refused_next left overlay
     (lines_keep grammar (opening nat_eq fresh) first refused mounted (opening_is_a_world fresh apart).0 leads) was alone

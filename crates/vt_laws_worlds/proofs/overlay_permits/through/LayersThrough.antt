@@ -19,8 +19,7 @@ use Rattle.vt_laws_trees.specs.Trees.Settling.{inode_in}
 -- Where each inode is kept that is there and lies or counts under a layer, the layer stays
 module _ (world : World ℕ) (is : IsWorld nat_eq world) (number : ℕ) (overlay : Overlay ℕ)
     (was : (filesystem_numbered nat_eq world number).overlay ≡ Some overlay) (layer : Layer ℕ)
-    (m : Among layer (layers_of overlay))
-    (later : World ℕ) where
+    (m : Among layer (layers_of overlay)) (later : World ℕ) where
   layer_stays : ((inode : ℕ) → lies_or_counts_under nat_eq world layer.filesystem inode layer ≡ true
       → is_some (inode_in world layer.filesystem inode) ≡ true
       → IsKept (inode_in world layer.filesystem inode) (inode_in later layer.filesystem inode))
@@ -36,11 +35,9 @@ calls_leave_other_layers world fresh task call permit location change number ove
     let m : Among layer (layers_of overlay) = among_from_contains (layers_of overlay) layer contains in
     layer_stays world is number overlay was layer m (call_outcome nat_eq fresh world task call).world
     (λ inode lies there.
-    let new : (k : ℕ) → inode ≢ fresh k =
-    no_new fresh world layer.filesystem inode
+    let new : (k : ℕ) → inode ≢ fresh k = no_new fresh world layer.filesystem inode
     (λ k. unused_inode world fresh serves is.files.numbers k layer.filesystem) there in
-    ⊎_elim
-    (λ (up : Among layer (upper_and_work overlay)).
+    ⊎_elim (λ (up : Among layer (upper_and_work overlay)).
     (calls_go_through_their_location world fresh task call permit location change is serves called granted asks).others
     number overlay layer inode differ was (contains_from_among (upper_and_work overlay) layer up) lies new)
     (λ (low : Among layer overlay.lowers).
@@ -54,6 +51,5 @@ pub plain_calls_leave_layers : PlainCallsLeaveLayers
 plain_calls_leave_layers world fresh task call permit location change number overlay layer is serves called granted asks
     plain was =
     calls_leave_other_layers world fresh task call permit location change number overlay layer is serves called granted
-    asks
-    (λ same.
+    asks (λ same.
     true≢false (sym (ap is_some was) ∙ ap (λ n. is_some (filesystem_numbered nat_eq world n).overlay) same ∙ plain)) was

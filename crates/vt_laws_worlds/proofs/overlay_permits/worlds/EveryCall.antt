@@ -66,8 +66,7 @@ pub data LeavesFilesystems (world : World ℕ) (fresh : Fresh ℕ) (task : Task 
   as_they_were : (apply nat_eq fresh world task permit).world.filesystems ≡ world.filesystems
       → LeavesFilesystems world fresh task permit
   with_plain : (apply nat_eq fresh world task permit).world.filesystems ≡ world.filesystems
-      ++ (plain_filesystem nat_eq fresh ∷ [])
-      → LeavesFilesystems world fresh task permit
+      ++ (plain_filesystem nat_eq fresh ∷ []) → LeavesFilesystems world fresh task permit
   with_overlay : (NamesWhatIsThere world task permit → ⊥) → (new : Filesystem ℕ)
       → (apply nat_eq fresh world task permit).world.filesystems ≡ world.filesystems ++ (new ∷ [])
       → LeavesFilesystems world fresh task permit
@@ -142,15 +141,12 @@ module _ (world : World ℕ) (fresh : Fresh ℕ) (task : Task ℕ) (call : Call)
       same = permits_make_their_change world fresh task permit location change e
 
       over : (overlay : Overlay ℕ) → (filesystem_at nat_eq world location).overlay ≡ Some overlay
-          → (upper : Option (Layer ℕ)) → overlay.upper ≡ upper
-          → Files after_permit
-      over overlay p None u =
-          files_in after_permit world
+          → (upper : Option (Layer ℕ)) → overlay.upper ≡ upper → Files after_permit
+      over overlay p None u = files_in after_permit world
           (same ∙ ap (λ o. (filesystem_changed nat_eq (numbers_left fresh permit) world
           (filesystem_at nat_eq world location) o change).filesystems) p
           ∙ ap (λ o. (overlay_changed nat_eq (numbers_left fresh permit) world
-          (filesystem_at nat_eq world location) overlay o change).filesystems) u)
-          (is.files, is.overlays)
+          (filesystem_at nat_eq world location) overlay o change).filesystems) u) (is.files, is.overlays)
       over overlay p (Some upper) u =
           let kept =
           permits_keep_overlay_invariants world fresh task call permit location change overlay upper is serves found
@@ -172,8 +168,7 @@ module _ (world : World ℕ) (fresh : Fresh ℕ) (task : Task ℕ) (call : Call)
     where
       left : LeavesFilesystems world fresh task permit → Files after_permit
       left (as_they_were same) = files_in after_permit world same (is.files, is.overlays)
-      left (with_plain more) =
-          files_in after_permit (with_new_filesystem world (plain_filesystem nat_eq fresh)) more
+      left (with_plain more) = files_in after_permit (with_new_filesystem world (plain_filesystem nat_eq fresh)) more
           (new_plain_trees world fresh is serves, new_plain_overlays world fresh is serves)
       left (with_overlay not_named new more) = absurd (not_named fits.names)
 
@@ -182,8 +177,7 @@ module _ (world : World ℕ) (fresh : Fresh ℕ) (task : Task ℕ) (call : Call)
       by (Some made) e = with_a_change made.0 made.1 e
 
   within : is_within_limits task ≡ true
-  within =
-      found_all (λ (t : Task ℕ). is_within_limits t ≡ true) (λ t. same_name task.name t.name) world.tasks task
+  within = found_all (λ (t : Task ℕ). is_within_limits t ≡ true) (λ t. same_name task.name t.name) world.tasks task
       (all_from_among (λ (t : Task ℕ). is_within_limits t ≡ true) world.tasks
       (passes is_within_limits world.tasks is.tasks.small_tasks)) found
 
@@ -214,8 +208,7 @@ module _ (world : World ℕ) (fresh : Fresh ℕ) (task : Task ℕ) (call : Call)
   -- and then what nothing uses goes, and numbers are raised
   finished_keeps : (name : TaskName) (changed : List ℕ)
       → IsWorld nat_eq (finished_by nat_eq false world name changed (call_outcome nat_eq fresh world task call)).world
-  finished_keeps name changed =
-      raising_keeps_worlds world name changed (settled nat_eq after_call)
+  finished_keeps name changed = raising_keeps_worlds world name changed (settled nat_eq after_call)
       (settled_is_a_world after_call under overlays_kept)
 
 module _ (world : World ℕ) (fresh : Fresh ℕ) (name : TaskName) (is : IsWorld nat_eq world)

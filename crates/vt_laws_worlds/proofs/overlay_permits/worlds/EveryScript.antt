@@ -25,8 +25,7 @@ request_keeps world fresh is serves (Some (Asking directive)) few =
     subst (IsWorld nat_eq) (sym (directive_changes_nothing world directive)) is
 
 pub line_keeps : (long silent : Bool) (grammar : Grammar) (world : World ℕ) (line : List ℕ) (fresh : Fresh ℕ)
-    → IsWorld nat_eq world
-    → Serves nat_eq world fresh
+    → IsWorld nat_eq world → Serves nat_eq world fresh
     → IsWorld nat_eq (step_world world (line_step_by nat_eq long silent grammar world line (Some fresh)))
 line_keeps true silent grammar world line fresh is serves = is
 line_keeps false true grammar world line fresh is serves = is

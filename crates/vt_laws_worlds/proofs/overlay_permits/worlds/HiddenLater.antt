@@ -1,11 +1,11 @@
 -- What a change of an overlay hides does not show again while the overlay lives.
+use Rattle.std.proofs.lemmas.Grind.{common_steps}
 use Rattle.std.proofs.Common.{arith, ◌≡◌, ◌≢◌, refl, sym, ap, subst, ◌∙◌, true≢false, inl, inr, ℕ, zero, suc, ◌+◌, ◌&&◌, nat_eq, eqb-true, eq-eqb, Bool, true, false, not, List, [], ◌∷◌, ◌++◌, map, Option, Some, None, Ok, is_some}
 use Rattle.std.specs.Prelude.{length, nat_lt, option_to_list}
 use Rattle.vt_spec.specs.Language.Calls.{Call, TaskName}
 use Rattle.vt_spec.specs.Language.Changes.{Change}
 use Rattle.vt_spec.specs.Language.Limits.{longest_line}
 use Rattle.vt_spec.specs.Language.Script.{Grammar, Request, is_silent, request_of}
-use Rattle.vt_spec.specs.Language.Script.Request.{Asking, Calling}
 use Rattle.vt_spec.specs.Lists.{Fresh}
 use Rattle.vt_spec.specs.Machine.CopyUp.{Merge, Stack, merge_changed}
 use Rattle.vt_spec.specs.Machine.Filesystems.{filesystem_changed, merge_of, overlay_changed, stack_of, with_change}
@@ -71,15 +71,13 @@ module _ (world later : World ℕ) where
   shown_alike : (overlay : Overlay ℕ)
       → ((layer : Layer ℕ) → Among layer (layers_of overlay) → LeadsAsBefore world later layer)
       → (path : List (List ℕ)) → shown_in later overlay path ≡ shown_in world overlay path
-  shown_alike overlay leads path =
-      shown_by_views (map view_of (map (open_layer nat_eq world) (shown_layers overlay)))
+  shown_alike overlay leads path = shown_by_views (map view_of (map (open_layer nat_eq world) (shown_layers overlay)))
       (map view_of (map (open_layer nat_eq later) (shown_layers overlay)))
       (all_alike (shown_layers overlay) (λ layer m. leads layer (shown_among overlay layer m))) path
 
   -- one of which a lower layer shows nothing that it did not show
   abbrev Hides : Overlay ℕ → Type 0
-  Hides overlay =
-      (path : List (List ℕ)) (seen : Shown ℕ) → is_lower overlay seen.layer ≡ true
+  Hides overlay = (path : List (List ℕ)) (seen : Shown ℕ) → is_lower overlay seen.layer ≡ true
       → shown_in later overlay path ≡ Some seen → shown_in world overlay path ≡ Some seen
 
   alike_hides : (overlay : Overlay ℕ)
@@ -109,32 +107,27 @@ module _ (fresh : Fresh ℕ) (world : World ℕ) (location : Location ℕ) (chan
 
   upper_changed : filesystem_numbered nat_eq changed_world upper.filesystem
       ≡ WholeLater.changed_upper fresh world location change overlay upper is was has distinct none asked
-  upper_changed =
-      ap (λ w. filesystem_numbered nat_eq w upper.filesystem)
+  upper_changed = ap (λ w. filesystem_numbered nat_eq w upper.filesystem)
       (WholeLater.later_is fresh world location change overlay upper is was has distinct none asked)
       ∙ WholeLater.upper_later fresh world location change overlay upper is was has distinct none asked
 
   abbrev over : Tree ℕ → World ℕ → List (OpenLayer ℕ)
-  over tree which =
-      record { tree = tree; directory = upper.directory } ∷ map (open_layer nat_eq which) overlay.lowers
+  over tree which = record { tree = tree; directory = upper.directory } ∷ map (open_layer nat_eq which) overlay.lowers
 
-  shown_changed : (path : List (List ℕ))
-      → shown_in changed_world overlay path ≡ shown (layers_under stack merge) path
+  shown_changed : (path : List (List ℕ)) → shown_in changed_world overlay path ≡ shown (layers_under stack merge) path
   shown_changed path =
       ap (λ u. shown (map (open_layer nat_eq changed_world) (option_to_list u ++ overlay.lowers)) path) has
       ∙ ap (λ (f : Filesystem ℕ). shown (over f.files.tree changed_world) path) upper_changed
       ∙ shown_by_views (map view_of (over merge.upper.tree world)) (map view_of (over merge.upper.tree changed_world)) (
         record { leads = λ p. refl; inodes = λ p. alike_same _ _ refl },
         all_alike world changed_world overlay.lowers lowers_lead,
-      )
-      path
+      ) path
 
   change_hides : Hides world changed_world overlay
   change_hides path seen low e = by seen.layer refl
     where
       by : (k : ℕ) → seen.layer ≡ k → shown_in world overlay path ≡ Some seen
-      by zero f =
-          absurd (true≢false (sym low ∙ ap (λ n. not (is_some overlay.upper && nat_eq n 0)) f
+      by zero f = absurd (true≢false (sym low ∙ ap (λ n. not (is_some overlay.upper && nat_eq n 0)) f
           ∙ ap (λ u. not (is_some u && true)) has))
       by (suc j) f =
           let same : seen ≡ record { layer = j + 1; object = seen.object } =
@@ -142,9 +135,7 @@ module _ (fresh : Fresh ℕ) (world : World ℕ) (location : Location ℕ) (chan
           ap (λ u. shown (map (open_layer nat_eq world) (option_to_list u ++ overlay.lowers)) path) has
           ∙ hidden_stays_hidden fresh stack before change path j seen.object
           (overlays_are_whole world (mount_at nat_eq world location).filesystem overlay upper is was has) distinct
-          (λ k. none upper.filesystem k) asked
-          (sym (shown_changed path) ∙ e ∙ ap Some same)
-          ∙ ap Some (sym same)
+          (λ k. none upper.filesystem k) asked (sym (shown_changed path) ∙ e ∙ ap Some same) ∙ ap Some (sym same)
         where
           one_more : (n : ℕ) → suc n ≡ n + 1
           one_more n = omega arith
@@ -184,27 +175,22 @@ module _ (world : World ℕ) (is : IsWorld nat_eq world) (number : ℕ) (overlay
           alike_hides world called_world overlay (λ layer m.
           leads_same world called_world layer (same_filesystem world called_world layer.filesystem
           (made ∙ ap (λ (w : World ℕ). w.filesystems) as_it_was)))
-      by (Some upper) e =
-          λ path seen low f.
+      by (Some upper) e = λ path seen low f.
           change_hides (numbers_left fresh permit) world location change overlay upper is here e
           (are_left world fresh is serves permit).0 (are_left world fresh is serves permit).1
           (permits_ask_overlays_well world fresh task call permit location change overlay upper is serves called granted
-          asks here e)
-          (λ lower m. leads_both world called_world
+          asks here e) (λ lower m. leads_both world called_world
           (with_change nat_eq (numbers_left fresh permit) world location change) lower
           ((call_stays world is number overlay was fresh serves task call permit called granted).leads lower m)
           (leads_by_files called_world (with_change nat_eq (numbers_left fresh permit) world location change) lower
           (ap (λ (f : Filesystem ℕ). f.files)
           (same_filesystem called_world (with_change nat_eq (numbers_left fresh permit) world location change)
-          lower.filesystem (sym made)))))
-          path seen low
+          lower.filesystem (sym made))))) path seen low
           (sym (ap (λ fs. shown_in (record world { filesystems = fs }) overlay path) made) ∙ f)
 
   elsewhere : ((location : Location ℕ) (change : Change ℕ) → change_asked fresh world permit ≡ Some (location, change)
-      → number ≢ (mount_at nat_eq world location).filesystem)
-      → Hides world called_world overlay
-  elsewhere other =
-      alike_hides world called_world overlay (λ layer m.
+      → number ≢ (mount_at nat_eq world location).filesystem) → Hides world called_world overlay
+  elsewhere other = alike_hides world called_world overlay (λ layer m.
       left_leads world is number overlay was layer (contains_from_among (layers_of overlay) layer m) fresh serves task
       call permit called granted other)
 
@@ -232,16 +218,13 @@ module _ (world : World ℕ) (is : IsWorld nat_eq world) (number : ℕ) (overlay
           → Hides world (last name changed) overlay
       by None e = absurd (true≢false
           (sym live ∙ ap is_some (raised_overlay world name changed (settled nat_eq called_world) number ∙ e)))
-      by (Some now) e =
-          λ path seen low f.
-          left_hides path seen low
+      by (Some now) e = λ path seen low f. left_hides path seen low
           (sym (shown_alike called_world (last name changed) overlay (λ layer m.
           leads_both called_world (settled nat_eq called_world) (last name changed) layer
           (swept_granted world is number overlay was layer (contains_from_among (layers_of overlay) layer m) fresh
           serves task call permit called granted few (mounts_overlay call) refl now e)
           (leads_by_files (settled nat_eq called_world) (last name changed) layer
-          (files_raised changed layer.filesystem (settled nat_eq called_world).filesystems))) path)
-          ∙ f)
+          (files_raised changed layer.filesystem (settled nat_eq called_world).filesystems))) path) ∙ f)
 
 -- Of two overlays with the same layers
 same_shown : (world : World ℕ) (one other : Overlay ℕ) → other.upper ≡ one.upper → other.lowers ≡ one.lowers
@@ -259,10 +242,8 @@ every_call_uncovers_nothing world fresh name call number overlay is serves few w
     (λ task found permit changed granted.
     finished_hides world is number overlay was fresh serves task call permit
     (ap (task_called world) (sym (name_found world name task found)) ∙ found) granted few name changed)
-    live path seen low
-    (sym (same_shown later overlay after (ap (λ (o : Overlay ℕ). o.upper) same ∙ stays.upper)
-    (ap (λ (o : Overlay ℕ). o.lowers) same ∙ stays.lowers) path)
-    ∙ e)
+    live path seen low (sym (same_shown later overlay after (ap (λ (o : Overlay ℕ). o.upper) same ∙ stays.upper)
+    (ap (λ (o : Overlay ℕ). o.lowers) same ∙ stays.lowers) path) ∙ e)
 
 -- Over lines
 
@@ -280,18 +261,12 @@ uncovers_both a b c number overlay stays first second after path seen now low e 
 module _ (world : World ℕ) (is : IsWorld nat_eq world) (number : ℕ) (overlay : Overlay ℕ)
     (was : (filesystem_numbered nat_eq world number).overlay ≡ Some overlay) where
   request_uncovers : (fresh : Fresh ℕ) → Serves nat_eq world fresh → (request : Option Request)
-      → request_names_few request ≡ true
-      → is_live (requested nat_eq world request fresh).world number ≡ true
+      → request_names_few request ≡ true → is_live (requested nat_eq world request fresh).world number ≡ true
       → UncoversNothing world (requested nat_eq world request fresh).world number overlay
-  request_uncovers fresh serves None few live = uncovers_itself world number overlay was
-  request_uncovers fresh serves (Some (Calling name call)) few live =
-      every_call_uncovers_nothing world fresh name call number overlay is serves few was live
-  request_uncovers fresh serves (Some (Asking directive)) few live =
-      subst (λ w. UncoversNothing world w number overlay) (sym (directive_changes_nothing world directive))
-      (uncovers_itself world number overlay was)
+  request_uncovers fresh serves request few live =
+      grind (arith, common_steps, uncovers_itself, every_call_uncovers_nothing, directive_changes_nothing)
 
-  line_uncovers : (long silent : Bool) (grammar : Grammar) (line : List ℕ) (fresh : Fresh ℕ)
-      → Serves nat_eq world fresh
+  line_uncovers : (long silent : Bool) (grammar : Grammar) (line : List ℕ) (fresh : Fresh ℕ) → Serves nat_eq world fresh
       → is_live (step_world world (line_step_by nat_eq long silent grammar world line (Some fresh))) number ≡ true
       → UncoversNothing world (step_world world
       (line_step_by nat_eq long silent grammar world line (Some fresh))) number overlay
@@ -319,8 +294,7 @@ lines_uncover grammar number world (line ∷ lines) (false ∷ refused) left ove
     uncovers_both world next left number overlay stays
     (line_uncovers world is number overlay was (nat_lt longest_line (length line))
     (is_silent line) grammar line leads.0 leads.1 leads.2)
-    (lines_uncover grammar number next lines refused left stays.after
-    (line_keeps (nat_lt longest_line (length line))
+    (lines_uncover grammar number next lines refused left stays.after (line_keeps (nat_lt longest_line (length line))
     (is_silent line) grammar world line leads.0 is leads.1) stays.is leads.3)
 
 pub hidden_over_scripts : HiddenOverScripts

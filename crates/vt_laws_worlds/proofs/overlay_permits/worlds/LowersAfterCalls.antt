@@ -1,9 +1,10 @@
 -- After every call that leaves an overlay live its lower layers are as they were.
-use Rattle.std.proofs.Common.{◌≡◌, refl, sym, ap, subst, ◌∙◌, ⊎_elim, ℕ, nat_eq, true≢false, Bool, true, false, List, [], ◌∷◌, ◌++◌, ◌&&◌, not, eqb-true, find, Option, Some, None, Ok, is_some}
+use Rattle.std.proofs.Common.{arith, ◌≡◌, refl, sym, ap, subst, ◌∙◌, ⊎_elim, ℕ, nat_eq, true≢false, Bool, true, false, List, [], ◌∷◌, ◌++◌, ◌&&◌, not, eqb-true, find, Option, Some, None, Ok, is_some}
+use Rattle.std.proofs.lemmas.Grind.{common_steps}
 use Rattle.std.specs.Prelude.{option_map, unwrap_or}
 use Rattle.std.specs.List.{list_any}
 use Rattle.vt_spec.specs.Language.Calls.{Call, TaskName}
-use Rattle.vt_spec.specs.Language.Calls.Call.{MakeWhiteout, Mkdir, MountOverlay, SymlinkAt, Write}
+use Rattle.vt_spec.specs.Language.Calls.Call.{MountOverlay, Write}
 use Rattle.vt_spec.specs.Language.Changes.{Change}
 use Rattle.vt_spec.specs.Language.Changes.Change.{AddName, CopyUp, Make, Move, Remove, SetAttr, SetBytes, SetMark}
 use Rattle.vt_spec.specs.Lists.{Fresh, holds_of, then_some}
@@ -58,11 +59,7 @@ use Rattle.vt_laws_trees.specs.Trees.Settling.{inode_in}
 
 -- a call that asks for a change is one on files
 pub makes_files : (call : Call) → makes_a_name call ≡ true → changes_no_mount call ≡ true
-makes_files (Write path bytes) e = refl
-makes_files (Mkdir path mode) e = refl
-makes_files (SymlinkAt text path) e = refl
-makes_files (MakeWhiteout path) e = refl
-makes_files call e = cc
+makes_files call e = grind (arith, common_steps)
 
 pub on_files : (fresh : Fresh ℕ) (world : World ℕ) (task : Task ℕ) (call : Call) (permit : Permit ℕ)
     (made : Location ℕ × Change ℕ)
@@ -113,25 +110,21 @@ module _ (world : World ℕ) (is : IsWorld nat_eq world) (number : ℕ) (overlay
     (was : (filesystem_numbered nat_eq world number).overlay ≡ Some overlay) where
   layer_directory : (lower : Layer ℕ) → Among lower overlay.lowers
       → is_directory_node (inode_in world lower.filesystem lower.directory) ≡ true
-  layer_directory lower m =
-      and_true_right (not (is_overlay (filesystem_numbered nat_eq world lower.filesystem))) _
+  layer_directory lower m = and_true_right (not (is_overlay (filesystem_numbered nat_eq world lower.filesystem))) _
       (layer_plain world is number overlay was lower (lower_is_layer overlay lower m))
 
   grown_stays : (later : World ℕ) (new : Filesystem ℕ) → later.filesystems ≡ world.filesystems ++ (new ∷ [])
       → OverlayStays world later number overlay
-  grown_stays later new grows =
-      stays_over world later number overlay was
+  grown_stays later new grows = stays_over world later number overlay was
       (ap (λ (f : Filesystem ℕ). option_map layers f.overlay)
       (found_still world later new grows number (filesystem_numbered nat_eq world number)
-      (overlay_found world number overlay was)))
-      (λ lower m. leads_same world later lower
+      (overlay_found world number overlay was))) (λ lower m. leads_same world later lower
       (shown_still world later new grows lower.filesystem lower.directory
       (directory_used (filesystem_numbered nat_eq world lower.filesystem).files.tree lower.directory
       (layer_directory lower m))))
 
   same_stays : (later : World ℕ) → later.filesystems ≡ world.filesystems → OverlayStays world later number overlay
-  same_stays later same =
-      stays_over world later number overlay was
+  same_stays later same = stays_over world later number overlay was
       (ap (λ (f : Filesystem ℕ). option_map layers f.overlay) (same_filesystem world later number same))
       (λ lower m. leads_same world later lower (same_filesystem world later lower.filesystem same))
 
@@ -143,15 +136,12 @@ module _ (world : World ℕ) (is : IsWorld nat_eq world) (number : ℕ) (overlay
     left = (call_outcome nat_eq fresh world task call).world
 
     as_permitted : left.filesystems ≡ (apply nat_eq fresh world task permit).world.filesystems
-    as_permitted =
-        ap (λ (o : Outcome ℕ). o.world.filesystems)
-        (call_is_judged_then_applied fresh world task call
+    as_permitted = ap (λ (o : Outcome ℕ). o.world.filesystems) (call_is_judged_then_applied fresh world task call
         ∙ ap (λ j. after world j (apply nat_eq fresh world task)) granted)
 
     locked_leads : changes_no_mount call ≡ true → (lower : Layer ℕ) → Among lower overlay.lowers
         → LeadsAsBefore world left lower
-    locked_leads files lower m =
-        lower_paths_are_locked fresh world task call number overlay lower is called files was
+    locked_leads files lower m = lower_paths_are_locked fresh world task call number overlay lower is called files was
         (contains_from_among overlay.lowers lower m)
         (λ k. unused_inode world fresh serves is.files.numbers k lower.filesystem)
 
@@ -166,8 +156,7 @@ module _ (world : World ℕ) (is : IsWorld nat_eq world) (number : ℕ) (overlay
         by : (o : Option (Location ℕ × Change ℕ)) → change_asked fresh world permit ≡ o
             → OverlayStays world left number overlay
         by None e = as_left (unchanged world fresh task permit e)
-        by (Some made) e =
-            stays_over world left number overlay was
+        by (Some made) e = stays_over world left number overlay was
             (ap (λ (f : Filesystem ℕ). option_map layers f.overlay)
             (same_filesystem (with_change nat_eq (numbers_left fresh permit) world made.0 made.1) left number
             (as_permitted ∙ permits_make_their_change world fresh task permit made.0 made.1 e))
@@ -178,11 +167,9 @@ module _ (world : World ℕ) (is : IsWorld nat_eq world) (number : ℕ) (overlay
     -- and after
     finished_stays : names_few_groups call ≡ true → (name : TaskName) (changed : List ℕ)
         → is_live (finished_by nat_eq false world name changed (call_outcome nat_eq fresh world task call)).world number
-        ≡ true
-        → OverlayStays world (finished_by nat_eq false world name changed
+        ≡ true → OverlayStays world (finished_by nat_eq false world name changed
         (call_outcome nat_eq fresh world task call)).world number overlay
-    finished_stays few name changed live =
-        by (filesystem_numbered nat_eq (settled nat_eq left) number).overlay refl
+    finished_stays few name changed live = by (filesystem_numbered nat_eq (settled nat_eq left) number).overlay refl
       where
         swept : (mounts : Bool) → mounts_overlay call ≡ mounts → (now : Overlay ℕ)
             → (filesystem_numbered nat_eq (settled nat_eq left) number).overlay ≡ Some now
@@ -205,8 +192,7 @@ module _ (world : World ℕ) (is : IsWorld nat_eq world) (number : ℕ) (overlay
         by : (o : Option (Overlay ℕ)) → (filesystem_numbered nat_eq (settled nat_eq left) number).overlay ≡ o
             → OverlayStays world (finished_by nat_eq false world name changed
             (call_outcome nat_eq fresh world task call)).world number overlay
-        by None e =
-            absurd (true≢false (sym live
+        by None e = absurd (true≢false (sym live
             ∙ ap is_some (raised_overlay world name changed (settled nat_eq left) number ∙ e)))
         by (Some now) e =
             let sweeps = swept (mounts_overlay call) refl now e in
@@ -223,8 +209,7 @@ module _ (world : World ℕ) (is : IsWorld nat_eq world) (number : ℕ) (overlay
     live_lower = layer_among world (λ (o : Overlay ℕ). o.lowers) number overlay was lower m
 
     lies_led : lies_in_layer nat_eq world lower.filesystem inode lower ≡ true → Led
-    lies_led e =
-        under_led (filesystem_numbered nat_eq world lower.filesystem).files
+    lies_led e = under_led (filesystem_numbered nat_eq world lower.filesystem).files
         (layer_tree world is lower (layer_plain world is number overlay was lower
         (lower_is_layer overlay lower m))) lower.directory inode
         (and_true_right (nat_eq lower.filesystem lower.filesystem) _ e)
@@ -234,14 +219,11 @@ module _ (world : World ℕ) (is : IsWorld nat_eq world) (number : ℕ) (overlay
         → list_any (counts_in_layer nat_eq world lower.filesystem inode lower) (overlays world) ≡ true → ⊥
     counts_never lies h =
         let found = any_among (counts_in_layer nat_eq world lower.filesystem inode lower) (overlays world) h in
-        by found.0
-        (found_filesystem world.filesystems is.files.one_filesystem found.0
-        (among-from_filter is_overlay world.filesystems found.0 found.1).0)
-        found.0.overlay refl found.2
+        by found.0 (found_filesystem world.filesystems is.files.one_filesystem found.0
+        (among-from_filter is_overlay world.filesystems found.0 found.1).0) found.0.overlay refl found.2
       where
         at : (f : Filesystem ℕ) (v : Overlay ℕ) → (filesystem_numbered nat_eq world f.number).overlay ≡ Some v
-            → (upper : Option (Layer ℕ))
-            → v.upper ≡ upper
+            → (upper : Option (Layer ℕ)) → v.upper ≡ upper
             → (holds_of (λ u. lies_in_layer nat_eq world u.filesystem u.directory lower) upper
             && (holds_of (λ u. nat_eq lower.filesystem u.filesystem) upper
             && list_any (is_real_upper nat_eq v inode) f.files.numbers)) ≡ true → ⊥
@@ -264,8 +246,7 @@ module _ (world : World ℕ) (is : IsWorld nat_eq world) (number : ℕ) (overlay
         by f itself (Some v) g h = at f v (ap (λ (x : Filesystem ℕ). x.overlay) itself ∙ g) v.upper refl h
 
     pub is_led : lies_or_counts_under nat_eq world lower.filesystem inode lower ≡ true → Led
-    is_led lies =
-        ⊎_elim lies_led (λ counts. absurd (counts_never lies counts))
+    is_led lies = ⊎_elim lies_led (λ counts. absurd (counts_never lies counts))
         (or_cases (lies_in_layer nat_eq world lower.filesystem inode lower) _ lies)
 
   -- so all of it stays
@@ -283,16 +264,12 @@ module _ (world : World ℕ) (is : IsWorld nat_eq world) (number : ℕ) (overlay
         let way = is_led lower m inode lies in
         let leads = (stays.leads lower m way.0).0 ∙ way.1 in (
           subst (λ o. IsKept (then_some o (λ object. inode_in world lower.filesystem object))
-              (inode_in later lower.filesystem inode)) way.1
-              (subst (λ o. IsKept (then_some
+              (inode_in later lower.filesystem inode)) way.1 (subst (λ o. IsKept (then_some
               (led (filesystem_numbered nat_eq world lower.filesystem).files.tree lower.directory way.0)
               (λ object. inode_in world lower.filesystem object))
-              (then_some o (λ object. inode_in later lower.filesystem object))) leads
-              (stays.leads lower m way.0).1),
-          led_lies later is_later lower
-              (layer_plain later is_later number stays.after stays.is lower
-              (lower_is_layer stays.after lower (subst (Among lower) (sym stays.lowers) m)))
-              way.0 inode leads,
+              (then_some o (λ object. inode_in later lower.filesystem object))) leads (stays.leads lower m way.0).1),
+          led_lies later is_later lower (layer_plain later is_later number stays.after stays.is lower
+              (lower_is_layer stays.after lower (subst (Among lower) (sym stays.lowers) m))) way.0 inode leads,
         );
   }
 
@@ -303,5 +280,4 @@ every_call_leaves_lowers world fresh name call number overlay is serves few was 
     (policy_leads (λ w. is_live w number ≡ true → OverlayStays world w number overlay) world fresh name call
     (λ there. stays_itself world number overlay was)
     (λ task permit changed called granted. finished_stays world is number overlay was fresh serves task call permit
-    called granted few name changed)
-    live)
+    called granted few name changed) live)

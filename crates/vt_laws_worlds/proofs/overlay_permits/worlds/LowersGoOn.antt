@@ -1,8 +1,9 @@
 -- A live overlay goes on over the layers that it had, while filesystems change, come and go.
-use Rattle.std.proofs.Common.{◌≡◌, refl, sym, ap, subst, ◌∙◌, ⊎_elim, ℕ, nat_eq, Bool, true, false, cond, true≢false, not, List, [], ◌∷◌, find, map, Option, Some, None}
+use Rattle.std.proofs.Common.{arith, ◌≡◌, refl, sym, ap, subst, ◌∙◌, ⊎_elim, ℕ, nat_eq, Bool, true, false, cond, true≢false, not, List, [], ◌∷◌, find, map, Option, Some, None}
+use Rattle.std.proofs.lemmas.Grind.{common_steps}
 use Rattle.std.proofs.lemmas.Bool.Decides.{eqb_tells}
 use Rattle.std.specs.List.{list_any}
-use Rattle.std.specs.Prelude.{is_some, option_map, unwrap_or}
+use Rattle.std.specs.Prelude.{option_map, unwrap_or}
 use Rattle.vt_spec.specs.Language.Calls.{TaskName}
 use Rattle.vt_spec.specs.Language.Changes.{Change, changed}
 use Rattle.vt_spec.specs.Lists.{Fresh, then_some}
@@ -45,37 +46,19 @@ leads_both a b c layer first second path =
 -- paths are seen on trees alone
 pub leads_by_files : (world later : World ℕ) (layer : Layer ℕ)
     → (filesystem_numbered nat_eq later layer.filesystem).files
-    ≡ (filesystem_numbered nat_eq world layer.filesystem).files
-    → LeadsAsBefore world later layer
+    ≡ (filesystem_numbered nat_eq world layer.filesystem).files → LeadsAsBefore world later layer
 leads_by_files world later layer same path = (
   ap (λ files. led files.tree layer.directory path) same,
   kept_same _ _ (ap (λ files. then_some (led files.tree layer.directory path) files.tree.node) same),
 )
 
 pub stays_itself : (world : World ℕ) (number : ℕ) (overlay : Overlay ℕ)
-    → (filesystem_numbered nat_eq world number).overlay ≡ Some overlay
-    → OverlayStays world world number overlay
-stays_itself world number overlay is = record {
-  after = overlay;
-  is = is;
-  upper = refl;
-  work = refl;
-  lowers = refl;
-  leads = λ lower m. leads_by_files world world lower refl;
-}
+    → (filesystem_numbered nat_eq world number).overlay ≡ Some overlay → OverlayStays world world number overlay
+stays_itself world number overlay is = grind (arith, common_steps, leads_by_files)
 
 pub stays_both : (a b c : World ℕ) (number : ℕ) (overlay : Overlay ℕ) (first : OverlayStays a b number overlay)
     → OverlayStays b c number first.after → OverlayStays a c number overlay
-stays_both a b c number overlay first second = record {
-  after = second.after;
-  is = second.is;
-  upper = second.upper ∙ first.upper;
-  work = second.work ∙ first.work;
-  lowers = second.lowers ∙ first.lowers;
-  leads = λ lower m.
-      leads_both a b c lower (first.leads lower m)
-      (second.leads lower (subst (Among lower) (sym first.lowers) m));
-}
+stays_both a b c number overlay first second = grind (arith, common_steps, leads_both)
 
 -- An overlay with its layers
 abbrev pub Layers : Type 0
@@ -91,32 +74,14 @@ pub stays_over : (world later : World ℕ) (number : ℕ) (overlay : Overlay ℕ
     → (filesystem_numbered nat_eq world number).overlay ≡ Some overlay → layers_at later number ≡ layers_at world number
     → ((lower : Layer ℕ) → Among lower overlay.lowers → LeadsAsBefore world later lower)
     → OverlayStays world later number overlay
-stays_over world later number overlay is same leads =
-    by (filesystem_numbered nat_eq later number).overlay refl (same ∙ ap (option_map layers) is)
-  where
-    by : (o : Option (Overlay ℕ)) → (filesystem_numbered nat_eq later number).overlay ≡ o
-        → option_map layers o ≡ Some (layers overlay)
-        → OverlayStays world later number overlay
-    by None e f = absurd (true≢false (sym (ap is_some f)))
-    by (Some after) e f =
-        let parts = same_Some (layers after) (layers overlay) f in
-        record {
-          after = after;
-          is = e;
-          upper = ap (λ (l : Layers). l.0) parts;
-          work = ap (λ (l : Layers). l.1) parts;
-          lowers = ap (λ (l : Layers). l.2) parts;
-          leads = leads;
-        }
+stays_over world later number overlay is same leads = grind (arith, common_steps, true≢false, same_Some)
 
 -- A change of a filesystem leaves the layers of each overlay
 replaced_layers : (world : World ℕ) (new : Filesystem ℕ) → option_map layers new.overlay ≡ layers_at world new.number
     → (number : ℕ) → layers_at (with_filesystem nat_eq world new) number ≡ layers_at world number
-replaced_layers world new same number =
-    ⊎_elim
+replaced_layers world new same number = ⊎_elim
     (λ t. filesystem_there (λ f. option_map layers f.overlay ≡ layers_at world number) world new number t.1
-    (same ∙ ap (layers_at world) (sym t.1))
-    (λ none. ap (λ (f : Filesystem ℕ). option_map layers f.overlay) (sym none)))
+    (same ∙ ap (layers_at world) (sym t.1)) (λ none. ap (λ (f : Filesystem ℕ). option_map layers f.overlay) (sym none)))
     (λ t. ap (λ (f : Filesystem ℕ). option_map layers f.overlay) (filesystem_elsewhere world new number t.1))
     (eqb_tells number new.number)
 
@@ -126,42 +91,32 @@ changed_layers fresh world location change number = by (filesystem_at nat_eq wor
   where
     own_layers : option_map layers (filesystem_at nat_eq world location).overlay
         ≡ layers_at world (filesystem_at nat_eq world location).number
-    own_layers =
-        ap (λ (f : Filesystem ℕ). option_map layers f.overlay)
-        (sym (ap (filesystem_numbered nat_eq world)
+    own_layers = ap (λ (f : Filesystem ℕ). option_map layers f.overlay) (sym (ap (filesystem_numbered nat_eq world)
         (number_of_filesystem world (mount_at nat_eq world location).filesystem)))
 
     over : (overlay : Overlay ℕ) → (filesystem_at nat_eq world location).overlay ≡ Some overlay
-        → (upper : Option (Layer ℕ))
-        → layers_at (overlay_changed nat_eq fresh world
-        (filesystem_at nat_eq world location) overlay upper change) number
-        ≡ layers_at world number
+        → (upper : Option (Layer ℕ)) → layers_at (overlay_changed nat_eq fresh world
+        (filesystem_at nat_eq world location) overlay upper change) number ≡ layers_at world number
     over overlay e None = refl
     over overlay e (Some upper) =
-        let merge : Merge ℕ =
-        merge_changed nat_eq fresh (stack_of nat_eq world overlay upper)
+        let merge : Merge ℕ = merge_changed nat_eq fresh (stack_of nat_eq world overlay upper)
         (merge_of nat_eq world (filesystem_at nat_eq world location) overlay upper) change in
-        let first : Filesystem ℕ =
-        record (filesystem_at nat_eq world location) {
+        let first : Filesystem ℕ = record (filesystem_at nat_eq world location) {
           files = merge.files;
-          overlay = Some
-              (record overlay { real = merge.real });
+          overlay = Some (record overlay { real = merge.real });
         } in
         let first_layers : option_map layers first.overlay ≡ layers_at world first.number =
         ap (option_map layers) (sym e) ∙ own_layers in
         let under : Filesystem ℕ = filesystem_numbered nat_eq world upper.filesystem in
         replaced_layers (with_filesystem nat_eq world first) (with_files under merge.upper)
         (ap (layers_at world) (sym (number_of_filesystem world upper.filesystem))
-        ∙ sym (replaced_layers world first first_layers under.number))
-        number
+        ∙ sym (replaced_layers world first first_layers under.number)) number
         ∙ replaced_layers world first first_layers number
 
     by : (o : Option (Overlay ℕ)) → (filesystem_at nat_eq world location).overlay ≡ o
         → layers_at (filesystem_changed nat_eq fresh world (filesystem_at nat_eq world location) o change) number
         ≡ layers_at world number
-    by None e =
-        replaced_layers world
-        (with_files (filesystem_at nat_eq world location)
+    by None e = replaced_layers world (with_files (filesystem_at nat_eq world location)
         (changed nat_eq (filesystem_at nat_eq world location).files change)) own_layers number
     by (Some overlay) e = over overlay e overlay.upper
 
@@ -190,14 +145,7 @@ raised_layers changed number (first ∷ rest) = by (list_any (λ n. nat_eq n fir
         (no_filesystem number)).overlay
         ≡ (unwrap_or (find (λ (f : Filesystem ℕ). nat_eq number f.number) (first ∷ rest))
         (no_filesystem number)).overlay
-    by true on =
-        pick (record first { change = raised first.change }) refl (nat_eq number first.number)
-        (find (λ (f : Filesystem ℕ). nat_eq number f.number) (map (raised_if_changed nat_eq changed) rest))
-        (find (λ (f : Filesystem ℕ). nat_eq number f.number) rest) on
-    by false on =
-        pick first refl (nat_eq number first.number)
-        (find (λ (f : Filesystem ℕ). nat_eq number f.number) (map (raised_if_changed nat_eq changed) rest))
-        (find (λ (f : Filesystem ℕ). nat_eq number f.number) rest) on
+    by b on = grind (arith, common_steps, pick)
 
 module _ (before : World ℕ) (name : TaskName) (changed : List ℕ) (world : World ℕ) (number : ℕ) where
   pub raised_overlay : (filesystem_numbered nat_eq (numbers_raised nat_eq before name changed world) number).overlay
@@ -206,8 +154,7 @@ module _ (before : World ℕ) (name : TaskName) (changed : List ℕ) (world : Wo
 
   pub raised_stays : (overlay : Overlay ℕ) → (filesystem_numbered nat_eq world number).overlay ≡ Some overlay
       → OverlayStays world (numbers_raised nat_eq before name changed world) number overlay
-  raised_stays overlay is =
-      stays_over world (numbers_raised nat_eq before name changed world) number overlay is
+  raised_stays overlay is = stays_over world (numbers_raised nat_eq before name changed world) number overlay is
       (ap (option_map layers) raised_overlay)
       (λ lower m. leads_by_files world (numbers_raised nat_eq before name changed world) lower
       (files_raised changed lower.filesystem world.filesystems))
@@ -223,41 +170,18 @@ module _ (world : World ℕ) (under : IsUnderWay world) (are : OverlayInvariants
   first = without_dead_in nat_eq is_overlay living
 
   from_mounted : (after : Overlay ℕ) (on : GoesOn mounted living number after)
-      → (filesystem_numbered nat_eq living number).overlay ≡ Some after
-      → OverlayStays world living number on.before
-  from_mounted after on is = record {
-    after = after;
-    is = is;
-    upper = on.upper;
-    work = on.work;
-    lowers = on.lowers;
-    leads = λ lower m. on.leads lower (lower_is_layer on.before lower m);
-  }
+      → (filesystem_numbered nat_eq living number).overlay ≡ Some after → OverlayStays world living number on.before
+  from_mounted after on is = grind (arith, common_steps, lower_is_layer)
 
   from_living : (after : Overlay ℕ) (on : GoesOn living first number after)
-      → (filesystem_numbered nat_eq first number).overlay ≡ Some after
-      → OverlayStays living first number on.before
-  from_living after on is = record {
-    after = after;
-    is = is;
-    upper = on.upper;
-    work = on.work;
-    lowers = on.lowers;
-    leads = λ lower m. on.leads lower (lower_is_layer on.before lower m);
-  }
+      → (filesystem_numbered nat_eq first number).overlay ≡ Some after → OverlayStays living first number on.before
+  from_living after on is = grind (arith, common_steps, lower_is_layer)
 
   from_first : (after : Overlay ℕ)
       (on : GoesOn first (without_dead_in nat_eq (λ f. not (is_overlay f)) first) number after)
       → (filesystem_numbered nat_eq (settled nat_eq world) number).overlay ≡ Some after
       → OverlayStays first (settled nat_eq world) number on.before
-  from_first after on is = record {
-    after = after;
-    is = is;
-    upper = on.upper;
-    work = on.work;
-    lowers = on.lowers;
-    leads = λ lower m. on.leads lower (lower_is_layer on.before lower m);
-  }
+  from_first after on is = grind (arith, common_steps, lower_is_layer)
 
   pub swept_stays : (after : Overlay ℕ)
       → (filesystem_numbered nat_eq (settled nat_eq world) number).overlay ≡ Some after

@@ -1,13 +1,13 @@
 -- Over whole scripts lower layers stay as they were while their overlay is live.
-use Rattle.std.proofs.Common.{◌≡◌, sym, subst, ◌∙◌, ℕ, nat_eq, Bool, true, false, List, [], ◌∷◌, Option, Some, None}
-use Rattle.std.specs.Prelude.{Contains, length, nat_lt}
+use Rattle.std.proofs.Common.{arith, ◌≡◌, sym, subst, ◌∙◌, ℕ, nat_eq, Bool, true, false, List, [], ◌∷◌, Option, Some}
+use Rattle.std.proofs.lemmas.Grind.{common_steps}
+use Rattle.std.specs.Prelude.{length, nat_lt}
 use Rattle.vt_spec.specs.Lists.{Fresh}
 use Rattle.vt_spec.specs.Machine.Invariants.{IsWorld}
 use Rattle.vt_spec.specs.Machine.Run.{Serves, line_step, line_step_by, requested, step_world}
 use Rattle.vt_spec.specs.Language.Script.{Grammar, Request, is_silent, request_of}
 use Rattle.vt_spec.specs.Language.Limits.{longest_line}
-use Rattle.vt_spec.specs.Language.Script.Request.{Asking, Calling}
-use Rattle.vt_spec.specs.Machine.World.{Layer, Overlay, World, filesystem_numbered, opening}
+use Rattle.vt_spec.specs.Machine.World.{Overlay, World, filesystem_numbered, opening}
 use Rattle.vt_laws_rules.proofs.denials.Unchanged.{directive_changes_nothing, refused_memory_changes_nothing}
 use Rattle.vt_laws_trees.proofs.layers.layers.LowersKept.{kept_both}
 use Rattle.vt_laws_worlds.proofs.opening.OpeningWorld.{opening_is_a_world}
@@ -24,38 +24,16 @@ stay_there world is number overlay was = lowers_stay world is number overlay was
 
 stay_both : (a b c : World ℕ) (number : ℕ) (overlay : Overlay ℕ) (first : LowersStay a b number overlay)
     → LowersStay b c number first.after → LowersStay a c number overlay
-stay_both a b c number overlay first second = record {
-  after = second.after;
-  is = second.is;
-  upper = second.upper ∙ first.upper;
-  work = second.work ∙ first.work;
-  lowers = second.lowers ∙ first.lowers;
-  paths = λ lower c path.
-      let one = first.paths lower c path in
-      let two = second.paths lower (again lower c) path in
-      (two.0 ∙ one.0, kept_both _ _ _ one.1 two.1);
-  inodes = λ lower inode c lies.
-      let one = first.inodes lower inode c lies in
-      let two = second.inodes lower inode (again lower c) one.1 in
-      (kept_both _ _ _ one.0 two.0, two.1);
-}
-  where
-    again : (lower : Layer ℕ) → Contains overlay.lowers lower → Contains first.after.lowers lower
-    again lower c = subst (λ list. Contains list lower) (sym first.lowers) c
+stay_both a b c number overlay first second = grind (arith, common_steps, kept_both)
 
 -- A line that leaves the overlay live
 module _ (world : World ℕ) (is : IsWorld nat_eq world) (number : ℕ) (overlay : Overlay ℕ)
     (was : (filesystem_numbered nat_eq world number).overlay ≡ Some overlay) where
   request_stays : (fresh : Fresh ℕ) → Serves nat_eq world fresh → (request : Option Request)
-      → request_names_few request ≡ true
-      → is_live (requested nat_eq world request fresh).world number ≡ true
+      → request_names_few request ≡ true → is_live (requested nat_eq world request fresh).world number ≡ true
       → LowersStay world (requested nat_eq world request fresh).world number overlay
-  request_stays fresh serves None few live = stay_there world is number overlay was
-  request_stays fresh serves (Some (Calling name call)) few live =
-      every_call_leaves_lowers world fresh name call number overlay is serves few was live
-  request_stays fresh serves (Some (Asking directive)) few live =
-      subst (λ w. LowersStay world w number overlay) (sym (directive_changes_nothing world directive))
-      (stay_there world is number overlay was)
+  request_stays fresh serves request few live =
+      grind (arith, common_steps, stay_there, every_call_leaves_lowers, directive_changes_nothing)
 
   pub line_stays : (long silent : Bool) (grammar : Grammar) (line : List ℕ) (fresh : Fresh ℕ)
       → Serves nat_eq world fresh
@@ -83,13 +61,11 @@ lines_stay grammar number world (line ∷ lines) (false ∷ refused) left overla
     let first : LowersStay world next number overlay =
     line_stays world is number overlay was (nat_lt longest_line (length line))
     (is_silent line) grammar line leads.0 leads.1 leads.2 in
-    stay_both world next left number overlay first
-    (lines_stay grammar number next lines refused left first.after
+    stay_both world next left number overlay first (lines_stay grammar number next lines refused left first.after
     (line_keeps (nat_lt longest_line (length line))
     (is_silent line) grammar world line leads.0 is leads.1) first.is leads.3)
 
 pub lowers_stay_over_scripts : LowersStayOverScripts
 lowers_stay_over_scripts grammar first next refused refused_next fresh mounted left number overlay apart leads was
-    live =
-    lines_stay grammar number mounted next refused_next left overlay
+    live = lines_stay grammar number mounted next refused_next left overlay
     (lines_keep grammar (opening nat_eq fresh) first refused mounted (opening_is_a_world fresh apart).0 leads) was live

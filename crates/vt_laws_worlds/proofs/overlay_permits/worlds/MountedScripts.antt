@@ -14,17 +14,14 @@ led_to_a_world world led =
 pub mounted_anew_over_scripts : MountedAnewOverScripts
 mounted_anew_over_scripts fresh before later number left task path words flags places led is later_led =
     mounted_anew_shows_the_same fresh before later number left task path words flags places
-    (led_to_a_world before led) is
-    (led_to_a_world later later_led)
+    (led_to_a_world before led) is (led_to_a_world later later_led)
 
 pub same_layers_over_scripts : SameLayersOverScripts
 same_layers_over_scripts fresh before later number left task path words flags places led is later_led =
     mounted_over_the_same_layers fresh before later number left task path words flags places
-    (led_to_a_world before led) is
-    (led_to_a_world later later_led)
+    (led_to_a_world before led) is (led_to_a_world later later_led)
 
 pub links_over_scripts : LinksOverScripts
 links_over_scripts fresh before later number left task path words flags places led is later_led =
     mounted_anew_links_the_same fresh before later number left task path words flags places
-    (led_to_a_world before led) is
-    (led_to_a_world later later_led)
+    (led_to_a_world before led) is (led_to_a_world later later_led)

@@ -48,8 +48,7 @@ module _ (world : World ℕ) (fresh : Fresh ℕ) (conditions : IsWorld nat_eq wo
   later = with_new_filesystem world new
 
   new_fits : is_fit_filesystem new ≡ true
-  new_fits =
-      both (fits ((new_plain nat_eq (evens fresh 0) (evens fresh 1)).files.tree.node (evens fresh 1))) true
+  new_fits = both (fits ((new_plain nat_eq (evens fresh 0) (evens fresh 1)).files.tree.node (evens fresh 1))) true
       (ap (λ b. fits (cond b (Some (record { attr = root_attr; content = new_directory (evens fresh 1) })) None))
       (eq-eqb (evens fresh 1) (evens fresh 1) refl)) refl
 
@@ -59,8 +58,7 @@ module _ (world : World ℕ) (fresh : Fresh ℕ) (conditions : IsWorld nat_eq wo
       record {
         trees =
             All-push (λ (f : Filesystem ℕ). IsTree f.files.tree) world.filesystems new conditions.files.trees is.tree;
-        own_parents =
-            All-push (λ (f : Filesystem ℕ). HasOwnParents f.files.tree) world.filesystems new
+        own_parents = All-push (λ (f : Filesystem ℕ). HasOwnParents f.files.tree) world.filesystems new
             conditions.files.own_parents is.own_parents;
         numbers =
             All-push (λ (f : Filesystem ℕ). ListsNumbers nat_eq f.files) world.filesystems new conditions.files.numbers
@@ -89,8 +87,7 @@ module _ (world : World ℕ) (fresh : Fresh ℕ) (conditions : IsWorld nat_eq wo
 
   stays_found : (number : ℕ) (f : Filesystem ℕ) → looked_up number world.filesystems ≡ Some f
       → filesystem_numbered nat_eq later number ≡ filesystem_numbered nat_eq world number
-  stays_found number f e =
-      ap (λ o. unwrap_or o (no_filesystem number)) (found_first number new world.filesystems f e)
+  stays_found number f e = ap (λ o. unwrap_or o (no_filesystem number)) (found_first number new world.filesystems f e)
       ∙ ap (λ o. unwrap_or o (no_filesystem number)) (sym e)
 
   inode_stays : (number inode : ℕ) → is_some ((filesystem_numbered nat_eq world number).files.tree.node inode) ≡ true
@@ -113,8 +110,7 @@ module _ (world : World ℕ) (fresh : Fresh ℕ) (conditions : IsWorld nat_eq wo
 
       by : (o : Option (Filesystem ℕ)) → looked_up number world.filesystems ≡ o
           → filesystem_numbered nat_eq later number ≡ filesystem_numbered nat_eq world number
-      by None e =
-          none_is_some after (sym (plain_alone (nat_eq number new.number))
+      by None e = none_is_some after (sym (plain_alone (nat_eq number new.number))
           ∙ sym (ap (λ o. (unwrap_or o (no_filesystem number)).overlay) (not_first number world.filesystems e)) ∙ is)
       by (Some f) e = stays_found number f e
 
@@ -124,8 +120,7 @@ module _ (world : World ℕ) (fresh : Fresh ℕ) (conditions : IsWorld nat_eq wo
 
     layer_stays : (layer : Layer ℕ) → Among layer (layers_of after)
         → filesystem_numbered nat_eq later layer.filesystem ≡ filesystem_numbered nat_eq world layer.filesystem
-    layer_stays layer m =
-        inode_stays layer.filesystem layer.directory
+    layer_stays layer m = inode_stays layer.filesystem layer.directory
         (directory_used (filesystem_numbered nat_eq world layer.filesystem).files.tree layer.directory
         (and_true_right (Rattle.std.specs.Prelude.not
         (is_overlay (filesystem_numbered nat_eq world layer.filesystem))) _
@@ -147,13 +142,11 @@ module _ (world : World ℕ) (fresh : Fresh ℕ) (conditions : IsWorld nat_eq wo
       objects = λ inode object e. e;
       leads = λ layer m. leads_same world later layer (layer_stays layer m);
       reached = λ top e. subst (λ (f : Filesystem ℕ). IsReached f.files.tree top.directory)
-          (sym (layer_stays top (upper_among after top e)))
-          (conditions.overlays.uppers_reached number after top was e);
+          (sym (layer_stays top (upper_among after top e))) (conditions.overlays.uppers_reached number after top was e);
     }
 
   pub new_plain_overlays : OverlayInvariants nat_eq later
-  new_plain_overlays =
-      overlays_go_on world later (are_trees world conditions.files) conditions.overlays
+  new_plain_overlays = overlays_go_on world later (are_trees world conditions.files) conditions.overlays
       (are_trees later new_plain_trees) goes
       (λ test e. ap (λ l. any_pair test (flat_map (of_overlay [] upper_and_work) l))
       (filter-append is_overlay world.filesystems (new ∷ []) ∙ append-nil (overlays world)) ∙ e)

@@ -1,7 +1,8 @@
 -- Overlays that go on: each was there before, with the same layers, whose paths lead where they led. Then all
 -- invariants of overlays
 -- hold, where they held before.
-use Rattle.std.proofs.Common.{◌≡◌, refl, sym, ap, subst, ◌∙◌, true≢false, eqb-true, eq-eqb, ⊎_elim, inl, inr, ℕ, nat_eq, Bool, true, false, not, ◌&&◌, List, [], ◌∷◌, ◌++◌, Option, Some, None, is_some}
+use Rattle.std.proofs.Common.{arith, ◌≡◌, refl, sym, ap, subst, ◌∙◌, true≢false, eqb-true, eq-eqb, ⊎_elim, inl, inr, ℕ, nat_eq, Bool, true, false, not, ◌&&◌, List, [], ◌∷◌, ◌++◌, Option, Some, None, is_some}
+use Rattle.std.proofs.lemmas.Grind.{common_steps}
 use Rattle.std.specs.List.{list_all, list_any}
 use Rattle.std.specs.Prelude.{All, flat_map, option_to_list}
 use Rattle.vt_spec.specs.FileTree.{is_under}
@@ -41,9 +42,7 @@ are_trees world is = record { trees = is.trees; numbers = is.numbers; one_filesy
 module _ (world : World ℕ) (files : AreTrees world) where
   pub tree_of_directory : (number directory : ℕ) → is_directory_node (inode_in world number directory) ≡ true
       → IsTree (filesystem_numbered nat_eq world number).files.tree
-  tree_of_directory number directory is =
-      ⊎_elim (λ tree. tree)
-      (λ missing. absurd (true≢false
+  tree_of_directory number directory is = ⊎_elim (λ tree. tree) (λ missing. absurd (true≢false
       (sym is ∙ ap (λ (f : Filesystem ℕ). is_directory_node (f.files.tree.node directory)) missing.0)))
       (numbered_all (λ (f : Filesystem ℕ). IsTree f.files.tree) number world.filesystems files.trees)
 
@@ -72,34 +71,23 @@ module _ (world : World ℕ) (files : AreTrees world) where
     where
       by : (f : Filesystem ℕ) → filesystem_numbered nat_eq world f.number ≡ f → (o : Option (Overlay ℕ)) → f.overlay ≡ o
           → Among layer (overlay_or [] layers o) → IsLayerOf layers layer
-      by f itself None e a = absurd a
-      by f itself (Some overlay) e a =
-          record {
-            number = f.number;
-            overlay = overlay;
-            is = ap (λ (x : Filesystem ℕ). x.overlay) itself
-                ∙ e;
-            among = a;
-          }
+      by f itself o e a = grind (arith, common_steps)
 
   module _ (are : OverlayInvariants nat_eq world) where
     pub plain_layer : (number : ℕ) (overlay : Overlay ℕ)
         → (filesystem_numbered nat_eq world number).overlay ≡ Some overlay
         → (layer : Layer ℕ) → Among layer (layers_of overlay) → is_plain_layer nat_eq world layer ≡ true
-    plain_layer number overlay is layer m =
-        among_from_list_all (is_plain_layer nat_eq world) (layers_of overlay)
+    plain_layer number overlay is layer m = among_from_list_all (is_plain_layer nat_eq world) (layers_of overlay)
         (sym (ap (overlay_or true (λ o. list_all (is_plain_layer nat_eq world) (layers_of o))) is)
         ∙ among_from_list_all (of_overlay true
         (λ o. list_all (is_plain_layer nat_eq world) (layers_of o))) world.filesystems are.plain_layers
         (filesystem_numbered nat_eq world number)
         (among-from_filter is_overlay world.filesystems (filesystem_numbered nat_eq world number)
-        (merged_among world number overlay is)).0)
-        layer m
+        (merged_among world number overlay is)).0) layer m
 
     pub fit_overlay : (number : ℕ) (overlay : Overlay ℕ)
         → (filesystem_numbered nat_eq world number).overlay ≡ Some overlay → has_fit_layers overlay ≡ true
-    fit_overlay number overlay is =
-        sym (ap (overlay_or true has_fit_layers) is)
+    fit_overlay number overlay is = sym (ap (overlay_or true has_fit_layers) is)
         ∙ among_from_list_all (of_overlay true has_fit_layers) world.filesystems are.fit_layers
         (filesystem_numbered nat_eq world number)
         (among-from_filter is_overlay world.filesystems (filesystem_numbered nat_eq world number)
@@ -138,8 +126,7 @@ module _ (world later : World ℕ) (files : AreTrees world) (are : OverlayInvari
     leads : LeadsAsBefore world later layer
 
   live_in : (number : ℕ) (after : Overlay ℕ) → (filesystem_numbered nat_eq later number).overlay ≡ Some after
-      → (layer : Layer ℕ)
-      → Among layer (layers_of after) → IsLive layer
+      → (layer : Layer ℕ) → Among layer (layers_of after) → IsLive layer
   live_in number after e layer m =
       let on = goes number after e in
       let a = subst (Among layer) (same_layers number after on) m in
@@ -161,8 +148,7 @@ module _ (world later : World ℕ) (files : AreTrees world) (are : OverlayInvari
       by : (o : Option (Overlay ℕ)) → (filesystem_numbered nat_eq later layer.filesystem).overlay ≡ o
           → not (is_overlay (filesystem_numbered nat_eq later layer.filesystem)) ≡ true
       by None e = ap (λ o. not (is_some o)) e
-      by (Some after) e =
-          absurd (true≢false (sym (and_true_left
+      by (Some after) e = absurd (true≢false (sym (and_true_left
           (not (is_overlay (filesystem_numbered nat_eq world layer.filesystem))) _ live.plain)
           ∙ ap (λ o. not (is_some o)) (goes layer.filesystem after e).is))
 
@@ -204,11 +190,9 @@ module _ (world later : World ℕ) (files : AreTrees world) (are : OverlayInvari
       let top_is = sym on.upper ∙ f in
       or_right (lies_in_layer nat_eq world n object layer) _
       (any_from_among (counts_in_layer nat_eq world n object layer) (overlays world)
-      (filesystem_numbered nat_eq world number)
-      (merged_among world number on.before on.is)
+      (filesystem_numbered nat_eq world number) (merged_among world number on.before on.is)
       (ap (overlay_or false (λ v. holds_of (λ u. lies_in_layer nat_eq world u.filesystem u.directory layer) v.upper
-      && is_object_of nat_eq n object (filesystem_numbered nat_eq world number) v)) on.is
-      ∙ and_from _ _
+      && is_object_of nat_eq n object (filesystem_numbered nat_eq world number) v)) on.is ∙ and_from _ _
       (ap (holds_of (λ u. lies_in_layer nat_eq world u.filesystem u.directory layer)) top_is
       ∙ lay layer live top.filesystem top.directory lies)
       (and_from _ _ (ap (holds_of (λ u. nat_eq n u.filesystem)) top_is ∙ and_true_left (nat_eq n top.filesystem) _ rest)
@@ -218,8 +202,7 @@ module _ (world later : World ℕ) (files : AreTrees world) (are : OverlayInvari
       (ap (λ r. holds_of (nat_eq object) (upper_object r)) real ∙ eq-eqb object object refl)))))
     where
       there : (before : Overlay ℕ) → (filesystem_numbered nat_eq world number).overlay ≡ Some before → (inode : ℕ)
-          → before.real inode ≡ Some (Upper object)
-          → is_some (inode_in world number inode) ≡ true
+          → before.real inode ≡ Some (Upper object) → is_some (inode_in world number inode) ≡ true
       there before is inode real = by (inode_in world number inode) refl
         where
           by : (o : Option (Node ℕ)) → inode_in world number inode ≡ o → is_some (inode_in world number inode) ≡ true
@@ -229,33 +212,26 @@ module _ (world later : World ℕ) (files : AreTrees world) (are : OverlayInvari
 
   lay_or_counted : (layer : Layer ℕ) → IsLive layer → (n object : ℕ) → Lies later layer n object
       → Lies world layer n object
-  lay_or_counted layer live n object e =
-      ⊎_elim (λ lies. or_left (lies_in_layer nat_eq world n object layer) _
-      (lay layer live n object lies)) by_overlays
-      (or_cases (lies_in_layer nat_eq later n object layer) _ e)
+  lay_or_counted layer live n object e = ⊎_elim (λ lies. or_left (lies_in_layer nat_eq world n object layer) _
+      (lay layer live n object lies)) by_overlays (or_cases (lies_in_layer nat_eq later n object layer) _ e)
     where
       by_overlays : list_any (counts_in_layer nat_eq later n object layer) (overlays later) ≡ true
           → Lies world layer n object
       by_overlays h =
           let found = any_among (counts_in_layer nat_eq later n object layer) (overlays later) h in
           by found.0 (found_filesystem later.filesystems files_later.one_filesystem found.0
-          (among-from_filter is_overlay later.filesystems found.0 found.1).0)
-          found.0.overlay refl found.2
+          (among-from_filter is_overlay later.filesystems found.0 found.1).0) found.0.overlay refl found.2
         where
           by : (f : Filesystem ℕ) → filesystem_numbered nat_eq later f.number ≡ f → (o : Option (Overlay ℕ))
               → f.overlay ≡ o
               → overlay_or false (λ v. holds_of (λ u. lies_in_layer nat_eq later u.filesystem u.directory layer) v.upper
-              && is_object_of nat_eq n object f v) o ≡ true
-              → Lies world layer n object
+              && is_object_of nat_eq n object f v) o ≡ true → Lies world layer n object
           by f itself None g h = absurd (true≢false (sym h))
-          by f itself (Some after) g h =
-              counted layer live n object f.number after
-              (ap (λ (x : Filesystem ℕ). x.overlay) itself ∙ g) after.upper refl
-              (subst (λ (x : Filesystem ℕ). (holds_of
+          by f itself (Some after) g h = counted layer live n object f.number after
+              (ap (λ (x : Filesystem ℕ). x.overlay) itself ∙ g) after.upper refl (subst (λ (x : Filesystem ℕ). (holds_of
               (λ u. lies_in_layer nat_eq later u.filesystem u.directory layer) after.upper
               && (holds_of (λ u. nat_eq n u.filesystem) after.upper
-              && list_any (is_real_upper nat_eq after object) x.files.numbers)) ≡ true)
-              (sym itself) h)
+              && list_any (is_real_upper nat_eq after object) x.files.numbers)) ≡ true) (sym itself) h)
 
   -- and is there
   was_there : (layer : Layer ℕ) → IsLive layer → (n object : ℕ) → Lies world layer n object
@@ -280,8 +256,7 @@ module _ (world later : World ℕ) (files : AreTrees world) (are : OverlayInvari
       counted_there h =
           let found = any_among (counts_in_layer nat_eq world n object layer) (overlays world) h in
           by found.0 (found_filesystem world.filesystems files.one_filesystem found.0
-          (among-from_filter is_overlay world.filesystems found.0 found.1).0)
-          found.0.overlay refl found.2
+          (among-from_filter is_overlay world.filesystems found.0 found.1).0) found.0.overlay refl found.2
         where
           at : (f : Filesystem ℕ) (v : Overlay ℕ) → (filesystem_numbered nat_eq world f.number).overlay ≡ Some v
               → (upper : Option (Layer ℕ)) → v.upper ≡ upper
@@ -303,8 +278,7 @@ module _ (world later : World ℕ) (files : AreTrees world) (are : OverlayInvari
           by : (f : Filesystem ℕ) → filesystem_numbered nat_eq world f.number ≡ f → (o : Option (Overlay ℕ))
               → f.overlay ≡ o
               → overlay_or false (λ v. holds_of (λ u. lies_in_layer nat_eq world u.filesystem u.directory layer) v.upper
-              && is_object_of nat_eq n object f v) o ≡ true
-              → is_some (inode_in world n object) ≡ true
+              && is_object_of nat_eq n object f v) o ≡ true → is_some (inode_in world n object) ≡ true
           by f itself None g h = absurd (true≢false (sym h))
           by f itself (Some v) g h = at f v (ap (λ (x : Filesystem ℕ). x.overlay) itself ∙ g) v.upper refl h
 
@@ -323,8 +297,7 @@ module _ (world later : World ℕ) (files : AreTrees world) (are : OverlayInvari
       && list_any (lies_or_counts_under nat_eq world a.filesystem o) others)
       (filesystem_numbered nat_eq world a.filesystem).files.numbers found.0
       (inode_listed world files a.filesystem found.0 (was_there a live_a a.filesystem found.0 in_a))
-      (and_from _ _ in_a (any_from_among
-      (lies_or_counts_under nat_eq world a.filesystem found.0) others other.0 other.1
+      (and_from _ _ in_a (any_from_among (lies_or_counts_under nat_eq world a.filesystem found.0) others other.0 other.1
       (lay_or_counted other.0 (live_others other.0 other.1) a.filesystem found.0 other.2)))
 
   live_changed : (layer : Layer ℕ) → Among layer (live_upper_and_work later) → IsLive layer
@@ -373,23 +346,19 @@ module _ (world later : World ℕ) (files : AreTrees world) (are : OverlayInvari
       (more other.0 other.1) other.2))
 
   apart_changed : any_pair (overlap nat_eq later) (live_upper_and_work later) ≡ false
-  apart_changed =
-      no_pair_later (overlap nat_eq world) (overlap nat_eq later) (live_upper_and_work later)
+  apart_changed = no_pair_later (overlap nat_eq world) (overlap nat_eq later) (live_upper_and_work later)
       (λ a b m n e. overlapped a (b ∷ []) (live_changed a m) (one b (live_changed b n)) e)
       (fewer (overlap nat_eq world) are.changed_apart)
 
   apart_lowers : list_any (overlaps_one_of nat_eq later (live_lowers nat_eq later)) (live_upper_and_work later) ≡ false
-  apart_lowers =
-      none_from_among (overlaps_one_of nat_eq later (live_lowers nat_eq later)) (live_upper_and_work later)
+  apart_lowers = none_from_among (overlaps_one_of nat_eq later (live_lowers nat_eq later)) (live_upper_and_work later)
       (λ a m. by a m (overlaps_one_of nat_eq later (live_lowers nat_eq later) a) refl)
     where
       by : (a : Layer ℕ) → Among a (live_upper_and_work later) → (b : Bool)
           → overlaps_one_of nat_eq later (live_lowers nat_eq later) a ≡ b
           → overlaps_one_of nat_eq later (live_lowers nat_eq later) a ≡ false
       by a m false e = e
-      by a m true e =
-          absurd (true≢false
-          (sym (wider a (live_lowers nat_eq later) (live_lowers nat_eq world) lower_was
+      by a m true e = absurd (true≢false (sym (wider a (live_lowers nat_eq later) (live_lowers nat_eq world) lower_was
           (overlapped a (live_lowers nat_eq later) (live_changed a m) live_lower e))
           ∙ none_among (overlaps_one_of nat_eq world (live_lowers nat_eq world))
           (live_upper_and_work world) are.lowers_apart a (changed_was a m)))
@@ -397,10 +366,8 @@ module _ (world later : World ℕ) (files : AreTrees world) (are : OverlayInvari
   -- Each overlay
   each : (test : Overlay ℕ → Bool)
       → ((number : ℕ) (after : Overlay ℕ) → (filesystem_numbered nat_eq later number).overlay ≡ Some after
-      → test after ≡ true)
-      → list_all (of_overlay true test) later.filesystems ≡ true
-  each test holds =
-      list_all_from_among (of_overlay true test) later.filesystems
+      → test after ≡ true) → list_all (of_overlay true test) later.filesystems ≡ true
+  each test holds = list_all_from_among (of_overlay true test) later.filesystems
       (λ f m. by f (found_filesystem later.filesystems files_later.one_filesystem f m) f.overlay refl)
     where
       by : (f : Filesystem ℕ) → filesystem_numbered nat_eq later f.number ≡ f → (o : Option (Overlay ℕ)) → f.overlay ≡ o
@@ -409,17 +376,7 @@ module _ (world later : World ℕ) (files : AreTrees world) (are : OverlayInvari
       by f itself (Some after) e = holds f.number after (ap (λ (x : Filesystem ℕ). x.overlay) itself ∙ e)
 
   still_fit : (number : ℕ) (after : Overlay ℕ) → GoesOn world later number after → has_fit_layers after ≡ true
-  still_fit number after on =
-      (λ i. has_fit_layers
-      (record {
-        upper = on.upper i;
-        work = on.work i;
-        lowers = on.lowers
-            i;
-        mounter = after.mounter;
-        real = after.real;
-      }))
-      ∙ fit_overlay world files are number on.before on.is
+  still_fit number after on = grind (arith, common_steps, fit_overlay)
 
   pub overlays_go_on : OverlayInvariants nat_eq later
   overlays_go_on = record {

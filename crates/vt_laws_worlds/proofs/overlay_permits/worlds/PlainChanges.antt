@@ -1,5 +1,6 @@
 -- A change of a plain tree that spares what is locked keeps the invariants of trees and of overlays.
-use Rattle.std.proofs.Common.{◌≡◌, ◌≢◌, refl, sym, ap, subst, ◌∙◌, true≢false, eqb-true, ne_eqb, ⊎_elim, inl, inr, ℕ, nat_eq, Bool, true, false, not, cond, ◌||◌, List, [], ◌∷◌, filter, map, Some, None, is_some}
+use Rattle.std.proofs.Common.{arith, ◌≡◌, ◌≢◌, refl, sym, ap, subst, ◌∙◌, true≢false, eqb-true, ne_eqb, ⊎_elim, inl, inr, ℕ, nat_eq, Bool, true, false, not, cond, ◌||◌, List, [], ◌∷◌, filter, map, Some, None, is_some}
+use Rattle.std.proofs.lemmas.Grind.{common_steps}
 use Rattle.std.proofs.lemmas.Bool.Decides.{eqb_tells}
 use Rattle.std.specs.Prelude.{All, flat_map}
 use Rattle.vt_spec.specs.FileTree.{FileTree}
@@ -70,8 +71,7 @@ name_spared files (SetMark directory opaque) inode spares = tt
 name_spared files (CopyUp object) inode spares = tt
 
 module _ (fresh : Fresh ℕ) (world : World ℕ) (location : Location ℕ) (change : Change ℕ)
-    (conditions : IsWorld nat_eq world)
-    (plain : (filesystem_at nat_eq world location).overlay ≡ None)
+    (conditions : IsWorld nat_eq world) (plain : (filesystem_at nat_eq world location).overlay ≡ None)
     (may : IsProper (files_at nat_eq world location).tree change)
     (fits : IsFitChange change) (locks : SparesLocked world location change) where
   abbrev place : ℕ
@@ -97,40 +97,21 @@ module _ (fresh : Fresh ℕ) (world : World ℕ) (location : Location ℕ) (chan
   Fits f = IsFileTree f.files × (is_fit_filesystem f ≡ true)
 
   all_fit : All Fits world.filesystems
-  all_fit = all_from_among Fits world.filesystems (λ f m. (
-    record {
-      tree = among_from_all (λ (g : Filesystem ℕ). IsTree g.files.tree) world.filesystems conditions.files.trees f m;
-      numbers =
-          among_from_all (λ (g : Filesystem ℕ). ListsNumbers nat_eq g.files) world.filesystems conditions.files.numbers
-          f m;
-      own_parents = among_from_all (λ
-          (g : Filesystem ℕ). HasOwnParents g.files.tree) world.filesystems conditions.files.own_parents f m;
-    },
-    among_from_list_all is_fit_filesystem world.filesystems conditions.files.fit_filesystems f m,
-  ))
+  all_fit = grind (arith, common_steps, all_from_among, among_from_all, among_from_list_all)
 
   all_fit_later : All Fits later.filesystems
-  all_fit_later =
-      replaced_all Fits new world.filesystems all_fit
-      (⊎_elim
-      (λ is. inl (
-        record {
-          tree = changes_keep_trees old.files change is.0.tree may;
-          numbers = changes_keep_numbers old.files change is.0.numbers;
-          own_parents = changes_keep_own_parents old.files change is.0.tree is.0.own_parents may;
-        },
-        changes_keep_sizes old.files change is.1 fits,
-      ))
-      (λ none. inr (subst (λ n. All (λ (f : Filesystem ℕ). nat_eq n f.number ≡ false) world.filesystems)
-      (sym new_number) none.1))
-      (numbered_all Fits place world.filesystems all_fit))
+  all_fit_later = replaced_all Fits new world.filesystems all_fit (⊎_elim (λ is. inl (
+    record {
+      tree = changes_keep_trees old.files change is.0.tree may;
+      numbers = changes_keep_numbers old.files change is.0.numbers;
+      own_parents = changes_keep_own_parents old.files change is.0.tree is.0.own_parents may;
+    },
+    changes_keep_sizes old.files change is.1 fits,
+  )) (λ none. inr (subst (λ n. All (λ (f : Filesystem ℕ). nat_eq n f.number ≡ false) world.filesystems)
+      (sym new_number) none.1)) (numbered_all Fits place world.filesystems all_fit))
 
   number_same : (f : Filesystem ℕ) → (replaced_if_numbered nat_eq new f).number ≡ f.number
-  number_same f = by (nat_eq new.number f.number) refl
-    where
-      by : (b : Bool) → nat_eq new.number f.number ≡ b → (cond b new f).number ≡ f.number
-      by true e = eqb-true new.number f.number e
-      by false e = refl
+  number_same f = grind (arith, common_steps, eqb-true)
 
   pub trees_later : TreeInvariants nat_eq later
   trees_later = record {
@@ -151,8 +132,7 @@ module _ (fresh : Fresh ℕ) (world : World ℕ) (location : Location ℕ) (chan
   kind_same f m = by (nat_eq new.number f.number) refl
     where
       plain_there : nat_eq new.number f.number ≡ true → is_overlay f ≡ false
-      plain_there e =
-          ap is_overlay (sym (found_filesystem world.filesystems conditions.files.one_filesystem f m))
+      plain_there e = ap is_overlay (sym (found_filesystem world.filesystems conditions.files.one_filesystem f m))
           ∙ ap (λ n. is_overlay (filesystem_numbered nat_eq world n))
           (sym (eqb-true new.number f.number e) ∙ new_number) ∙ ap is_some plain
 
@@ -190,8 +170,7 @@ module _ (fresh : Fresh ℕ) (world : World ℕ) (location : Location ℕ) (chan
   -- what is there of the one that changes
   at_place : (P : Filesystem ℕ → Type 0) → P new → (inode : ℕ) → is_some (inode_in world place inode) ≡ true
       → P (filesystem_numbered nat_eq later place)
-  at_place P is inode there =
-      filesystem_there P world new place (sym new_number) is
+  at_place P is inode there = filesystem_there P world new place (sym new_number) is
       (λ none. absurd (true≢false (sym there ∙ ap (λ (f : Filesystem ℕ). is_some (f.files.tree.node inode)) none)))
 
   -- what is locked stays
@@ -204,14 +183,11 @@ module _ (fresh : Fresh ℕ) (world : World ℕ) (location : Location ℕ) (chan
           let is_there_now = subst (λ k. is_some (inode_in world k inode) ≡ true) t.1 there in
           subst (λ k. IsKept (inode_in world k inode) (inode_in later k inode)) (sym t.1)
           (at_place (λ f. IsKept (inode_in world place inode) (f.files.tree.node inode))
-          (others_stay old.files change inode
-          (none_written old.files change may inode is_there_now
-          (locks.spares inode (subst (λ k. is_locked nat_eq world k inode ≡ true) t.1 locked))))
-          inode is_there_now)
+          (others_stay old.files change inode (none_written old.files change may inode is_there_now
+          (locks.spares inode (subst (λ k. is_locked nat_eq world k inode ≡ true) t.1 locked)))) inode is_there_now)
 
       other : (nat_eq n place ≡ false) × (n ≢ place) → IsKept (inode_in world n inode) (inode_in later n inode)
-      other t =
-          kept_same (inode_in world n inode) (inode_in later n inode)
+      other t = kept_same (inode_in world n inode) (inode_in later n inode)
           (ap (λ (f : Filesystem ℕ). f.files.tree.node inode) (elsewhere n t.1))
 
   module _ (number : ℕ) (overlay : Overlay ℕ)
@@ -236,8 +212,7 @@ module _ (fresh : Fresh ℕ) (world : World ℕ) (location : Location ℕ) (chan
 
     own : (layer : Layer ℕ) (object : ℕ) → overlay.upper ≡ Some layer → IsUpperObject overlay object
         → IsKept (inode_in world layer.filesystem object) (inode_in later layer.filesystem object)
-    own layer object e of =
-        kept layer.filesystem object
+    own layer object e of = kept layer.filesystem object
         (locked_in layer (upper_in_layers world conditions number overlay is layer e) object
         (object_counts world conditions number overlay is layer e object of))
         (ap (holds_of (λ l. is_there nat_eq world l.filesystem object)) (sym e)
@@ -265,19 +240,15 @@ module _ (fresh : Fresh ℕ) (world : World ℕ) (location : Location ℕ) (chan
 
         here : (nat_eq top.filesystem place ≡ true) × (top.filesystem ≡ place)
             → IsReached (filesystem_numbered nat_eq later top.filesystem).files.tree top.directory
-        here t =
-            subst (λ k. IsReached (filesystem_numbered nat_eq later k).files.tree top.directory) (sym t.1)
-            (at_place (λ f. IsReached f.files.tree top.directory)
-            (change_reaches old.files change
+        here t = subst (λ k. IsReached (filesystem_numbered nat_eq later k).files.tree top.directory) (sym t.1)
+            (at_place (λ f. IsReached f.files.tree top.directory) (change_reaches old.files change
             (subst (λ k. IsTree (filesystem_numbered nat_eq world k).files.tree) t.1
-            (layer_tree world conditions top top_plain)) may top.directory
-            (name_spared old.files change top.directory
+            (layer_tree world conditions top top_plain)) may top.directory (name_spared old.files change top.directory
             (locks.spares top.directory (subst (λ k. is_locked nat_eq world k top.directory ≡ true) t.1 locked)))
             (subst (λ k. Rattle.vt_spec.specs.Tree.is_directory_node (inode_in world k top.directory)
             ≡ true) t.1 directory)
             (subst (λ k. IsReached (filesystem_numbered nat_eq world k).files.tree top.directory) t.1 was)).1
-            top.directory
-            (Rattle.vt_spec.proofs.Nodes.directory_used old.files.tree top.directory
+            top.directory (Rattle.vt_spec.proofs.Nodes.directory_used old.files.tree top.directory
             (subst (λ k. Rattle.vt_spec.specs.Tree.is_directory_node (inode_in world k top.directory)
             ≡ true) t.1 directory)))
 
@@ -291,10 +262,8 @@ module _ (fresh : Fresh ℕ) (world : World ℕ) (location : Location ℕ) (chan
   goes_on number after e = ⊎_elim here other (eqb_tells number place)
     where
       here : (nat_eq number place ≡ true) × (number ≡ place) → GoesOn world later number after
-      here t =
-          none_is_some after (sym (filesystem_there (λ f. f.overlay ≡ None) world new place (sym new_number) plain
-          (λ none. refl))
-          ∙ ap (λ k. (filesystem_numbered nat_eq later k).overlay) (sym t.1) ∙ e)
+      here t = none_is_some after (sym (filesystem_there (λ f. f.overlay ≡ None) world new place (sym new_number) plain
+          (λ none. refl)) ∙ ap (λ k. (filesystem_numbered nat_eq later k).overlay) (sym t.1) ∙ e)
 
       other : (nat_eq number place ≡ false) × (number ≢ place) → GoesOn world later number after
       other t =
@@ -316,8 +285,7 @@ module _ (fresh : Fresh ℕ) (world : World ℕ) (location : Location ℕ) (chan
           }
 
   pub overlays_later : OverlayInvariants nat_eq later
-  overlays_later =
-      overlays_go_on world later (are_trees world conditions.files) conditions.overlays
+  overlays_later = overlays_go_on world later (are_trees world conditions.files) conditions.overlays
       (are_trees later trees_later) goes_on
       (λ test e. ap (λ l. any_pair test (flat_map (of_overlay [] upper_and_work) l)) overlays_same ∙ e)
 

@@ -36,8 +36,7 @@ module _ (Holds : World ℕ → Type 0) (world : World ℕ) (fresh : Fresh ℕ) 
   -- the call of a task that is there
   called_leads : (task : Task ℕ) → task_called world name ≡ Some task
       → ((permit : Permit ℕ) (changed : List ℕ) → judge_in nat_eq fresh world task call ≡ Ok permit
-      → Holds (finished_by nat_eq false world name changed (call_outcome nat_eq fresh world task call)).world)
-      → Left
+      → Holds (finished_by nat_eq false world name changed (call_outcome nat_eq fresh world task call)).world) → Left
   called_leads task found granted = by (only_looks call || not (is_ok outcome.answer)) refl
     where
       changed : List ℕ
@@ -47,8 +46,7 @@ module _ (Holds : World ℕ → Type 0) (world : World ℕ) (fresh : Fresh ℕ) 
       outcome = call_outcome nat_eq fresh world task call
 
       it_is : policy nat_eq fresh world name call ≡ finished nat_eq world name call changed outcome
-      it_is = ap (λ o. after world (ok_or o (denial S2))
-          (λ t. finished nat_eq world name call
+      it_is = ap (λ o. after world (ok_or o (denial S2)) (λ t. finished nat_eq world name call
           (filesystems_changed_by nat_eq world (judge_in nat_eq fresh world t call))
           (call_outcome nat_eq fresh world t call))) found
 
@@ -68,34 +66,25 @@ module _ (Holds : World ℕ → Type 0) (world : World ℕ) (fresh : Fresh ℕ) 
           same = it_is ∙ ap (λ b. finished_by nat_eq b world name changed outcome) e
 
           judged : (judgement : Judgement ℕ) → judge_in nat_eq fresh world task call ≡ judgement → Left
-          judged (Err deny) f =
-              absurd (true≢false
-              (sym (ap (λ (o : Outcome ℕ). not (is_ok o.answer))
+          judged (Err deny) f = absurd (true≢false (sym (ap (λ (o : Outcome ℕ). not (is_ok o.answer))
               (call_is_judged_then_applied fresh world task call
               ∙ ap (λ j. after world j (apply nat_eq fresh world task)) f))
               ∙ (or_parts (only_looks call) (not (is_ok outcome.answer)) e).1))
-          judged (Ok permit) f =
-              subst Holds (sym (ap (λ (o : Outcome ℕ). o.world) same))
-              (granted permit changed f)
+          judged (Ok permit) f = subst Holds (sym (ap (λ (o : Outcome ℕ). o.world) same)) (granted permit changed f)
 
   pub named_leads : ((task : Task ℕ) → task_called world name ≡ Some task → (permit : Permit ℕ) (changed : List ℕ)
       → judge_in nat_eq fresh world task call ≡ Ok permit
-      → Holds (finished_by nat_eq false world name changed (call_outcome nat_eq fresh world task call)).world)
-      → Left
+      → Holds (finished_by nat_eq false world name changed (call_outcome nat_eq fresh world task call)).world) → Left
   named_leads granted = by (task_called world name) refl
     where
       by : (o : Option (Task ℕ)) → task_called world name ≡ o → Left
-      by None e =
-          stays (ap (λ o. (after world (ok_or o (denial S2))
-          (λ t. finished nat_eq world name call
+      by None e = stays (ap (λ o. (after world (ok_or o (denial S2)) (λ t. finished nat_eq world name call
           (filesystems_changed_by nat_eq world (judge_in nat_eq fresh world t call))
           (call_outcome nat_eq fresh world t call))).world) e)
       by (Some task) e = called_leads task e (granted task e)
 
   pub policy_leads : ((task : Task ℕ) (permit : Permit ℕ) (changed : List ℕ) → task_called world task.name ≡ Some task
       → judge_in nat_eq fresh world task call ≡ Ok permit
-      → Holds (finished_by nat_eq false world name changed (call_outcome nat_eq fresh world task call)).world)
-      → Left
-  policy_leads granted =
-      named_leads (λ task found permit changed.
+      → Holds (finished_by nat_eq false world name changed (call_outcome nat_eq fresh world task call)).world) → Left
+  policy_leads granted = named_leads (λ task found permit changed.
       granted task permit changed (ap (task_called world) (sym (name_found world name task found)) ∙ found))

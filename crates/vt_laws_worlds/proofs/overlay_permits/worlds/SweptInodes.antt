@@ -1,6 +1,7 @@
 -- Where inodes go that nothing uses, overlays keep their invariants: first those of overlays go, then those of plain
 -- trees.
-use Rattle.std.proofs.Common.{◌≡◌, refl, sym, ap, subst, ◌∙◌, true≢false, eq-eqb, ⊎_elim, ℕ, nat_eq, Bool, true, false, not, cond, List, [], ◌∷◌, ◌++◌, find, map, Option, Some, None, is_some}
+use Rattle.std.proofs.Common.{arith, ◌≡◌, refl, sym, ap, subst, ◌∙◌, true≢false, eq-eqb, ⊎_elim, ℕ, nat_eq, Bool, true, false, not, cond, List, [], ◌∷◌, ◌++◌, find, map, Option, Some, None, is_some}
+use Rattle.std.proofs.lemmas.Grind.{common_steps}
 use Rattle.std.specs.List.{list_all}
 use Rattle.std.specs.Prelude.{All, filter, filter_map, flat_map, option_map, unwrap_or}
 use Rattle.std.proofs.lemmas.List.Elements.{All-weaker}
@@ -42,8 +43,7 @@ use Rattle.vt_laws_trees.proofs.layers.locked.Apart.{merged_among}
 
 -- trees of which each filesystem is one
 pub file_trees_are : (world : World ℕ) → HasFileTrees world
-    → any_pair (λ (a b : Filesystem ℕ). nat_eq a.number b.number) world.filesystems ≡ false
-    → AreTrees world
+    → any_pair (λ (a b : Filesystem ℕ). nat_eq a.number b.number) world.filesystems ≡ false → AreTrees world
 file_trees_are world files one = record {
   trees = All-weaker (λ (f : Filesystem ℕ). IsFileTree f.files) (λ f. IsTree f.files.tree)
       (λ f t. t.tree) world.filesystems files;
@@ -82,8 +82,7 @@ module _ (chosen : Filesystem ℕ → Bool) (world : World ℕ) (files : HasFile
   found_swept number [] = refl
   found_swept number (first ∷ rest) =
       ap (λ n. cond (nat_eq number n) (Some (swept first)) (looked_up number (map swept rest)))
-      (number-only_used world (chosen first) first)
-      ∙ by (nat_eq number first.number) (found_swept number rest)
+      (number-only_used world (chosen first) first) ∙ by (nat_eq number first.number) (found_swept number rest)
     where
       by : (b : Bool) → looked_up number (map swept rest) ≡ option_map swept (looked_up number rest)
           → cond b (Some (swept first)) (looked_up number (map swept rest))
@@ -99,48 +98,38 @@ module _ (chosen : Filesystem ℕ → Bool) (world : World ℕ) (files : HasFile
       → (filesystem_numbered nat_eq later number ≡ swept (unwrap_or o (no_filesystem number)) → IsFound number)
       → (filesystem_numbered nat_eq later number ≡ no_filesystem number
       → filesystem_numbered nat_eq world number ≡ no_filesystem number → IsFound number) → IsFound number
-  found_at number None e found missing =
-      missing (ap (λ o. unwrap_or o (no_filesystem number))
-      (found_swept number world.filesystems ∙ ap (option_map swept) e))
-      (ap (λ o. unwrap_or o (no_filesystem number)) e)
-  found_at number (Some f) e found missing =
-      found (ap (λ o. unwrap_or o (no_filesystem number))
+  found_at number None e found missing = missing (ap (λ o. unwrap_or o (no_filesystem number))
+      (found_swept number world.filesystems ∙ ap (option_map swept) e)) (ap (λ o. unwrap_or o (no_filesystem number)) e)
+  found_at number (Some f) e found missing = found (ap (λ o. unwrap_or o (no_filesystem number))
       (found_swept number world.filesystems ∙ ap (option_map swept) e))
 
   tree_numbered : (number inode : ℕ) → is_some (inode_in world number inode) ≡ true
       → IsFileTree (filesystem_numbered nat_eq world number).files
-  tree_numbered number inode there =
-      ⊎_elim (λ is. is)
-      (λ missing. absurd (true≢false
+  tree_numbered number inode there = ⊎_elim (λ is. is) (λ missing. absurd (true≢false
       (sym there ∙ ap (λ (f : Filesystem ℕ). is_some (f.files.tree.node inode)) missing.0)))
       (numbered_all (λ (f : Filesystem ℕ). IsFileTree f.files) number world.filesystems files)
 
   pub found_by_inode : (number inode : ℕ) → is_some (inode_in world number inode) ≡ true → IsFound number
-  found_by_inode number inode there =
-      found_at number (looked_up number world.filesystems) refl
+  found_by_inode number inode there = found_at number (looked_up number world.filesystems) refl
       (λ same. record { is_swept = same; file_tree = tree_numbered number inode there })
       (λ none was. absurd (true≢false (sym there ∙ ap (λ (f : Filesystem ℕ). is_some (f.files.tree.node inode)) was)))
 
   pub found_by_overlay : (number : ℕ) (overlay : Overlay ℕ)
       → (filesystem_numbered nat_eq later number).overlay ≡ Some overlay → IsFound number
-  found_by_overlay number overlay e =
-      found_at number (looked_up number world.filesystems) refl
+  found_by_overlay number overlay e = found_at number (looked_up number world.filesystems) refl
       (λ same. record { is_swept = same; file_tree = tree_of })
       (λ none was. none_is_some overlay (sym (ap (λ (f : Filesystem ℕ). f.overlay) none) ∙ e))
     where
       tree_of : IsFileTree (filesystem_numbered nat_eq world number).files
-      tree_of =
-          ⊎_elim (λ is. is)
+      tree_of = ⊎_elim (λ is. is)
           (λ missing. none_is_some overlay (sym (ap (λ o. (unwrap_or o (no_filesystem number)).overlay)
           (found_swept number world.filesystems ∙ ap (option_map swept) (not_found number world.filesystems missing.1)))
-          ∙ e))
-          (numbered_all (λ (f : Filesystem ℕ). IsFileTree f.files) number world.filesystems files)
+          ∙ e)) (numbered_all (λ (f : Filesystem ℕ). IsFileTree f.files) number world.filesystems files)
         where
           not_found : (n : ℕ) (list : List (Filesystem ℕ)) → All (λ (f : Filesystem ℕ). nat_eq n f.number ≡ false) list
               → looked_up n list ≡ None
           not_found n [] all = refl
-          not_found n (first ∷ rest) all =
-              ap (λ b. cond b (Some first) (looked_up n rest))
+          not_found n (first ∷ rest) all = ap (λ b. cond b (Some first) (looked_up n rest))
               (Rattle.std.proofs.lemmas.List.Elements.All-head
               (λ (f : Filesystem ℕ). nat_eq n f.number ≡ false) first rest all)
               ∙ not_found n rest (Rattle.std.proofs.lemmas.List.Elements.All-tail
@@ -166,22 +155,19 @@ module _ (chosen : Filesystem ℕ → Bool) (world : World ℕ) (files : HasFile
       by_chosen false = refl
 
   same_live : live_upper_and_work later ≡ live_upper_and_work world
-  same_live =
-      layers_of_all upper_and_work later.filesystems
+  same_live = layers_of_all upper_and_work later.filesystems
       ∙ flat_map-map swept (of_overlay [] upper_and_work) world.filesystems layers_swept
       ∙ sym (layers_of_all upper_and_work world.filesystems)
 
   pub after_round : OverlayInvariants nat_eq world
       → ((number : ℕ) (after : Overlay ℕ) → (filesystem_numbered nat_eq later number).overlay ≡ Some after
-      → GoesOn world later number after)
-      → OverlayInvariants nat_eq later
+      → GoesOn world later number after) → OverlayInvariants nat_eq later
   after_round are goes = overlays_go_on world later trees are trees_later goes
       (λ test e. ap (any_pair test) same_live ∙ e)
 
 -- What is left of an overlay
 module _ (world : World ℕ) (f : Filesystem ℕ) (overlay : Overlay ℕ) (used : List ℕ) (holds : HoldsTree used f.files)
-    (is : IsFileTree f.files)
-    (was : IsMerged nat_eq world f overlay) where
+    (is : IsFileTree f.files) (was : IsMerged nat_eq world f overlay) where
   abbrev Left : Overlay ℕ
   Left = real_among nat_eq used overlay
 
@@ -214,8 +200,7 @@ module _ (world : World ℕ) (f : Filesystem ℕ) (overlay : Overlay ℕ) (used 
     one_to_one = λ a b. apart a b (is_among nat_eq a used) (is_among nat_eq b used);
   }
     where
-      objects : (number : ℕ) (u : Bool)
-          → SameObject (cond u (f.files.tree.node number) None)
+      objects : (number : ℕ) (u : Bool) → SameObject (cond u (f.files.tree.node number) None)
           (then_some (cond u (overlay.real number) None) (real_node nat_eq world Left))
       objects number true = subst (SameObject (f.files.tree.node number)) (sym (same_real (overlay.real number)))
           (was.real_objects number)
@@ -287,8 +272,7 @@ module _ (world : World ℕ) (files : HasFileTrees world)
     layer_stays layer m = plain_stays layer (plain_layer world were are number before was layer m)
 
     still_merged : IsMerged nat_eq first_later f before
-    still_merged =
-        stays_merged world first_later f before
+    still_merged = stays_merged world first_later f before
         (λ layer m. leads_same world first_later layer (layer_stays layer (shown_among before layer m)))
         (λ layer object e of. kept_same _ _
         (ap (λ (g : Filesystem ℕ). g.files.tree.node object) (layer_stays layer (upper_among before layer e))))
@@ -301,11 +285,9 @@ module _ (world : World ℕ) (files : HasFileTrees world)
     by_used found b same after e =
         let holds = named_is_used world f found.file_tree in
         let left = left_by first_later f before (used_in nat_eq world f) holds found.file_tree still_merged b in
-        let left_is : left ≡ after = same_Some left after
-        (sym (ap (λ (g : Filesystem ℕ). g.overlay) same
+        let left_is : left ≡ after = same_Some left after (sym (ap (λ (g : Filesystem ℕ). g.overlay) same
         ∙ overlay_by first_later f before (used_in nat_eq world f) holds found.file_tree still_merged was b) ∙ e) in
-        subst (GoesOn world first_later number) left_is
-        (record {
+        subst (GoesOn world first_later number) left_is (record {
           before = before;
           is = was;
           upper = uppers b;
@@ -316,8 +298,7 @@ module _ (world : World ℕ) (files : HasFileTrees world)
           objects = λ inode object. objects b inode object;
           leads = λ layer m. leads_same world first_later layer (layer_stays layer m);
           reached = λ top g. subst (λ (x : Filesystem ℕ). IsReached x.files.tree top.directory)
-              (sym (layer_stays top (upper_among before top g)))
-              (are.uppers_reached number before top was g);
+              (sym (layer_stays top (upper_among before top g))) (are.uppers_reached number before top was g);
         })
       where
         abbrev_left : Bool → Overlay ℕ
@@ -338,13 +319,7 @@ module _ (world : World ℕ) (files : HasFileTrees world)
 
         objects : (b : Bool) (inode object : ℕ) → (abbrev_left b).real inode ≡ Some (Upper object)
             → before.real inode ≡ Some (Upper object)
-        objects true inode object g = g
-        objects false inode object g = by (is_among nat_eq inode (used_in nat_eq world f)) g
-          where
-            by : (u : Bool) → cond u (before.real inode) None ≡ Some (Upper object)
-                → before.real inode ≡ Some (Upper object)
-            by true h = h
-            by false h = none_is_some (Upper object) h
+        objects b inode object g = grind (arith, common_steps, none_is_some)
 
   pub first_goes : (number : ℕ) (after : Overlay ℕ)
       → (filesystem_numbered nat_eq first_later number).overlay ≡ Some after → GoesOn world first_later number after
@@ -355,12 +330,10 @@ module _ (world : World ℕ) (files : HasFileTrees world)
 
       by : (o : Option (Overlay ℕ)) → (filesystem_numbered nat_eq world number).overlay ≡ o
           → GoesOn world first_later number after
-      by None was =
-          none_is_some after (sym (ap (λ (g : Filesystem ℕ). g.overlay)
+      by None was = none_is_some after (sym (ap (λ (g : Filesystem ℕ). g.overlay)
           (found.is_swept ∙ ap (λ b. only_used nat_eq world b (filesystem_numbered nat_eq world number))
           (ap is_some was)) ∙ was) ∙ e)
-      by (Some before) was =
-          by_used number before was found
+      by (Some before) was = by_used number before was found
           (list_all (λ n. is_among nat_eq n (used_in nat_eq world (filesystem_numbered nat_eq world number)))
           (filesystem_numbered nat_eq world number).files.numbers)
           (found.is_swept ∙ ap (λ b. only_used nat_eq world b (filesystem_numbered nat_eq world number))
@@ -414,19 +387,14 @@ module _ (world : World ℕ) (files : HasFileTrees world)
           found.is_swept ∙ ap (λ b. only_used nat_eq world b g) (and_true_left (not (is_overlay g)) _ layer_is_plain)
 
       directory_is_used : is_among nat_eq layer.directory used ≡ true
-      directory_is_used =
-          or_second (nat_eq layer.directory g.files.tree.root)
-          (is_among nat_eq layer.directory
+      directory_is_used = or_second (nat_eq layer.directory g.files.tree.root) (is_among nat_eq layer.directory
           (named_in g.files ++ located_in nat_eq world g.number ++ layers_in nat_eq world g.number
           ++ flat_map (objects_of_overlay nat_eq g.number) world.filesystems))
           (is_among_left layer.directory (named_in g.files ++ located_in nat_eq world g.number
-          ++ layers_in nat_eq world g.number)
-          (flat_map (objects_of_overlay nat_eq g.number) world.filesystems)
+          ++ layers_in nat_eq world g.number) (flat_map (objects_of_overlay nat_eq g.number) world.filesystems)
           (is_among_right layer.directory (named_in g.files ++ located_in nat_eq world g.number)
-          (layers_in nat_eq world g.number)
-          (is_among_numbers layer.directory (layers_in nat_eq world g.number)
-          (among-map (λ (l : Layer ℕ). l.directory)
-          (filter (λ (l : Layer ℕ). nat_eq g.number l.filesystem)
+          (layers_in nat_eq world g.number) (is_among_numbers layer.directory (layers_in nat_eq world g.number)
+          (among-map (λ (l : Layer ℕ). l.directory) (filter (λ (l : Layer ℕ). nat_eq g.number l.filesystem)
           (flat_map (of_overlay [] layers_of) world.filesystems)) layer
           (among-filter (λ (l : Layer ℕ). nat_eq g.number l.filesystem)
           (flat_map (of_overlay [] layers_of) world.filesystems) layer
@@ -437,11 +405,9 @@ module _ (world : World ℕ) (files : HasFileTrees world)
 
       object_is_used : overlay.upper ≡ Some layer → (object : ℕ) → IsUpperObject overlay object
           → is_among nat_eq object used ≡ true
-      object_is_used e object of =
-          or_second (nat_eq object g.files.tree.root)
+      object_is_used e object of = or_second (nat_eq object g.files.tree.root)
           (is_among nat_eq object (named_in g.files ++ located_in nat_eq world g.number
-          ++ layers_in nat_eq world g.number
-          ++ flat_map (objects_of_overlay nat_eq g.number) world.filesystems))
+          ++ layers_in nat_eq world g.number ++ flat_map (objects_of_overlay nat_eq g.number) world.filesystems))
           (is_among_right object
           (named_in g.files ++ located_in nat_eq world g.number ++ layers_in nat_eq world g.number)
           (flat_map (objects_of_overlay nat_eq g.number) world.filesystems)
@@ -450,8 +416,7 @@ module _ (world : World ℕ) (files : HasFileTrees world)
           (filesystem_numbered nat_eq world number) object overlay_there
           (subst (λ o. Among object (overlay_or [] (λ v. cond (holds_of (λ l. nat_eq g.number l.filesystem) v.upper)
           (filter_map (λ n. upper_object (v.real n)) (filesystem_numbered nat_eq world number).files.numbers) []) o))
-          (sym is)
-          (subst (λ b. Among object (cond b
+          (sym is) (subst (λ b. Among object (cond b
           (filter_map (λ n. upper_object (overlay.real n)) (filesystem_numbered nat_eq world number).files.numbers) []))
           (sym (ap (holds_of (λ l. nat_eq g.number l.filesystem)) e
           ∙ eq-eqb g.number layer.filesystem (number_of_filesystem world layer.filesystem)))
@@ -481,8 +446,7 @@ module _ (world : World ℕ) (files : HasFileTrees world)
       leads_by true path = (refl, refl)
       leads_by false path = (
         led_same used g.files holds found.file_tree path layer.directory,
-        node_led_same used g.files holds
-            found.file_tree path layer.directory directory_is_used,
+        node_led_same used g.files holds found.file_tree path layer.directory directory_is_used,
       )
 
       layer_leads : LeadsAsBefore world second_later layer
@@ -495,8 +459,7 @@ module _ (world : World ℕ) (files : HasFileTrees world)
 
       object_kept : overlay.upper ≡ Some layer → (object : ℕ) → IsUpperObject overlay object
           → IsKept (inode_in world layer.filesystem object) (inode_in second_later layer.filesystem object)
-      object_kept e object of =
-          kept_same _ _ (ap (λ (x : Filesystem ℕ). x.files.tree.node object) swept_is
+      object_kept e object of = kept_same _ _ (ap (λ (x : Filesystem ℕ). x.files.tree.node object) swept_is
           ∙ used_kept (list_all (λ n. is_among nat_eq n used) g.files.numbers) object (object_is_used e object of))
 
       reached_by : (b : Bool) → IsReached g.files.tree layer.directory
@@ -506,13 +469,11 @@ module _ (world : World ℕ) (files : HasFileTrees world)
 
       layer_reached : IsReached g.files.tree layer.directory
           → IsReached (filesystem_numbered nat_eq second_later layer.filesystem).files.tree layer.directory
-      layer_reached way =
-          subst (λ (x : Filesystem ℕ). IsReached x.files.tree layer.directory) (sym swept_is)
+      layer_reached way = subst (λ (x : Filesystem ℕ). IsReached x.files.tree layer.directory) (sym swept_is)
           (reached_by (list_all (λ n. is_among nat_eq n used) g.files.numbers) way)
 
     second_merged : IsMerged nat_eq second_later (filesystem_numbered nat_eq world number) overlay
-    second_merged =
-        stays_merged world second_later (filesystem_numbered nat_eq world number) overlay
+    second_merged = stays_merged world second_later (filesystem_numbered nat_eq world number) overlay
         (λ layer m. layer_leads layer (shown_among overlay layer m))
         (λ layer object e of. object_kept layer (upper_among overlay layer e) e object of)
         (are.overlays_merge number overlay is)
@@ -540,13 +501,11 @@ module _ (world : World ℕ) (files : HasFileTrees world)
 
       by : (o : Option (Overlay ℕ)) → (filesystem_numbered nat_eq world number).overlay ≡ o
           → GoesOn world second_later number after
-      by None was =
-          absurd (true≢false (sym (ap is_some e) ∙ ap is_overlay (found_it.is_swept
+      by None was = absurd (true≢false (sym (ap is_some e) ∙ ap is_overlay (found_it.is_swept
           ∙ ap (λ b. only_used nat_eq world b (filesystem_numbered nat_eq world number))
           (ap (λ o. not (is_some o)) was))
           ∙ overlay-left (used_in nat_eq world (filesystem_numbered nat_eq world number))
-          (filesystem_numbered nat_eq world number) _
-          ∙ ap is_some was))
+          (filesystem_numbered nat_eq world number) _ ∙ ap is_some was))
       by (Some before) was =
           let same = found_it.is_swept ∙ ap (λ b. only_used nat_eq world b (filesystem_numbered nat_eq world number))
           (ap (λ o. not (is_some o)) was) in

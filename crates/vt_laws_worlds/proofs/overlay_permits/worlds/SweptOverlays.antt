@@ -1,14 +1,15 @@
 -- Where what nothing uses goes, overlays keep their invariants: filesystems go, then inodes of overlays, and then those
 -- of plain trees.
-use Rattle.std.proofs.Common.{◌≡◌, refl, sym, ap, subst, ◌∙◌, true≢false, eqb-true, eq-eqb, ⊎_elim, inl, ℕ, nat_eq, Bool, true, false, not, cond, ◌&&◌, ◌||◌, List, [], ◌∷◌, ◌++◌, filter, find, Option, Some, None, is_some}
+use Rattle.std.proofs.Common.{arith, ◌≡◌, refl, sym, ap, subst, ◌∙◌, true≢false, eqb-true, eq-eqb, ⊎_elim, inl, ℕ, nat_eq, Bool, true, false, not, cond, ◌&&◌, ◌||◌, List, [], ◌∷◌, ◌++◌, filter, Option, Some, None, is_some}
+use Rattle.std.proofs.lemmas.Grind.{common_steps}
 use Rattle.std.proofs.lemmas.Bool.{and_from}
 use Rattle.std.specs.List.{list_any}
-use Rattle.std.specs.Prelude.{flat_map, option_to_list, unwrap_or}
-use Rattle.vt_spec.specs.Lists.{any_pair, then_some}
+use Rattle.std.specs.Prelude.{flat_map, option_to_list}
+use Rattle.vt_spec.specs.Lists.{any_pair}
 use Rattle.vt_spec.specs.Machine.Invariants.{IsMerged, ListsNumbers, OverlayInvariants}
 use Rattle.vt_spec.specs.Machine.Locked.{of_overlay, overlay_or, upper_and_work}
 use Rattle.vt_spec.specs.Machine.Settled.{filesystem_lives, has_layer_on, is_mounted, without_dead_filesystems}
-use Rattle.vt_spec.specs.Machine.World.{Filesystem, Layer, Overlay, World, filesystem_numbered, is_overlay, layers_of, no_filesystem, shown_layers}
+use Rattle.vt_spec.specs.Machine.World.{Filesystem, Layer, Overlay, World, filesystem_numbered, is_overlay, layers_of, shown_layers}
 use Rattle.vt_spec.specs.TreeInvariant.{IsReached, IsTree}
 use Rattle.vt_spec.proofs.Lists.{Among, among-append, among-append_left, among-append_right, among-filter, among-from_filter, any_among, any_from_among, pair-filter}
 use Rattle.std.proofs.lemmas.List.Elements.{All-filter}
@@ -69,8 +70,7 @@ pairs_fewer {B = B} test g stays (first ∷ rest) e = by (stays first) (pairs_fe
         (any_pair test (front ++ flat_map g rest)) f in
         ap (λ b. b || any_pair test (front ++ flat_map g (filter stays rest)))
         (none_behind (test x) front (flat_map g rest) (flat_map g (filter stays rest))
-        (none_fewer (test x) g stays rest) parts.0)
-        ∙ with_front on front parts.1
+        (none_fewer (test x) g stays rest) parts.0) ∙ with_front on front parts.1
 
     by : (b : Bool) → (any_pair test (flat_map g rest) ≡ false → any_pair test (flat_map g (filter stays rest)) ≡ false)
         → any_pair test (flat_map g (cond b (first ∷ filter stays rest) (filter stays rest))) ≡ false
@@ -80,28 +80,16 @@ pairs_fewer {B = B} test g stays (first ∷ rest) e = by (stays first) (pairs_fe
 -- A filesystem that is there, by an inode in it or by its overlay
 there_among : (world : World ℕ) (number inode : ℕ) → is_some (inode_in world number inode) ≡ true
     → Among (filesystem_numbered nat_eq world number) world.filesystems
-there_among world number inode there = by
-    (find (λ (f : Filesystem ℕ). nat_eq number f.number) world.filesystems) refl there
-  where
-    by : (o : Option (Filesystem ℕ)) → find (λ (f : Filesystem ℕ). nat_eq number f.number) world.filesystems ≡ o
-        → is_some ((unwrap_or o (no_filesystem number)).files.tree.node inode) ≡ true
-        → Among (unwrap_or o (no_filesystem number)) world.filesystems
-    by None e h = absurd (true≢false (sym h))
-    by (Some f) e h = found_among (λ (f : Filesystem ℕ). nat_eq number f.number) world.filesystems f e
+there_among world number inode there = grind (arith, common_steps, true≢false, found_among)
 
 pub leads_same : (world later : World ℕ) (layer : Layer ℕ)
     → filesystem_numbered nat_eq later layer.filesystem ≡ filesystem_numbered nat_eq world layer.filesystem
     → LeadsAsBefore world later layer
-leads_same world later layer same path = (
-  ap (λ (f : Filesystem ℕ). Rattle.vt_spec.specs.TreeInvariant.led f.files.tree layer.directory path) same,
-  kept_same _ _ (ap (λ (f : Filesystem ℕ). then_some
-      (Rattle.vt_spec.specs.TreeInvariant.led f.files.tree layer.directory path) f.files.tree.node) same),
-)
+leads_same world later layer same path = grind (arith, common_steps, kept_same)
 
 pub shown_among : (overlay : Overlay ℕ) (layer : Layer ℕ) → Among layer (shown_layers overlay)
     → Among layer (layers_of overlay)
-shown_among overlay layer m =
-    ⊎_elim (λ up. among-append_left (upper_and_work overlay) overlay.lowers layer
+shown_among overlay layer m = ⊎_elim (λ up. among-append_left (upper_and_work overlay) overlay.lowers layer
     (among-append_left (option_to_list overlay.upper) (option_to_list overlay.work) layer up))
     (λ low. among-append_right (upper_and_work overlay) overlay.lowers layer low)
     (among-append (option_to_list overlay.upper) overlay.lowers layer m)
@@ -128,8 +116,7 @@ module _ (world : World ℕ) (files : AreTrees world) (are : OverlayInvariants n
   -- one that lives is found as it was
   lives_still : (f : Filesystem ℕ) → Among f world.filesystems → filesystem_lives nat_eq world f ≡ true
       → filesystem_numbered nat_eq living f.number ≡ f
-  lives_still f m lives =
-      found_filesystem living.filesystems living_files.one_filesystem f
+  lives_still f m lives = found_filesystem living.filesystems living_files.one_filesystem f
       (among-filter (filesystem_lives nat_eq world) world.filesystems f m lives)
 
   module _ (number : ℕ) (overlay : Overlay ℕ)
@@ -146,8 +133,7 @@ module _ (world : World ℕ) (files : AreTrees world) (are : OverlayInvariants n
 
     same_one : filesystem_numbered nat_eq living number ≡ filesystem_numbered nat_eq world number
     unfolding merged
-    same_one =
-        sym (found_filesystem world.filesystems files.one_filesystem
+    same_one = sym (found_filesystem world.filesystems files.one_filesystem
         (filesystem_numbered nat_eq living number) merged_was.0)
         ∙ ap (filesystem_numbered nat_eq world) (number_of_filesystem living number)
 
@@ -157,15 +143,12 @@ module _ (world : World ℕ) (files : AreTrees world) (are : OverlayInvariants n
     -- it is mounted: no overlay has a layer in it
     is_mounted_itself : is_mounted nat_eq world number ≡ true
     unfolding merged
-    is_mounted_itself =
-        ap (is_mounted nat_eq world) (sym (number_of_filesystem living number))
-        ∙ ⊎_elim (λ mounted. mounted) layered
-        (Rattle.std.proofs.lemmas.Bool.or_cases
+    is_mounted_itself = ap (is_mounted nat_eq world) (sym (number_of_filesystem living number))
+        ∙ ⊎_elim (λ mounted. mounted) layered (Rattle.std.proofs.lemmas.Bool.or_cases
         (is_mounted nat_eq world (filesystem_numbered nat_eq living number).number) _ merged_was.1)
       where
         in_overlay : (f : Filesystem ℕ) → filesystem_numbered nat_eq world f.number ≡ f → (o : Option (Overlay ℕ))
-            → f.overlay ≡ o
-            → overlay_or false (λ v. list_any
+            → f.overlay ≡ o → overlay_or false (λ v. list_any
             (λ layer. nat_eq (filesystem_numbered nat_eq living number).number layer.filesystem) (layers_of v)) o ≡ true
             → ⊥
         in_overlay f itself None e h = true≢false (sym h)
@@ -199,14 +182,12 @@ module _ (world : World ℕ) (files : AreTrees world) (are : OverlayInvariants n
         let plain = plain_layer world files are number overlay was layer m in
         let directory = and_true_right (not (is_overlay (filesystem_numbered nat_eq world layer.filesystem))) _ plain in
         let f = filesystem_numbered nat_eq world layer.filesystem in
-        ap (filesystem_numbered nat_eq living) (sym (number_of_filesystem world layer.filesystem))
-        ∙ lives_still f
+        ap (filesystem_numbered nat_eq living) (sym (number_of_filesystem world layer.filesystem)) ∙ lives_still f
         (there_among world layer.filesystem layer.directory
         (Rattle.vt_spec.proofs.Nodes.directory_used f.files.tree layer.directory directory))
         (or_second (is_mounted nat_eq world f.number) _
         (any_from_among (λ (g : Filesystem ℕ). has_layer_on nat_eq f.number g
-        && is_mounted nat_eq world g.number) world.filesystems
-        (filesystem_numbered nat_eq world number)
+        && is_mounted nat_eq world g.number) world.filesystems (filesystem_numbered nat_eq world number)
         (among-from_filter is_overlay world.filesystems (filesystem_numbered nat_eq world number)
         (merged_among world number overlay was)).0
         (and_from (has_layer_on nat_eq f.number (filesystem_numbered nat_eq world number)) _
@@ -231,13 +212,11 @@ module _ (world : World ℕ) (files : AreTrees world) (are : OverlayInvariants n
       objects = λ inode object e. e;
       leads = λ layer m. leads_same world living layer (layer_same layer m);
       reached = λ top e. subst (λ (f : Filesystem ℕ). IsReached f.files.tree top.directory)
-          (sym (layer_same top (upper_among overlay top e)))
-          (are.uppers_reached number overlay top was e);
+          (sym (layer_same top (upper_among overlay top e))) (are.uppers_reached number overlay top was e);
     }
 
   pub living_overlays : OverlayInvariants nat_eq living
-  living_overlays =
-      overlays_go_on world living files are living_files living_goes
+  living_overlays = overlays_go_on world living files are living_files living_goes
       (λ test e. ap (any_pair test) (layers_of_all upper_and_work
       (filter (filesystem_lives nat_eq world) world.filesystems))
       ∙ pairs_fewer test (of_overlay [] upper_and_work) (filesystem_lives nat_eq world) world.filesystems

@@ -33,8 +33,7 @@ module _ (used : List ℕ) (files : FileTree ℕ) (holds : HoldsTree used files)
       by : (b : Bool) → is_among nat_eq directory used ≡ b
           → entry_at left directory name ≡ entry_at files.tree directory name
       by true e = ap (λ o. entry_named name (entries_in o)) (used_node directory e)
-      by false e =
-          ap (λ b. entry_named name (entries_in (cond b (files.tree.node directory) None))) e
+      by false e = ap (λ b. entry_named name (entries_in (cond b (files.tree.node directory) None))) e
           ∙ sym (unused e (entry_at files.tree directory name) refl)
 
   pub led_same : (path : List (List ℕ)) (from : ℕ) → led left from path ≡ led files.tree from path

@@ -59,8 +59,7 @@ module _ (world : World ℕ) (under : IsUnderWay world) (are : OverlayInvariants
   overlays_first = first_overlays living files_living one_living overlays_living
 
   overlays_second : OverlayInvariants nat_eq second
-  overlays_second =
-      second_overlays first (files_later is_overlay living files_living one_living)
+  overlays_second = second_overlays first (files_later is_overlay living files_living one_living)
       (one_later is_overlay living files_living one_living) overlays_first
 
   pub overlays_settled : OverlayInvariants nat_eq (settled nat_eq world)
@@ -68,8 +67,7 @@ module _ (world : World ℕ) (under : IsUnderWay world) (are : OverlayInvariants
 
   -- no upper layer is in an overlay
   uppers_plain : UppersArePlain world
-  uppers_plain =
-      all_from_among (λ (f : Filesystem ℕ). is_overlay f ≡ true
+  uppers_plain = all_from_among (λ (f : Filesystem ℕ). is_overlay f ≡ true
       → All (λ (merged : Filesystem ℕ). has_upper_in f.number merged ≡ false) world.filesystems) world.filesystems
       (λ f m over.
       all_from_among (λ (merged : Filesystem ℕ). has_upper_in f.number merged ≡ false) world.filesystems (λ merged n.
@@ -78,15 +76,13 @@ module _ (world : World ℕ) (under : IsUnderWay world) (are : OverlayInvariants
       in_it : (f : Filesystem ℕ) → Among f world.filesystems → is_overlay f ≡ true
           → (merged : Filesystem ℕ) (v : Overlay ℕ)
           → (filesystem_numbered nat_eq world merged.number).overlay ≡ Some v → (upper : Option (Layer ℕ))
-          → v.upper ≡ upper
-          → holds_of (λ layer. nat_eq f.number layer.filesystem) upper ≡ false
+          → v.upper ≡ upper → holds_of (λ layer. nat_eq f.number layer.filesystem) upper ≡ false
       in_it f m over merged v is None u = refl
       in_it f m over merged v is (Some top) u = tested (nat_eq f.number top.filesystem) refl
         where
           tested : (b : Bool) → nat_eq f.number top.filesystem ≡ b → nat_eq f.number top.filesystem ≡ false
           tested false e = e
-          tested true e =
-              absurd (true≢false
+          tested true e = absurd (true≢false
               (sym (and_true_left (not (is_overlay (filesystem_numbered nat_eq world top.filesystem))) _
               (plain_layer world (are_trees world under.files) are merged.number v is top
               (subst (λ o. Among top (option_to_list o ++ option_to_list v.work ++ v.lowers)) (sym u) (inl refl))))

@@ -52,20 +52,17 @@ module _ (files : FileTree ℕ) (tree : IsTree files.tree) (first : ℕ → Opti
       → upper_object (real directory) ≡ Some seen → (inode : ℕ)
       → Among inode (merge_without_name nat_eq fresh stack here directory name object).upper.numbers
       → WasOrIsNamed (merge_without_name nat_eq fresh stack here directory name object).upper inode
-  removed_named directory name object seen e has inode =
-      by (shown_in_lowers_at nat_eq stack here directory name)
+  removed_named directory name object seen e has inode = by (shown_in_lowers_at nat_eq stack here directory name)
       (removed_with files tree first fresh stack real upper sound directory name object seen e has)
     where
       later : Option (Shown ℕ) → FileTree ℕ
       later o = without_contents nat_eq (name_left_by nat_eq (is_some o) fresh stack upper
-          (upper_of here directory) name)
-          (upper_directory_named here directory name)
+          (upper_of here directory) name) (upper_directory_named here directory name)
 
       by : (o : Option (Shown ℕ)) → LeftWith (fresh 0) o stack (later o) (upper_of here directory) name
           → Among inode (later o).numbers → WasOrIsNamed (later o) inode
       by None left m = inl (subst (Among inode) (numbers_emptied _ (upper_directory_named here directory name)) m)
-      by (Some shown) left m =
-          ⊎_elim (λ same. inr (upper_of here directory, name, left.0 ∙ ap Some (sym same))) inl
+      by (Some shown) left m = ⊎_elim (λ same. inr (upper_of here directory, name, left.0 ∙ ap Some (sym same))) inl
           (subst (Among inode) (numbers_emptied _ (upper_directory_named here directory name)) m)
 
   moved_named : (from : ℕ) (old : List ℕ) (to : ℕ) (name : List ℕ) (object seen_from seen : ℕ)
@@ -79,8 +76,7 @@ module _ (files : FileTree ℕ) (tree : IsTree files.tree) (first : ℕ → Opti
     where
       away : FileTree ℕ
       away = with_moved nat_eq (without_contents nat_eq upper (upper_directory_named here to name))
-          (upper_of here from) old
-          (upper_of here to) name (upper_of here object)
+          (upper_of here from) old (upper_of here to) name (upper_of here object)
 
       mark : Bool
       mark = hides_directory nat_eq stack here to name
@@ -90,12 +86,9 @@ module _ (files : FileTree ℕ) (tree : IsTree files.tree) (first : ℕ → Opti
           (upper_of here object)
 
       was : Among inode away.numbers → Among inode upper.numbers
-      was m =
-          subst (Among inode)
+      was m = subst (Among inode)
           (numbers_moved (without_contents nat_eq upper (upper_directory_named here to name)) (upper_of here from) old
-          (upper_of here to) name
-          (upper_of here object)
-          ∙ numbers_emptied upper (upper_directory_named here to name)) m
+          (upper_of here to) name (upper_of here object) ∙ numbers_emptied upper (upper_directory_named here to name)) m
 
       by : (o : Option (Shown ℕ)) → LeftWith (fresh 0) o stack (later o) (upper_of here from) old
           → Among inode (later o).numbers → WasOrIsNamed (later o) inode
@@ -118,29 +111,23 @@ module _ (fresh : Fresh ℕ) (stack : Stack ℕ) (before : Merge ℕ) (fit : IsF
       → later.files ≡ changed nat_eq copied.files change
       → later.real ≡ copied.real → later.upper.tree.root ≡ copied.upper.tree.root
       → ((inode : ℕ) → Among inode later.upper.numbers
-      → Among inode copied.upper.numbers ⊎ HasName later.upper.tree inode)
-      → Adds change before later
+      → Among inode copied.upper.numbers ⊎ HasName later.upper.tree inode) → Adds change before later
   adds_no_object change copied later grown files real root numbers = record {
     files = files_so;
     root = root ∙ grown.root;
     grows = λ number object e. ap (λ r. upper_object (r number)) real ∙ grown.grows number object e;
     reals = λ number h. there_later number
         (there_still copied grown number (ap (λ r. is_some (r number)) (sym real) ∙ h));
-    numbers = λ inode m.
-        ⊎_elim
-        (λ was. ⊎_elim inl
+    numbers = λ inode m. ⊎_elim (λ was. ⊎_elim inl
         (λ new. inr (inl (new.0, there_later new.0 new.1, ap (λ r. upper_object (r new.0)) real ∙ new.2)))
-        (grown.numbers inode was))
-        (λ named. inr (inr named))
-        (numbers inode m);
+        (grown.numbers inode was)) (λ named. inr (inr named)) (numbers inode m);
   }
     where
       files_so : later.files ≡ changed nat_eq before.files change
       files_so = files ∙ ap (λ f. changed nat_eq f change) grown.files
 
       there_later : (number : ℕ) → is_some (before.files.tree.node number) ≡ true → Among number later.files.numbers
-      there_later number is =
-          subst (λ (f : FileTree ℕ). Among number f.numbers) (sym files_so)
+      there_later number is = subst (λ (f : FileTree ℕ). Among number f.numbers) (sym files_so)
           (numbers_stay before.files change number (listed number is))
 
   pub adds : (change : Change ℕ) → MayChange before.files change → NameIsThere before.files change
@@ -148,34 +135,22 @@ module _ (fresh : Fresh ℕ) (stack : Stack ℕ) (before : Merge ℕ) (fit : IsF
   adds (Make directory name number node) may named = record {
     files = files_so;
     root = root-marked mark _ (odds fresh 0) ∙ grown.root;
-    grows = λ other object e.
-        ⊎_elim
-        (λ same. absurd (true≢false (sym
+    grows = λ other object e. ⊎_elim (λ same. absurd (true≢false (sym
         (there_still copied grown other (seen_real other object (grown.grows other object e)))
         ∙ ap (λ n. is_some (before.files.tree.node n)) same.1 ∙ ap is_some may.is_new)))
         (λ differ. ap (λ b. upper_object (cond b (Some (Upper (odds fresh 0))) (copied.real other))) differ.0
-        ∙ grown.grows other object e)
-        (eqb_tells other number);
-    reals = λ other h.
-        ⊎_elim
-        (λ same. subst (λ (f : FileTree ℕ). Among other f.numbers) (sym files_so) (inl same.1))
-        (λ differ. there_later other
-        (there_still copied grown other
+        ∙ grown.grows other object e) (eqb_tells other number);
+    reals = λ other h. ⊎_elim (λ same. subst (λ (f : FileTree ℕ). Among other f.numbers) (sym files_so) (inl same.1))
+        (λ differ. there_later other (there_still copied grown other
         (ap (λ b. is_some (cond b (Some (Upper (odds fresh 0))) (copied.real other))) (sym differ.0) ∙ h)))
         (eqb_tells other number);
-    numbers = λ inode m.
-        ⊎_elim
-        (λ new. inr (inl (
-          number,
-          subst (λ (f : FileTree ℕ). Among number f.numbers) (sym files_so) (inl refl),
-          ap (λ b. upper_object (cond b (Some (Upper (odds fresh 0))) (copied.real number)))
-              (eq-eqb number number refl) ∙ ap Some
-              (sym new),
-        )))
-        (λ old. ⊎_elim inl
-        (λ new. inr (inl (new.0, there_later new.0 new.1, later_real new.0 inode new.1 new.2)))
-        (grown.numbers inode old))
-        (subst (Among inode) (numbers_marked mark _ (odds fresh 0)) m);
+    numbers = λ inode m. ⊎_elim (λ new. inr (inl (
+      number,
+      subst (λ (f : FileTree ℕ). Among number f.numbers) (sym files_so) (inl refl),
+      ap (λ b. upper_object (cond b (Some (Upper (odds fresh 0))) (copied.real number)))
+          (eq-eqb number number refl) ∙ ap Some (sym new),
+    ))) (λ old. ⊎_elim inl (λ new. inr (inl (new.0, there_later new.0 new.1, later_real new.0 inode new.1 new.2)))
+        (grown.numbers inode old)) (subst (Among inode) (numbers_marked mark _ (odds fresh 0)) m);
   }
     where
       copied : Merge ℕ
@@ -188,8 +163,7 @@ module _ (fresh : Fresh ℕ) (stack : Stack ℕ) (before : Merge ℕ) (fit : IsF
       mark = hides_directory nat_eq stack copied directory name
 
       files_so : (merge_changed nat_eq fresh stack before (Make directory name number node)).files
-          ≡ changed nat_eq before.files
-          (Make directory name number node)
+          ≡ changed nat_eq before.files (Make directory name number node)
       files_so = ap (λ f. changed nat_eq f (Make directory name number node)) grown.files
 
       seen_real : (other object : ℕ) → upper_object (copied.real other) ≡ Some object
@@ -208,8 +182,7 @@ module _ (fresh : Fresh ℕ) (stack : Stack ℕ) (before : Merge ℕ) (fit : IsF
           → upper_object (copied.real other) ≡ Some inode
           → upper_object ((merge_changed nat_eq fresh stack before (Make directory name number node)).real other)
           ≡ Some inode
-      later_real other inode is e =
-          ⊎_elim
+      later_real other inode is e = ⊎_elim
           (λ same. absurd (true≢false (sym is ∙ ap (λ n. is_some (before.files.tree.node n)) same.1
           ∙ ap is_some may.is_new)))
           (λ differ. ap (λ b. upper_object (cond b (Some (Upper (odds fresh 0))) (copied.real other))) differ.0 ∙ e)
@@ -232,14 +205,11 @@ module _ (fresh : Fresh ℕ) (stack : Stack ℕ) (before : Merge ℕ) (fit : IsF
       (root-emptied _ (upper_directory_named (copied_up nat_eq (evens fresh) before directory) directory name)
       ∙ root-name_left_by (is_some
       (shown_in_lowers_at nat_eq stack (copied_up nat_eq (evens fresh) before directory) directory name))
-      (odds fresh) stack
-      (copied_up nat_eq (evens fresh) before directory).upper
+      (odds fresh) stack (copied_up nat_eq (evens fresh) before directory).upper
       (upper_of (copied_up nat_eq (evens fresh) before directory) directory) name)
       (subst (λ m. (inode : ℕ) → Among inode (merge_without_name nat_eq
-      (odds fresh) stack m directory name object).upper.numbers
-      → Among inode m.upper.numbers ⊎ HasName
-      (merge_without_name nat_eq (odds fresh) stack m directory name object).upper.tree inode)
-      (sym ready.soundly.is)
+      (odds fresh) stack m directory name object).upper.numbers → Among inode m.upper.numbers ⊎ HasName
+      (merge_without_name nat_eq (odds fresh) stack m directory name object).upper.tree inode) (sym ready.soundly.is)
       (removed_named before.files fit.tree before.real
       (odds fresh) stack ready.soundly.real ready.soundly.upper ready.soundly.sound
       directory name object seen.0 named seen.1))
@@ -267,30 +237,24 @@ module _ (fresh : Fresh ℕ) (stack : Stack ℕ) (before : Merge ℕ) (fit : IsF
       ∙ root-name_left_by (is_some (shown_in_lowers_at nat_eq stack copied from old)) (odds (odds fresh)) stack _
       (upper_of copied from) old
       ∙ root_moved (without_contents nat_eq copied.upper (upper_directory_named copied to new))
-      (upper_of copied from) old
-      (upper_of copied to) new (upper_of copied object)
-      ∙ root-emptied copied.upper (upper_directory_named copied to new))
-      (subst (λ m. (inode : ℕ) → Among inode
+      (upper_of copied from) old (upper_of copied to) new (upper_of copied object)
+      ∙ root-emptied copied.upper (upper_directory_named copied to new)) (subst (λ m. (inode : ℕ) → Among inode
       (merge_with_moved nat_eq (odds (odds fresh)) stack m from old to new object).upper.numbers
       → Among inode m.upper.numbers ⊎ HasName
       (merge_with_moved nat_eq (odds (odds fresh)) stack m from old to new object).upper.tree inode)
-      (sym ready.soundly.is)
-      (moved_named before.files fit.tree before.real
+      (sym ready.soundly.is) (moved_named before.files fit.tree before.real
       (odds (odds fresh)) stack ready.soundly.real ready.soundly.upper ready.soundly.sound
       from old to new object seen_from.0 seen.0 may.named seen_from.1 seen.1))
-  adds (SetBytes file bytes) may named =
-      adds_no_object (SetBytes file bytes) (copied_up nat_eq fresh before file)
+  adds (SetBytes file bytes) may named = adds_no_object (SetBytes file bytes) (copied_up nat_eq fresh before file)
       (merge_changed nat_eq fresh stack before (SetBytes file bytes))
       (grows_up fresh before file) refl refl refl (λ inode m. inl m)
-  adds (SetAttr object attr) may named =
-      adds_no_object (SetAttr object attr) (copied_up nat_eq fresh before object)
+  adds (SetAttr object attr) may named = adds_no_object (SetAttr object attr) (copied_up nat_eq fresh before object)
       (merge_changed nat_eq fresh stack before (SetAttr object attr))
       (grows_up fresh before object) refl refl refl (λ inode m. inl m)
   adds (SetMark directory opaque) may named =
       adds_no_object (SetMark directory opaque) (copied_up nat_eq fresh before directory)
       (merge_changed nat_eq fresh stack before (SetMark directory opaque))
       (grows_up fresh before directory) refl refl refl (λ inode m. inl m)
-  adds (CopyUp object) may named =
-      adds_no_object (CopyUp object) (copied_up nat_eq fresh before object)
+  adds (CopyUp object) may named = adds_no_object (CopyUp object) (copied_up nat_eq fresh before object)
       (merge_changed nat_eq fresh stack before (CopyUp object))
       (grows_up fresh before object) refl refl refl (λ inode m. inl m)

@@ -1,5 +1,6 @@
 -- A granted rmdir, or rename, takes away mounts of other namespaces alone, so the mount that it goes through stays.
-use Rattle.std.proofs.Common.{◌≡◌, refl, sym, ap, subst, ◌∙◌, ⊎_elim, true≢false, ℕ, nat_eq, true, false, ◌&&◌, Ok, Option, Some, None, flat_map, is_some, length, map}
+use Rattle.std.proofs.Common.{arith, ◌≡◌, refl, sym, ap, subst, ◌∙◌, ⊎_elim, true≢false, ℕ, nat_eq, true, false, ◌&&◌, Ok, Option, Some, None, flat_map, is_some, length, map}
+use Rattle.std.proofs.lemmas.Grind.{common_steps}
 use Rattle.std.proofs.lemmas.Bool.{false_from_ne_true, or_parts}
 use Rattle.std.specs.List.{list_all, list_any}
 use Rattle.std.specs.Prelude.{option_to_list, ⊤}
@@ -7,7 +8,7 @@ use Rattle.vt_spec.proofs.Lists.{Among, among-from_filter, among-from_flat_map, 
 use Rattle.vt_spec.specs.Language.Calls.{Call}
 use Rattle.vt_spec.specs.Lists.{Fresh, holds_of, is_among}
 use Rattle.vt_spec.specs.Machine.Detach.{is_point, mounts_on, points_of}
-use Rattle.vt_spec.specs.Machine.Invariants.{IsWorld, Stands, is_nowhere_or_attached}
+use Rattle.vt_spec.specs.Machine.Invariants.{IsWorld, Stands}
 use Rattle.vt_spec.specs.Machine.Judge.{judge_in}
 use Rattle.vt_spec.specs.Machine.Looks.{Looks, looks_of}
 use Rattle.vt_spec.specs.Machine.Mounts.{Location, Mount, mount_tree}
@@ -16,7 +17,7 @@ use Rattle.vt_spec.specs.Machine.Permits.Permit.{ToRemoveDirectory, ToRename}
 use Rattle.vt_spec.specs.Machine.Rules.Conditions.{is_mount_point_anywhere, is_mount_point_in}
 use Rattle.vt_spec.specs.Machine.Rules.Removing.{object_there}
 use Rattle.vt_spec.specs.Machine.Walking.{name_of, old_leaf_walk, old_walk}
-use Rattle.vt_spec.specs.Machine.World.{Task, World, mount_at, mount_numbered, task_called}
+use Rattle.vt_spec.specs.Machine.World.{Task, World, mount_numbered, task_called}
 use Rattle.vt_laws_mounts.specs.LettingGo.Unmounting.{numbers_of_trees}
 use Rattle.vt_laws_mounts.proofs.letting_go.leaving.PlacesLeft.{nowhere_parts}
 use Rattle.vt_laws_mounts.proofs.mounts.MountsReplaced.{found_itself}
@@ -40,13 +41,7 @@ module _ (world : World ℕ) (whole : IsWorld nat_eq world) where
   -- what stands there has a mount point, so it is in a namespace
   has_point : (filesystem node : ℕ) (mount : Mount ℕ) → is_point nat_eq world filesystem node mount ≡ true
       → is_some mount.mount_point ≡ true
-  has_point filesystem node mount e = by mount.mount_point e
-    where
-      by : (place : Option (Location ℕ))
-          → holds_of (λ at. nat_eq at.node node && nat_eq (mount_at nat_eq world at).filesystem filesystem) place ≡ true
-          → is_some place ≡ true
-      by None h = absurd (true≢false (sym h))
-      by (Some place) h = refl
+  has_point filesystem node mount e = grind (arith, common_steps, true≢false)
 
   -- what stands on the directory, with all below it, is in other namespaces
   others_go : (task : Task ℕ) (directory : Location ℕ) → IsFreeFor world task directory → (number : ℕ)
@@ -60,8 +55,7 @@ module _ (world : World ℕ) (whole : IsWorld nat_eq world) where
       let tree = among-from_flat_map (mount_tree nat_eq world.mounts) tops gone.0 gone.1 in
       let top = among-from_filter (λ (mount : Mount ℕ). list_any (λ point. is_point nat_eq world point.0 point.1 mount)
       (points_of nat_eq world directory)) world.mounts tree.0 tree.1 in
-      let there : Among gone.0 world.mounts =
-      ⊎_elim (λ e. subst (λ m. Among m world.mounts) (sym e) top.0) (λ m. m)
+      let there : Among gone.0 world.mounts = ⊎_elim (λ e. subst (λ m. Among m world.mounts) (sym e) top.0) (λ m. m)
       (tree_among (length world.mounts) world.mounts tree.0 gone.0 tree.2) in
       let same : (mount_numbered nat_eq world number).namespace ≡ tree.0.namespace =
       ap (λ n. (mount_numbered nat_eq world n).namespace) gone.2
@@ -78,14 +72,7 @@ module _ (world : World ℕ) (whole : IsWorld nat_eq world) where
       by : (mount : Mount ℕ) → Among mount world.mounts → is_some mount.mount_point ≡ true → (o : Option ℕ)
           → mount.namespace ≡ o → holds_of (nat_eq task.namespace) mount.namespace ≡ false
           → list_all (nat_eq task.namespace) (option_to_list mount.namespace) ≡ false
-      by mount m placed None e free =
-          absurd (true≢false
-          (sym placed
-          ∙ (nowhere_parts mount (among_from_list_all is_nowhere_or_attached world.mounts whole.mounts.nowhere mount m)
-          (ap is_some e)).0))
-      by mount m placed (Some own) e free =
-          ap (λ o. list_all (nat_eq task.namespace) (option_to_list o)) e
-          ∙ ap (λ b. b && true) (sym (ap (holds_of (nat_eq task.namespace)) e) ∙ free)
+      by mount m placed o e free = grind (arith, common_steps, true≢false, nowhere_parts, among_from_list_all)
 
   -- what a task reaches is on none of these
   pub reached_stays : (task : Task ℕ) (directory location : Location ℕ) → IsFreeFor world task directory
@@ -115,8 +102,7 @@ module _ (fresh : Fresh ℕ) (world : World ℕ) (whole : IsWorld nat_eq world) 
       by to.object ((or_parts (is_mount_point_anywhere looks (object_there from)) _ passed.1.1.1.1.1.1.1.0).1)
     where
       is : IsOldPlace world whole task called from
-      is =
-          at_end _ (old_leaf_walk nat_eq looks task old) from (old_leaf_walk_found world whole task called old)
+      is = at_end _ (old_leaf_walk nat_eq looks task old) from (old_leaf_walk_found world whole task called old)
           names.from_end
 
       by : (o : Option (Location ℕ)) → holds_of (is_mount_point_in nat_eq looks task.namespace) o ≡ false
@@ -127,8 +113,7 @@ module _ (fresh : Fresh ℕ) (world : World ℕ) (whole : IsWorld nat_eq world) 
 
   pub removal_reached : (call : Call) (permit : Permit ℕ) → judge_in nat_eq fresh world task call ≡ Ok permit
       → Removes permit
-  removal_reached call permit e =
-      granted_removes call permit
+  removal_reached call permit e = granted_removes call permit
       (calls_are_granted nat_eq looks (overfills nat_eq fresh world task) task call permit e)
 
 -- so the mount that it goes through stays

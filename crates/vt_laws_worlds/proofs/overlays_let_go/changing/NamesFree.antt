@@ -22,8 +22,7 @@ use Rattle.vt_spec.proofs.Options.{none_is_some}
 
 module _ (top : OpenLayer ℕ) (lower : List (OpenLayer ℕ)) (path : List (List ℕ)) where
   abbrev real_of_shown : Option (Shown ℕ) → Option ℕ
-  real_of_shown o =
-      upper_object (option_map (λ object. real_object true object.seen.layer object)
+  real_of_shown o = upper_object (option_map (λ object. real_object true object.seen.layer object)
       (option_map (λ seen. record { path = path; seen = seen }) o))
 
   -- an upper object that is shown is the one that the path leads to
@@ -54,12 +53,9 @@ module _ (top : OpenLayer ℕ) (lower : List (OpenLayer ℕ)) (path : List (List
 
       white : (object : ℕ) → at_path top path ≡ Some object → (b : Bool) → is_kind_in White (top.tree.node object) ≡ b
           → at_path top path ≡ None
-      white object f true w =
-          absurd (true≢false (sym there ∙ ap is_some
+      white object f true w = absurd (true≢false (sym there ∙ ap is_some
           (seen_by object f ∙ ap (λ b. when (not b) (record { layer = 0; object = object })) w)))
-      white object f false w =
-          none_is_some object
-          (sym e ∙ ap real_of_shown (seen_by object f
+      white object f false w = none_is_some object (sym e ∙ ap real_of_shown (seen_by object f
           ∙ ap (λ b. when (not b) (record { layer = 0; object = object })) w))
 
       by : (o : Option ℕ) → at_path top path ≡ o → at_path top path ≡ None

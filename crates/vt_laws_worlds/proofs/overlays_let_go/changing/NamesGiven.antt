@@ -1,6 +1,7 @@
 -- What loses its last name in the upper layer where a change gives a name of the overlay: at the most what the upper
 -- layer had at that name before the call.
-use Rattle.std.proofs.Common.{◌≡◌, refl, sym, ap, subst, ◌∙◌, ◌⊎◌, inl, inr, ⊎_elim, append-nil, true≢false, ℕ, nat_eq, Bool, true, false, cond, not, ◌&&◌, List, [], ◌∷◌, ◌++◌, map, Option, Some, None, is_some, option_to_list, unwrap_or}
+use Rattle.std.proofs.Common.{arith, ◌≡◌, refl, sym, ap, subst, ◌∙◌, ◌⊎◌, inl, inr, ⊎_elim, append-nil, true≢false, ℕ, nat_eq, Bool, true, false, cond, not, ◌&&◌, List, [], ◌∷◌, ◌++◌, map, Option, Some, None, is_some, option_to_list, unwrap_or}
+use Rattle.std.proofs.lemmas.Grind.{common_steps}
 use Rattle.std.proofs.lemmas.Bool.{not-true}
 use Rattle.vt_spec.specs.FileTree.{FileTree}
 use Rattle.vt_spec.specs.Language.Changes.{Change}
@@ -9,7 +10,6 @@ use Rattle.vt_spec.specs.Lists.{Fresh, evens, is_among, odds, then_some}
 use Rattle.vt_spec.specs.Machine.CopyUp.{Merge, Stack, copied_up, upper_of}
 use Rattle.vt_spec.specs.Machine.Filesystems.{stack_of, with_change}
 use Rattle.vt_spec.specs.Machine.Invariants.{IsWorld}
-use Rattle.vt_spec.specs.Machine.Locked.{overlay_or}
 use Rattle.vt_spec.specs.Machine.Mounts.{Location}
 use Rattle.vt_spec.specs.Machine.Descriptors.{with_descriptor}
 use Rattle.vt_spec.specs.Machine.Settled.{named_in, settled}
@@ -26,7 +26,7 @@ use Rattle.vt_laws_trees.proofs.layers.layers.CopyingReady.{IsReady}
 use Rattle.vt_laws_mounts.specs.LettingGo.FileChanges.{names_lost}
 use Rattle.vt_laws_mounts.specs.LettingGo.InUse.{IsListedTree, is_inode_used}
 use Rattle.vt_laws_mounts.specs.LettingGo.OneByOne.{Inode, is_inode_among}
-use Rattle.vt_laws_mounts.specs.LettingGo.Overlays.{let_go_all_inodes, let_go_in_of, let_go_merged, let_go_plain, uppers_in, uppers_of, uppers_of_inode_in, without_inode_of}
+use Rattle.vt_laws_mounts.specs.LettingGo.Overlays.{let_go_all_inodes, let_go_in_of, let_go_merged, let_go_plain, uppers_of, uppers_of_inode_in, without_inode_of}
 use Rattle.vt_laws_mounts.proofs.letting_go.leaving.FilesChanged.{none_left}
 use Rattle.vt_laws_mounts.proofs.letting_go.Lists.{Among, among-from_filter, among-from_map, among_from_all, any_passes, flat_map_none, map_same, one_passes}
 use Rattle.vt_laws_mounts.proofs.letting_go.Trees.{named_among}
@@ -50,8 +50,7 @@ no_name_lost files (SetMark directory opaque) may none = refl
 no_name_lost files (CopyUp object) may none = refl
 
 -- Inodes of plain trees are looked at in the plain trees alone
-module _ (number : ℕ) (world : World ℕ)
-    (plain : (f : Filesystem ℕ) → Among f world.filesystems → is_overlay f ≡ true
+module _ (number : ℕ) (world : World ℕ) (plain : (f : Filesystem ℕ) → Among f world.filesystems → is_overlay f ≡ true
     → nat_eq f.number number ≡ false) where
   abbrev inodes_of : List ℕ → List Inode
   inodes_of list = map (λ inode. (number, inode)) list
@@ -63,50 +62,35 @@ module _ (number : ℕ) (world : World ℕ)
     where
       by : (b : Bool) → is_overlay f ≡ b
           → cond ((b && nat_eq f.number number) && not (is_inode_used world f inode)) (without_inode_of inode f) f ≡ f
-      by true e =
-          ap (λ b. cond (b && not (is_inode_used world f inode)) (without_inode_of inode f) f) (plain f m e)
+      by true e = ap (λ b. cond (b && not (is_inode_used world f inode)) (without_inode_of inode f) f) (plain f m e)
       by false e = refl
 
   -- and so do all
   overlays_stay : (list : List ℕ) → let_go_merged world (inodes_of list) ≡ world
   overlays_stay [] = refl
-  overlays_stay (inode ∷ rest) =
-      ap (λ fs. let_go_merged (record world { filesystems = fs }) (inodes_of rest))
+  overlays_stay (inode ∷ rest) = ap (λ fs. let_go_merged (record world { filesystems = fs }) (inodes_of rest))
       (map_same (let_go_in_of is_overlay world (number, inode)) world.filesystems (stays_in_overlays inode))
       ∙ overlays_stay rest
 
   -- an inode of a plain tree has no upper object
   none_in : (inode : ℕ) (f : Filesystem ℕ) → Among f world.filesystems → uppers_of_inode_in (number, inode) f ≡ []
-  none_in inode f m = by f.overlay refl
-    where
-      by : (o : Option (Overlay ℕ)) → f.overlay ≡ o
-          → cond (nat_eq f.number number) (overlay_or [] (uppers_in inode) o) [] ≡ []
-      by None e = nothing (nat_eq f.number number)
-        where
-          nothing : (b : Bool) → Path (List Inode) (cond b [] []) []
-          nothing true = refl
-          nothing false = refl
-      by (Some overlay) e = ap (λ b. cond b (uppers_in inode overlay) []) (plain f m (ap is_some e))
+  none_in inode f m = grind (arith, common_steps)
 
   no_uppers : (list : List ℕ) → uppers_of world (inodes_of list) ≡ []
   no_uppers [] = refl
-  no_uppers (inode ∷ rest) =
-      ap (λ l. l ++ uppers_of world (inodes_of rest))
-      (flat_map_none (uppers_of_inode_in (number, inode)) world.filesystems (none_in inode))
-      ∙ no_uppers rest
+  no_uppers (inode ∷ rest) = ap (λ l. l ++ uppers_of world (inodes_of rest))
+      (flat_map_none (uppers_of_inode_in (number, inode)) world.filesystems (none_in inode)) ∙ no_uppers rest
 
   -- so only those are looked at
   plain_looked_at : (list : List ℕ) → let_go_all_inodes world (inodes_of list) ≡ let_go_plain world (inodes_of list)
-  plain_looked_at list =
-      (λ i. let_go_plain (overlays_stay list i) (inodes_of list ++ no_uppers list i))
+  plain_looked_at list = (λ i. let_go_plain (overlays_stay list i) (inodes_of list ++ no_uppers list i))
       ∙ ap (let_go_plain world) (append-nil (inodes_of list))
 
 -- A directory that is copied has the upper object that it had, where that had a name in it
 module _ (fresh : Fresh ℕ) (stack : Stack ℕ) (before : Merge ℕ) (fit : IsFitToChange fresh before)
     (vacant : (k : ℕ) → before.upper.tree.node (fresh k) ≡ None) where
   stood : (spare : ℕ → Type 0) (list : List ℕ) (copied : Merge ℕ) → IsReady fresh before fit spare list copied
-      → (directory : ℕ) → is_among nat_eq directory list ≡ true
-      → is_some (before.files.tree.node directory) ≡ true
+      → (directory : ℕ) → is_among nat_eq directory list ≡ true → is_some (before.files.tree.node directory) ≡ true
       → (d : ℕ) (n : List ℕ) (k : ℕ) → entry_at before.upper.tree d n ≡ Some k → d ≡ upper_of copied directory
       → upper_object (before.real directory) ≡ Some d
   stood spare list copied ready directory among there d n k e same =
@@ -116,15 +100,11 @@ module _ (fresh : Fresh ℕ) (stack : Stack ℕ) (before : Merge ℕ) (fit : IsF
           → upper_object (before.real directory) ≡ Some d
       by None u h = absurd (true≢false (sym h))
       by (Some seen) u h =
-          let is : d ≡ seen =
-          same ∙ ap (λ m. upper_of m directory) ready.soundly.is
+          let is : d ≡ seen = same ∙ ap (λ m. upper_of m directory) ready.soundly.is
           ∙ ap (λ o. unwrap_or o directory) u in
-          ⊎_elim (λ old. old ∙ ap Some (sym is))
-          (λ (new : (j : ℕ) × (seen ≡ fresh j)).
-          none_is_some k
+          ⊎_elim (λ old. old ∙ ap Some (sym is)) (λ (new : (j : ℕ) × (seen ≡ fresh j)). none_is_some k
           (sym (ap (λ m. entry_named n (entries_in (before.upper.tree.node m))) (is ∙ new.1)
-          ∙ ap (λ o. entry_named n (entries_in o)) (vacant new.0)) ∙ e))
-          (ready.soundly.told directory seen u)
+          ∙ ap (λ o. entry_named n (entries_in o)) (vacant new.0)) ∙ e)) (ready.soundly.told directory seen u)
 
   -- what had the name that is given
   abbrev HadName : ℕ × List ℕ → ℕ → Type 0
@@ -133,16 +113,14 @@ module _ (fresh : Fresh ℕ) (stack : Stack ℕ) (before : Merge ℕ) (fit : IsF
 
   had_name : (directory : ℕ) (name : List ℕ) (d : ℕ) (n : List ℕ) (k : ℕ) → entry_at before.upper.tree d n ≡ Some k
       → upper_object (before.real directory) ≡ Some d → n ≡ name → HadName (directory, name) k
-  had_name directory name d n k e is same =
-      ap (λ o. then_some o (λ m. entry_at before.upper.tree m name)) is
+  had_name directory name d n k e is same = ap (λ o. then_some o (λ m. entry_at before.upper.tree m name)) is
       ∙ ap (entry_at before.upper.tree d) (sym same) ∙ e
 
   -- of a new object
   made_had : (directory : ℕ) (name : List ℕ) → is_some (before.files.tree.node directory) ≡ true
       → (d : ℕ) (n : List ℕ) (k : ℕ) → entry_at before.upper.tree d n ≡ Some k
       → IsAt (copied_up nat_eq (evens fresh) before directory) directory name d n → HadName (directory, name) k
-  made_had directory name there d n k e at =
-      had_name directory name d n k e
+  made_had directory name there d n k e at = had_name directory name d n k e
       (stood _ _ _ (by_evens fresh stack before fit directory) directory (in_own_line fresh stack before fit directory)
       there d n k e at.0) at.1
 
@@ -151,8 +129,7 @@ module _ (fresh : Fresh ℕ) (stack : Stack ℕ) (before : Merge ℕ) (fit : IsF
       → (d : ℕ) (n : List ℕ) (k : ℕ) → entry_at before.upper.tree d n ≡ Some k
       → IsAt (copied_up nat_eq (odds fresh) (copied_up nat_eq (evens fresh) before object) directory) directory name d n
       → HadName (directory, name) k
-  linked_had directory name object there d n k e at =
-      had_name directory name d n k e
+  linked_had directory name object there d n k e at = had_name directory name d n k e
       (stood _ _ _ (then_odds fresh stack before fit object directory) directory
       (among_second fresh stack before fit directory object directory (in_own_line fresh stack before fit directory))
       there d n k e at.0) at.1
@@ -173,8 +150,7 @@ module _ (fresh : Fresh ℕ) (world : World ℕ) (location : Location ℕ) (chan
   given = then_some (name_given change) (upper_at_name world overlay upper)
 
   listed : IsListedTree layer.files
-  listed =
-      among_from_all (λ (f : Filesystem ℕ). IsListedTree f.files) world.filesystems
+  listed = among_from_all (λ (f : Filesystem ℕ). IsListedTree f.files) world.filesystems
       (settles fresh world location change overlay upper conditions can).trees
       layer (layer_there fresh world location change overlay upper conditions can)
 
@@ -198,13 +174,11 @@ module _ (fresh : Fresh ℕ) (world : World ℕ) (location : Location ℕ) (chan
       → (d : ℕ) (n : List ℕ) (k : ℕ) → entry_at before.upper.tree d n ≡ Some k
       → HasName (merge_after fresh world location overlay upper kind).upper.tree k
       ⊎ (then_some (name_given kind) (upper_at_name world overlay upper) ≡ Some k)
-  at_given (Make directory name number node) proper none d n k e =
-      ⊎_elim inl
+  at_given (Make directory name number node) proper none d n k e = ⊎_elim inl
       (λ at. inr (made_had fresh stack before ready can.unused directory name
       (directory_used before.files.tree directory proper.name_is_free.in_directory) d n k e at))
       (made_at fresh stack before ready can.unused free directory name number node d n k e)
-  at_given (AddName directory name object) proper none d n k e =
-      ⊎_elim inl
+  at_given (AddName directory name object) proper none d n k e = ⊎_elim inl
       (λ at. inr (linked_had fresh stack before ready can.unused directory name object
       (directory_used before.files.tree directory proper.name_is_free.in_directory) d n k e at))
       (linked_at fresh stack before ready can.unused free directory name object d n k e)
@@ -214,8 +188,7 @@ module _ (fresh : Fresh ℕ) (world : World ℕ) (location : Location ℕ) (chan
       ⊎_elim inl (λ (m : ⊥). absurd m) (loses fresh stack before ready can.unused free (SetBytes file bytes) d n k e)
   at_given (SetAttr object attr) proper none d n k e =
       ⊎_elim inl (λ (m : ⊥). absurd m) (loses fresh stack before ready can.unused free (SetAttr object attr) d n k e)
-  at_given (SetMark directory opaque) proper none d n k e =
-      ⊎_elim inl (λ (m : ⊥). absurd m)
+  at_given (SetMark directory opaque) proper none d n k e = ⊎_elim inl (λ (m : ⊥). absurd m)
       (loses fresh stack before ready can.unused free (SetMark directory opaque) d n k e)
   at_given (CopyUp object) proper none d n k e =
       ⊎_elim inl (λ (m : ⊥). absurd m) (loses fresh stack before ready can.unused free (CopyUp object) d n k e)
@@ -225,10 +198,8 @@ module _ (fresh : Fresh ℕ) (world : World ℕ) (location : Location ℕ) (chan
   only_given k m =
       let from = among-from_filter (λ n. not (is_among nat_eq n (named_in later_upper))) (named_in layer.files) k m in
       let place = entry_of layer.files listed k from.0 in
-      ⊎_elim
-      (λ named. absurd (true≢false (sym (named_among later_upper can.upper_tree k named)
-      ∙ not-true (is_among nat_eq k (named_in later_upper)) from.1)))
-      (λ gone. gone)
+      ⊎_elim (λ named. absurd (true≢false (sym (named_among later_upper can.upper_tree k named)
+      ∙ not-true (is_among nat_eq k (named_in later_upper)) from.1))) (λ gone. gone)
       (at_given change may none place.0 place.1 k place.2)
 
   -- it is all that may have lost its last name or overlay
@@ -249,21 +220,17 @@ module _ (fresh : Fresh ℕ) (world : World ℕ) (location : Location ℕ) (chan
       (sym (only_given from.0 from.1)) (inl from.2)) found.2
 
   -- the upper layer is in a plain tree, before and after
-  goes_in_plain : (later : World ℕ)
-      → later.filesystems ≡ (with_change nat_eq fresh world location change).filesystems
+  goes_in_plain : (later : World ℕ) → later.filesystems ≡ (with_change nat_eq fresh world location change).filesystems
       → settled nat_eq later ≡ let_go_all_inodes later (replaced_in_upper world overlay upper change)
       → settled nat_eq later ≡ let_go_plain later (replaced_in_upper world overlay upper change)
-  goes_in_plain later same goes =
-      goes
-      ∙ plain_looked_at upper.filesystem later
+  goes_in_plain later same goes = goes ∙ plain_looked_at upper.filesystem later
       (λ f m. layer_plain_then fresh world location change overlay upper conditions can f
       (subst (Among f) same m)) (option_to_list given)
 
   -- that goes which nothing uses
   given_goes : settled nat_eq (with_change nat_eq fresh world location change)
       ≡ let_go_plain (with_change nat_eq fresh world location change) (replaced_in_upper world overlay upper change)
-  given_goes =
-      goes_in_plain (with_change nat_eq fresh world location change) refl
+  given_goes = goes_in_plain (with_change nat_eq fresh world location change) refl
       (goes_within fresh world location change overlay upper conditions can
       (replaced_in_upper world overlay upper change) has_lost)
 

@@ -41,21 +41,17 @@ use Rattle.vt_spec.proofs.Options.{none_is_some}
 
 -- an entry that is at this place
 at_place : (files : FileTree ℕ) (d directory : ℕ) (n name : List ℕ) (k : ℕ) → entry_at files.tree d n ≡ Some k
-    → (d ≡ directory) × (n ≡ name)
-    → Among k (option_to_list (entry_at files.tree directory name))
-at_place files d directory n name k e same =
-    subst (λ o. Among k (option_to_list o))
+    → (d ≡ directory) × (n ≡ name) → Among k (option_to_list (entry_at files.tree directory name))
+at_place files d directory n name k e same = subst (λ o. Among k (option_to_list o))
     (sym (ap (λ m. entry_at files.tree m name) (sym same.0) ∙ ap (entry_at files.tree d) (sym same.1) ∙ e)) (inl refl)
 
 -- an entry that is emptied out is in that directory
 emptied_out : (files : FileTree ℕ) (replaced : Option ℕ) (d : ℕ) (n : List ℕ) (k : ℕ) → entry_at files.tree d n ≡ Some k
     → (entry_at (without_contents nat_eq files replaced).tree d n ≡ Some k) ⊎ (replaced ≡ Some d)
 emptied_out files None d n k e = inl e
-emptied_out files (Some object) d n k e =
-    ⊎_elim (λ same. inr (ap Some (sym same.1)))
+emptied_out files (Some object) d n k e = ⊎_elim (λ same. inr (ap Some (sym same.1)))
     (λ other. inl (ap (λ o. entry_named n (entries_in o))
-    (emptied_other files (Some object) d (λ s. other.1 (sym (same_Some object d s)))) ∙ e))
-    (eqb_tells d object)
+    (emptied_other files (Some object) d (λ s. other.1 (sym (same_Some object d s)))) ∙ e)) (eqb_tells d object)
 
 -- an entry of the upper layer is at a name of a directory of the overlay
 abbrev pub IsAt : Merge ℕ → ℕ → List ℕ → ℕ → List ℕ → Type 0
@@ -65,15 +61,11 @@ IsAt merge directory name d n = (d ≡ upper_of merge directory) × (n ≡ name)
 linked_loses : (merge : Merge ℕ) (directory : ℕ) (name : List ℕ) (object : ℕ) (d : ℕ) (n : List ℕ) (k : ℕ)
     → entry_at merge.upper.tree d n ≡ Some k
     → HasName (merge_with_link nat_eq merge directory name object).upper.tree k ⊎ IsAt merge directory name d n
-linked_loses merge directory name object d n k e =
-    ⊎_elim inr
-    (λ differ. inl (
-      d,
-      n,
-      put_same merge.upper (upper_of merge directory) name (upper_of merge object) d n differ
-          ∙ e,
-    ))
-    (one_place d (upper_of merge directory) n name)
+linked_loses merge directory name object d n k e = ⊎_elim inr (λ differ. inl (
+  d,
+  n,
+  put_same merge.upper (upper_of merge directory) name (upper_of merge object) d n differ ∙ e,
+)) (one_place d (upper_of merge directory) n name)
 
 -- Changes of an overlay of which all that they ask for is copied
 module _ (fresh : Fresh ℕ) (stack : Stack ℕ) (merge : Merge ℕ)
@@ -93,18 +85,15 @@ module _ (fresh : Fresh ℕ) (stack : Stack ℕ) (merge : Merge ℕ)
 
   left_same : (hidden : Bool) (files : FileTree ℕ) (directory : ℕ) (name : List ℕ) (d : ℕ) (n : List ℕ) → d ≢ fresh 0
       → ((d ≡ directory) → (n ≡ name) → ⊥)
-      → entry_at (name_left_by nat_eq hidden fresh stack files directory name).tree d n
-      ≡ entry_at files.tree d n
+      → entry_at (name_left_by nat_eq hidden fresh stack files directory name).tree d n ≡ entry_at files.tree d n
   left_same true files directory name d n new differ =
       put_same (with_inode nat_eq files (fresh 0) (whiteout_of stack.mounter)) directory name (fresh 0) d n differ
       ∙ with_new files (whiteout_of stack.mounter) d n new
   left_same false files directory name d n new differ = take_same files directory name d n differ
 
   in_emptied : (replaced : Option ℕ) (d : ℕ) (n : List ℕ) (k : ℕ) → entry_at merge.upper.tree d n ≡ Some k
-      → replaced ≡ Some d
-      → Among k (names_under merge replaced)
-  in_emptied replaced d n k e is =
-      subst (λ o. Among k (names_under merge o)) (sym is)
+      → replaced ≡ Some d → Among k (names_under merge replaced)
+  in_emptied replaced d n k e is = subst (λ o. Among k (names_under merge o)) (sym is)
       (among_numbers k (targets_in (merge.upper.tree.node d))
       (among_targets n (entries_in (merge.upper.tree.node d)) k e))
 
@@ -112,20 +101,15 @@ module _ (fresh : Fresh ℕ) (stack : Stack ℕ) (merge : Merge ℕ)
       → entry_at merge.upper.tree d n ≡ Some k
       → HasName (merge_with_new nat_eq fresh stack merge directory name number node).upper.tree k
       ⊎ IsAt merge directory name d n
-  made_loses directory name number node d n k e =
-      ⊎_elim inr
-      (λ differ. inl (
-        d,
-        n,
-        ap (entry_named n)
-            (marked_entries (hides_directory nat_eq stack merge directory name)
-            (with_name nat_eq (with_inode nat_eq merge.upper (fresh 0) object) (upper_of merge directory) name
-            (fresh 0)) (fresh 0) d)
-            ∙ put_same (with_inode nat_eq merge.upper (fresh 0) object) (upper_of merge directory) name
-            (fresh 0) d n differ
-            ∙ with_new merge.upper object d n (not_new d n k e) ∙ e,
-      ))
-      (one_place d (upper_of merge directory) n name)
+  made_loses directory name number node d n k e = ⊎_elim inr (λ differ. inl (
+    d,
+    n,
+    ap (entry_named n) (marked_entries (hides_directory nat_eq stack merge directory name)
+        (with_name nat_eq (with_inode nat_eq merge.upper (fresh 0) object) (upper_of merge directory) name
+        (fresh 0)) (fresh 0) d)
+        ∙ put_same (with_inode nat_eq merge.upper (fresh 0) object) (upper_of merge directory) name
+        (fresh 0) d n differ ∙ with_new merge.upper object d n (not_new d n k e) ∙ e,
+  )) (one_place d (upper_of merge directory) n name)
     where
       object : Node ℕ
       object = record { attr = node.attr; content = content_with_parent (upper_of merge directory) node.content }
@@ -133,13 +117,10 @@ module _ (fresh : Fresh ℕ) (stack : Stack ℕ) (merge : Merge ℕ)
   removed_loses : (directory : ℕ) (name : List ℕ) (object : ℕ)
       → NamedOr (merge_without_name nat_eq fresh stack merge directory name object).upper
       (upper_names_lost merge (Remove directory name object))
-  removed_loses directory name object d n k e =
-      ⊎_elim
-      (λ same. inr (among-append_left (under_name merge directory name)
+  removed_loses directory name object d n k e = ⊎_elim (λ same. inr (among-append_left (under_name merge directory name)
       (names_under merge (upper_directory_named merge directory name)) k
       (at_place merge.upper d (upper_of merge directory) n name k e same)))
-      (λ differ. ⊎_elim (λ still. inl (d, n, still))
-      (λ out. inr (among-append_right (under_name merge directory name)
+      (λ differ. ⊎_elim (λ still. inl (d, n, still)) (λ out. inr (among-append_right (under_name merge directory name)
       (names_under merge (upper_directory_named merge directory name)) k
       (in_emptied (upper_directory_named merge directory name) d n k e out)))
       (emptied_out (name_left_by nat_eq hidden fresh stack merge.upper (upper_of merge directory) name)
@@ -153,40 +134,27 @@ module _ (fresh : Fresh ℕ) (stack : Stack ℕ) (merge : Merge ℕ)
   moved_loses : (from : ℕ) (old : List ℕ) (to : ℕ) (new : List ℕ) (object : ℕ)
       → NamedOr (merge_with_moved nat_eq fresh stack merge from old to new object).upper
       (upper_names_lost merge (Move from old to new object))
-  moved_loses from old to new object d n k e =
-      ⊎_elim
-      (λ freed. ⊎_elim
+  moved_loses from old to new object d n k e = ⊎_elim (λ freed. ⊎_elim
       (λ same. inr (first_two (among-append_left (under_name merge from old) (under_name merge to new) k
-      (at_place merge.upper d (upper_of merge from) n old k e same))))
-      (λ left. ⊎_elim
+      (at_place merge.upper d (upper_of merge from) n old k e same)))) (λ left. ⊎_elim
       (λ same. inr (first_two (among-append_right (under_name merge from old) (under_name merge to new) k
-      (at_place merge.upper d (upper_of merge to) n new k e same))))
-      (λ put. inl (
+      (at_place merge.upper d (upper_of merge to) n new k e same)))) (λ put. inl (
         d,
         n,
-        ap (entry_named n)
-            (marked_entries (hides_directory nat_eq stack merge to new)
+        ap (entry_named n) (marked_entries (hides_directory nat_eq stack merge to new)
             (name_left_by nat_eq hidden fresh stack away (upper_of merge from) old) (upper_of merge object) d)
-            ∙ left_same hidden away (upper_of merge from) old d n (not_new d n k e) left
-            ∙ ap (entry_named n)
+            ∙ left_same hidden away (upper_of merge from) old d n (not_new d n k e) left ∙ ap (entry_named n)
             (part-changed_node entries_in (with_name nat_eq (without_name nat_eq apart (upper_of merge from) old)
-            (upper_of merge to) new
-            (upper_of merge object))
+            (upper_of merge to) new (upper_of merge object))
             (upper_of merge object) (node_with_parent (upper_of merge to))
             (entries-node_with_parent (upper_of merge to)) d)
             ∙ put_same (without_name nat_eq apart (upper_of merge from) old) (upper_of merge to) new
-            (upper_of merge object) d n put
-            ∙ take_same apart (upper_of merge from) old d n left
+            (upper_of merge object) d n put ∙ take_same apart (upper_of merge from) old d n left
             ∙ ap (entry_named n) (entries-without_parent empty
-            (entry_named new (entries_in (empty.tree.node (upper_of merge to)))) d)
-            ∙ freed,
-      ))
-      (one_place d (upper_of merge to) n new))
-      (one_place d (upper_of merge from) n old))
+            (entry_named new (entries_in (empty.tree.node (upper_of merge to)))) d) ∙ freed,
+      )) (one_place d (upper_of merge to) n new)) (one_place d (upper_of merge from) n old))
       (λ out. inr (among-append_right (under_name merge from old ++ under_name merge to new)
-      (names_under merge replaced) k
-      (in_emptied replaced d n k e out)))
-      (emptied_out merge.upper replaced d n k e)
+      (names_under merge replaced) k (in_emptied replaced d n k e out))) (emptied_out merge.upper replaced d n k e)
     where
       replaced : Option ℕ
       replaced = upper_directory_named merge to new
@@ -212,8 +180,7 @@ module _ (fresh : Fresh ℕ) (stack : Stack ℕ) (before : Merge ℕ) (fit : IsF
     (vacant : (k : ℕ) → before.upper.tree.node (fresh k) ≡ None)
     (free : (directory : ℕ) (name : List ℕ) (object seen : ℕ) → entry_at before.files.tree directory name ≡ Some object
     → upper_object (before.real object) ≡ None → upper_object (before.real directory) ≡ Some seen
-    → entry_at before.upper.tree seen name
-    ≡ None) where
+    → entry_at before.upper.tree seen name ≡ None) where
   abbrev files : FileTree ℕ
   files = before.files
 
@@ -248,16 +215,11 @@ module _ (fresh : Fresh ℕ) (stack : Stack ℕ) (before : Merge ℕ) (fit : IsF
   -- by one half of the numbers, with the other left
   by_evens : (object : ℕ)
       → Fine files fit.tree fit.numbers before.upper (evens fresh) (evens-distinct fresh fit.distinct)
-      (IsNewBy (odds fresh))
-      (not_odd fresh fit.distinct)
-      (copied_up nat_eq (evens fresh) before object)
-  by_evens object =
-      line_fine files fit.tree fit.numbers before.upper (evens fresh) (evens-distinct fresh fit.distinct)
-      (IsNewBy (odds fresh))
-      (not_odd fresh fit.distinct) object before.real before.upper
+      (IsNewBy (odds fresh)) (not_odd fresh fit.distinct) (copied_up nat_eq (evens fresh) before object)
+  by_evens object = line_fine files fit.tree fit.numbers before.upper (evens fresh) (evens-distinct fresh fit.distinct)
+      (IsNewBy (odds fresh)) (not_odd fresh fit.distinct) object before.real before.upper
       (begin (evens fresh) (evens-distinct fresh fit.distinct) (IsNewBy (odds fresh)) (not_odd fresh fit.distinct)
-      (λ k. (2 * k, refl))
-      (λ number s. (2 * s.0 + 1, s.1)))
+      (λ k. (2 * k, refl)) (λ number s. (2 * s.0 + 1, s.1)))
 
   evens_copied : (object : ℕ) → IsCopied (odds fresh 0) (copied_up nat_eq (evens fresh) before object)
   evens_copied object =
@@ -293,16 +255,14 @@ module _ (fresh : Fresh ℕ) (stack : Stack ℕ) (before : Merge ℕ) (fit : IsF
       (λ k s. s) object before.real before.upper
       (begin fresh fit.distinct no_spare (λ k s. s) (λ k. (k, refl)) (λ number s. absurd s)) in
       subst (λ m. (d : ℕ) (n : List ℕ) (k : ℕ) → entry_at before.upper.tree d n ≡ Some k
-      → entry_at m.upper.tree d n ≡ Some k)
-      (sym done.is) done.fine.stays
+      → entry_at m.upper.tree d n ≡ Some k) (sym done.is) done.fine.stays
 
   abbrev later : Change ℕ → FileTree ℕ
   later change = (merge_changed nat_eq fresh stack before change).upper
 
   -- what loses its last name to an object that is made, or to a further name, had that name
   pub made_at : (directory : ℕ) (name : List ℕ) (number : ℕ) (node : Node ℕ) (d : ℕ) (n : List ℕ) (k : ℕ)
-      → entry_at before.upper.tree d n ≡ Some k
-      → HasName (later (Make directory name number node)).tree k
+      → entry_at before.upper.tree d n ≡ Some k → HasName (later (Make directory name number node)).tree k
       ⊎ IsAt (copied_up nat_eq (evens fresh) before directory) directory name d n
   made_at directory name number node d n k e =
       let copied = evens_copied directory in
@@ -315,13 +275,11 @@ module _ (fresh : Fresh ℕ) (stack : Stack ℕ) (before : Merge ℕ) (fit : IsF
       ≡ Some k
   both_stay directory object d n k e =
       let done = then_by object directory (odds fresh) (odds-distinct fresh fit.distinct) no_spare (λ j s. s)
-      (λ j. (j, refl))
-      (λ m s. absurd s) in
+      (λ j. (j, refl)) (λ m s. absurd s) in
       subst (λ m. entry_at m.upper.tree d n ≡ Some k) (sym done.is) (done.fine.stays d n k e)
 
   pub linked_at : (directory : ℕ) (name : List ℕ) (object : ℕ) (d : ℕ) (n : List ℕ) (k : ℕ)
-      → entry_at before.upper.tree d n ≡ Some k
-      → HasName (later (AddName directory name object)).tree k
+      → entry_at before.upper.tree d n ≡ Some k → HasName (later (AddName directory name object)).tree k
       ⊎ IsAt (copied_up nat_eq (odds fresh) (copied_up nat_eq (evens fresh) before object) directory) directory name d n
   linked_at directory name object d n k e =
       linked_loses (copied_up nat_eq (odds fresh) (copied_up nat_eq (evens fresh) before object) directory) directory
@@ -333,8 +291,7 @@ module _ (fresh : Fresh ℕ) (stack : Stack ℕ) (before : Merge ℕ) (fit : IsF
       let copied = copied_up nat_eq (evens fresh) before directory in
       ⊎_elim inl
       (λ at. inr (at_place copied.upper d (upper_of copied directory) n name k ((evens_copied directory).stays d n k e)
-      at))
-      (made_at directory name number node d n k e)
+      at)) (made_at directory name number node d n k e)
   loses (AddName directory name object) d n k e =
       let copied = copied_up nat_eq (odds fresh) (copied_up nat_eq (evens fresh) before object) directory in
       ⊎_elim inl
@@ -352,8 +309,7 @@ module _ (fresh : Fresh ℕ) (stack : Stack ℕ) (before : Merge ℕ) (fit : IsF
       let copied = copied_up nat_eq (evens (odds fresh)) (copied_up nat_eq (evens fresh) before object) to in
       moved_loses (odds (odds fresh)) stack copied
       (subst (λ m. entries_in (m.upper.tree.node (odds (odds fresh) 0)) ≡ []) (sym done.is)
-      (done.fine.clear (odds (odds fresh) 0) (inr (0, refl))).0)
-      from old to new object d n k
+      (done.fine.clear (odds (odds fresh) 0) (inr (0, refl))).0) from old to new object d n k
       (subst (λ m. entry_at m.upper.tree d n ≡ Some k) (sym done.is) (done.fine.stays d n k e))
   loses (SetBytes file bytes) d n k e =
       let copied = copied_up nat_eq fresh before file in
@@ -377,8 +333,7 @@ module _ (fresh : Fresh ℕ) (stack : Stack ℕ) (before : Merge ℕ) (fit : IsF
         d,
         n,
         ap (entry_named n) (part-changed_node entries_in copied.upper (upper_of copied directory)
-            (node_with_mark opaque)
-            (entries-node_with_mark opaque) d) ∙ all_copied directory d n k e,
+            (node_with_mark opaque) (entries-node_with_mark opaque) d) ∙ all_copied directory d n k e,
       )
   loses (CopyUp object) d n k e = inl (d, n, all_copied object d n k e)
 
@@ -398,13 +353,10 @@ only_these_lose_names fresh world location change overlay upper conditions can =
     all_pass (λ inode. is_among nat_eq inode lost) (unnamed_by layer.files later_upper) (λ k m.
     let from = among-from_filter (λ n. not (is_among nat_eq n (named_in later_upper))) (named_in layer.files) k m in
     let place = entry_of layer.files listed k from.0 in
-    ⊎_elim
-    (λ named. absurd (true≢false (sym (named_among later_upper can.upper_tree k named)
-    ∙ not-true (is_among nat_eq k (named_in later_upper)) from.1)))
-    (λ gone. is_among_numbers k lost gone)
+    ⊎_elim (λ named. absurd (true≢false (sym (named_among later_upper can.upper_tree k named)
+    ∙ not-true (is_among nat_eq k (named_in later_upper)) from.1))) (λ gone. is_among_numbers k lost gone)
     (loses fresh (stack_of nat_eq world overlay upper) (merge_at world location overlay upper)
-    (fit fresh world location change overlay upper conditions can) can.unused
-    (names_free world conditions
+    (fit fresh world location change overlay upper conditions can) can.unused (names_free world conditions
     (mount_at nat_eq world location).filesystem overlay can.overlay_there upper can.upper_there)
     change place.0 place.1 k place.2))
   where
@@ -418,8 +370,7 @@ only_these_lose_names fresh world location change overlay upper conditions can =
     lost = upper_names_lost (copied_for fresh (merge_at world location overlay upper) change) change
 
     listed : IsListedTree layer.files
-    listed =
-        among_from_all (λ (f : Filesystem ℕ). IsListedTree f.files) world.filesystems
+    listed = among_from_all (λ (f : Filesystem ℕ). IsListedTree f.files) world.filesystems
         (settles fresh world location change overlay upper conditions can).trees
         layer (layer_there fresh world location change overlay upper conditions can)
 
@@ -430,8 +381,7 @@ none_of [] e = refl
 none_of (first ∷ rest) e = absurd (true≢false (sym e))
 
 nothing_lost : (fresh : Fresh ℕ) (world : World ℕ) (location : Location ℕ) (change : Change ℕ) (overlay : Overlay ℕ)
-    (upper : Layer ℕ)
-    → IsWorld nat_eq world → CanChange fresh world location change overlay upper
+    (upper : Layer ℕ) → IsWorld nat_eq world → CanChange fresh world location change overlay upper
     → names_lost (files_at nat_eq world location) change ≡ []
     → upper_names_lost (copied_for fresh (merge_at world location overlay upper) change) change ≡ []
     → inodes_lost_with_upper fresh world location overlay upper change ≡ []
@@ -441,9 +391,7 @@ nothing_lost fresh world location change overlay upper conditions can none none_
   where
     unnamed : unnamed_by (filesystem_numbered nat_eq world upper.filesystem).files
         (merge_after fresh world location overlay upper change).upper ≡ []
-    unnamed =
-        none_of _
-        (subst (λ lost. list_all (λ inode. is_among nat_eq inode lost)
+    unnamed = none_of _ (subst (λ lost. list_all (λ inode. is_among nat_eq inode lost)
         (unnamed_by (filesystem_numbered nat_eq world upper.filesystem).files
         (merge_after fresh world location overlay upper change).upper) ≡ true) none_above
         (only_these_lose_names fresh world location change overlay upper conditions can))

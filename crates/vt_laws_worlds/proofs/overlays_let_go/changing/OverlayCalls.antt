@@ -1,5 +1,6 @@
 -- What calls that change overlays let go of.
-use Rattle.std.proofs.Common.{◌≡◌, refl, sym, ap, subst, ◌∙◌, ℕ, nat_eq, eq-eqb, Bool, true, false, not, ◌||◌, ◌&&◌, List, [], map, ⊎_elim, is_some, Some}
+use Rattle.std.proofs.Common.{arith, ◌≡◌, refl, sym, ap, subst, ◌∙◌, ℕ, nat_eq, eq-eqb, Bool, true, false, not, ◌||◌, ◌&&◌, List, [], map, ⊎_elim, is_some, Some}
+use Rattle.std.proofs.lemmas.Grind.{common_steps}
 use Rattle.std.proofs.lemmas.Bool.{and_parts, not-true, or_cases}
 use Rattle.vt_spec.proofs.Lists.{among_from_contains}
 use Rattle.vt_spec.specs.Language.Changes.{Change}
@@ -41,16 +42,14 @@ mount_there : (world : World ℕ) → IsWorld nat_eq world → (location : Locat
 mount_there world conditions location on =
     let found = among-from_map (λ (m : Mount ℕ). m.number) world.mounts location.mount
     (among_numbers location.mount (map (λ (m : Mount ℕ). m.number) world.mounts) on) in
-    subst (λ m. Among m world.mounts)
-    (sym (found_itself world.mounts conditions.mounts.one_number found.0 found.1)
+    subst (λ m. Among m world.mounts) (sym (found_itself world.mounts conditions.mounts.one_number found.0 found.1)
     ∙ ap (mount_in nat_eq world.mounts) (sym found.2)) found.1
 
 -- if it is none of these, its filesystem keeps it
 keeps_its_mount : (world : World ℕ) → IsWorld nat_eq world → (gone : List ℕ) (location : Location ℕ)
     → is_on_mount world location ≡ true → is_among nat_eq location.mount gone ≡ false
     → keeps_a_mount world gone (mount_at nat_eq world location).filesystem ≡ true
-keeps_its_mount world conditions gone location on stays =
-    any_passes (λ (m : Mount ℕ). nat_eq number m.filesystem
+keeps_its_mount world conditions gone location on stays = any_passes (λ (m : Mount ℕ). nat_eq number m.filesystem
     && (not (is_among nat_eq m.number gone) || is_located nat_eq world m.number))
     world.mounts (mount_at nat_eq world location) (mount_there world conditions location on)
     (ap (λ b. b && (not (is_among nat_eq (mount_at nat_eq world location).number gone)
@@ -63,8 +62,7 @@ keeps_its_mount world conditions gone location on stays =
 
 pub reached_on_mount : (world : World ℕ) (task : Task ℕ) (location : Location ℕ) → IsReached world task location
     → is_on_mount world location ≡ true
-reached_on_mount world task location reached =
-    (and_parts (is_on_mount world location)
+reached_on_mount world task location reached = (and_parts (is_on_mount world location)
     (is_there nat_eq world (mount_at nat_eq world location).filesystem location.node) reached.there).0
 
 -- a filesystem that keeps a mount is mounted still, by a mount in use
@@ -75,8 +73,7 @@ still_mounted world settles gone number keeps =
     subst (λ w. is_mounted nat_eq (without_dead_mounts nat_eq w) number ≡ true) (sym (taken_is world gone))
     (any_passes (λ (m : Mount ℕ). nat_eq number m.filesystem) (without_dead_mounts nat_eq then_).mounts image
     (among-filter (mount_lives nat_eq then_) then_.mounts image
-    (among-map (MountingTaken.change world gone world.namespaces b) world.mounts mount kept.1)
-    (⊎_elim stays located
+    (among-map (MountingTaken.change world gone world.namespaces b) world.mounts mount kept.1) (⊎_elim stays located
     (or_cases (not (is_among nat_eq mount.number gone)) (is_located nat_eq world mount.number) parts.1)))
     (ap (nat_eq number) (same_filesystem world gone world.namespaces b mount) ∙ parts.0))
   where
@@ -89,8 +86,7 @@ still_mounted world settles gone number keeps =
     kept : (m : Mount ℕ) × Among m world.mounts × ((nat_eq number m.filesystem
         && (not (is_among nat_eq m.number gone) || is_located nat_eq world m.number)) ≡ true)
     kept = one_passes (λ m. nat_eq number m.filesystem
-        && (not (is_among nat_eq m.number gone) || is_located nat_eq world m.number))
-        world.mounts keeps
+        && (not (is_among nat_eq m.number gone) || is_located nat_eq world m.number)) world.mounts keeps
 
     mount : Mount ℕ
     mount = kept.0
@@ -100,22 +96,15 @@ still_mounted world settles gone number keeps =
 
     parts : (nat_eq number mount.filesystem ≡ true)
         × ((not (is_among nat_eq mount.number gone) || is_located nat_eq world mount.number) ≡ true)
-    parts =
-        and_parts (nat_eq number mount.filesystem)
+    parts = and_parts (nat_eq number mount.filesystem)
         (not (is_among nat_eq mount.number gone) || is_located nat_eq world mount.number) kept.2
 
     located : is_located nat_eq world mount.number ≡ true → mount_lives nat_eq then_ image ≡ true
-    located on =
-        or_second (is_some image.namespace) (is_located nat_eq then_ image.number)
+    located on = or_second (is_some image.namespace) (is_located nat_eq then_ image.number)
         (ap (is_located nat_eq world) (same_number world gone world.namespaces b mount) ∙ on)
 
     stays : not (is_among nat_eq mount.number gone) ≡ true → mount_lives nat_eq then_ image ≡ true
-    stays isnt =
-        ap (λ n. is_some n || is_located nat_eq world image.number)
-        (same_namespace world gone world.namespaces b mount (not-true (is_among nat_eq mount.number gone) isnt))
-        ∙ ap (λ n. is_some mount.namespace || is_located nat_eq world n)
-        (same_number world gone world.namespaces b mount)
-        ∙ passes (mount_lives nat_eq world) world.mounts settles.in_use.mounts mount kept.1
+    stays isnt = grind (arith, common_steps, same_namespace, not-true, same_number, passes, settles, kept)
 
 module _ (fresh : Fresh ℕ) (world : World ℕ) (location : Location ℕ) (change : Change ℕ) (overlay : Overlay ℕ)
     (upper : Layer ℕ)
@@ -135,8 +124,7 @@ module _ (fresh : Fresh ℕ) (world : World ℕ) (location : Location ℕ) (chan
       → Among then_merged (in_use_of (with_filesystems other swap)).filesystems
   lives_then other same is =
       among-filter (filesystem_lives nat_eq (without_dead_mounts nat_eq (with_filesystems other swap)))
-      (map swap other.filesystems) then_merged
-      (subst (λ fs. Among then_merged (map swap fs)) (sym same)
+      (map swap other.filesystems) then_merged (subst (λ fs. Among then_merged (map swap fs)) (sym same)
       (subst (λ f. Among f (map swap world.filesystems))
       (becomes fresh world location change overlay upper conditions can)
       (among-map swap world.filesystems (merged fresh world location change overlay upper conditions can)
@@ -185,8 +173,7 @@ module _ (fresh : Fresh ℕ) (world : World ℕ) (location : Location ℕ) (chan
       (uppers_then fresh world location change overlay upper conditions can)
       (reals_then fresh world location change overlay upper conditions can)
       (all_changed_within fresh world location change overlay upper conditions can
-      (in_use_of (with_filesystems (with_tasks world tasks) swap))
-      (lives_then (with_tasks world tasks) refl
+      (in_use_of (with_filesystems (with_tasks world tasks) swap)) (lives_then (with_tasks world tasks) refl
       (any_passes (λ (m : Mount ℕ). nat_eq number m.filesystem)
       (without_dead_mounts nat_eq (with_tasks world tasks)).mounts at_location
       (among-filter (mount_lives nat_eq (with_tasks world tasks)) world.mounts at_location there
@@ -235,20 +222,17 @@ removed_from_overlays_let_go fresh world task call parent name directory overlay
 
 pub replaced_in_overlays_let_go : ReplacedInOverlaysLetGo
 replaced_in_overlays_let_go fresh world task call from old to new object replaced overlay upper conditions called judged
-    can =
-    goes_with_mounts fresh world from (Move from.node old to.node new object.node) overlay upper conditions can
+    can = goes_with_mounts fresh world from (Move from.node old to.node new object.node) overlay upper conditions can
     (numbers_of_trees world (mounts_on nat_eq world replaced))
     (keeps_its_mount world conditions (numbers_of_trees world (mounts_on nat_eq world replaced)) from
-    (reached_on_mount world task from
-    (removal_reached fresh world conditions task called call
+    (reached_on_mount world task from (removal_reached fresh world conditions task called call
     (ToRename from old to new object (Some replaced)) judged).0)
     (replacing_keeps_the_mount fresh world task call from old to new object replaced conditions called judged))
 
 pub opened_new_in_overlays_lets_go : OpenedNewInOverlaysLetsGo
 opened_new_in_overlays_lets_go fresh world task directory name node access overlay upper conditions there on can =
     goes_with_task (odds fresh) world directory
-    (Make directory.node name (evens fresh 0) node) overlay upper conditions can
-    (with_descriptor task file access)
+    (Make directory.node name (evens fresh 0) node) overlay upper conditions can (with_descriptor task file access)
     (none_left world task file access conditions.tasks.one_task (among_from_contains world.tasks task there)) on
   where
     file : Location ℕ

@@ -1,5 +1,6 @@
 -- What goes when an overlay changes.
-use Rattle.std.proofs.Common.{◌≡◌, refl, sym, ap, subst, ◌∙◌, ◌⊎◌, inl, inr, ⊎_elim, true≢false, ne_eqb, ℕ, nat_eq, eqb-true, eq-eqb, Bool, true, false, cond, not, ◌||◌, ◌&&◌, List, [], find, map, Option, Some, None, is_some, option_to_list, unwrap_or}
+use Rattle.std.proofs.Common.{arith, ◌≡◌, refl, sym, ap, subst, ◌∙◌, ◌⊎◌, inl, inr, ⊎_elim, true≢false, ne_eqb, ℕ, nat_eq, eqb-true, eq-eqb, Bool, true, false, cond, not, ◌||◌, ◌&&◌, List, [], find, map, Option, Some, None, is_some, option_to_list, unwrap_or}
+use Rattle.std.proofs.lemmas.Grind.{common_steps}
 use Rattle.std.proofs.lemmas.Bool.{and_parts, not-true, or_cases, cases_Bool}
 use Rattle.std.proofs.lemmas.List.Folds.{list_any-append}
 use Rattle.std.specs.List.{filter_map, list_all}
@@ -44,8 +45,7 @@ of_number : (number : ℕ) (list : List ℕ) (filesystem inode : ℕ) → filesy
     → is_inode_among filesystem inode (map (λ i. (number, i)) list) ≡ true
 of_number number list filesystem inode same m =
     any_passes (λ (loser : Inode). nat_eq filesystem loser.0 && nat_eq inode loser.1) (map (λ i. (number, i)) list)
-    (number, inode)
-    (among-map (λ i. (number, i)) list inode m)
+    (number, inode) (among-map (λ i. (number, i)) list inode m)
     (ap (λ b. b && nat_eq inode inode) (eq-eqb filesystem number same) ∙ eq-eqb inode inode refl)
 
 -- inodes of a list are in another one
@@ -56,25 +56,8 @@ HasThese list wider = (filesystem inode : ℕ) → is_inode_among filesystem ino
 -- what may have lost its last name is in a longer list, too
 changes_within : (last : World ℕ) (lost wider : List Inode) → HasThese lost wider → (old new : Filesystem ℕ)
     → ChangesFilesystem last lost old new → ChangesFilesystem last wider old new
-changes_within last lost wider has old new is = record {
-  number = is.number;
-  root = is.root;
-  layers = is.layers;
-  inodes = is.inodes;
-  names = within (λ k. is_among nat_eq k (named_in new.files)) old.number (named_in old.files) is.names;
-  objects = λ target. within (λ k. is_among nat_eq k (objects_of_overlay nat_eq target new)) target
-      (objects_of_overlay nat_eq target old) (is.objects target);
-}
-  where
-    within : (kept : ℕ → Bool) (filesystem : ℕ) (list : List ℕ)
-        → list_all (λ k. kept k || is_inode_among filesystem k lost) list ≡ true
-        → list_all (λ k. kept k || is_inode_among filesystem k wider) list ≡ true
-    within kept filesystem list all =
-        all_pass (λ k. kept k || is_inode_among filesystem k wider) list (λ k m.
-        ⊎_elim (λ e. or_first (kept k) (is_inode_among filesystem k wider) e)
-        (λ e. or_second (kept k) (is_inode_among filesystem k wider) (has filesystem k e))
-        (or_cases (kept k) (is_inode_among filesystem k lost)
-        (passes (λ k. kept k || is_inode_among filesystem k lost) list all k m)))
+changes_within last lost wider has old new is =
+    grind (arith, common_steps, all_pass, or_first, or_second, or_cases, passes)
 
 -- the real objects of an overlay in a filesystem
 abbrev objects_by : ℕ → List ℕ → Overlay ℕ → List ℕ
@@ -85,19 +68,10 @@ objects_by filesystem numbers overlay =
 objects_stay : (filesystem : ℕ) (numbers more : List ℕ) (overlay : Overlay ℕ) (real : ℕ → Option (Real ℕ))
     → ((inode : ℕ) → Among inode numbers → Among inode more)
     → ((number object : ℕ) → upper_object (overlay.real number) ≡ Some object
-    → upper_object (real number) ≡ Some object)
-    → (object : ℕ) → Among object (objects_by filesystem numbers overlay)
+    → upper_object (real number) ≡ Some object) → (object : ℕ) → Among object (objects_by filesystem numbers overlay)
     → Among object (objects_by filesystem more (record overlay { real = real }))
 objects_stay filesystem numbers more overlay real stay grows object =
-    by (holds_of (λ (layer : Layer ℕ). nat_eq filesystem layer.filesystem) overlay.upper)
-  where
-    by : (b : Bool) → Among object (cond b (filter_map (λ number. upper_object (overlay.real number)) numbers) [])
-        → Among object (cond b (filter_map (λ number. upper_object (real number)) more) [])
-    by true m =
-        let from = among-from_filter_map (λ number. upper_object (overlay.real number)) numbers object m in
-        among-filter_map (λ number. upper_object (real number)) more from.0 object (stay from.0 from.1)
-        (grows from.0 object from.2)
-    by false m = absurd m
+    grind (arith, common_steps, among-from_filter_map, among-filter_map)
 
 module _ (fresh : Fresh ℕ) (world : World ℕ) (location : Location ℕ) (change : Change ℕ) (overlay : Overlay ℕ)
     (upper : Layer ℕ)
@@ -121,8 +95,7 @@ module _ (fresh : Fresh ℕ) (world : World ℕ) (location : Location ℕ) (chan
   settles = worlds_are_settled world conditions
 
   pub fit : IsFitToChange fresh before
-  fit =
-      overlays_are_fit fresh world number overlay upper conditions can.overlay_there can.upper_there can.distinct
+  fit = overlays_are_fit fresh world number overlay upper conditions can.overlay_there can.upper_there can.distinct
       can.unused
 
   reals_there : (inode : ℕ) → is_some (overlay.real inode) ≡ true → is_some (merged.files.tree.node inode) ≡ true
@@ -138,13 +111,11 @@ module _ (fresh : Fresh ℕ) (world : World ℕ) (location : Location ℕ) (chan
 
   -- both filesystems are there
   pub merged_there : Among merged world.filesystems
-  merged_there =
-      (found_in (λ f. nat_eq number f.number) world.filesystems merged
+  merged_there = (found_in (λ f. nat_eq number f.number) world.filesystems merged
       (overlay_found world number overlay can.overlay_there)).0
 
   plain_parts : (not (is_overlay layer) ≡ true) × (is_directory_node (layer.files.tree.node upper.directory) ≡ true)
-  plain_parts =
-      and_parts (not (is_overlay layer)) (is_directory_node (layer.files.tree.node upper.directory))
+  plain_parts = and_parts (not (is_overlay layer)) (is_directory_node (layer.files.tree.node upper.directory))
       (passes (is_plain_layer nat_eq world) (shown_layers overlay)
       (overlay_layers world conditions number overlay can.overlay_there).1 upper
       (among-append_left (option_to_list overlay.upper) overlay.lowers upper
@@ -173,8 +144,7 @@ module _ (fresh : Fresh ℕ) (world : World ℕ) (location : Location ℕ) (chan
   swap_both f = replaced_if_numbered nat_eq new_layer (replaced_if_numbered nat_eq new_merged f)
 
   apart : nat_eq layer.number merged.number ≡ false
-  apart =
-      ne_eqb layer.number merged.number (λ e.
+  apart = ne_eqb layer.number merged.number (λ e.
       upper_elsewhere world conditions number overlay can.overlay_there upper can.upper_there
       (sym (number_of_filesystem world upper.filesystem) ∙ e ∙ number_of_filesystem world number))
 
@@ -196,20 +166,17 @@ module _ (fresh : Fresh ℕ) (world : World ℕ) (location : Location ℕ) (chan
           is_merged (numbered number (sym (eqb-true merged.number f.number e) ∙ number_of_filesystem world number))
           (ap (λ c. replaced_if_numbered nat_eq new_layer (cond c new_merged f)) e
           ∙ ap (λ c. cond c new_layer new_merged) apart)
-      by false e true g =
-          is_layer (numbered upper.filesystem
+      by false e true g = is_layer (numbered upper.filesystem
           (sym (eqb-true layer.number f.number g) ∙ number_of_filesystem world upper.filesystem))
           (ap (λ c. replaced_if_numbered nat_eq new_layer (cond c new_merged f)) e ∙ ap (λ c. cond c new_layer f) g)
-      by false e false g =
-          is_other (ap (λ c. replaced_if_numbered nat_eq new_layer (cond c new_merged f)) e
+      by false e false g = is_other (ap (λ c. replaced_if_numbered nat_eq new_layer (cond c new_merged f)) e
           ∙ ap (λ c. cond c new_layer f) g)
 
   abbrev then_ : World ℕ
   then_ = with_filesystems world swap_both
 
   for_all : (P : Filesystem ℕ → Type 0) → P new_merged → P new_layer
-      → ((f : Filesystem ℕ) → Among f world.filesystems → P f)
-      → All P then_.filesystems
+      → ((f : Filesystem ℕ) → Among f world.filesystems → P f) → All P then_.filesystems
   for_all P here there others =
       all_from_among P then_.filesystems (λ x m. let from = among-from_map swap_both world.filesystems x m in
       subst P (sym from.2) (by from.0 from.1 (which from.0 from.1)))
@@ -223,46 +190,36 @@ module _ (fresh : Fresh ℕ) (world : World ℕ) (location : Location ℕ) (chan
   listed_after = subst IsListedTree (sym added.files) can.tree
 
   pub trees_then : HasTrees then_
-  trees_then =
-      for_all (λ f. IsListedTree f.files) listed_after can.upper_tree
+  trees_then = for_all (λ f. IsListedTree f.files) listed_after can.upper_tree
       (λ f m. among_from_all (λ (x : Filesystem ℕ). IsListedTree x.files) world.filesystems settles.trees f m)
 
   pub reals_then : RealsAreThere then_
-  reals_then =
-      for_all (λ f. (k : ℕ) → f.files.tree.node k ≡ None → real_in f k ≡ None)
+  reals_then = for_all (λ f. (k : ℕ) → f.files.tree.node k ≡ None → real_in f k ≡ None)
       (λ k e. by k (later.real k) refl e) (λ k e. no_real new_layer layer_plain k)
       (among_from_all (λ (f : Filesystem ℕ). (k : ℕ) → f.files.tree.node k ≡ None
       → real_in f k ≡ None) world.filesystems settles.reals)
     where
       by : (k : ℕ) (o : Option (Real ℕ)) → later.real k ≡ o → later.files.tree.node k ≡ None → o ≡ None
       by k None r e = refl
-      by k (Some real) r e =
-          absurd (true≢false
+      by k (Some real) r e = absurd (true≢false
           (sym (is_among_numbers k later.files.numbers (added.reals k (ap is_some r))) ∙ listed_after.numbers k
           ∙ ap is_some e))
 
   pub uppers_then : UppersArePlain then_
-  uppers_then =
-      for_all (λ f. is_overlay f ≡ true → All (λ g. has_upper_in f.number g ≡ false) then_.filesystems)
+  uppers_then = for_all (λ f. is_overlay f ≡ true → All (λ g. has_upper_in f.number g ≡ false) then_.filesystems)
       (λ is. all_upper merged.number (was merged merged_there (ap is_some can.overlay_there)))
-      (λ is. absurd (true≢false (sym is ∙ layer_plain)))
-      (λ f m is. all_upper f.number (was f m is))
+      (λ is. absurd (true≢false (sym is ∙ layer_plain))) (λ f m is. all_upper f.number (was f m is))
     where
       was : (f : Filesystem ℕ) → Among f world.filesystems → is_overlay f ≡ true → (g : Filesystem ℕ)
-          → Among g world.filesystems
-          → has_upper_in f.number g ≡ false
-      was f m is =
-          among_from_all (λ g. has_upper_in f.number g ≡ false) world.filesystems
+          → Among g world.filesystems → has_upper_in f.number g ≡ false
+      was f m is = among_from_all (λ g. has_upper_in f.number g ≡ false) world.filesystems
           (among_from_all (λ x. is_overlay x ≡ true → All
           (λ g. has_upper_in x.number g ≡ false) world.filesystems) world.filesystems settles.uppers f m is)
 
       all_upper : (n : ℕ) → ((g : Filesystem ℕ) → Among g world.filesystems → has_upper_in n g ≡ false)
           → All (λ g. has_upper_in n g ≡ false) then_.filesystems
-      all_upper n none =
-          for_all (λ g. has_upper_in n g ≡ false)
-          (sym (ap (overlay_or false (λ o.
-          holds_of (λ (l : Layer ℕ). nat_eq n l.filesystem) o.upper)) can.overlay_there)
-          ∙ none merged merged_there)
+      all_upper n none = for_all (λ g. has_upper_in n g ≡ false) (sym (ap (overlay_or false (λ o.
+          holds_of (λ (l : Layer ℕ). nat_eq n l.filesystem) o.upper)) can.overlay_there) ∙ none merged merged_there)
           (none layer layer_there) none
 
   -- names
@@ -276,25 +233,20 @@ module _ (fresh : Fresh ℕ) (world : World ℕ) (location : Location ℕ) (chan
   lost = inodes_lost_with_upper fresh world location overlay upper change
 
   names_tree : ChangesTree merged.files later.files lost_names
-  names_tree =
-      subst (λ t. ChangesTree merged.files t lost_names) (sym added.files)
+  names_tree = subst (λ t. ChangesTree merged.files t lost_names) (sym added.files)
       (changes_keep_names merged.files change
       (among_from_all (λ (x : Filesystem ℕ). IsListedTree x.files) world.filesystems settles.trees merged merged_there)
       can.tree can.may)
 
   lost_here : (inode : ℕ) → Among inode lost_names → is_inode_among merged.number inode lost ≡ true
-  lost_here inode m =
-      list_any-append (λ (loser : Inode). nat_eq merged.number loser.0 && nat_eq inode loser.1)
-      (map (λ i. (number, i)) lost_names)
-      (map (λ i. (upper.filesystem, i)) lost_above)
+  lost_here inode m = list_any-append (λ (loser : Inode). nat_eq merged.number loser.0 && nat_eq inode loser.1)
+      (map (λ i. (number, i)) lost_names) (map (λ i. (upper.filesystem, i)) lost_above)
       ∙ or_first (is_inode_among merged.number inode (map (λ i. (number, i)) lost_names)) _
       (of_number number lost_names merged.number inode (number_of_filesystem world number) m)
 
   lost_there : (inode : ℕ) → Among inode lost_above → is_inode_among layer.number inode lost ≡ true
-  lost_there inode m =
-      list_any-append (λ (loser : Inode). nat_eq layer.number loser.0 && nat_eq inode loser.1)
-      (map (λ i. (number, i)) lost_names)
-      (map (λ i. (upper.filesystem, i)) lost_above)
+  lost_there inode m = list_any-append (λ (loser : Inode). nat_eq layer.number loser.0 && nat_eq inode loser.1)
+      (map (λ i. (number, i)) lost_names) (map (λ i. (upper.filesystem, i)) lost_above)
       ∙ or_second (is_inode_among layer.number inode (map (λ i. (number, i)) lost_names)) _
       (of_number upper.filesystem lost_above layer.number inode (number_of_filesystem world upper.filesystem) m)
 
@@ -306,15 +258,13 @@ module _ (fresh : Fresh ℕ) (world : World ℕ) (location : Location ℕ) (chan
       root = names_tree.root;
       layers = sym (ap (overlay_or [] layers_of) can.overlay_there);
       inodes = all_pass (λ k. is_among nat_eq k merged.files.numbers || is_among nat_eq k (named_in later.files)
-          || is_among nat_eq k (upper_objects last merged.number))
-          later.files.numbers (λ k m.
+          || is_among nat_eq k (upper_objects last merged.number)) later.files.numbers (λ k m.
           or_first (is_among nat_eq k merged.files.numbers || is_among nat_eq k (named_in later.files))
           (is_among nat_eq k (upper_objects last merged.number))
           (passes (λ n. is_among nat_eq n merged.files.numbers || is_among nat_eq n
           (named_in later.files)) later.files.numbers names_tree.inodes k m));
       names = all_pass (λ k. is_among nat_eq k (named_in later.files) || is_inode_among merged.number k lost)
-          (named_in merged.files)
-          (λ k m.
+          (named_in merged.files) (λ k m.
           ⊎_elim (or_first (is_among nat_eq k (named_in later.files)) (is_inode_among merged.number k lost))
           (λ gone. or_second (is_among nat_eq k (named_in later.files)) (is_inode_among merged.number k lost)
           (lost_here k (among_numbers k lost_names gone)))
@@ -322,11 +272,9 @@ module _ (fresh : Fresh ℕ) (world : World ℕ) (location : Location ℕ) (chan
           (passes (λ n. is_among nat_eq n (named_in later.files) || is_among nat_eq n lost_names)
           (named_in merged.files) names_tree.names k m)));
       objects = λ target. all_pass (λ k. is_among nat_eq k (objects_of_overlay nat_eq target new_merged)
-          || is_inode_among target k lost)
-          (objects_of_overlay nat_eq target merged)
+          || is_inode_among target k lost) (objects_of_overlay nat_eq target merged)
           (λ k m. or_first (is_among nat_eq k (objects_of_overlay nat_eq target new_merged))
-          (is_inode_among target k lost)
-          (is_among_numbers k (objects_of_overlay nat_eq target new_merged)
+          (is_inode_among target k lost) (is_among_numbers k (objects_of_overlay nat_eq target new_merged)
           (objects_stay target merged.files.numbers later.files.numbers overlay later.real
           (λ inode n. subst (λ (f : FileTree ℕ). Among inode f.numbers) (sym added.files)
           (numbers_stay merged.files change inode n)) added.grows k
@@ -334,17 +282,14 @@ module _ (fresh : Fresh ℕ) (world : World ℕ) (location : Location ℕ) (chan
     }
 
     is_object : (inode object : ℕ) → Among inode later.files.numbers → upper_object (later.real inode) ≡ Some object
-        → Among object
-        (upper_objects last layer.number)
+        → Among object (upper_objects last layer.number)
     is_object inode object m e =
         among-flat_map (objects_of_overlay nat_eq layer.number) last.filesystems new_merged object in_last
         (subst (λ b. Among object (cond b (filter_map (λ n. upper_object (later.real n)) later.files.numbers) []))
-        (sym above)
-        (among-filter_map (λ n. upper_object (later.real n)) later.files.numbers inode object m e))
+        (sym above) (among-filter_map (λ n. upper_object (later.real n)) later.files.numbers inode object m e))
       where
         above : holds_of (λ (l : Layer ℕ). nat_eq layer.number l.filesystem) overlay.upper ≡ true
-        above =
-            ap (holds_of (λ (l : Layer ℕ). nat_eq layer.number l.filesystem)) can.upper_there
+        above = ap (holds_of (λ (l : Layer ℕ). nat_eq layer.number l.filesystem)) can.upper_there
             ∙ eq-eqb layer.number upper.filesystem (number_of_filesystem world upper.filesystem)
 
     is_used : (k : ℕ) → Among k later.upper.numbers
@@ -354,11 +299,9 @@ module _ (fresh : Fresh ℕ) (world : World ℕ) (location : Location ℕ) (chan
         (added.numbers k m)
       where
         by : (a : Bool) → is_among nat_eq k layer.files.numbers ≡ a → (b : Bool)
-            → is_among nat_eq k (named_in later.upper) ≡ b
-            → Among k layer.files.numbers
+            → is_among nat_eq k (named_in later.upper) ≡ b → Among k layer.files.numbers
             ⊎ (((number : ℕ) × Among number later.files.numbers × (upper_object (later.real number) ≡ Some k))
-            ⊎ HasName later.upper.tree k)
-            → (a || b || is_among nat_eq k (upper_objects last layer.number)) ≡ true
+            ⊎ HasName later.upper.tree k) → (a || b || is_among nat_eq k (upper_objects last layer.number)) ≡ true
         by true e b f added_so = refl
         by false e true f added_so = refl
         by false e false f (inl was) = absurd (true≢false (sym (is_among_numbers k layer.files.numbers was) ∙ e))
@@ -373,15 +316,13 @@ module _ (fresh : Fresh ℕ) (world : World ℕ) (location : Location ℕ) (chan
       root = added.root;
       layers = refl;
       inodes = all_pass (λ k. is_among nat_eq k layer.files.numbers || is_among nat_eq k (named_in later.upper)
-          || is_among nat_eq k (upper_objects last layer.number))
-          later.upper.numbers is_used;
+          || is_among nat_eq k (upper_objects last layer.number)) later.upper.numbers is_used;
       names = all_pass (λ k. is_among nat_eq k (named_in later.upper) || is_inode_among layer.number k lost)
           (named_in layer.files) (λ k m.
           ⊎_elim (or_first (is_among nat_eq k (named_in later.upper)) (is_inode_among layer.number k lost))
           (λ gone. or_second (is_among nat_eq k (named_in later.upper)) (is_inode_among layer.number k lost)
           (lost_there k (among-filter (λ n. not (is_among nat_eq n (named_in later.upper))) (named_in layer.files) k m
-          (ap not gone))))
-          (cases_Bool (is_among nat_eq k (named_in later.upper))));
+          (ap not gone)))) (cases_Bool (is_among nat_eq k (named_in later.upper))));
       objects = λ target. ap (list_all (λ k.
           is_among nat_eq k (objects_of_overlay nat_eq target new_layer) || is_inode_among target k lost))
           (no_objects world target layer layer_plain);
@@ -392,11 +333,9 @@ module _ (fresh : Fresh ℕ) (world : World ℕ) (location : Location ℕ) (chan
         (λ f m. by f (which f m))
       where
         by : (f : Filesystem ℕ) → Is f → ChangesFilesystem last lost f (swap_both f)
-        by f (is_merged e s) =
-            subst (λ x. ChangesFilesystem last lost x (swap_both f)) (sym e)
+        by f (is_merged e s) = subst (λ x. ChangesFilesystem last lost x (swap_both f)) (sym e)
             (subst (ChangesFilesystem last lost merged) (sym s) of_merged)
-        by f (is_layer e s) =
-            subst (λ x. ChangesFilesystem last lost x (swap_both f)) (sym e)
+        by f (is_layer e s) = subst (λ x. ChangesFilesystem last lost x (swap_both f)) (sym e)
             (subst (ChangesFilesystem last lost layer) (sym s) of_layer)
         by f (is_other s) = subst (ChangesFilesystem last lost f) (sym s) (unchanged last lost f)
 
@@ -408,10 +347,8 @@ module _ (fresh : Fresh ℕ) (world : World ℕ) (location : Location ℕ) (chan
         (λ f is. changes_within last lost wider has f (swap_both f) is) world.filesystems all_changed
 
   pub becomes : swap_both merged ≡ new_merged
-  becomes =
-      ap (λ c. replaced_if_numbered nat_eq new_layer (cond c new_merged merged))
-      (eq-eqb merged.number merged.number refl)
-      ∙ ap (λ c. cond c new_layer new_merged) apart
+  becomes = ap (λ c. replaced_if_numbered nat_eq new_layer (cond c new_merged merged))
+      (eq-eqb merged.number merged.number refl) ∙ ap (λ c. cond c new_layer new_merged) apart
 
   merged_then : Among new_merged then_.filesystems
   merged_then = subst (λ f. Among f then_.filesystems) becomes
@@ -421,14 +358,12 @@ module _ (fresh : Fresh ℕ) (world : World ℕ) (location : Location ℕ) (chan
   pub is_swap : (other : World ℕ) → other.filesystems ≡ world.filesystems
       → (mount_at nat_eq other location).filesystem ≡ number
       → with_change nat_eq fresh other location change ≡ with_filesystems other swap_both
-  is_swap other same shows =
-      ap (λ f. filesystem_changed nat_eq fresh other f f.overlay change)
+  is_swap other same shows = ap (λ f. filesystem_changed nat_eq fresh other f f.overlay change)
       (ap (filesystem_numbered nat_eq other) shows
       ∙ ap (λ fs. filesystem_numbered nat_eq (record other { filesystems = fs }) number) same)
       ∙ ap (λ o. filesystem_changed nat_eq fresh other merged o change) can.overlay_there
       ∙ ap (λ u. overlay_changed nat_eq fresh other merged overlay u change) can.upper_there
-      ∙ ap (λ fs. record other { filesystems = merged_in fs }) same
-      ∙ ap (λ fs. record other { filesystems = fs })
+      ∙ ap (λ fs. record other { filesystems = merged_in fs }) same ∙ ap (λ fs. record other { filesystems = fs })
       (map_twice (replaced_if_numbered nat_eq new_layer) (replaced_if_numbered nat_eq new_merged) world.filesystems
       ∙ ap (map swap_both) (sym same))
     where
@@ -436,8 +371,7 @@ module _ (fresh : Fresh ℕ) (world : World ℕ) (location : Location ℕ) (chan
       of fs = record world { filesystems = fs }
 
       merged_in : List (Filesystem ℕ) → List (Filesystem ℕ)
-      merged_in fs =
-          (with_merge nat_eq (of fs) merged overlay upper
+      merged_in fs = (with_merge nat_eq (of fs) merged overlay upper
           (merge_changed nat_eq fresh (stack_of nat_eq (of fs) overlay upper)
           (merge_of nat_eq (of fs) merged overlay upper) change)).filesystems
 
@@ -447,8 +381,7 @@ module _ (fresh : Fresh ℕ) (world : World ℕ) (location : Location ℕ) (chan
   layer_plain_then f m is = by (nat_eq f.number upper.filesystem) refl
     where
       has_none : has_upper_in f.number new_merged ≡ false
-      has_none =
-          among_from_all (λ g. has_upper_in f.number g ≡ false) then_.filesystems
+      has_none = among_from_all (λ g. has_upper_in f.number g ≡ false) then_.filesystems
           (among_from_all (λ x. is_overlay x ≡ true → All
           (λ g. has_upper_in x.number g ≡ false) then_.filesystems) then_.filesystems uppers_then f
           (subst (λ w. Among f w.filesystems) (is_swap world refl refl) m) is) new_merged merged_then
@@ -462,8 +395,7 @@ module _ (fresh : Fresh ℕ) (world : World ℕ) (location : Location ℕ) (chan
   pub goes_within : (wider : List Inode) → HasThese lost wider
       → settled nat_eq (with_change nat_eq fresh world location change)
       ≡ let_go_all_inodes (with_change nat_eq fresh world location change) wider
-  goes_within wider has =
-      subst (λ w. settled nat_eq w ≡ let_go_all_inodes w wider) (sym (is_swap world refl refl))
+  goes_within wider has = subst (λ w. settled nat_eq w ≡ let_go_all_inodes w wider) (sym (is_swap world refl refl))
       (changed_trees_let_go world swap_both wider settles trees_then uppers_then reals_then
       (all_changed_within then_ merged_then wider has))
 

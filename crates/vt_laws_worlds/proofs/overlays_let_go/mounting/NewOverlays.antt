@@ -73,15 +73,13 @@ module _ (layers : List (OpenLayer ℕ)) (are_open : AreOpen layers) (longest : 
           let is = is_of_object layers are_open longest bounded fresh distinct has_upper n inode e in (
             is.object.path,
             arrives_at is.object.path is.object.seen (object_is layers are_open longest bounded is.object is.among)
-                ∙ ap Some
-                (sym is.numbered),
+                ∙ ap Some (sym is.numbered),
           )
 
 pub new_overlays_are_named : NewOverlaysAreNamed
 new_overlays_are_named fresh world overlay conditions are_layers distinct =
     all_pass (λ n. nat_eq n made.files.tree.root || is_among nat_eq n (named_in made.files)) made.files.numbers (λ n m.
-    ⊎_elim
-    (λ root. or_first (nat_eq n made.files.tree.root) _ (eq-eqb n made.files.tree.root root.1))
+    ⊎_elim (λ root. or_first (nat_eq n made.files.tree.root) _ (eq-eqb n made.files.tree.root root.1))
     (λ other. or_second (nat_eq n made.files.tree.root) (is_among nat_eq n (named_in made.files))
     (named_among made.files listed n
     (named n other.1 (sym (listed.numbers n) ∙ is_among_numbers n made.files.numbers m))))
@@ -99,8 +97,7 @@ new_overlays_are_named fresh world overlay conditions are_layers distinct =
     named : (n : ℕ) → n ≢ made.files.tree.root → is_some (made.files.tree.node n) ≡ true → HasName made.files.tree n
     named n isnt there =
         let leads = led_to (layers world conditions overlay are_layers) (are_open world conditions overlay are_layers)
-        (inode_count world)
-        (bounded world conditions overlay are_layers)
+        (inode_count world) (bounded world conditions overlay are_layers)
         (odds fresh) (odds-distinct fresh distinct) (is_some overlay.upper)
         (root_shown world conditions overlay are_layers).0 (root_shown world conditions overlay are_layers).1 n there in
         named_if_led made.files.tree leads.0 n isnt leads.1

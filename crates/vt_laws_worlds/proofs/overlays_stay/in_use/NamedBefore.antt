@@ -14,7 +14,6 @@ any_worlds_keep_to_named_before next inode world whole keeps out =
   where
     by : (number : ℕ) → is_in_use world number ≡ true → (same : Bool) → (number == inode) ≡ same
         → (is_counted_before next number && not (number == inode)) ≡ true
-    by number used true e =
-        absurd (true≢false (sym used ∙ ap (is_in_use world) (eqb-true number inode e) ∙ out))
+    by number used true e = absurd (true≢false (sym used ∙ ap (is_in_use world) (eqb-true number inode e) ∙ out))
     by number used false e =
         (λ i. used_numbers_are_named (is_counted_before next) world keeps (leaves_two next) number used i && not (e i))

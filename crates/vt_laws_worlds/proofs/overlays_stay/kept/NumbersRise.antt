@@ -86,8 +86,7 @@ module _ (world : World ℕ) (fresh : Fresh ℕ) (task : Task ℕ) (rising : are
       old = filesystem_at nat_eq middle location
 
       upper : (overlay : Overlay ℕ) (u : Option (Layer ℕ))
-          → numbers (overlay_changed nat_eq supply middle old overlay u change).filesystems
-          ≡ numbers middle.filesystems
+          → numbers (overlay_changed nat_eq supply middle old overlay u change).filesystems ≡ numbers middle.filesystems
       upper overlay None = refl
       upper overlay (Some layer) = numbers-replaced _ _ ∙ numbers-replaced _ middle.filesystems
 
@@ -103,8 +102,7 @@ module _ (world : World ℕ) (fresh : Fresh ℕ) (task : Task ℕ) (rising : are
       same_numbers world.filesystems (with_change nat_eq supply middle location change).filesystems
       (change_numbers supply middle location change ∙ ap numbers same) rising
 
-  copying : (b : Bool) (file : Location ℕ)
-      → are_rising (with_copy nat_eq b fresh world file).filesystems ≡ true
+  copying : (b : Bool) (file : Location ℕ) → are_rising (with_copy nat_eq b fresh world file).filesystems ≡ true
   copying true file = changing fresh world refl file (CopyUp file.node)
   copying false file = rising
 
@@ -122,8 +120,7 @@ module _ (world : World ℕ) (fresh : Fresh ℕ) (task : Task ℕ) (rising : are
       changing fresh (without_mounts_on nat_eq world directory)
       (filesystems-taken_away world (gone_on world directory)) parent (Remove parent.node name directory.node)
   rising_then (ToRename from old to new object replaced) greatest fits =
-      changing fresh (without_replaced nat_eq world replaced)
-      (filesystems-without_replaced world replaced) from
+      changing fresh (without_replaced nat_eq world replaced) (filesystems-without_replaced world replaced) from
       (Move from.node old to.node new object.node)
   rising_then (ToOpen file access) greatest fits = copying (is_copied_up nat_eq world file access) file
   rising_then (ToOpenNew directory name node access) greatest fits =
@@ -133,14 +130,12 @@ module _ (world : World ℕ) (fresh : Fresh ℕ) (task : Task ℕ) (rising : are
       same_list (after ToExit).filesystems (filesystems-taken_away (without_task world task.name) _)
   rising_then ToUnshare greatest fits =
       same_list (after ToUnshare).filesystems (filesystems-taken_away (unshared nat_eq world fresh task) _)
-  rising_then (ToEnterNamespace namespace) greatest fits =
-      same_list (after (ToEnterNamespace namespace)).filesystems
+  rising_then (ToEnterNamespace namespace) greatest fits = same_list (after (ToEnterNamespace namespace)).filesystems
       (filesystems-taken_away (namespace_entered nat_eq world task namespace) _)
   rising_then (ToMountPlain place flags) greatest fits =
       one_more world.filesystems (plain_filesystem nat_eq fresh) rising (greatest place flags refl)
   rising_then (ToMountOverlay place overlay flags) greatest fits = absurd fits
-  rising_then (ToUnmount mount) greatest fits =
-      same_list (after (ToUnmount mount)).filesystems
+  rising_then (ToUnmount mount) greatest fits = same_list (after (ToUnmount mount)).filesystems
       (filesystems-taken_away world (going nat_eq world (mount_numbered nat_eq world mount)))
   rising_then (ToUnmountLazily mount) greatest fits =
       same_list (after (ToUnmountLazily mount)).filesystems (lazy_is_of_mounts world mount).filesystems
@@ -157,10 +152,8 @@ numbers_rise_still world fresh task permit is given rising greatest =
     (applied, swept (apply nat_eq fresh world task permit).world applied)
   where
     -- the sweep leaves some, with their numbers
-    swept : (w : World ℕ) → are_rising w.filesystems ≡ true
-        → are_rising (settled nat_eq w).filesystems ≡ true
-    swept w so =
-        same_numbers (in_use_of w).filesystems (settled nat_eq w).filesystems
+    swept : (w : World ℕ) → are_rising w.filesystems ≡ true → are_rising (settled nat_eq w).filesystems ≡ true
+    swept w so = same_numbers (in_use_of w).filesystems (settled nat_eq w).filesystems
         (numbers_mapped (after_second w) (number-second w) (map (after_first w) (in_use_of w).filesystems)
         ∙ numbers_mapped (after_first w) (number-first w) (in_use_of w).filesystems)
         (rising_filtered (filesystem_lives nat_eq (without_dead_mounts nat_eq w)) w.filesystems so)

@@ -1,5 +1,6 @@
 -- A permit leaves overlays without an upper layer as they are.
-use Rattle.std.proofs.Common.{◌≡◌, refl, sym, ap, subst, ◌∙◌, ℕ, nat_eq, eqb-true, Bool, true, false, true≢false, cond, List, [], ◌∷◌, ◌++◌, filter, map, Option, Some, None, is_some}
+use Rattle.std.proofs.Common.{arith, ◌≡◌, refl, sym, ap, subst, ◌∙◌, ℕ, nat_eq, eqb-true, Bool, true, false, true≢false, cond, List, [], ◌∷◌, ◌++◌, filter, map, Option, Some, None, is_some}
+use Rattle.std.proofs.lemmas.Grind.{common_steps}
 use Rattle.std.specs.Prelude.{All}
 use Rattle.vt_spec.specs.Language.Changes.Change.{CopyUp, Make, Move, Remove}
 use Rattle.vt_spec.specs.Language.Changes.{Change, changed}
@@ -32,22 +33,16 @@ overlays_in list = filter is_overlay list
 -- What holds of all plain filesystems, and of all overlays before, holds after a change that leaves overlays.
 pub by_overlays : (P : Filesystem ℕ → Type 0) → ((f : Filesystem ℕ) → is_overlay f ≡ false → P f)
     → (before after : List (Filesystem ℕ)) → overlays_in after ≡ overlays_in before → All P before → All P after
-by_overlays P plain before after same all =
-    all_from_among P after (λ f m. by f m (is_overlay f) refl)
+by_overlays P plain before after same all = all_from_among P after (λ f m. by f m (is_overlay f) refl)
   where
     by : (f : Filesystem ℕ) → Among f after → (b : Bool) → is_overlay f ≡ b → P f
     by f m false e = plain f e
-    by f m true e =
-        among_from_all P before all f
+    by f m true e = among_from_all P before all f
         (among-from_filter is_overlay before f (subst (Among f) same (among-filter is_overlay after f m e))).0
 
 pub no_upper_of_plain : (f : Filesystem ℕ) → is_overlay f ≡ false
     → of_overlay false (λ overlay. is_some overlay.upper) f ≡ false
-no_upper_of_plain f e = by f.overlay e
-  where
-    by : (o : Option (Overlay ℕ)) → is_some o ≡ false → overlay_or false (λ overlay. is_some overlay.upper) o ≡ false
-    by None h = refl
-    by (Some overlay) h = absurd (true≢false h)
+no_upper_of_plain f e = grind (arith, common_steps, true≢false)
 
 -- a plain filesystem more
 one_more : (list : List (Filesystem ℕ)) (new : Filesystem ℕ) → is_overlay new ≡ false
@@ -95,31 +90,12 @@ module _ (world : World ℕ) (fresh : Fresh ℕ) (task : Task ℕ) (none : Overl
       new = with_files old (changed nat_eq old.files change)
 
       is_old : (f : Filesystem ℕ) → Among f world.filesystems → nat_eq new.number f.number ≡ true → f ≡ old
-      is_old f m e =
-          sym (found_filesystem world.filesystems one f m)
+      is_old f m e = sym (found_filesystem world.filesystems one f m)
           ∙ ap (filesystem_numbered nat_eq world) (sym (eqb-true new.number f.number e) ∙ old_number)
           ∙ (λ i. filesystem_numbered nat_eq (record middle { filesystems = sym same i }) number)
 
       plain : old.overlay ≡ None → Left (map (replaced_if_numbered nat_eq new) middle.filesystems)
-      plain e =
-          ap (λ list. overlays_in (map (replaced_if_numbered nat_eq new) list)) same
-          ∙ filter_stays (replaced_if_numbered nat_eq new) is_overlay world.filesystems kind stays
-        where
-          kind : (f : Filesystem ℕ) → Among f world.filesystems
-              → is_overlay (replaced_if_numbered nat_eq new f) ≡ is_overlay f
-          kind f m = each (nat_eq new.number f.number) refl
-            where
-              each : (b : Bool) → nat_eq new.number f.number ≡ b → is_overlay (cond b new f) ≡ is_overlay f
-              each true h = ap is_overlay (sym (is_old f m h))
-              each false h = refl
-
-          stays : (f : Filesystem ℕ) → Among f world.filesystems → is_overlay f ≡ true
-              → replaced_if_numbered nat_eq new f ≡ f
-          stays f m is = each (nat_eq new.number f.number) refl
-            where
-              each : (b : Bool) → nat_eq new.number f.number ≡ b → cond b new f ≡ f
-              each true h = absurd (true≢false (sym is ∙ ap is_overlay (is_old f m h) ∙ ap is_some e))
-              each false h = refl
+      plain e = grind (arith, common_steps, filter_stays, is_old, true≢false)
 
       unchanged : (overlay : Overlay ℕ) (upper : Option (Layer ℕ)) → is_some upper ≡ false
           → Left (overlay_changed nat_eq supply middle old overlay upper change).filesystems
@@ -129,8 +105,7 @@ module _ (world : World ℕ) (fresh : Fresh ℕ) (task : Task ℕ) (none : Overl
       by : (o : Option (Overlay ℕ)) → old.overlay ≡ o
           → Left (filesystem_changed nat_eq supply middle old o change).filesystems
       by None e = plain e
-      by (Some overlay) e =
-          unchanged overlay overlay.upper
+      by (Some overlay) e = unchanged overlay overlay.upper
           (sym (ap (overlay_or false (λ other. is_some other.upper)) e) ∙ no_upper)
 
   copying : (b : Bool) (file : Location ℕ) → Left (with_copy nat_eq b fresh world file).filesystems
@@ -150,8 +125,7 @@ module _ (world : World ℕ) (fresh : Fresh ℕ) (task : Task ℕ) (none : Overl
       changing fresh (without_mounts_on nat_eq world directory)
       (filesystems-taken_away world (gone_on world directory)) parent (Remove parent.node name directory.node)
   overlays_left (ToRename from old to new object replaced) fits =
-      changing fresh (without_replaced nat_eq world replaced)
-      (filesystems-without_replaced world replaced) from
+      changing fresh (without_replaced nat_eq world replaced) (filesystems-without_replaced world replaced) from
       (Move from.node old to.node new object.node)
   overlays_left (ToOpen file access) fits = copying (is_copied_up nat_eq world file access) file
   overlays_left (ToOpenNew directory name node access) fits =
@@ -161,8 +135,7 @@ module _ (world : World ℕ) (fresh : Fresh ℕ) (task : Task ℕ) (none : Overl
   overlays_left ToUnshare fits = ap overlays_in (filesystems-taken_away (unshared nat_eq world fresh task) _)
   overlays_left (ToEnterNamespace namespace) fits =
       ap overlays_in (filesystems-taken_away (namespace_entered nat_eq world task namespace) _)
-  overlays_left (ToMountPlain place flags) fits =
-      one_more world.filesystems (plain_filesystem nat_eq fresh) refl
+  overlays_left (ToMountPlain place flags) fits = one_more world.filesystems (plain_filesystem nat_eq fresh) refl
   overlays_left (ToMountOverlay place overlay flags) fits = absurd fits
   overlays_left (ToUnmount mount) fits =
       ap overlays_in (filesystems-taken_away world (going nat_eq world (mount_numbered nat_eq world mount)))

@@ -1,5 +1,6 @@
 -- Overlays without an upper layer, after a permit and after the sweep.
-use Rattle.std.proofs.Common.{◌≡◌, refl, sym, ap, subst, ◌∙◌, inl, inr, ℕ, nat_eq, Bool, true, false, true≢false, cond, not, ◌||◌, List, [], ◌∷◌, filter, Option, Some, None, is_some, option_map}
+use Rattle.std.proofs.Common.{arith, ◌≡◌, refl, sym, ap, subst, ◌∙◌, inr, ℕ, nat_eq, Bool, true, false, true≢false, cond, not, ◌||◌, List, [], ◌∷◌, filter, is_some}
+use Rattle.std.proofs.lemmas.Grind.{common_steps}
 use Rattle.std.specs.List.{list_all, list_any}
 use Rattle.vt_spec.specs.Lists.{Fresh, is_among}
 use Rattle.vt_spec.specs.Machine.Apply.{apply}
@@ -7,8 +8,8 @@ use Rattle.vt_spec.specs.Machine.Invariants.{IsWorld}
 use Rattle.vt_spec.specs.Machine.Locked.{of_overlay, overlay_or}
 use Rattle.vt_spec.specs.Machine.Permits.{Permit}
 use Rattle.vt_spec.specs.Machine.SameWorlds.{SameFilesystems}
-use Rattle.vt_spec.specs.Machine.Settled.{filesystem_lives, has_layer_on, is_mounted, only_used, only_used_by, real_among, settled, used_in, without_dead_in, without_dead_mounts}
-use Rattle.vt_spec.specs.Machine.World.{Filesystem, Overlay, Task, World, is_overlay, layers_of}
+use Rattle.vt_spec.specs.Machine.Settled.{filesystem_lives, has_layer_on, is_mounted, only_used, only_used_by, settled, used_in, without_dead_in, without_dead_mounts}
+use Rattle.vt_spec.specs.Machine.World.{Filesystem, Overlay, Task, World, is_overlay}
 use Rattle.vt_spec.proofs.Lists.{Among, all_from_among, among-filter, among_from_all, among-from_filter, among-from_map, none_among, none_from_among}
 use Rattle.vt_laws_mounts.specs.LettingGo.Keeping.{has_only_named}
 use Rattle.vt_laws_mounts.specs.LettingGo.TreesOverlays.{in_use_of}
@@ -34,14 +35,7 @@ abbrev has_upper : Filesystem ℕ → Bool
 has_upper f = of_overlay false (λ overlay. is_some overlay.upper) f
 
 upper_by : (used : List ℕ) (b : Bool) (f : Filesystem ℕ) → has_upper (only_used_by nat_eq b used f) ≡ has_upper f
-upper_by used true f = refl
-upper_by used false f = by f.overlay
-  where
-    by : (o : Option (Overlay ℕ))
-        → overlay_or false (λ overlay. is_some overlay.upper) (option_map (real_among nat_eq used) o)
-        ≡ overlay_or false (λ overlay. is_some overlay.upper) o
-    by None = refl
-    by (Some overlay) = refl
+upper_by used b f = grind (arith, common_steps)
 
 no_upper_in : (chosen : Filesystem ℕ → Bool) (world : World ℕ) → OverlaysHaveNoUpper world
     → OverlaysHaveNoUpper (without_dead_in nat_eq chosen world)
@@ -73,16 +67,14 @@ named_of_plain f e is = absurd (true≢false (sym is ∙ e))
 pub sweeps_keep_names : SweepsKeepNames
 sweeps_keep_names world named =
     by_overlays IsNamed named_of_plain (in_use_of world).filesystems (settled nat_eq world).filesystems
-    (named_overlays_stay world named)
-    (all_from_among IsNamed (in_use_of world).filesystems (λ f m.
+    (named_overlays_stay world named) (all_from_among IsNamed (in_use_of world).filesystems (λ f m.
     among_from_all IsNamed world.filesystems named f
     (among-from_filter (filesystem_lives nat_eq (without_dead_mounts nat_eq world)) world.filesystems f m).0))
 
 -- A permit, and the sweep after it
 
 filters_turned : (p q r : Filesystem ℕ → Bool) (list : List (Filesystem ℕ))
-    → ((f : Filesystem ℕ) → Among f list → p f ≡ true → q f ≡ r f)
-    → filter p (filter q list) ≡ filter r (filter p list)
+    → ((f : Filesystem ℕ) → Among f list → p f ≡ true → q f ≡ r f) → filter p (filter q list) ≡ filter r (filter p list)
 filters_turned p q r [] same = refl
 filters_turned p q r (first ∷ rest) same =
     by (p first) (q first) (r first) refl refl refl (filters_turned p q r rest (λ f m. same f (inr m)))
@@ -90,17 +82,7 @@ filters_turned p q r (first ∷ rest) same =
     by : (a b c : Bool) → p first ≡ a → q first ≡ b → r first ≡ c → filter p (filter q rest) ≡ filter r (filter p rest)
         → filter p (cond b (first ∷ filter q rest) (filter q rest))
         ≡ filter r (cond a (first ∷ filter p rest) (filter p rest))
-    by true true true e f g later =
-        ap (λ x. cond x (first ∷ filter p (filter q rest)) (filter p (filter q rest))) e
-        ∙ ap (λ l. first ∷ l) later
-        ∙ sym (ap (λ x. cond x (first ∷ filter r (filter p rest)) (filter r (filter p rest))) g)
-    by true true false e f g later = absurd (true≢false (sym f ∙ same first (inl refl) e ∙ g))
-    by true false true e f g later = absurd (true≢false (sym g ∙ sym (same first (inl refl) e) ∙ f))
-    by true false false e f g later =
-        later ∙ sym (ap (λ x. cond x (first ∷ filter r (filter p rest)) (filter r (filter p rest))) g)
-    by false true c e f g later =
-        ap (λ x. cond x (first ∷ filter p (filter q rest)) (filter p (filter q rest))) e ∙ later
-    by false false c e f g later = later
+    by a b c e f g later = grind (arith, common_steps, true≢false)
 
 module _ (world : World ℕ) (fresh : Fresh ℕ) (task : Task ℕ) (permit : Permit ℕ) (is : IsWorld nat_eq world)
     (none : OverlaysHaveNoUpper world) (given : IsGiven fresh world task permit) where
@@ -122,29 +104,19 @@ module _ (world : World ℕ) (fresh : Fresh ℕ) (task : Task ℕ) (permit : Per
 
   -- no overlay is a layer of another
   apart : (f : Filesystem ℕ) → Among f applied.filesystems → is_overlay f ≡ true → HasNoLayerIn f.number mounted
-  apart f m e =
-      by_overlays (λ merged. has_layer_on nat_eq f.number merged ≡ false) no_layer world.filesystems
+  apart f m e = by_overlays (λ merged. has_layer_on nat_eq f.number merged ≡ false) no_layer world.filesystems
       applied.filesystems left_same
       (among_from_all (λ g. is_overlay g ≡ true → HasNoLayerIn g.number world) world.filesystems
-      (overlays_are_no_layers world is) f
-      (among-from_filter is_overlay world.filesystems f
+      (overlays_are_no_layers world is) f (among-from_filter is_overlay world.filesystems f
       (subst (Among f) left_same (among-filter is_overlay applied.filesystems f m e))).0 e)
     where
       no_layer : (merged : Filesystem ℕ) → is_overlay merged ≡ false → has_layer_on nat_eq f.number merged ≡ false
-      no_layer merged h = by merged.overlay h
-        where
-          by : (o : Option (Overlay ℕ)) → is_some o ≡ false
-              → overlay_or false (λ overlay. list_any (λ layer. nat_eq f.number layer.filesystem) (layers_of overlay)) o
-              ≡ false
-          by None k = refl
-          by (Some overlay) k = absurd (true≢false k)
+      no_layer merged h = grind (arith, common_steps, true≢false)
 
-  pub mounted_stay : OverlaysAreNamed world
-      → overlays_in (left_by fresh world task permit).filesystems
+  pub mounted_stay : OverlaysAreNamed world → overlays_in (left_by fresh world task permit).filesystems
       ≡ filter (λ merged. is_mounted nat_eq (left_by fresh world task permit) merged.number)
       (overlays_in world.filesystems)
-  mounted_stay named =
-      named_overlays_stay applied (named_applied named)
+  mounted_stay named = named_overlays_stay applied (named_applied named)
       ∙ filters_turned is_overlay (filesystem_lives nat_eq mounted) (λ merged. is_mounted nat_eq mounted merged.number)
       applied.filesystems
       (λ f m e. lives_while_mounted mounted f (apart f m e) ∙ sym (mounted_while_counted mounted f.number))
@@ -157,12 +129,8 @@ mounted_overlays_stay world fresh task permit is none named given =
 -- Worlds
 
 pub plain_worlds_have_no_overlays : PlainWorldsHaveNoOverlays
-plain_worlds_have_no_overlays world plain = (
-  all_from_among (λ f. has_upper f ≡ false) world.filesystems (λ f m.
-      no_upper_of_plain f (among_from_all (λ g. is_overlay g ≡ false) world.filesystems plain f m)),
-  all_from_among IsNamed world.filesystems (λ f m.
-      named_of_plain f (among_from_all (λ g. is_overlay g ≡ false) world.filesystems plain f m)),
-)
+plain_worlds_have_no_overlays world plain =
+    grind (arith, common_steps, all_from_among, no_upper_of_plain, among_from_all, named_of_plain)
 
 uppers_alike : (ones others : List (Filesystem ℕ)) → SameFilesystems ones others
     → list_any has_upper ones ≡ list_any has_upper others
@@ -173,9 +141,6 @@ uppers_alike (one ∷ ones) (other ∷ others) same =
     λ i. overlay_or false (λ overlay. is_some overlay.upper) (same.0.overlay i) || uppers_alike ones others same.1 i
 
 pub same_worlds_have_no_upper_alike : SameWorldsHaveNoUpperAlike
-same_worlds_have_no_upper_alike one other same none =
-    all_from_among (λ f. has_upper f ≡ false) other.filesystems
-    (none_among has_upper other.filesystems
-    (sym (uppers_alike one.filesystems other.filesystems same.filesystems)
-    ∙ none_from_among has_upper one.filesystems
-    (among_from_all (λ f. has_upper f ≡ false) one.filesystems none)))
+same_worlds_have_no_upper_alike one other same none = all_from_among (λ f. has_upper f ≡ false) other.filesystems
+    (none_among has_upper other.filesystems (sym (uppers_alike one.filesystems other.filesystems same.filesystems)
+    ∙ none_from_among has_upper one.filesystems (among_from_all (λ f. has_upper f ≡ false) one.filesystems none)))

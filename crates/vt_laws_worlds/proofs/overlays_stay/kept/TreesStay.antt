@@ -33,20 +33,17 @@ module _ (world : World ℕ) (fresh : Fresh ℕ) (task : Task ℕ) (permit : Per
   in_left : (b : Bool) → is_among nat_eq number (map (λ f. f.number) left.filesystems) ≡ b
       → Among found left.filesystems
   in_left true e = found_is left.filesystems number e
-  in_left false e =
-      absurd (true≢false (sym there ∙ ap is_overlay (not_found left.filesystems number e)))
+  in_left false e = absurd (true≢false (sym there ∙ ap is_overlay (not_found left.filesystems number e)))
 
   in_world : Among found world.filesystems
-  in_world =
-      (among-from_filter is_overlay world.filesystems found
+  in_world = (among-from_filter is_overlay world.filesystems found
       (among-from_filter (λ merged. is_mounted nat_eq left merged.number) (overlays_in world.filesystems) found
       (subst (Among found) (mounted_overlays_stay world fresh task permit is none named given)
       (among-filter is_overlay left.filesystems found
       (in_left (is_among nat_eq number (map (λ f. f.number) left.filesystems)) refl) there))).0).0
 
   pub stays : found ≡ filesystem_numbered nat_eq world number
-  stays =
-      sym (found_filesystem world.filesystems is.files.one_filesystem found in_world)
+  stays = sym (found_filesystem world.filesystems is.files.one_filesystem found in_world)
       ∙ ap (filesystem_numbered nat_eq world) (number_numbered number left.filesystems)
 
 pub mounted_overlay_stays : MountedOverlayStays
@@ -57,8 +54,7 @@ module _ (world : World ℕ) (fresh : Fresh ℕ) (task : Task ℕ) (permit : Per
     (number_of another : Real ℕ → ℕ) (held other : ℕ → Option (Real ℕ)) (longest longer : ℕ)
     (is : IsWorld nat_eq world) (is_left : IsWorld nat_eq (left_by fresh world task permit))
     (same : filesystem_numbered nat_eq (left_by fresh world task permit) number
-    ≡ filesystem_numbered nat_eq world number)
-    (was : (filesystem_numbered nat_eq world number).overlay ≡ Some overlay)
+    ≡ filesystem_numbered nat_eq world number) (was : (filesystem_numbered nat_eq world number).overlay ≡ Some overlay)
     (named_before : IsNamedBy number_of held (filesystem_numbered nat_eq world number) overlay)
     (named_then : IsNamedBy another other (filesystem_numbered nat_eq world number) overlay)
     (few : AreNoLarger longest world overlay) (few_then : AreNoLarger longer (left_by fresh world task permit) overlay)

@@ -1,5 +1,6 @@
 -- What a given permit leaves where no overlay has an upper layer.
-use Rattle.std.proofs.Common.{ℕ, nat_eq}
+use Rattle.std.proofs.Common.{arith, ℕ, nat_eq}
+use Rattle.std.proofs.lemmas.Grind.{common_steps}
 use Rattle.vt_spec.specs.Lists.{Fresh}
 use Rattle.vt_spec.specs.Machine.Apply.{apply}
 use Rattle.vt_spec.specs.Machine.Permits.{Permit}
@@ -13,13 +14,7 @@ use Rattle.vt_laws_worlds.proofs.overlays_stay.kept.OverlaysSwept.{named_applied
 
 pub given_to_task : (fresh : Fresh ℕ) (world : World ℕ) (task : Task ℕ) (permit : Permit ℕ)
     → IsGiven fresh world task permit → IsGivenToTask fresh world task permit
-given_to_task fresh world task permit given = record {
-  serves = given.serves;
-  called = given.called;
-  call = given.call;
-  few_groups = given.few_groups;
-  judged = given.judged;
-}
+given_to_task fresh world task permit given = grind (arith, common_steps)
 
 pub given_permits_give_no_upper : GivenPermitsGiveNoUpper
 given_permits_give_no_upper world fresh task permit is none given = (

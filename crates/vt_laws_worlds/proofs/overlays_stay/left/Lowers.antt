@@ -33,19 +33,15 @@ module _ (world : World ℕ) (fresh : Fresh ℕ) (task : Task ℕ) (permit : Per
   stays_by : (o : Option (Overlay ℕ)) → (filesystem_numbered nat_eq (settled nat_eq left) number).overlay ≡ o
       → is_some o ≡ true → OverlayStays world (settled nat_eq left) number overlay
   stays_by None e there = absurd (true≢false (sym there))
-  stays_by (Some now) e there =
-      stays_both world left (settled nat_eq left) number overlay first
-      (swept_stays left
+  stays_by (Some now) e there = stays_both world left (settled nat_eq left) number overlay first (swept_stays left
       (under world fresh task given.call permit is given.serves given.called given.no_overlay given.few_groups
       given.judged)
       (overlays_kept world fresh task given.call permit is given.serves given.called given.no_overlay given.few_groups
-      given.judged)
-      number now e first.after first.is)
+      given.judged) number now e first.after first.is)
 
   stays : (w : World ℕ) → left ≡ w → is_overlay (filesystem_numbered nat_eq (settled nat_eq w) number) ≡ true
       → OverlayStays world (settled nat_eq w) number overlay
-  stays w same there =
-      subst (λ v. OverlayStays world (settled nat_eq v) number overlay) same
+  stays w same there = subst (λ v. OverlayStays world (settled nat_eq v) number overlay) same
       (stays_by (filesystem_numbered nat_eq (settled nat_eq left) number).overlay refl
       (ap (λ v. is_overlay (filesystem_numbered nat_eq (settled nat_eq v) number)) same ∙ there))
 

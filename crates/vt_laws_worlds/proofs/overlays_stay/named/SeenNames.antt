@@ -24,8 +24,7 @@ module _ (number_of : Real ℕ → ℕ) (world : World ℕ) (f : Filesystem ℕ)
 
   -- an inode without a name has no real object, so it is not there
   not_there : (n : ℕ) → ¬ (HasName f.files.tree n) → n ≢ f.files.tree.root → is_some (f.files.tree.node n) ≡ false
-  not_there n unnamed other =
-      none (f.files.tree.node n)
+  not_there n unnamed other = none (f.files.tree.node n)
       (subst (λ o. SameObject (f.files.tree.node n) (then_some o (real_node nat_eq world overlay)))
       (named.unnamed n unnamed other) (merged.merged.real_objects n))
     where
@@ -66,7 +65,6 @@ seen_worlds_have_names number_of longest world is seen =
         → (filesystem_numbered nat_eq world f.number).overlay ≡ o
         → is_overlay (filesystem_numbered nat_eq world f.number) ≡ true → has_only_named f ≡ true
     by f found None e is_one = absurd (true≢false (sym is_one ∙ ap is_some e))
-    by f found (Some overlay) e is_one =
-        ap has_only_named (sym found)
+    by f found (Some overlay) e is_one = ap has_only_named (sym found)
         ∙ (seen_overlays_have_names (number_of f.number) (longest f.number) world f.number overlay is e
         (seen f.number overlay e)).1

@@ -1,4 +1,5 @@
 -- Lists of filesystems, woven by their numbers.
+use Rattle.std.proofs.lemmas.Grind.{common_steps}
 use Rattle.std.proofs.Common.{◌≡◌, refl, sym, ap, subst, ◌∙◌, ℕ, nat_eq, nat_lt, Bool, true, false, true≢false, cond, not, ◌&&◌, List, [], ◌∷◌, filter, find, Some, arith}
 use Rattle.std.specs.Prelude.{All}
 use Rattle.std.specs.List.{list_all}
@@ -17,11 +18,7 @@ fails test filesystem = not (test filesystem)
 -- Numbers
 
 not_both : (a b : ℕ) → nat_lt a b ≡ true → nat_lt b a ≡ false
-not_both a b less = by (nat_lt b a) refl
-  where
-    by : (c : Bool) → nat_lt b a ≡ c → c ≡ false
-    by false e = refl
-    by true e = absurd (omega (arith, ltb-true a b less, ltb-true b a e))
+not_both a b less = grind (arith, common_steps, ltb-true)
 
 -- Putting in
 
@@ -29,8 +26,7 @@ not_both a b less = by (nat_lt b a) refl
 put_first : (f : Filesystem ℕ) (list : List (Filesystem ℕ)) → list_all (is_before f) list ≡ true
     → put_in f list ≡ f ∷ list
 put_first f [] before = refl
-put_first f (first ∷ rest) before =
-    ap (λ b. cond b (first ∷ put_in f rest) (f ∷ first ∷ rest))
+put_first f (first ∷ rest) before = ap (λ b. cond b (first ∷ put_in f rest) (f ∷ first ∷ rest))
     (not_both f.number first.number (and_parts (is_before f first) (list_all (is_before f) rest) before).0)
 
 -- what is before all that are put in stands first
@@ -64,20 +60,16 @@ rising_lists_are_woven test (first ∷ rest) rising =
     by : (b : Bool) → list_all (is_before first) rest ≡ true
         → woven (filter (fails test) rest) (filter test rest) ≡ rest
         → woven (cond (not b) (first ∷ filter (fails test) rest) (filter (fails test) rest))
-        (cond b (first ∷ filter test rest) (filter test rest))
-        ≡ first ∷ rest
+        (cond b (first ∷ filter test rest) (filter test rest)) ≡ first ∷ rest
     by true before later = ap (put_in first) later ∙ put_first first rest before
-    by false before later =
-        woven_first first (filter (fails test) rest) (filter test rest)
-        (all_filtered (is_before first) test rest before)
-        ∙ ap (λ list. first ∷ list) later
+    by false before later = woven_first first (filter (fails test) rest) (filter test rest)
+        (all_filtered (is_before first) test rest before) ∙ ap (λ list. first ∷ list) later
 
 -- Taking apart
 
 none_pass : {A : Type 0} (test : A → Bool) (list : List A) → All (λ a. test a ≡ false) list → filter test list ≡ []
 none_pass test [] none = refl
-none_pass test (first ∷ rest) none =
-    ap (λ b. cond b (first ∷ filter test rest) (filter test rest))
+none_pass test (first ∷ rest) none = ap (λ b. cond b (first ∷ filter test rest) (filter test rest))
     (All-head (λ a. test a ≡ false) first rest none)
     ∙ none_pass test rest (All-tail (λ a. test a ≡ false) first rest none)
 
@@ -108,8 +100,7 @@ woven_lists_are_failing test plain (overlay ∷ rest) parted =
     (record { fail = parted.fail; pass = All-tail (λ f. test f ≡ true) overlay rest parted.pass })
 
 put_passing : (test : Filesystem ℕ → Bool) (f : Filesystem ℕ) → test f ≡ true → (list : List (Filesystem ℕ))
-    → list_all (is_before f) (filter test list) ≡ true
-    → filter test (put_in f list) ≡ f ∷ filter test list
+    → list_all (is_before f) (filter test list) ≡ true → filter test (put_in f list) ≡ f ∷ filter test list
 put_passing test f passes [] before = ap (λ b. cond b (f ∷ []) []) passes
 put_passing test f passes (first ∷ rest) before =
     by (is_before first f) refl (test first) refl before (put_passing test f passes rest)
@@ -119,14 +110,7 @@ put_passing test f passes (first ∷ rest) before =
         → (list_all (is_before f) (filter test rest) ≡ true → filter test (put_in f rest) ≡ f ∷ filter test rest)
         → filter test (cond b (first ∷ put_in f rest) (f ∷ first ∷ rest))
         ≡ f ∷ cond c (first ∷ filter test rest) (filter test rest)
-    by true e true g before later =
-        absurd (true≢false (sym (and_parts (is_before f first) (list_all (is_before f) (filter test rest)) before).0
-        ∙ not_both first.number f.number e))
-    by true e false g before later =
-        ap (λ c. cond c (first ∷ filter test (put_in f rest)) (filter test (put_in f rest))) g ∙ later before
-    by false e c g before later =
-        ap (λ d. cond d (f ∷ filter test (first ∷ rest)) (filter test (first ∷ rest))) passes
-        ∙ ap (λ d. f ∷ cond d (first ∷ filter test rest) (filter test rest)) g
+    by b e c g before later = grind (arith, common_steps, true≢false, and_parts, not_both)
 
 pub woven_lists_are_passing : WovenListsArePassing
 woven_lists_are_passing test plain [] parted rising = none_pass test plain parted.fail
@@ -135,8 +119,7 @@ woven_lists_are_passing test plain (overlay ∷ rest) parted rising =
     let later = woven_lists_are_passing test plain rest
     (record { fail = parted.fail; pass = All-tail (λ f. test f ≡ true) overlay rest parted.pass }) parts.1 in
     put_passing test overlay (All-head (λ f. test f ≡ true) overlay rest parted.pass) (woven plain rest)
-    (ap (list_all (is_before overlay)) later ∙ parts.0)
-    ∙ ap (λ list. overlay ∷ list) later
+    (ap (list_all (is_before overlay)) later ∙ parts.0) ∙ ap (λ list. overlay ∷ list) later
 
 -- Filters
 
@@ -159,21 +142,12 @@ turned p q (first ∷ rest) = by (p first) (q first) refl refl (turned p q rest)
     by : (a b : Bool) → p first ≡ a → q first ≡ b → filter p (filter q rest) ≡ filter q (filter p rest)
         → filter p (cond b (first ∷ filter q rest) (filter q rest))
         ≡ filter q (cond a (first ∷ filter p rest) (filter p rest))
-    by true true e f later =
-        ap (λ x. cond x (first ∷ filter p (filter q rest)) (filter p (filter q rest))) e
-        ∙ ap (λ list. first ∷ list) later
-        ∙ sym (ap (λ x. cond x (first ∷ filter q (filter p rest)) (filter q (filter p rest))) f)
-    by true false e f later =
-        later ∙ sym (ap (λ x. cond x (first ∷ filter q (filter p rest)) (filter q (filter p rest))) f)
-    by false true e f later =
-        ap (λ x. cond x (first ∷ filter p (filter q rest)) (filter p (filter q rest))) e ∙ later
-    by false false e f later = later
+    by a b e f later = grind (arith, common_steps)
 
 pub woven_lists_are_filtered : WovenListsAreFiltered
 woven_lists_are_filtered test stays plain overlays parted overlays_rise rising =
     sym (rising_lists_are_woven test (filter stays (woven plain overlays))
-    (rising_filtered stays (woven plain overlays) rising))
-    ∙ (λ i. woven
+    (rising_filtered stays (woven plain overlays) rising)) ∙ (λ i. woven
     ((turned (fails test) stays (woven plain overlays)
     ∙ ap (filter stays) (woven_lists_are_failing test plain overlays parted)) i)
     ((turned test stays (woven plain overlays)
@@ -203,8 +177,7 @@ woven_lists_pass_all test plain [] = by (list_all test plain)
     by : (b : Bool) → b ≡ (b && true)
     by true = refl
     by false = refl
-woven_lists_pass_all test plain (overlay ∷ rest) =
-    put_tested test overlay (woven plain rest)
+woven_lists_pass_all test plain (overlay ∷ rest) = put_tested test overlay (woven plain rest)
     ∙ ap (λ b. test overlay && b) (woven_lists_pass_all test plain rest)
     ∙ aside (test overlay) (list_all test plain) (list_all test rest)
 
@@ -217,8 +190,7 @@ put_alike f g here [] (other ∷ others) same = absurd same
 put_alike f g here (one ∷ ones) [] same = absurd same
 put_alike f g here (one ∷ ones) (other ∷ others) same =
     subst (λ b. SameFilesystems (cond (is_before one f) (one ∷ put_in f ones) (f ∷ one ∷ ones))
-    (cond b (other ∷ put_in g others) (g ∷ other ∷ others)))
-    (λ i. nat_lt (same.0.number i) (here.number i))
+    (cond b (other ∷ put_in g others) (g ∷ other ∷ others))) (λ i. nat_lt (same.0.number i) (here.number i))
     (by (is_before one f) (put_alike f g here ones others same.1))
   where
     by : (b : Bool) → SameFilesystems (put_in f ones) (put_in g others)
@@ -242,8 +214,7 @@ put_passed : (number : ℕ) (f : Filesystem ℕ) → nat_eq number f.number ≡ 
 put_passed number f other [] = ap (λ b. cond b (Some f) (find (λ g. nat_eq number g.number) [])) other
 put_passed number f other (first ∷ rest) = by (is_before first f) (put_passed number f other rest)
   where
-    by : (b : Bool)
-        → find (λ g. nat_eq number g.number) (put_in f rest) ≡ find (λ g. nat_eq number g.number) rest
+    by : (b : Bool) → find (λ g. nat_eq number g.number) (put_in f rest) ≡ find (λ g. nat_eq number g.number) rest
         → find (λ g. nat_eq number g.number) (cond b (first ∷ put_in f rest) (f ∷ first ∷ rest))
         ≡ find (λ g. nat_eq number g.number) (first ∷ rest)
     by true later = ap (cond (nat_eq number first.number) (Some first)) later

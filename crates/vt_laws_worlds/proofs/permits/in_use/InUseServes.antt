@@ -1,11 +1,12 @@
 -- Which numbers a world keeps to, and which supplies serve it.
-use Rattle.std.proofs.Common.{eq-eqb, eqb-true, ne_eqb, ◌≡◌, ◌≢◌, refl, sym, ap, ◌∙◌, true≢false, ℕ, ◌+◌, ◌*◌, ◌%◌, ◌/◌, ◌==◌, Bool, true, false, cond, not, ◌&&◌, ◌||◌, arith}
+use Rattle.std.proofs.lemmas.Grind.{common_steps}
+use Rattle.std.proofs.Common.{eq-eqb, eqb-true, ne_eqb, ◌≡◌, ◌≢◌, refl, sym, ap, ◌∙◌, true≢false, ℕ, ◌+◌, ◌*◌, ◌%◌, ◌/◌, ◌==◌, Bool, true, false, not, ◌&&◌, ◌||◌, arith}
 use Rattle.vt_laws_rules.proofs.numbers.NamedWorlds.{named_is_kept}
 use Rattle.vt_laws_rules.proofs.numbers.Supports.{used_numbers_are_named}
 use Rattle.vt_laws_rules.specs.Numbers.{KeepsTo, LeavesOutTwo}
 use Rattle.vt_laws_worlds.proofs.permits.in_use.InUseNamed.{worlds_have_numbers_in_use}
 use Rattle.vt_laws_worlds.specs.Permits.InUse.{CountsServeWorlds, HandedNumbersServeWorlds, WorldsKeepToNamedBefore, WorldsKeepToNumbersInUse, is_in_use}
-use Rattle.vt_laws_trees.specs.Runs.Handed.{counts_from, handed_from, is_counted_before, is_named_before}
+use Rattle.vt_laws_trees.specs.Runs.Handed.{counts_from, is_counted_before, is_named_before}
 use Rattle.vt_spec.specs.Machine.World.{World}
 use Rattle.std.proofs.lemmas.Bool.{le-ltb}
 
@@ -29,21 +30,14 @@ used_before next world keeps number used =
 
 -- a count from the next one on is not among them
 not_before : (next k : ℕ) → is_counted_before next (counts_from next k) ≡ false
-not_before next k =
-    let odd : (4 * (next + k) + 1) % 2 ≡ 1 = omega arith in
-    let rest : (4 * (next + k) + 1) % 4 ≡ 1 = omega arith in
-    let quarter : (4 * (next + k) + 1) / 4 ≡ next + k = omega arith in
-    λ i.
-    ne_eqb ((4 * (next + k) + 1) % 2) 0 (λ e. absurd (omega arith)) i
-    || (eq-eqb ((4 * (next + k) + 1) % 4) 1 rest i && le-ltb ((4 * (next + k) + 1) / 4) next (omega arith) i)
+not_before next k = grind (arith, common_steps, ne_eqb, eq-eqb, le-ltb)
 
 unused_count : (next : ℕ) (world : World ℕ) → KeepsTo (is_counted_before next) world → (k : ℕ)
     → is_in_use world (counts_from next k) ≡ false
 unused_count next world keeps k = by (is_in_use world (counts_from next k)) refl
   where
     by : (used : Bool) → is_in_use world (counts_from next k) ≡ used → used ≡ false
-    by true e =
-        absurd (true≢false (sym (used_before next world keeps (counts_from next k) e) ∙ not_before next k))
+    by true e = absurd (true≢false (sym (used_before next world keeps (counts_from next k) e) ∙ not_before next k))
     by false e = refl
 
 counts_apart : (next j k : ℕ) → counts_from next j ≡ counts_from next k → j ≡ k
@@ -56,26 +50,8 @@ counts_serve_worlds next world keeps = record {
 }
 
 pub handed_numbers_serve_worlds : HandedNumbersServeWorlds
-handed_numbers_serve_worlds next place inode world keeps even out = record {
-  unused = λ k. unused k (k == place);
-  apart = λ j k e.
-      apart j k (j == place) (k == place) refl refl
-      (eqb-true (handed_from next place inode j) (handed_from next place inode k) e);
-}
-  where
-    unused : (k : ℕ) (here : Bool) → is_in_use world (cond here inode (counts_from next k)) ≡ false
-    unused k true = out
-    unused k false = unused_count next world keeps k
-
-    mixed : (k : ℕ) → inode ≡ counts_from next k → ⊥
-    mixed k e = omega arith
-
-    apart : (j k : ℕ) (here there : Bool) → (j == place) ≡ here → (k == place) ≡ there
-        → cond here inode (counts_from next j) ≡ cond there inode (counts_from next k) → j ≡ k
-    apart j k true true at also e = eqb-true j place at ∙ sym (eqb-true k place also)
-    apart j k true false at also e = absurd (mixed k e)
-    apart j k false true at also e = absurd (mixed j (sym e))
-    apart j k false false at also e = counts_apart next j k e
+handed_numbers_serve_worlds next place inode world keeps even out =
+    grind (arith, common_steps, eqb-true, unused_count, counts_apart)
 
 pub worlds_keep_to_named_before : WorldsKeepToNamedBefore
 worlds_keep_to_named_before next inode world whole plain keeps out =
@@ -84,7 +60,5 @@ worlds_keep_to_named_before next inode world whole plain keeps out =
   where
     by : (number : ℕ) → is_in_use world number ≡ true → (same : Bool) → (number == inode) ≡ same
         → (is_counted_before next number && not (number == inode)) ≡ true
-    by number used true e =
-        absurd (true≢false (sym used ∙ ap (is_in_use world) (eqb-true number inode e) ∙ out))
-    by number used false e =
-        (λ i. used_before next world keeps number used i && not (e i))
+    by number used true e = absurd (true≢false (sym used ∙ ap (is_in_use world) (eqb-true number inode e) ∙ out))
+    by number used false e = (λ i. used_before next world keeps number used i && not (e i))

@@ -37,16 +37,14 @@ left_called name eq handed = left_if eq handed (task_called handed.1 name)
 
 -- the world that is left, renamed, is what the renamed permit leaves
 pub left_renamed : (renaming : Renaming ℕ ℕ) (fresh : Fresh ℕ) (world : World ℕ) (task : Task ℕ) (permit : Permit ℕ)
-    → task_called world task.name ≡ Some task
-    → renamed renaming.there renaming.back world ≡ world
+    → task_called world task.name ≡ Some task → renamed renaming.there renaming.back world ≡ world
     → renamed_permit renaming.there renaming.back permit ≡ permit
     → renamed renaming.there renaming.back (left_by fresh world task permit)
     ≡ left_by (λ k. renaming.there (fresh k)) world task permit
 left_renamed renaming fresh world task permit called same alike =
     ap (renamed renaming.there renaming.back) (sym (left_is fresh))
     ∙ sym (commutes_nat Handed World named_handed named_world (λ A eq handed. left_called task.name eq handed) renaming
-    (fresh, world, permit))
-    ∙ (λ i. left_called task.name nat_eq ((λ k. renaming.there (fresh k)), same i, alike i))
+    (fresh, world, permit)) ∙ (λ i. left_called task.name nat_eq ((λ k. renaming.there (fresh k)), same i, alike i))
     ∙ left_is (λ k. renaming.there (fresh k))
   where
     left_is : (supply : Fresh ℕ)

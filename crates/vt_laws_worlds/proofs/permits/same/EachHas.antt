@@ -13,8 +13,7 @@ module _ {A B : Type 0} (R : A → B → Type 0) where
   each_all p q alike [] [] each = refl
   each_all p q alike [] (b ∷ others) each = absurd each
   each_all p q alike (a ∷ ones) [] each = absurd each
-  each_all p q alike (a ∷ ones) (b ∷ others) each =
-      λ i. alike a b each.0 i && each_all p q alike ones others each.1 i
+  each_all p q alike (a ∷ ones) (b ∷ others) each = λ i. alike a b each.0 i && each_all p q alike ones others each.1 i
 
   pub each_pair : (t : A → A → Bool) (u : B → B → Bool)
       → ((a : A) (b : B) (c : A) (d : B) → R a b → R c d → t a c ≡ u b d)
@@ -31,8 +30,7 @@ module _ {A B : Type 0} (R : A → B → Type 0) where
   each_holds P Q goes [] [] each all = All-nil Q
   each_holds P Q goes [] (b ∷ others) each all = absurd each
   each_holds P Q goes (a ∷ ones) [] each all = absurd each
-  each_holds P Q goes (a ∷ ones) (b ∷ others) each all =
-      All-cons Q b others (goes a b each.0 (All-head P a ones all))
+  each_holds P Q goes (a ∷ ones) (b ∷ others) each all = All-cons Q b others (goes a b each.0 (All-head P a ones all))
       (each_holds P Q goes ones others each.1 (All-tail P a ones all))
 
   -- the one that stands at the place of another

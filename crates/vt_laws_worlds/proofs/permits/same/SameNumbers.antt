@@ -15,8 +15,7 @@ use Rattle.vt_spec.proofs.Options.{cons-first, cons-rest}
 -- what stands in a list that a change leaves is left by it
 each_left : {A : Type 0} (f : A → A) (list : List A) → map f list ≡ list → (a : A) → Among a list → f a ≡ a
 each_left f [] same a among = absurd among
-each_left f (first ∷ rest) same a among =
-    ⊎_elim
+each_left f (first ∷ rest) same a among = ⊎_elim
     (λ e. ap f e ∙ cons-first (f first) first (map f rest) rest same ∙ sym e)
     (λ later. each_left f rest (cons-rest (f first) first (map f rest) rest same) a later) among
 
@@ -26,8 +25,7 @@ module _ {A : Type 0} (R : A → A → Type 0) (f : A → A) (goes : (a b : A) �
   each_left_alike [] [] each same = refl
   each_left_alike [] (b ∷ others) each same = absurd each
   each_left_alike (a ∷ ones) [] each same = absurd each
-  each_left_alike (a ∷ ones) (b ∷ others) each same = λ i.
-      goes a b each.0 (cons-first (f a) a (map f ones) ones same) i
+  each_left_alike (a ∷ ones) (b ∷ others) each same = λ i. goes a b each.0 (cons-first (f a) a (map f ones) ones same) i
       ∷ each_left_alike ones others each.1 (cons-rest (f a) a (map f ones) ones same) i
 
 module _ (renaming : Renaming ℕ ℕ) where
@@ -42,16 +40,12 @@ module _ (renaming : Renaming ℕ ℕ) where
   filesystem_left a b alike same = λ i. record {
     number = (ap there (sym alike.number) ∙ (λ j. (same j).number) ∙ alike.number) i;
     files = record {
-      tree =
-          ((λ j. record {
-            root = there (sym alike.files.tree j).root;
-            node = λ number. option_map (renamed_node there back) ((sym alike.files.tree j).node (back number));
-          })
-          ∙ (λ j. (same j).files.tree) ∙ alike.files.tree) i;
-      numbers =
-          map_same there b.files.numbers (λ number among.
-          each_left there a.files.numbers (λ j. (same j).files.numbers) number
-          (among_numbers number a.files.numbers
+      tree = ((λ j. record {
+        root = there (sym alike.files.tree j).root;
+        node = λ number. option_map (renamed_node there back) ((sym alike.files.tree j).node (back number));
+      }) ∙ (λ j. (same j).files.tree) ∙ alike.files.tree) i;
+      numbers = map_same there b.files.numbers (λ number among.
+          each_left there a.files.numbers (λ j. (same j).files.numbers) number (among_numbers number a.files.numbers
           (list_any-IsPermutation (nat_eq number) a.files.numbers b.files.numbers alike.files.numbers
           ∙ is_among_numbers number b.files.numbers among))) i;
     };
@@ -75,17 +69,14 @@ module _ (renaming : Renaming ℕ ℕ) where
   left_alike : (one other : World ℕ) → Alike one other → renamed there back one ≡ one → renamed there back other ≡ other
   left_alike one other same left = λ i. record {
     mounts = (ap (map (renamed_mount there back)) (sym same.mounts) ∙ (λ j. (left j).mounts) ∙ same.mounts) i;
-    master =
-        ((λ j group. option_map there (sym same.master j (back group))) ∙ (λ j. (left j).master) ∙ same.master) i;
-    filesystems =
-        each_left_alike AlikeFilesystem
+    master = ((λ j group. option_map there (sym same.master j (back group))) ∙ (λ j. (left j).master) ∙ same.master) i;
+    filesystems = each_left_alike AlikeFilesystem
         (renamed_filesystem there back) filesystem_left one.filesystems other.filesystems
         same.filesystems (λ j. (left j).filesystems) i;
     namespaces =
         each_left_alike SameNamespace (renamed_namespace there back) namespace_left one.namespaces other.namespaces
         same.namespaces (λ j. (left j).namespaces) i;
-    tasks =
-        each_left_alike SameTask (renamed_task there back) task_left one.tasks other.tasks same.tasks
+    tasks = each_left_alike SameTask (renamed_task there back) task_left one.tasks other.tasks same.tasks
         (λ j. (left j).tasks) i;
     change = other.change;
   }

@@ -1,5 +1,6 @@
 -- Each change of a tree that a permit asks for is proper, and fits whoever keeps that tree alone.
-use Rattle.std.proofs.Common.{eq-eqb, le-leb, leb-true, ltb-false, ne_eqb, ◌≡◌, ◌≢◌, refl, sym, ap, subst, ◌∙◌, ⊎_elim, true≢false, ℕ, zero, suc, ◌+◌, ◌*◌, nat_eq, nat_le, nat_lt, Bool, true, false, not, cond, List, [], ◌∷◌, ◌&&◌, ◌||◌, length, Option, Some, None, option_map, option_and_then}
+use Rattle.std.proofs.Common.{arith, eq-eqb, le-leb, leb-true, ltb-false, ne_eqb, ◌≡◌, ◌≢◌, refl, sym, ap, subst, ◌∙◌, ⊎_elim, true≢false, ℕ, zero, suc, ◌+◌, ◌*◌, nat_eq, nat_le, nat_lt, Bool, true, false, not, cond, List, [], ◌∷◌, ◌&&◌, ◌||◌, length, Option, Some, None, option_map, option_and_then}
+use Rattle.std.proofs.lemmas.Grind.{common_steps}
 use Rattle.std.specs.Prelude.{⊤}
 use Rattle.vt_laws_trees.specs.Calls.Inodes.{change_of, written_if_some}
 use Rattle.vt_laws_mounts.proofs.letting_go.Lists.{all_from_among, among_from_all, among_numbers, passes}
@@ -23,8 +24,8 @@ use Rattle.vt_spec.specs.Fits.{Fits, MayReplace}
 use Rattle.vt_spec.specs.Inodes.{Inode, Inodes, parent_above, tree_of}
 use Rattle.vt_spec.specs.PathText.{is_empty}
 use Rattle.vt_spec.specs.Rights.{is_directory}
-use Rattle.vt_spec.specs.Tree.{Content, Node, Tree, bytes_in, is_directory_node, kind_of, parent_in}
-use Rattle.vt_spec.specs.Tree.Content.{Directory, Regular, Symlink, Whiteout}
+use Rattle.vt_spec.specs.Tree.{Node, Tree, bytes_in, is_directory_node, parent_in}
+use Rattle.vt_spec.specs.Tree.Content.{Directory}
 use Rattle.vt_spec.specs.TreeInvariant.{HasName, IsDirectory, IsReached, IsTree, entry_at, led}
 use Rattle.vt_spec.proofs.Lists.{chain_ends, chain_goes_on}
 use Rattle.vt_spec.proofs.Trees.{parent_reached, reached_named}
@@ -44,8 +45,7 @@ abbrev More : Tree ℕ → Change ℕ → Type 0
 More tree (Make directory name number node) = ⊤
 More tree (AddName directory name object) = ⊤
 More tree (Remove directory name object) = ⊤
-More tree (Move from old to new object) =
-    IsTree tree × ((other : ℕ) → entry_at tree to new ≡ Some other
+More tree (Move from old to new object) = IsTree tree × ((other : ℕ) → entry_at tree to new ≡ Some other
     → is_directory_node (tree.node other) ≡ is_directory_node (tree.node object))
 More tree (SetBytes file bytes) =
     (is_directory_node (tree.node file) ≡ false) × (nat_le (length bytes) largest_file ≡ true)
@@ -79,22 +79,17 @@ module _ (inodes : Inodes ℕ) where
     above (suc most) directory there reached names leads =
         by (nat_eq directory inodes.root) refl (λ (named : HasName tree directory).
         above most (parent directory) (is.parent_directory directory there)
-        (parent_reached tree is directory there reached)
-        (named.1 ∷ names)
+        (parent_reached tree is directory there reached) (named.1 ∷ names)
         (ap (option_and_then (λ next. led tree next names))
-        (ap (λ d. entry_at tree d named.1) (is.one_parent named.0 named.1 directory named.2 there) ∙ named.2)
-        ∙ leads))
+        (ap (λ d. entry_at tree d named.1) (is.one_parent named.0 named.1 directory named.2 there) ∙ named.2) ∙ leads))
       where
-        by : (b : Bool) → nat_eq directory inodes.root ≡ b
-            → (HasName tree directory → is_among nat_eq object
+        by : (b : Bool) → nat_eq directory inodes.root ≡ b → (HasName tree directory → is_among nat_eq object
             (chain most (parent_above nat_eq inodes) (parent directory)) ≡ false)
             → is_among nat_eq object (chain (suc most) (parent_above nat_eq inodes) directory) ≡ false
-        by true e goes_on =
-            ap (is_among nat_eq object)
+        by true e goes_on = ap (is_among nat_eq object)
             (chain_ends (parent_above nat_eq inodes) most directory (ap (λ b. cond b None (Some (parent directory))) e))
             ∙ ap (λ b. b || false) (apart directory names leads)
-        by false e goes_on =
-            ap (is_among nat_eq object)
+        by false e goes_on = ap (is_among nat_eq object)
             (chain_goes_on (parent_above nat_eq inodes) most directory (parent directory)
             (ap (λ b. cond b None (Some (parent directory))) e))
             ∙ ap (λ b. b || is_among nat_eq object (chain most (parent_above nat_eq inodes) (parent directory)))
@@ -116,8 +111,7 @@ module _ (inodes : Inodes ℕ) where
     facts.0.named,
     facts.0.in_directory,
     replaces (entry_at tree to new) refl,
-    λ is.
-        above facts.1.0 object to facts.0.not_under inodes.count to facts.0.in_directory facts.0.reached [] refl,
+    λ is. above facts.1.0 object to facts.0.not_under inodes.count to facts.0.in_directory facts.0.reached [] refl,
   )
     where
       replaces : (o : Option ℕ) → entry_at tree to new ≡ o → MayReplace tree object o
@@ -134,32 +128,19 @@ module _ (inodes : Inodes ℕ) where
 
 -- a regular file is no directory
 file_is_no_directory : (o : Option (Node ℕ)) → is_kind_in File o ≡ true → is_directory_node o ≡ false
-file_is_no_directory None e = refl
-file_is_no_directory (Some node) e = by node.content e
-  where
-    by : (content : Content ℕ) → is_kind_in File (Some (record { attr = node.attr; content = content })) ≡ true
-        → is_directory (kind_of content) ≡ false
-    by (Directory parent entries opaque) h = absurd (true≢false (sym h))
-    by (Regular bytes) h = refl
-    by (Symlink text) h = refl
-    by Whiteout h = refl
+file_is_no_directory o e = grind (arith, common_steps, true≢false)
 
 module _ (world : World ℕ) (fresh : Fresh ℕ) (task : Task ℕ) (permit : Permit ℕ) (whole : IsWorld nat_eq world)
     (given : IsGiven fresh world task permit) where
   -- the bytes of a file are within the limit
   bytes_small : (file : Location ℕ) → is_kind_in File (node_at nat_eq world file) ≡ true
       → nat_le (length (bytes_in (node_at nat_eq world file))) largest_file ≡ true
-  bytes_small file kind =
-      ⊎_elim
-      (λ good.
+  bytes_small file kind = ⊎_elim (λ good.
       limit (is_kind_in File (node_at nat_eq world file))
-      (nat_le (length (bytes_in (node_at nat_eq world file))) largest_file)
-      (and_true_first _ _ _
+      (nat_le (length (bytes_in (node_at nat_eq world file))) largest_file) (and_true_first _ _ _
       (passes (fit_in (files_at nat_eq world file)) (files_at nat_eq world file).numbers good.0 file.node
       (among_numbers file.node (files_at nat_eq world file).numbers
-      (good.1 file.node ∙ file_is_there (node_at nat_eq world file) kind))))
-      kind)
-      (λ missing. absurd (true≢false
+      (good.1 file.node ∙ file_is_there (node_at nat_eq world file) kind)))) kind) (λ missing. absurd (true≢false
       (sym kind ∙ ap (λ (f : Filesystem ℕ). is_kind_in File (f.files.tree.node file.node)) missing.0)))
       (numbered_all Good (mount_at nat_eq world file).filesystem world.filesystems
       (all_from_among Good world.filesystems (λ f m. (
@@ -183,25 +164,11 @@ module _ (world : World ℕ) (fresh : Fresh ℕ) (task : Task ℕ) (permit : Per
   FactsOf (Some made) = Facts (tree_at world made.0) made.1 × IsFitChange made.1
 
   number_is_new : (directory : Location ℕ) → (tree_at world directory).node (evens fresh 0) ≡ None
-  number_is_new directory =
-      new_at fresh world directory (new_numbers world fresh whole given.serves) (2 * 0)
+  number_is_new directory = new_at fresh world directory (new_numbers world fresh whole given.serves) (2 * 0)
 
   changed_facts : (location : Location ℕ) (change : Change ℕ) → SeesToChange world location change
       → FactsOf (Some (location, change))
-  changed_facts location (Make directory name number node) seen = absurd seen
-  changed_facts location (AddName directory name object) seen =
-      ((subst (λ d. IsProper (tree_at world location) (AddName d name object)) (sym seen.0) seen.1, tt), seen.2)
-  changed_facts location (Remove directory name object) seen =
-      ((subst (λ d. IsProper (tree_at world location) (Remove d name object)) (sym seen.0) seen.1, tt), tt)
-  changed_facts location (Move from old to new object) seen = absurd seen
-  changed_facts location (SetBytes file bytes) seen = (
-    (tt, (ap (λ n. is_directory_node ((tree_at world location).node n)) seen.0 ∙ seen.1, seen.2)),
-    seen.2,
-  )
-  changed_facts location (SetAttr object attr) seen = ((tt, tt), tt)
-  changed_facts location (SetMark directory opaque) seen =
-      ((tt, ap (λ n. is_directory_node ((tree_at world location).node n)) seen.0 ∙ seen.1), tt)
-  changed_facts location (CopyUp object) seen = absurd seen
+  changed_facts location change seen = grind (arith, common_steps)
 
   -- what is seen through a mount is in the tree that it shows
   abbrev shown : ℕ → Tree ℕ
@@ -228,18 +195,14 @@ module _ (world : World ℕ) (fresh : Fresh ℕ) (task : Task ℕ) (permit : Per
   facts_of (ToReadPart file offset size) names seen = tt
   facts_of (ToChange location change) names seen = changed_facts location change seen
   facts_of (ToMake directory name node) names seen = (
-    (
-      record { name_is_free = seen.name_is_free; number_is_new = number_is_new directory; fits = seen.fits },
-      tt,
-    ),
+    (record { name_is_free = seen.name_is_free; number_is_new = number_is_new directory; fits = seen.fits }, tt),
     (seen.fit_name, seen.small),
   )
   facts_of (ToRemoveDirectory parent name directory) names seen = ((seen.1, tt), tt)
   facts_of (ToRename from old to new object replaced) names seen =
       let kinds : (other : ℕ) → entry_at (tree_at world from) to.node new ≡ Some other
       → is_directory_node ((tree_at world from).node other)
-      ≡ is_directory_node ((tree_at world from).node object.node) =
-      λ other e.
+      ≡ is_directory_node ((tree_at world from).node object.node) = λ other e.
       ap (λ m. is_directory_node ((shown m).node other)) (sym seen.to_mount)
       ∙ seen.kinds (record { mount = to.mount; node = other })
       (seen.replaces ∙ ap (option_map (λ number. record { mount = to.mount; node = number }))
@@ -248,10 +211,7 @@ module _ (world : World ℕ) (fresh : Fresh ℕ) (task : Task ℕ) (permit : Per
       ((seen.moves, ((tree_here world whole from names.0.directory).tree, kinds)), seen.fit_name)
   facts_of (ToOpen file access) names seen = tt
   facts_of (ToOpenNew directory name node access) names seen = (
-    (
-      record { name_is_free = seen.0.name_is_free; number_is_new = number_is_new directory; fits = seen.0.fits },
-      tt,
-    ),
+    (record { name_is_free = seen.0.name_is_free; number_is_new = number_is_new directory; fits = seen.0.fits }, tt),
     (seen.0.fit_name, seen.0.small),
   )
   facts_of (ToWritePart file offset bytes) names seen = written_facts file offset bytes names seen.1
@@ -259,12 +219,9 @@ module _ (world : World ℕ) (fresh : Fresh ℕ) (task : Task ℕ) (permit : Per
 
   given_facts : (location : Location ℕ) (change : Change ℕ) → change_of fresh world permit ≡ Some (location, change)
       → Facts (tree_at world location) change × IsFitChange change
-  given_facts location change asks =
-      subst FactsOf asks
-      (facts_of permit
+  given_facts location change asks = subst FactsOf asks (facts_of permit
       (all_permits_fit world fresh task given.call permit whole given.serves given.called given.no_overlay
-      given.judged).names
-      (given_permits_are_seen_to world fresh task permit whole given))
+      given.judged).names (given_permits_are_seen_to world fresh task permit whole given))
 
 pub given_changes_are_proper : GivenChangesAreProper
 given_changes_are_proper world fresh task permit location change whole given asks =
@@ -272,7 +229,6 @@ given_changes_are_proper world fresh task permit location change whole given ask
     (facts.0.0, facts.1)
 
 pub given_changes_fit : GivenChangesFit
-given_changes_fit world fresh task permit location change inodes whole given asks same =
-    fits inodes change
+given_changes_fit world fresh task permit location change inodes whole given asks same = fits inodes change
     (subst (λ tree. Facts tree change) (sym same)
     (given_facts world fresh task permit whole given location change asks).0)

@@ -1,8 +1,8 @@
 -- What the walks and the rules of calls that make, remove and rename see to.
-use Rattle.std.proofs.Common.{Bool, None, Option, Some, ap, false, is_some, nat_eq, not, option_map, refl, sym, true, true≢false, ℕ, ⊎_elim, ◌&&◌, ◌||◌, ◌∙◌, ◌≡◌}
+use Rattle.std.proofs.Common.{arith, Bool, None, ap, false, is_some, nat_eq, not, refl, sym, true, true≢false, ℕ, ⊎_elim, ◌&&◌, ◌||◌, ◌∙◌, ◌≡◌}
+use Rattle.std.proofs.lemmas.Grind.{common_steps}
 use Rattle.vt_spec.specs.Errors.{NoneFails}
 use Rattle.std.specs.List.{All}
-use Rattle.std.specs.Prelude.{unwrap_or}
 use Rattle.vt_laws_worlds.specs.Permits.Sees.{MayBeMade}
 use Rattle.vt_spec.proofs.Truths.{or_false_left}
 use Rattle.vt_spec.proofs.Walk.{new_name_rules}
@@ -12,8 +12,8 @@ use Rattle.vt_spec.specs.Machine.Looks.{Looks, looks_of}
 use Rattle.vt_spec.specs.Machine.Mounts.{Location}
 use Rattle.vt_spec.specs.Machine.Rules.Removing.{object_there}
 use Rattle.vt_spec.specs.Machine.Walking.{Place, is_special, name_of}
-use Rattle.vt_spec.specs.Machine.World.{Filesystem, Task, World, files_at, filesystem_at, is_directory_at, mount_at, node_at}
-use Rattle.vt_spec.specs.Tree.{Node, entries_in, entry_named, is_directory_node}
+use Rattle.vt_spec.specs.Machine.World.{Filesystem, Task, World, files_at, filesystem_at, is_directory_at, mount_at}
+use Rattle.vt_spec.specs.Tree.{Node, is_directory_node}
 use Rattle.vt_spec.specs.TreeInvariant.{HasOwnParents, IsTree}
 use Rattle.vt_laws_trees.proofs.trees.ChangesOfCalls.{place_is_free}
 use Rattle.vt_laws_trees.proofs.trees.TreesOfWorlds.{numbered_all}
@@ -25,11 +25,8 @@ use Rattle.vt_laws_trees.proofs.trees.PlacesReached.{NewFilePlace, NewPlace}
 
 -- where a directory is, there is a tree
 pub tree_here : (world : World ℕ) → IsWorld nat_eq world → (location : Location ℕ)
-    → is_directory_at nat_eq world location ≡ true
-    → IsFileTree (files_at nat_eq world location)
-tree_here world whole location is =
-    ⊎_elim
-    (λ tree. ⊎_elim
+    → is_directory_at nat_eq world location ≡ true → IsFileTree (files_at nat_eq world location)
+tree_here world whole location is = ⊎_elim (λ tree. ⊎_elim
     (λ own. ⊎_elim (λ numbers. record { tree = tree; numbers = numbers; own_parents = own }) missing
     (numbered_all (λ (f : Filesystem ℕ). ListsNumbers nat_eq f.files)
     (mount_at nat_eq world location).filesystem world.filesystems whole.files.numbers))
@@ -41,8 +38,7 @@ tree_here world whole location is =
     missing : (filesystem_at nat_eq world location
         ≡ Rattle.vt_spec.specs.Machine.World.no_filesystem (mount_at nat_eq world location).filesystem)
         × All (λ (f : Filesystem ℕ). nat_eq (mount_at nat_eq world location).filesystem f.number
-        ≡ false) world.filesystems
-        → IsFileTree (files_at nat_eq world location)
+        ≡ false) world.filesystems → IsFileTree (files_at nat_eq world location)
     missing none = absurd (true≢false
         (sym is ∙ ap (λ (f : Filesystem ℕ). is_directory_node (f.files.tree.node location.node)) none.0))
 
@@ -60,15 +56,7 @@ module _ (world : World ℕ) (task : Task ℕ) where
   -- the object of an old place is seen through its directory's mount
   pub old_mount : (place : Place ℕ) → is_special place.last ≡ false → IsOldPlace world task place
       → (object_there place).mount ≡ place.parent.mount
-  old_mount place plain is =
-      by place.object is.1 (entry_named (name_of place.last) (entries_in (node_at nat_eq world place.parent)))
-      (place_named world place.parent place.last place.object plain is.0).1
-    where
-      by : (object : Option (Location ℕ)) → is_some object ≡ true → (o : Option ℕ)
-          → object ≡ option_map (λ number. record { mount = place.parent.mount; node = number }) o
-          → (unwrap_or object place.parent).mount ≡ place.parent.mount
-      by object there None e = absurd (true≢false (sym there ∙ ap is_some e))
-      by object there (Some number) e = ap (λ x. (unwrap_or x place.parent).mount) e
+  old_mount place plain is = grind (arith, common_steps, place_named, true≢false)
 
 module _ (world : World ℕ) (whole : IsWorld nat_eq world) (task : Task ℕ) where
   -- a new inode
@@ -78,8 +66,7 @@ module _ (world : World ℕ) (whole : IsWorld nat_eq world) (task : Task ℕ) wh
       → IsNewIn place.parent.node node → is_fit_node node ≡ true
       → MayBeMade world place.parent (name_of place.last) node
   may_be_made place node is passed last named missing fits small = record {
-    name_is_free =
-        place_is_free world place is named missing passed
+    name_is_free = place_is_free world place is named missing passed
         (tree_here world whole place.parent (file_named world place.parent place.last place.object named is).0);
     fit_name = fit_name_of place.last named last;
     fits = fits;

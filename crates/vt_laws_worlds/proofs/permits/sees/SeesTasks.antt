@@ -1,5 +1,6 @@
 -- What each call's judgement sees to.
-use Rattle.std.proofs.Common.{List, None, Ok, Option, Some, [], ap, arith, eqb-true, false, inl, inr, is_some, le-leb, nat_eq, nat_le, not, refl, sym, true, true≢false, ℕ, ◌&&◌, ◌∙◌, ◌≡◌}
+use Rattle.std.proofs.lemmas.Grind.{common_steps}
+use Rattle.std.proofs.Common.{List, Ok, Option, Some, [], ap, arith, eqb-true, false, inl, inr, is_some, le-leb, nat_eq, nat_le, not, refl, sym, true, true≢false, ℕ, ◌&&◌, ◌∙◌, ◌≡◌}
 use Rattle.std.proofs.Math.Nat.{mod-lt}
 use Rattle.std.proofs.lemmas.Bool.{or_parts}
 use Rattle.std.specs.Prelude.{length}
@@ -26,8 +27,8 @@ use Rattle.vt_spec.specs.Machine.Walking.{Here, directory_walk, is_directory_the
 use Rattle.vt_spec.specs.Machine.World.{Task, World, is_directory_at, node_at, task_called}
 use Rattle.vt_spec.specs.PathText.{is_empty}
 use Rattle.vt_spec.specs.Rights.{is_directory}
-use Rattle.vt_spec.specs.Tree.{Content, Node, entries_in, is_directory_node, kind_of}
-use Rattle.vt_spec.specs.Tree.Content.{Directory, Regular, Symlink, Whiteout}
+use Rattle.vt_spec.specs.Tree.{Node, entries_in, is_directory_node}
+use Rattle.vt_spec.specs.Tree.Content.{Symlink}
 use Rattle.vt_spec.specs.declared.attributes.Kind.TheVariants.{Symlink as SymlinkKind}
 use Rattle.vt_laws_trees.proofs.trees.ChangesByLinks.{may_link}
 use Rattle.vt_laws_trees.proofs.trees.ChangesByRemoving.{may_move, old_removable}
@@ -42,15 +43,7 @@ use Rattle.vt_laws_trees.proofs.trees.PlacesReached.{file_is, new_is, new_leaf_i
 
 -- a symlink is no directory
 link_is_no_directory : (o : Option (Node ℕ)) → is_kind_in SymlinkKind o ≡ true → is_directory_node o ≡ false
-link_is_no_directory None e = refl
-link_is_no_directory (Some node) e = by node.content e
-  where
-    by : (content : Content ℕ) → is_kind_in SymlinkKind (Some (record { attr = node.attr; content = content })) ≡ true
-        → is_directory (kind_of content) ≡ false
-    by (Directory parent entries opaque) h = absurd (true≢false (sym h))
-    by (Regular bytes) h = refl
-    by (Symlink text) h = refl
-    by Whiteout h = refl
+link_is_no_directory o e = grind (arith, common_steps, true≢false)
 
 module _ (fresh : Fresh ℕ) (world : World ℕ) (whole : IsWorld nat_eq world) (task : Task ℕ)
     (called : task_called world task.name ≡ Some task) where
@@ -74,8 +67,7 @@ module _ (fresh : Fresh ℕ) (world : World ℕ) (whole : IsWorld nat_eq world) 
       (refl, passed.0, no_longer largest_file bytes passed.1.0)
   granted_seen call permit other (writes_new_file path bytes place end named missing fits passed) =
       made_as_file world whole task place (new_file task file_mode bytes) (file_is world task path place end) named.0
-      missing (inr refl)
-      (ap (λ b. b && true && true) (no_longer largest_file bytes fits.0))
+      missing (inr refl) (ap (λ b. b && true && true) (no_longer largest_file bytes fits.0))
   granted_seen call permit other (makes_directory path mode place end passed) =
       made_at_new world whole task place (directory_made task place mode)
       (new_is world task path place end) passed.0 passed.1.0 (inl refl) refl
@@ -94,8 +86,7 @@ module _ (fresh : Fresh ℕ) (world : World ℕ) (whole : IsWorld nat_eq world) 
       (ends_link_walk world whole.files.trees (worlds_are_standing world whole) task old) from_end in
       let is = new_leaf_is world task new place end in (
         refl,
-        may_link world task from.location place there is.0 named.0 passed
-            (tree_here world whole place.parent
+        may_link world task from.location place there is.0 named.0 passed (tree_here world whole place.parent
             (place_named world place.parent place.last place.object named.0 is.0.0).0),
         fit_name_of place.last named.0 is.1,
       )
@@ -105,8 +96,7 @@ module _ (fresh : Fresh ℕ) (world : World ℕ) (whole : IsWorld nat_eq world) 
         old_removable world place named.0 is.0 is.1
             (entries_in-no_directory (node_at nat_eq world (object_there place)) passed.0),
         ap (λ mount. is_directory_node (node_at nat_eq world
-            (record { mount = mount; node = (object_there place).node })))
-            (sym (old_mount world task place named.0 is))
+            (record { mount = mount; node = (object_there place).node }))) (sym (old_mount world task place named.0 is))
             ∙ passed.0,
       )
   granted_seen call permit other (removes_directory path place end word passed) =
@@ -121,8 +111,7 @@ module _ (fresh : Fresh ℕ) (world : World ℕ) (whole : IsWorld nat_eq world) 
       let is = old_leaf_is world task old from names.from_end in
       let to_is = rename_new_is world task new (is_directory_there nat_eq looks from) to names.to_end in
       record {
-        to_mount =
-            sym (eqb-true from.parent.mount to.parent.mount
+        to_mount = sym (eqb-true from.parent.mount to.parent.mount
             (not_true (nat_eq from.parent.mount to.parent.mount) passed.1.1.1.1.1.1.1.1.0));
         object_mount = old_mount world task from names.from_named.0 is;
         moves =
@@ -131,12 +120,9 @@ module _ (fresh : Fresh ℕ) (world : World ℕ) (whole : IsWorld nat_eq world) 
             (place_named world from.parent from.last from.object names.from_named.0 is.0).0);
         fit_name = fit_name_of to.last names.to_named.0 to_is.1;
         replaces = (place_named world to.parent to.last to.object names.to_named.0 to_is.0.0).1;
-        kinds = λ other e.
-            same_kind (is_directory_at nat_eq world (object_there from))
-            (is_directory_at nat_eq world other)
-            (ap (λ o. not (is_directory_at nat_eq world (object_there from))
-            && holds_of (is_directory_at nat_eq world) o)
-            (sym e) ∙ passed.0)
+        kinds = λ other e. same_kind (is_directory_at nat_eq world (object_there from))
+            (is_directory_at nat_eq world other) (ap (λ o. not (is_directory_at nat_eq world (object_there from))
+            && holds_of (is_directory_at nat_eq world) o) (sym e) ∙ passed.0)
             (ap (λ o. is_directory_at nat_eq world (object_there from)
             && holds_of (λ new. not (is_directory_at nat_eq world new)) o) (sym e) ∙ passed.1.0);
       }
@@ -148,8 +134,7 @@ module _ (fresh : Fresh ℕ) (world : World ℕ) (whole : IsWorld nat_eq world) 
       (passed.0, room.0)
   granted_seen call permit other (creates path access mode place room end named missing passed) = (
     made_as_file world whole task place (new_file task mode []) (file_is world task path place end) named.0 missing
-        (inr refl)
-        (ap (λ b. b && true && true) (le-leb 0 largest_file (omega arith))),
+        (inr refl) (ap (λ b. b && true && true) (le-leb 0 largest_file (omega arith))),
     room.0,
   )
   granted_seen call permit other (creates_exclusively path access mode place room end named passed) = (

@@ -1,9 +1,10 @@
 -- The namespaces of the mounts of a world in which a tree is attached do not go by the numbers of its copies.
-use Rattle.std.proofs.Common.{◌≡◌, refl, sym, ap, ◌∙◌, ℕ, nat_eq, eq-eqb, Bool, true, false, cond, ◌&&◌, List, [], ◌∷◌, ◌++◌, map, Option, None, Some}
+use Rattle.std.proofs.Common.{arith, ◌≡◌, refl, sym, ap, ◌∙◌, ℕ, nat_eq, eq-eqb, Bool, true, false, cond, ◌&&◌, List, [], ◌∷◌, ◌++◌, map, Option}
+use Rattle.std.proofs.lemmas.Grind.{common_steps}
 use Rattle.std.specs.Prelude.{flat_map}
 use Rattle.std.proofs.lemmas.List.{map-append}
 use Rattle.vt_spec.specs.Lists.{folded, rest_of}
-use Rattle.vt_spec.specs.Machine.Attach.{Copies, Graft, attached_by, copies_at, copy_at, graft_of, parts_of, pushed_onto, pushed_up, receiver_stood_on, twig_of}
+use Rattle.vt_spec.specs.Machine.Attach.{Copies, Graft, attached_by, copies_at, copy_at, graft_of, parts_of, pushed_up, twig_of}
 use Rattle.vt_spec.specs.Machine.Mounts.{Location, Mount, group_of, with_mount}
 use Rattle.vt_spec.specs.Machine.World.{World, mount_at}
 use Rattle.vt_spec.proofs.Worlds.{number-mount_in}
@@ -35,8 +36,7 @@ put_key (mount ∷ rest) new = λ i. by (nat_eq new.number mount.number) i ∷ p
 put_keys : (mounts copies : List (Mount ℕ))
     → keys_of (folded (with_mount nat_eq) mounts copies) ≡ folded with_key (keys_of mounts) (keys_of copies)
 put_keys mounts [] = refl
-put_keys mounts (copy ∷ copies) =
-    put_keys (with_mount nat_eq mounts copy) copies
+put_keys mounts (copy ∷ copies) = put_keys (with_mount nat_eq mounts copy) copies
     ∙ ap (λ keys. folded with_key keys (keys_of copies)) (put_key mounts copy)
 
 namespaces_of_keys : (mounts : List (Mount ℕ)) → namespaces_in mounts ≡ map (λ key. key.1) (keys_of mounts)
@@ -59,11 +59,7 @@ module _ (world : World ℕ) (place : Location ℕ) (moves : Bool) (tree : List 
     graft = graft_of nat_eq world new place moves tree
 
     pushed_stays : (mount : Mount ℕ) → (pushed_up nat_eq world new graft parts mount).namespace ≡ mount.namespace
-    pushed_stays mount = by (receiver_stood_on nat_eq graft parts mount)
-      where
-        by : (o : Option (Mount ℕ)) → (pushed_onto nat_eq world new graft parts mount o).namespace ≡ mount.namespace
-        by None = refl
-        by (Some part) = refl
+    pushed_stays mount = grind (arith, common_steps)
 
     all_pushed : (mounts : List (Mount ℕ))
         → namespaces_in (map (pushed_up nat_eq world new graft parts) mounts) ≡ namespaces_in mounts
@@ -81,27 +77,22 @@ module _ (world : World ℕ) (place : Location ℕ) (moves : Bool) (tree : List 
     all_copied [] = refl
     all_copied (part ∷ rest) =
         map-append (λ (mount : Mount ℕ). mount.namespace) (copies_at nat_eq world new graft parts part)
-        (flat_map (copies_at nat_eq world new graft parts) rest)
-        ∙ (λ i. copied part i ++ all_copied rest i)
+        (flat_map (copies_at nat_eq world new graft parts) rest) ∙ (λ i. copied part i ++ all_copied rest i)
 
   -- mounts that move keep their numbers
   module _ (moving : moves ≡ true) (new : Copies ℕ) where
     keys_there : keys_of (copies_at nat_eq world new (graft new) parts destination)
         ≡ map (λ (mount : Mount ℕ). (mount.number, destination.namespace)) tree
-    keys_there =
-        map_twice key_of (copy_at nat_eq world new (graft new) parts destination) (graft new).twigs
+    keys_there = map_twice key_of (copy_at nat_eq world new (graft new) parts destination) (graft new).twigs
         ∙ map_twice (λ twig. key_of (copy_at nat_eq world new (graft new) parts destination twig))
-        (twig_of new (group_of destination.propagation)) tree
-        ∙ each tree
+        (twig_of new (group_of destination.propagation)) tree ∙ each tree
       where
         own : (number : ℕ) → cond (moves && nat_eq destination.number place.mount) number
             (new.copy destination.number number) ≡ number
-        own number =
-            (λ i. cond (moving i && eq-eqb destination.number place.mount
+        own number = (λ i. cond (moving i && eq-eqb destination.number place.mount
             (number-mount_in world.mounts place.mount) i) number (new.copy destination.number number))
 
-        each : (list : List (Mount ℕ))
-            → map (λ (mount : Mount ℕ). key_of
+        each : (list : List (Mount ℕ)) → map (λ (mount : Mount ℕ). key_of
             (copy_at nat_eq world new (graft new) parts destination
             (twig_of new (group_of destination.propagation) mount))) list
             ≡ map (λ (mount : Mount ℕ). (mount.number, destination.namespace)) list
@@ -110,8 +101,7 @@ module _ (world : World ℕ) (place : Location ℕ) (moves : Bool) (tree : List 
 
 -- the namespaces that mounts have after an attachment
 abbrev pub namespaces_after : Bool → List (Mount ℕ) → Mount ℕ → List (Mount ℕ) → List (Mount ℕ) → List (Option ℕ)
-namespaces_after true mounts destination rest tree =
-    (map (λ key. key.1) (folded with_key (keys_of mounts)
+namespaces_after true mounts destination rest tree = (map (λ key. key.1) (folded with_key (keys_of mounts)
     (map (λ (mount : Mount ℕ). (mount.number, destination.namespace)) tree)) ++ [])
     ++ flat_map (λ (part : Mount ℕ). map (λ (mount : Mount ℕ). part.namespace) tree) rest
 namespaces_after false mounts destination rest tree =
@@ -131,10 +121,8 @@ attached_namespaces world place true tree new =
     let moved = folded (with_mount nat_eq) world.mounts copies in
     let pushed = map (pushed_up nat_eq world new (graft world place true tree new)
     (parts world place true tree)) moved in
-    namespaces-append (pushed ++ []) _
-    ∙ (λ i. (namespaces-append pushed []
-    ∙ ap (λ list. list ++ []) (all_pushed world place true tree new moved
-    ∙ namespaces_of_keys moved
+    namespaces-append (pushed ++ []) _ ∙ (λ i. (namespaces-append pushed []
+    ∙ ap (λ list. list ++ []) (all_pushed world place true tree new moved ∙ namespaces_of_keys moved
     ∙ ap (map (λ (key : ℕ × Option ℕ). key.1)) (put_keys world.mounts copies
     ∙ ap (folded with_key (keys_of world.mounts)) (keys_there world place true tree refl new)))) i
     ++ all_copied world place true tree new (rest_of (parts_of nat_eq world place)) i)
@@ -143,8 +131,7 @@ attached_namespaces world place false tree new =
     (destination world place false tree) in
     let pushed = map (pushed_up nat_eq world new (graft world place false tree new)
     (parts world place false tree)) world.mounts in
-    namespaces-append (pushed ++ copies) _
-    ∙ (λ i. (namespaces-append pushed copies
+    namespaces-append (pushed ++ copies) _ ∙ (λ i. (namespaces-append pushed copies
     ∙ (λ j. all_pushed world place false tree new world.mounts j
     ++ copied world place false tree new (destination world place false tree) j)) i
     ++ all_copied world place false tree new (rest_of (parts_of nat_eq world place)) i)

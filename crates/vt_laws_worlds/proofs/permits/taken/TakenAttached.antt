@@ -1,5 +1,6 @@
 -- What is attached at a mount that is in no peer group: only the numbers of copies are taken.
-use Rattle.std.proofs.Common.{eq-eqb, ◌≡◌, refl, sym, ap, subst, ◌∙◌, ℕ, suc, ◌+◌, ◌*◌, ◌<◌, nat_eq, Bool, true, false, cond, not, ◌&&◌, List, [], ◌∷◌, ◌++◌, length, map, filter, filter_map, Option, Some, None, option_map, if◌then◌else◌, arith}
+use Rattle.std.proofs.lemmas.Grind.{common_steps}
+use Rattle.std.proofs.Common.{eq-eqb, ◌≡◌, sym, ap, subst, ◌∙◌, ℕ, suc, ◌+◌, ◌*◌, ◌<◌, nat_eq, Bool, true, false, cond, not, ◌&&◌, List, [], ◌∷◌, ◌++◌, length, map, filter, filter_map, Option, Some, None, option_map, if◌then◌else◌, arith}
 use Rattle.std.specs.Prelude.{unwrap_or}
 use Rattle.vt_spec.specs.Lists.{Fresh, folded, index_from, then_some, when}
 use Rattle.vt_spec.specs.Machine.Attach.{Copies, Graft, Twig, added_mounts, attach, attached_at, copies_from, copy_type, image, is_top, masters_with, nearest_image, index_in_rows, takes_part, twig_master, twig_of, with_moved_mounts}
@@ -21,20 +22,10 @@ place_bound test k (first ∷ rest) j e = by (test first) e (place_bound test (k
 
 pub index_bound : (mounts : List (Mount ℕ)) (number : ℕ) → 0 < length mounts
     → index_of nat_eq mounts number < length mounts
-index_bound mounts number some = by (index_from (λ mount. nat_eq number mount.number) 0 mounts) refl
-  where
-    by : (o : Option ℕ) → index_from (λ mount. nat_eq number mount.number) 0 mounts ≡ o → unwrap_or o 0 < length mounts
-    by None e = some
-    by (Some j) e =
-        let low = place_bound (λ mount. nat_eq number mount.number) 0 mounts j e in
-        omega arith
+index_bound mounts number some = grind (arith, common_steps, place_bound)
 
 first_index : (mount : Mount ℕ) (number : ℕ) → index_of nat_eq (mount ∷ []) number ≡ 0
-first_index mount number = by (nat_eq number mount.number)
-  where
-    by : (b : Bool) → ◌≡◌ {A = ℕ} (unwrap_or (cond b (Some 0) None) 0) 0
-    by true = refl
-    by false = refl
+first_index mount number = grind (arith, common_steps)
 
 module _ (world : World ℕ) (place : Location ℕ) (mounts : List (Mount ℕ)) where
   abbrev pub destination : Mount ℕ
@@ -58,8 +49,7 @@ module _ (world : World ℕ) (place : Location ℕ) (mounts : List (Mount ℕ)) 
       origin.mount_point) place
 
   abbrev pub type_by : Bool → Copies ℕ → Twig ℕ → Propagation ℕ
-  type_by there new twig =
-      if there then twig.propagation
+  type_by there new twig = if there then twig.propagation
       else copy_type nat_eq world new (destination ∷ []) destination twig destination.propagation
 
   abbrev pub copy_by : Bool → Bool → Copies ℕ → Twig ℕ → Mount ℕ
@@ -71,9 +61,7 @@ module _ (world : World ℕ) (place : Location ℕ) (mounts : List (Mount ℕ)) 
   }
 
   abbrev pub group_by : Bool → Copies ℕ → Twig ℕ → Option (ℕ × Option ℕ)
-  group_by there new twig =
-      if there then twig_master twig
-      else then_some (group_of destination.propagation) (λ group.
+  group_by there new twig = if there then twig_master twig else then_some (group_of destination.propagation) (λ group.
       when (not (is_member_of nat_eq group destination)) (
         image nat_eq new destination twig group,
         nearest_image nat_eq world new (destination ∷ []) destination twig (world.master group),
@@ -92,23 +80,18 @@ module _ (world : World ℕ) (place : Location ℕ) (mounts : List (Mount ℕ)) 
     parts_by group =
         destination ∷ filter (takes_part nat_eq world place) (unwrap_or (option_map (receivers nat_eq world) group) [])
 
-    at_one_part : (fresh : Fresh ℕ)
-        → attach nat_eq world fresh place moves mounts
+    at_one_part : (fresh : Fresh ℕ) → attach nat_eq world fresh place moves mounts
         ≡ attached_alone (nat_eq destination.number place.mount) moves
         (copies_from nat_eq fresh (destination ∷ []) mounts)
-    at_one_part fresh = λ i.
-        attached_at nat_eq world (copies_from nat_eq fresh (parts_by (alone i)) mounts)
-        (record {
-          destination = place;
-          twigs = map (twig_of (copies_from nat_eq fresh (parts_by (alone i)) mounts) (alone i)) mounts;
-          moves = moves;
-        }) (parts_by (alone i))
+    at_one_part fresh = λ i. attached_at nat_eq world (copies_from nat_eq fresh (parts_by (alone i)) mounts) (record {
+      destination = place;
+      twigs = map (twig_of (copies_from nat_eq fresh (parts_by (alone i)) mounts) (alone i)) mounts;
+      moves = moves;
+    }) (parts_by (alone i))
 
-    pub at_destination : (fresh : Fresh ℕ)
-        → attach nat_eq world fresh place moves mounts
+    pub at_destination : (fresh : Fresh ℕ) → attach nat_eq world fresh place moves mounts
         ≡ attached_alone true moves (copies_from nat_eq fresh (destination ∷ []) mounts)
-    at_destination fresh =
-        at_one_part fresh
+    at_destination fresh = at_one_part fresh
         ∙ ap (λ b. attached_alone b moves (copies_from nat_eq fresh (destination ∷ []) mounts))
         (eq-eqb destination.number place.mount (number-mount_in world.mounts place.mount))
 
@@ -119,8 +102,7 @@ module _ (world : World ℕ) (place : Location ℕ) (mounts : List (Mount ℕ)) 
 
     -- what is copied takes one for each
     module _ (some : 0 < length mounts) (same : (k : ℕ) → k < length mounts → fresh (2 * k) ≡ again (2 * k)) where
-      copy_same : (part origin : ℕ)
-          → (copies_from nat_eq fresh (destination ∷ []) mounts).copy part origin
+      copy_same : (part origin : ℕ) → (copies_from nat_eq fresh (destination ∷ []) mounts).copy part origin
           ≡ (copies_from nat_eq again (destination ∷ []) mounts).copy part origin
       copy_same part origin =
           same (index_in_rows (length mounts) (index_of nat_eq (destination ∷ []) part) (index_of nat_eq mounts origin))
@@ -128,10 +110,7 @@ module _ (world : World ℕ) (place : Location ℕ) (mounts : List (Mount ℕ)) 
           (sym (first_index destination part)) (let low = index_bound mounts origin some in omega arith))
 
       pub copied_same : attach nat_eq world fresh place false mounts ≡ attach nat_eq world again place false mounts
-      copied_same =
-          at_destination alone false fresh
-          ∙ (λ i. attached_alone true false (record {
-            copy = λ part origin. copy_same part origin i;
-            image = (copies_from nat_eq fresh (destination ∷ []) mounts).image;
-          }))
-          ∙ sym (at_destination alone false again)
+      copied_same = at_destination alone false fresh ∙ (λ i. attached_alone true false (record {
+        copy = λ part origin. copy_same part origin i;
+        image = (copies_from nat_eq fresh (destination ∷ []) mounts).image;
+      })) ∙ sym (at_destination alone false again)

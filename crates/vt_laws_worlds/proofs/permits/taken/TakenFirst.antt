@@ -1,4 +1,5 @@
 -- Only the first numbers of a supply are taken.
+use Rattle.std.proofs.lemmas.Grind.{common_steps}
 use Rattle.std.proofs.Common.{◌≡◌, refl, sym, ap, subst, ◌∙◌, true≢false, ℕ, zero, suc, ◌+◌, ◌*◌, ◌<◌, nat_eq, Bool, true, false, cond, List, [], ◌∷◌, length, map, filter, Option, Some, None, find, arith}
 use Rattle.std.specs.Prelude.{All, unwrap_or, ◌==◌}
 use Rattle.std.specs.List.{list_all}
@@ -15,7 +16,7 @@ use Rattle.vt_spec.specs.Lists.{Fresh, odds}
 use Rattle.vt_spec.specs.Machine.Apply.{apply, with_new_inode}
 use Rattle.vt_spec.specs.Machine.Attach.{attach, bind_tree}
 use Rattle.vt_spec.specs.Machine.Detach.{without_mounts_on, without_replaced}
-use Rattle.vt_spec.specs.Machine.Filesystems.{filesystem_changed, with_change}
+use Rattle.vt_spec.specs.Machine.Filesystems.{with_change}
 use Rattle.vt_spec.specs.Machine.Mounts.{Location, Mount, Propagation, group_of, index_of, mount_in, mount_tree, no_mount, numbers_by, tree_from}
 use Rattle.vt_spec.specs.Machine.Mounts.Propagation.{Private, Shared, Slave, Unbindable}
 use Rattle.vt_spec.specs.Machine.Namespaces.{namespaces_ended, unshared_by}
@@ -25,7 +26,7 @@ use Rattle.vt_spec.specs.Machine.Permits.{Permit}
 use Rattle.vt_spec.specs.Machine.Permits.Permit.{ToBind, ToChange, ToMake, ToMountOverlay, ToMountPlain, ToMove, ToOpen, ToOpenNew, ToRemoveDirectory, ToRename, ToSetType, ToUnshare, ToWritePart}
 use Rattle.vt_spec.specs.Machine.Settled.{settled}
 use Rattle.vt_spec.specs.Machine.Types.{named_mounts, retyped}
-use Rattle.vt_spec.specs.Machine.World.{Filesystem, Namespace, Overlay, Task, World, filesystem_at, is_overlay, mount_at, mount_numbered, mounts_of, new_plain, node_at, task_called}
+use Rattle.vt_spec.specs.Machine.World.{Filesystem, Namespace, Overlay, Task, World, is_overlay, mount_numbered, mounts_of, new_plain, node_at, task_called}
 use Rattle.vt_spec.specs.Machine.Invariants.{IsWorld, has_one_root, is_listed, is_root_mount}
 use Rattle.vt_spec.specs.Tree.{Node, bytes_in}
 use Rattle.vt_spec.proofs.Lists.{among_from_list_all, among_numbers, among-from_map}
@@ -50,8 +51,7 @@ pub found_ungrouped : (mounts : List (Mount ℕ))
     → list_all (λ (mount : Mount ℕ). is_ungrouped mount.propagation) mounts ≡ true
     → (number : ℕ) → group_of (mount_in nat_eq mounts number).propagation ≡ None
 found_ungrouped [] all number = refl
-found_ungrouped (mount ∷ rest) all number =
-    by (nat_eq number mount.number)
+found_ungrouped (mount ∷ rest) all number = by (nat_eq number mount.number)
     (found_ungrouped rest (and_parts (is_ungrouped mount.propagation) _ all).1 number)
   where
     by : (b : Bool) → group_of (mount_in nat_eq rest number).propagation ≡ None
@@ -63,11 +63,7 @@ found_ungrouped (mount ∷ rest) all number =
 -- in a plain world a change takes no number
 change_same : (world : World ℕ) → IsPlain world → (fresh again : Fresh ℕ) (location : Location ℕ) (change : Change ℕ)
     → with_change nat_eq fresh world location change ≡ with_change nat_eq again world location change
-change_same world plain fresh again location change =
-    let none = plain_numbered world plain (mount_at nat_eq world location).filesystem in
-    let filesystem = filesystem_at nat_eq world location in
-    ap (λ o. filesystem_changed nat_eq fresh world filesystem o change) none
-    ∙ sym (ap (λ o. filesystem_changed nat_eq again world filesystem o change) none)
+change_same world plain fresh again location change = grind (arith, common_steps, plain_numbered)
 
 taken_plain : (world after : World ℕ) → after.filesystems ≡ world.filesystems → IsPlain world → IsPlain after
 taken_plain world after same plain = subst (All (λ (f : Filesystem ℕ). is_overlay f ≡ false)) (sym same) plain
@@ -107,8 +103,7 @@ module _ (world : World ℕ) (whole : IsWorld nat_eq world) (plain : IsPlain wor
       let listed : is_listed nat_eq world task.namespace ≡ true =
       among_from_list_all (λ (t : Task ℕ). is_listed nat_eq world t.namespace) world.tasks
       whole.namespaces.tasks_listed task (called_there world.tasks task.name task called) in
-      let found =
-      among-from_map (λ (namespace : Namespace ℕ). namespace.number) world.namespaces task.namespace
+      let found = among-from_map (λ (namespace : Namespace ℕ). namespace.number) world.namespaces task.namespace
       (among_numbers (map (λ (namespace : Namespace ℕ). namespace.number) world.namespaces) task.namespace listed) in
       subst (λ number. 0 < length (mounts_of nat_eq world number)) (sym found.2)
       (nonempty (mounts_of nat_eq world found.0.number)
@@ -129,18 +124,15 @@ module _ (world : World ℕ) (whole : IsWorld nat_eq world) (plain : IsPlain wor
     written_same : (file : Location ℕ) (offset : ℕ) (bytes : List ℕ)
         → pwritten nat_eq fresh world file offset bytes ≡ pwritten nat_eq again world file offset bytes
     written_same file offset [] = refl
-    written_same file offset (byte ∷ bytes) =
-        change_same world plain fresh again file
+    written_same file offset (byte ∷ bytes) = change_same world plain fresh again file
         (SetBytes file.node (overwritten offset (byte ∷ bytes) (bytes_in (node_at nat_eq world file))))
 
     taken_same : (gone : Location ℕ) (location : Location ℕ) (change : Change ℕ)
         → with_change nat_eq fresh (without_mounts_on nat_eq world gone) location change
         ≡ with_change nat_eq again (without_mounts_on nat_eq world gone) location change
-    taken_same gone location change =
-        change_same (without_mounts_on nat_eq world gone)
+    taken_same gone location change = change_same (without_mounts_on nat_eq world gone)
         (taken_plain world (without_mounts_on nat_eq world gone)
-        (filesystems-taken_away world _) plain) fresh again location
-        change
+        (filesystems-taken_away world _) plain) fresh again location change
 
     replaced_same : (replaced : Option (Location ℕ)) (location : Location ℕ) (change : Change ℕ)
         → with_change nat_eq fresh (without_replaced nat_eq world replaced) location change
@@ -151,17 +143,12 @@ module _ (world : World ℕ) (whole : IsWorld nat_eq world) (plain : IsPlain wor
     mounted_same : (place : Location ℕ) (flags : MountFlags) → ((k : ℕ) → k < 3 → fresh k ≡ again k)
         → (apply nat_eq fresh world task (ToMountPlain place flags)).world
         ≡ (apply nat_eq again world task (ToMountPlain place flags)).world
-    mounted_same place flags same =
-        copied_same (with_new_filesystem world (plain_filesystem nat_eq fresh)) place
-        (new_mount (fresh 0) (fresh 2) flags ∷ []) (alone place.mount) (odds fresh) (odds again) (omega arith)
-        (λ k low.
+    mounted_same place flags same = copied_same (with_new_filesystem world (plain_filesystem nat_eq fresh)) place
+        (new_mount (fresh 0) (fresh 2) flags ∷ []) (alone place.mount) (odds fresh) (odds again) (omega arith) (λ k low.
         let first : k ≡ 0 = omega arith in
-        subst (λ j. odds fresh (2 * j) ≡ odds again (2 * j)) (sym first) (same 1 (omega arith)))
-        ∙ (λ i.
-        attach nat_eq
+        subst (λ j. odds fresh (2 * j) ≡ odds again (2 * j)) (sym first) (same 1 (omega arith))) ∙ (λ i. attach nat_eq
         (with_new_filesystem world (new_plain nat_eq (same 0 (omega arith) i) (same 2 (omega arith) i))) (odds again)
-        place false
-        (new_mount (same 0 (omega arith) i) (same 2 (omega arith) i) flags ∷ []))
+        place false (new_mount (same 0 (omega arith) i) (same 2 (omega arith) i) flags ∷ []))
 
     pub applied_same : (permit : Permit ℕ) → IsNoOverlay permit
         → ((k : ℕ) → k < numbers_taken world task permit → fresh k ≡ again k)
@@ -181,9 +168,7 @@ module _ (world : World ℕ) (whole : IsWorld nat_eq world) (plain : IsPlain wor
     applied_same ToUnshare is same =
         let own = mounts_of nat_eq world task.namespace in
         let some = own_some in
-        λ i.
-        namespaces_ended nat_eq
-        (unshared_by nat_eq world
+        λ i. namespaces_ended nat_eq (unshared_by nat_eq world
         (numbers_same own some (odds fresh) (odds again) (λ k low. same (2 * k + 1) (omega arith)) i)
         (same 0 (omega arith) i) task)
     applied_same (ToMountPlain place flags) is same = mounted_same place flags same
@@ -206,7 +191,6 @@ module _ (world : World ℕ) (whole : IsWorld nat_eq world) (plain : IsPlain wor
     applied_same permit is same = refl
 
 pub only_the_first_are_taken : OnlyTheFirstAreTaken
-only_the_first_are_taken named world task permit fresh again whole plain ungrouped called is same =
-    ap (settled nat_eq)
+only_the_first_are_taken named world task permit fresh again whole plain ungrouped called is same = ap (settled nat_eq)
     (applied_same world whole plain ungrouped task called fresh again permit
     (λ place overlay flags e. true≢false (sym is ∙ ap (permit_named named) e)) same)

@@ -59,8 +59,7 @@ given_permits_are_left named world task permit fresh whole given keeps renaming 
     (judge_in nat_eq (λ k. renaming.there (fresh k)) world task given.call)
     (ap (renamed_judgement renaming.there renaming.back) (judged_is fresh ∙ given.judged))
     (judgements_do_not_see_supplies world task given.call (λ k. renaming.there (fresh k)) fresh whole
-    given.no_overlay ∙ given.judged)
-    (sym (commutes_nat Handed Judgement named_handed named_judgement
+    given.no_overlay ∙ given.judged) (sym (commutes_nat Handed Judgement named_handed named_judgement
     (λ A eq handed. judged_called task.name given.call eq handed) renaming (fresh, world))
     ∙ (λ i. judged_called task.name given.call nat_eq ((λ k. renaming.there (fresh k)), keeps renaming leaves i))
     ∙ judged_is (λ k. renaming.there (fresh k)))
@@ -71,26 +70,22 @@ given_permits_are_left named world task permit fresh whole given keeps renaming 
 
 pub no_overlay_given : (world : World ℕ) (task : Task ℕ) (permit : Permit ℕ) (fresh : Fresh ℕ) → IsWorld nat_eq world
     → IsPlain world → IsGiven fresh world task permit → IsNoOverlay permit
-no_overlay_given world task permit fresh whole plain given place overlay flags e =
-    subst (NamesWhatIsThere world task) e
+no_overlay_given world task permit fresh whole plain given place overlay flags e = subst (NamesWhatIsThere world task) e
     (permits_fit world fresh task given.call permit whole plain given.serves given.called given.no_overlay
     given.judged).names
 
 pub given_permits_keep_to_taken : GivenPermitsKeepToTaken
 given_permits_keep_to_taken before later world task permit fresh more whole plain ungrouped keeps given takes renaming
-    leaves =
-    left_renamed renaming fresh world task permit given.called
+    leaves = left_renamed renaming fresh world task permit given.called
     (keeps renaming (λ number named. leaves number (more number named)))
     (given_permits_are_left before world task permit fresh whole given keeps renaming
-    (λ number named. leaves number (more number named)))
-    ∙ ap (settled nat_eq)
+    (λ number named. leaves number (more number named))) ∙ ap (settled nat_eq)
     (applied_same world whole plain ungrouped task given.called (λ k. renaming.there (fresh k)) fresh permit
     (no_overlay_given world task permit fresh whole plain given) (λ k low. leaves (fresh k) (takes k low)))
 
 pub given_counts_go_on : GivenCountsGoOn
 given_counts_go_on next inode world task permit even whole plain ungrouped keeps given =
     given_permits_keep_to_taken (is_counted_before next)
-    (is_counted_before (next + counts_taken world task permit)) world
-    task permit (handed_to next inode permit)
+    (is_counted_before (next + counts_taken world task permit)) world task permit (handed_to next inode permit)
     (λ number named. counted_later next (next + counts_taken world task permit) number (omega arith) named) whole plain
     ungrouped keeps given (taken next inode even world task permit)

@@ -1,5 +1,6 @@
 -- A judgement does not go by the numbers handed in.
-use Rattle.std.proofs.Common.{◌≡◌, refl, sym, ap, ◌∙◌, true≢false, ℕ, nat_eq, nat_lt, Bool, true, false, List, [], ◌∷◌, length, map, filter, Ok}
+use Rattle.std.proofs.Common.{arith, ◌≡◌, refl, sym, ap, ◌∙◌, true≢false, ℕ, nat_eq, nat_lt, Bool, true, false, List, [], ◌∷◌, length, map, filter, Ok}
+use Rattle.std.proofs.lemmas.Grind.{common_steps}
 use Rattle.std.specs.List.{list_any}
 use Rattle.std.proofs.lemmas.List.{length-map}
 use Rattle.vt_laws_mounts.proofs.letting_go.Lists.{filter-map}
@@ -8,7 +9,7 @@ use Rattle.vt_laws_worlds.proofs.permits.taken.PartsKept.{same_parts}
 use Rattle.vt_laws_worlds.specs.Permits.Taken.{GivenWithAnySupply, JudgementsDoNotSeeSupplies}
 use Rattle.vt_spec.specs.Errors.{and_then, unless}
 use Rattle.vt_spec.specs.Language.Calls.{Call, MountFlags}
-use Rattle.vt_spec.specs.Language.Calls.Call.{Bind, MountOverlay, MountPlain, MoveMount}
+use Rattle.vt_spec.specs.Language.Calls.Call.{Bind, MountPlain}
 use Rattle.vt_spec.specs.Language.Limits.{most_mounts}
 use Rattle.vt_spec.specs.Lists.{Fresh, holds_of, odds, rest_of}
 use Rattle.vt_spec.specs.Machine.Apply.{apply, overfills}
@@ -28,8 +29,7 @@ use Rattle.vt_laws_trees.specs.Trees.Calls.{mounts_overlay}
 count_by : (mounts : List (Mount ℕ)) (number : ℕ)
     → length (filter (λ (mount : Mount ℕ). holds_of (nat_eq number) mount.namespace) mounts)
     ≡ length (filter (holds_of (nat_eq number)) (map (λ (mount : Mount ℕ). mount.namespace) mounts))
-count_by mounts number =
-    sym (length-map (filter (λ (mount : Mount ℕ). holds_of (nat_eq number) mount.namespace) mounts)
+count_by mounts number = sym (length-map (filter (λ (mount : Mount ℕ). holds_of (nat_eq number) mount.namespace) mounts)
     (λ (mount : Mount ℕ). mount.namespace))
     ∙ ap length (sym (filter-map (holds_of (nat_eq number)) (λ (mount : Mount ℕ). mount.namespace) mounts
     (λ mount. refl)))
@@ -39,8 +39,7 @@ many_alike : (one other : World ℕ) → one.namespaces ≡ other.namespaces
     → has_too_many nat_eq one ≡ has_too_many nat_eq other
 many_alike one other same alike =
     (λ i. list_any (λ (namespace : Namespace ℕ). nat_lt most_mounts (count_by one.mounts namespace.number i))
-    one.namespaces)
-    ∙ (λ i. list_any (λ (namespace : Namespace ℕ).
+    one.namespaces) ∙ (λ i. list_any (λ (namespace : Namespace ℕ).
     nat_lt most_mounts (length (filter (holds_of (nat_eq namespace.number)) (alike i)))) (same i))
     ∙ (λ i. list_any (λ (namespace : Namespace ℕ). nat_lt most_mounts (sym (count_by other.mounts namespace.number) i))
     other.namespaces)
@@ -65,11 +64,9 @@ module _ (world : World ℕ) (whole : IsWorld nat_eq world) (task : Task ℕ) (f
       ∙ ap (λ parts. namespaces_after false world.mounts (mount_at nat_eq world place) (rest_of parts) tree)
       (same_parts world whole added place)
 
-  mount_many : (place : Location ℕ) (flags : MountFlags)
-      → overfills nat_eq fresh world task (ToMountPlain place flags)
+  mount_many : (place : Location ℕ) (flags : MountFlags) → overfills nat_eq fresh world task (ToMountPlain place flags)
       ≡ overfills nat_eq again world task (ToMountPlain place flags)
-  mount_many place flags =
-      many_alike (apply nat_eq fresh world task (ToMountPlain place flags)).world
+  mount_many place flags = many_alike (apply nat_eq fresh world task (ToMountPlain place flags)).world
       (apply nat_eq again world task (ToMountPlain place flags)).world refl
       (new_namespaces place flags fresh ∙ sym (new_namespaces place flags again))
 
@@ -96,8 +93,7 @@ module _ (world : World ℕ) (whole : IsWorld nat_eq world) (task : Task ℕ) (f
       → mount_plain_permit nat_eq looks (overfills nat_eq fresh world task) task path flags
       ≡ mount_plain_permit nat_eq looks (overfills nat_eq again world task) task path flags
   unfolding mount_plain_permit
-  mount_judged path flags = λ i.
-      unless (admin_rules task)
+  mount_judged path flags = λ i. unless (admin_rules task)
       (and_then (walk_end (destination_walk nat_eq looks task path)) (λ here.
       unless (new_mount_rules nat_eq looks task here.location (mount_many here.location flags i))
       (Ok (ToMountPlain here.location flags))))
@@ -106,44 +102,29 @@ module _ (world : World ℕ) (whole : IsWorld nat_eq world) (task : Task ℕ) (f
       → bind_permit nat_eq looks (overfills nat_eq fresh world task) task source path recursive
       ≡ bind_permit nat_eq looks (overfills nat_eq again world task) task source path recursive
   unfolding bind_permit
-  bind_judged source path recursive = λ i.
-      unless (admin_rules task)
+  bind_judged source path recursive = λ i. unless (admin_rules task)
       (and_then (walk_end (source_walk nat_eq looks task source)) (λ from.
       and_then (walk_end (destination_walk nat_eq looks task path)) (λ here.
       unless (bind_rules nat_eq looks task from.location here.location
-      (bind_many from.location here.location recursive i))
-      (Ok (ToBind from.location here.location recursive)))))
+      (bind_many from.location here.location recursive i)) (Ok (ToBind from.location here.location recursive)))))
 
-  move_judged : (source path : List ℕ)
-      → move_permit nat_eq looks (overfills nat_eq fresh world task) task source path
+  move_judged : (source path : List ℕ) → move_permit nat_eq looks (overfills nat_eq fresh world task) task source path
       ≡ move_permit nat_eq looks (overfills nat_eq again world task) task source path
   unfolding move_permit
-  move_judged source path = λ i.
-      unless (admin_rules task)
+  move_judged source path = λ i. unless (admin_rules task)
       (and_then (walk_end (source_walk nat_eq looks task source)) (λ from.
       and_then (walk_end (destination_walk nat_eq looks task path)) (λ here.
-      unless (move_rules nat_eq looks task from.location here.location
-      (move_many from.location.mount here.location i))
+      unless (move_rules nat_eq looks task from.location here.location (move_many from.location.mount here.location i))
       (Ok (ToMove from.location.mount here.location)))))
 
   call_judged : (call : Call) → mounts_overlay call ≡ false
       → judge_in nat_eq fresh world task call ≡ judge_in nat_eq again world task call
-  call_judged (MountPlain path flags) other = mount_judged path flags
-  call_judged (MountOverlay path options flags) other = absurd (true≢false other)
-  call_judged (Bind source path recursive) other = bind_judged source path recursive
-  call_judged (MoveMount source path) other = move_judged source path
-  call_judged call other = refl
+  call_judged call other = grind (arith, common_steps, mount_judged, true≢false, bind_judged, move_judged)
 
 pub judgements_do_not_see_supplies : JudgementsDoNotSeeSupplies
 judgements_do_not_see_supplies world task call fresh again whole other =
     call_judged world whole task fresh again call other
 
 pub given_with_any_supply : GivenWithAnySupply
-given_with_any_supply world task permit fresh again whole serves given = record {
-  serves = serves;
-  called = given.called;
-  call = given.call;
-  no_overlay = given.no_overlay;
-  few_groups = given.few_groups;
-  judged = judgements_do_not_see_supplies world task given.call again fresh whole given.no_overlay ∙ given.judged;
-}
+given_with_any_supply world task permit fresh again whole serves given =
+    grind (arith, common_steps, judgements_do_not_see_supplies)

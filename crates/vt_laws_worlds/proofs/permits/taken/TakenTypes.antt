@@ -1,5 +1,6 @@
 -- A mount that does not become shared takes no number when its type changes.
-use Rattle.std.proofs.Common.{◌≡◌, refl, sym, ap, ◌∙◌, ⊎_elim, true≢false, ℕ, zero, suc, nat_eq, Bool, true, false, cond, List, [], ◌∷◌, map, Option, Some, None, find, length, inl, inr}
+use Rattle.std.proofs.Common.{arith, ◌≡◌, refl, sym, ap, ◌∙◌, ⊎_elim, true≢false, ℕ, zero, suc, nat_eq, Bool, true, false, cond, List, [], ◌∷◌, map, Option, Some, None, find, inl, inr}
+use Rattle.std.proofs.lemmas.Grind.{common_steps}
 use Rattle.std.specs.Prelude.{unwrap_or}
 use Rattle.vt_laws_mounts.proofs.letting_go.Lists.{Among, among-from_filter, among-from_flat_map, none_passes, passes}
 use Rattle.vt_laws_worlds.specs.Permits.Taken.{IsUngrouped, is_ungrouped}
@@ -10,7 +11,7 @@ use Rattle.vt_spec.specs.Machine.Mounts.{Mount, Propagation, children, group_of,
 use Rattle.vt_spec.specs.Machine.Mounts.Propagation.{Private, Shared, Slave, Unbindable}
 use Rattle.vt_spec.specs.Machine.Receives.{is_member_of, regrouped}
 use Rattle.vt_spec.specs.Machine.Types.{master_after, named_mounts, retyped, retyped_mount, type_after, with_master, with_new_groups}
-use Rattle.vt_spec.specs.Machine.World.{World, mount_numbered}
+use Rattle.vt_spec.specs.Machine.World.{World}
 use Rattle.vt_spec.specs.Machine.Invariants.{IsWorld}
 use Rattle.vt_laws_mounts.proofs.letting_go.sweeps.OfWorlds.{all_in_use}
 
@@ -25,13 +26,7 @@ Ungrouped mount = is_ungrouped mount.propagation ≡ true
 
 type_same : (one other : ℕ) (word : TypeWord) → makes_groups word ≡ false → (kind : Propagation ℕ)
     → type_after one word kind ≡ type_after other word kind
-type_same one other ToShared e kind = absurd (true≢false e)
-type_same one other ToSlave e (Shared group) = refl
-type_same one other ToSlave e (Slave master) = refl
-type_same one other ToSlave e Private = refl
-type_same one other ToSlave e Unbindable = refl
-type_same one other ToPrivate e kind = refl
-type_same one other ToUnbindable e kind = refl
+type_same one other word e kind = grind (arith, common_steps, true≢false)
 
 no_master : (kind : Propagation ℕ) → is_ungrouped kind ≡ true → master_after kind ≡ None
 no_master (Shared group) e = absurd (true≢false (sym e))
@@ -64,14 +59,11 @@ module _ (mounts : List (Mount ℕ)) (all : (mount : Mount ℕ) → Among mount 
       → Among mount (tree_from nat_eq depth mounts top) → Ungrouped mount
   tree_is zero top is mount among =
       ⊎_elim (λ same. ap (λ (m : Mount ℕ). is_ungrouped m.propagation) same ∙ is) (λ none. absurd none) among
-  tree_is (suc depth) top is mount among =
-      ⊎_elim (λ same. ap (λ (m : Mount ℕ). is_ungrouped m.propagation) same ∙ is)
+  tree_is (suc depth) top is mount among = ⊎_elim (λ same. ap (λ (m : Mount ℕ). is_ungrouped m.propagation) same ∙ is)
       (λ below.
-      let found =
-      among-from_flat_map (tree_from nat_eq depth mounts) (children nat_eq mounts top.number) mount below in
+      let found = among-from_flat_map (tree_from nat_eq depth mounts) (children nat_eq mounts top.number) mount below in
       tree_is depth found.0
-      (all found.0 (among-from_filter (stands_on nat_eq top.number) mounts found.0 found.1).0) mount found.2)
-      among
+      (all found.0 (among-from_filter (stands_on nat_eq top.number) mounts found.0 found.1).0) mount found.2) among
 
 module _ (world : World ℕ) (whole : IsWorld nat_eq world) (ungrouped : IsUngrouped world) where
   each_is : (mount : Mount ℕ) → Among mount world.mounts → Ungrouped mount
@@ -79,18 +71,11 @@ module _ (world : World ℕ) (whole : IsWorld nat_eq world) (ungrouped : IsUngro
 
   named_is : (number : ℕ) (recursive : Bool) (mount : Mount ℕ)
       → Among mount (named_mounts nat_eq world number recursive) → Ungrouped mount
-  named_is number true mount among =
-      tree_is world.mounts each_is (length world.mounts) (mount_numbered nat_eq world number)
-      (found_is world.mounts each_is number) mount among
-  named_is number false mount among =
-      ⊎_elim
-      (λ same. ap (λ (m : Mount ℕ). is_ungrouped m.propagation) same ∙ found_is world.mounts each_is number)
-      (λ none. absurd none) among
+  named_is number recursive mount among = grind (arith, common_steps, tree_is, each_is, found_is)
 
   -- no group has a master
   no_masters : (group : ℕ) → world.master group ≡ None
-  no_masters group =
-      (all_in_use world whole).groups group
+  no_masters group = (all_in_use world whole).groups group
       (none_passes (is_member_of nat_eq group) world.mounts (λ mount among.
       no_member group mount.propagation (each_is mount among)))
 
@@ -98,8 +83,7 @@ module _ (world : World ℕ) (whole : IsWorld nat_eq world) (ungrouped : IsUngro
       → (master : ℕ → Option ℕ) → ((number : ℕ) → master number ≡ None)
       → (number : ℕ) → with_new_groups nat_eq group master named number ≡ None
   none_left group [] all master none number = none number
-  none_left group (mount ∷ rest) all master none number =
-      none_left group rest (λ other among. all other (inr among))
+  none_left group (mount ∷ rest) all master none number = none_left group rest (λ other among. all other (inr among))
       (with_master nat_eq master (group mount.number) (master_after mount.propagation))
       (λ other. by other (nat_eq other (group mount.number))) number
     where
@@ -110,11 +94,10 @@ module _ (world : World ℕ) (whole : IsWorld nat_eq world) (ungrouped : IsUngro
   pub retyped_same : (word : TypeWord) → makes_groups word ≡ false → (number : ℕ) (recursive : Bool) (one other : ℕ → ℕ)
       → retyped nat_eq world one word (named_mounts nat_eq world number recursive)
       ≡ retyped nat_eq world other word (named_mounts nat_eq world number recursive)
-  retyped_same word makes number recursive one other = λ i.
-      regrouped nat_eq (record world {
-        mounts = map (λ mount. mount_same mount i) world.mounts;
-        master = λ group. (left one group ∙ sym (left other group)) i;
-      })
+  retyped_same word makes number recursive one other = λ i. regrouped nat_eq (record world {
+    mounts = map (λ mount. mount_same mount i) world.mounts;
+    master = λ group. (left one group ∙ sym (left other group)) i;
+  })
     where
       named : List (Mount ℕ)
       named = named_mounts nat_eq world number recursive
@@ -124,14 +107,4 @@ module _ (world : World ℕ) (whole : IsWorld nat_eq world) (ungrouped : IsUngro
 
       mount_same : (mount : Mount ℕ)
           → retyped_mount nat_eq one word named mount ≡ retyped_mount nat_eq other word named mount
-      mount_same mount = by _
-        where
-          by : (b : Bool)
-              → cond b (record mount { propagation = type_after (one mount.number) word mount.propagation }) mount
-              ≡ cond b (record mount { propagation = type_after (other mount.number) word mount.propagation }) mount
-          by true = λ i.
-              record mount {
-                propagation = type_same (one mount.number)
-                    (other mount.number) word makes mount.propagation i;
-              }
-          by false = refl
+      mount_same mount = grind (arith, common_steps, type_same)

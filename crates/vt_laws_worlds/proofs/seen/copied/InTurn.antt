@@ -64,8 +64,7 @@ module _ (fresh : Fresh ℕ) (stack : Stack ℕ) (merge : Merge ℕ) (whole : Is
     (new : AreNew fresh merge.upper) where
   in_turn : (path : List (List ℕ)) (above : ℕ) (copies : List Copy)
       → above ≡ unwrap_or (led_above stack merge.upper path) (fresh (length path))
-      → ArePlanned fresh stack merge.upper path copies
-      → copied_to fresh stack merge.upper (path ++ names_of copies)
+      → ArePlanned fresh stack merge.upper path copies → copied_to fresh stack merge.upper (path ++ names_of copies)
       ≡ made_in_turn (copied_to fresh stack merge.upper path) above copies
   in_turn path above [] is planned = ap (copied_to fresh stack merge.upper) (append-nil path)
   in_turn path above (copy ∷ rest) is planned =
@@ -156,8 +155,7 @@ module _ (fresh : Fresh ℕ) (stack : Stack ℕ) (merge : Merge ℕ) (whole : Is
 pub copies_in_turn : CopiesAreMadeInTurn
 copies_in_turn fresh stack merge whole new path above copies led planned =
     in_turn fresh stack merge whole new path above copies
-    (sym (ap (λ o. unwrap_or o (fresh (length path))) led)) planned
-    ∙ ap (λ files. made_in_turn files above copies)
+    (sym (ap (λ o. unwrap_or o (fresh (length path))) led)) planned ∙ ap (λ files. made_in_turn files above copies)
     (none_copied fresh stack merge.upper (length path) path refl (ap is_some led))
 
 pub paths_have_their_copies : PathsHaveTheirCopies

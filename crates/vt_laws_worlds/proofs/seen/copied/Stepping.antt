@@ -1,5 +1,6 @@
 -- Copies one prefix at a time.
-use Rattle.std.proofs.Common.{◌≡◌, ◌≢◌, refl, sym, ap, subst, ◌∙◌, ℕ, nat_eq, List, [], ◌∷◌, ◌++◌, length, Option, Some, None, is_some, unwrap_or}
+use Rattle.std.proofs.Common.{arith, ◌≡◌, ◌≢◌, refl, sym, ap, subst, ◌∙◌, ℕ, nat_eq, List, [], ◌∷◌, ◌++◌, length, Option, Some, None, is_some, unwrap_or}
+use Rattle.std.proofs.lemmas.Grind.{common_steps}
 use Rattle.std.specs.Prelude.{option_map}
 use Rattle.vt_spec.specs.FileTree.{FileTree}
 use Rattle.vt_spec.specs.Language.Changes.{changed}
@@ -38,8 +39,7 @@ shows_the_same fresh stack merge whole new path other object parent leads =
     let is = (copies_are_of_prefixes fresh stack merge object (Named path) whole new there leads).0 in
     sym (copied_alike parent (then_some (number_at_path merge.files other) merge.files.tree.node)
     (node_seen stack merge.upper other) (node_seen stack (copied_to fresh stack merge.upper path) other)
-    (whole.shown.shows other)
-    (subst (λ files. SameObject (then_some (number_at_path files other) files.tree.node)
+    (whole.shown.shows other) (subst (λ files. SameObject (then_some (number_at_path files other) files.tree.node)
     (node_seen stack (copied_to fresh stack merge.upper path) other)) line.copied.files
     (subst (λ upper. SameObject (then_some (number_at_path (copied_up nat_eq fresh merge object).files other)
     (copied_up nat_eq fresh merge object).files.tree.node) (node_seen stack upper other)) is
@@ -68,17 +68,9 @@ module _ (fresh : Fresh ℕ) (stack : Stack ℕ) (merge : Merge ℕ) (front : Li
   later = copied_to fresh stack merge.upper front
 
   over : (seen : Option (Node ℕ)) → object_above stack later front ≡ above
-      → option_map (copy_node above) seen ≡ Some (copy_node above node)
-      → copy_over fresh stack later path None seen
+      → option_map (copy_node above) seen ≡ Some (copy_node above node) → copy_over fresh stack later path None seen
       ≡ changed nat_eq later (Make above name (fresh (length path)) (copy_node above node))
-  over None at e = none_is_some (copy_node above node) e
-  over (Some other) at e =
-      ap (λ directory. changed nat_eq later (Make directory (last_or [] path) (fresh (length path))
-      (copy_node directory other))) (ap (object_above stack later) (without_last_is front name) ∙ at)
-      ∙ ap (λ last. changed nat_eq later (Make above last (fresh (length path)) (copy_node above other)))
-      (last_is [] name front)
-      ∙ ap (λ copy. changed nat_eq later (Make above name (fresh (length path)) copy))
-      (same_Some (copy_node above other) (copy_node above node) e)
+  over seen at e = grind (arith, common_steps, none_is_some, without_last_is, last_is, same_Some)
 
 pub step_by_step : CopiesGoStepByStep
 step_by_step fresh stack merge whole new front name parent above node leads none seen is =
@@ -86,8 +78,7 @@ step_by_step fresh stack merge whole new front name parent above node leads none
     copied_longer fresh stack merge.upper front name
     ∙ ap (λ led. copy_over fresh stack (copied_to fresh stack merge.upper front) (front ++ name ∷ []) led
     (node_seen stack (copied_to fresh stack merge.upper front) (front ++ name ∷ [])))
-    (lead.1 (front ++ name ∷ []) (λ rest. longer front rest name) ∙ none)
-    ∙ over fresh stack merge front name above node
+    (lead.1 (front ++ name ∷ []) (λ rest. longer front rest name) ∙ none) ∙ over fresh stack merge front name above node
     (node_seen stack (copied_to fresh stack merge.upper front) (front ++ name ∷ []))
     (ap (λ led. unwrap_or led 0) (lead.0 front [] (append-nil front)) ∙ sym is)
     (shows_the_same fresh stack merge whole new front (front ++ name ∷ []) parent above leads

@@ -1,12 +1,12 @@
 -- Filesystems, inodes and groups go in any order before the sweep.
-use Rattle.std.proofs.Common.{◌≡◌, refl, sym, ap, subst, ◌∙◌, true≢false, ℕ, nat_eq, eqb-true, Bool, true, false, cond, not, ◌||◌, ◌&&◌, List, [], ◌∷◌, filter, Option, Some, None, is_some}
+use Rattle.std.proofs.Common.{arith, ◌≡◌, refl, sym, ap, subst, ◌∙◌, true≢false, ℕ, nat_eq, eqb-true, Bool, true, false, cond, not, ◌||◌, ◌&&◌, List, [], ◌∷◌, filter, None, is_some}
+use Rattle.std.proofs.lemmas.Grind.{common_steps}
 use Rattle.std.specs.Prelude.{All}
 use Rattle.std.proofs.lemmas.List.Elements.{All-filter, All-map}
 use Rattle.std.proofs.lemmas.Map.Views.{any-filter_same}
 use Rattle.vt_spec.specs.Lists.{folded, is_among}
 use Rattle.vt_spec.specs.Machine.Settled.{filesystem_lives, located_in, settled}
 use Rattle.vt_spec.specs.Machine.World.{Filesystem, World, is_overlay}
-use Rattle.vt_spec.specs.Tree.{Node}
 use Rattle.vt_spec.specs.TreeInvariant.{HasName}
 use Rattle.vt_spec.proofs.Nodes.{directory_used}
 use Rattle.vt_laws_trees.specs.Trees.{IsFileTree}
@@ -25,15 +25,13 @@ use Rattle.vt_laws_worlds.proofs.seen.swept.Stages.{less, overlay_less, reals_le
 use Rattle.vt_laws_worlds.proofs.seen.swept.Wholes.{filesystems_may_go_before, groups_may_go_before}
 
 -- A tree without inodes that are not its root and have no name is a tree.
-module _ (gone : ℕ → Bool) (f : Filesystem ℕ) (tree : IsFileTree f.files)
-    (root : gone f.files.tree.root ≡ false)
+module _ (gone : ℕ → Bool) (f : Filesystem ℕ) (tree : IsFileTree f.files) (root : gone f.files.tree.root ≡ false)
     (named : (number : ℕ) → HasName f.files.tree number → gone number ≡ false) where
   abbrev stays : List ℕ
   stays = filter (λ k. not (gone k)) f.files.numbers
 
   among_stays : (k : ℕ) → is_among nat_eq k stays ≡ (not (gone k) && is_some (f.files.tree.node k))
-  among_stays k =
-      any-filter_same (nat_eq k) (λ m. not (gone m)) (not (gone k))
+  among_stays k = any-filter_same (nat_eq k) (λ m. not (gone m)) (not (gone k))
       (λ m same. ap (λ n. not (gone n)) (sym (eqb-true k m same))) f.files.numbers
       ∙ ap (λ b. not (gone k) && b) (tree.numbers k)
 
@@ -46,12 +44,7 @@ module _ (gone : ℕ → Bool) (f : Filesystem ℕ) (tree : IsFileTree f.files)
 
   same_node : (k : ℕ) → cond (is_among nat_eq k stays) (f.files.tree.node k) None
       ≡ cond (gone k) None (f.files.tree.node k)
-  same_node k = ap (λ b. cond b (f.files.tree.node k) None) (among_stays k) ∙ by (gone k) (f.files.tree.node k)
-    where
-      by : (b : Bool) (o : Option (Node ℕ)) → cond (not b && is_some o) o None ≡ cond b None o
-      by true o = refl
-      by false None = refl
-      by false (Some node) = refl
+  same_node k = grind (arith, common_steps, among_stays)
 
   same_numbers : filter (λ k. is_among nat_eq k stays) f.files.numbers ≡ stays
   same_numbers = filter_alike (λ k. is_among nat_eq k stays) (λ k. not (gone k)) f.files.numbers (λ k m.
@@ -66,16 +59,14 @@ module _ (gone : ℕ → Bool) (f : Filesystem ℕ) (tree : IsFileTree f.files)
   file_tree_less = subst IsFileTree (λ i. record {
     tree = record { root = f.files.tree.root; node = λ k. same_node k i };
     numbers = same_numbers i;
-  })
-      (kept_file_tree stays f.files holds tree)
+  }) (kept_file_tree stays f.files holds tree)
 
 locations_stay : (world : World ℕ) → MountsInUse world → LocationsStay world
 locations_stay world all filesystem number is =
     subst (λ w. is_among nat_eq number (located_in nat_eq w filesystem) ≡ true) (mounts_stay world all) is
 
 listed : (world : World ℕ) → HasFileTrees world → HasTrees world
-listed world trees =
-    all_from_among (λ (f : Filesystem ℕ). IsListedTree f.files) world.filesystems (λ f m.
+listed world trees = all_from_among (λ (f : Filesystem ℕ). IsListedTree f.files) world.filesystems (λ f m.
     let tree = among_from_all (λ (g : Filesystem ℕ). IsFileTree g.files) world.filesystems trees f m in
     record { tree = tree.tree; numbers = tree.numbers })
 
@@ -104,11 +95,7 @@ module _ (chosen : Filesystem ℕ → Bool) (world : World ℕ) (inode : Inode) 
 
   -- what is used does not go
   used_stays : (f : Filesystem ℕ) (k : ℕ) → is_inode_used world f k ≡ true → goes f k ≡ false
-  used_stays f k used = by (goes f k) refl
-    where
-      by : (b : Bool) → goes f k ≡ b → goes f k ≡ false
-      by false e = e
-      by true e = absurd (true≢false (sym used ∙ went_unused chosen world inode f k e))
+  used_stays f k used = grind (arith, common_steps, true≢false, went_unused)
 
   tree_kept : (f : Filesystem ℕ) → IsFileTree f.files → IsFileTree (less goes f).files
   tree_kept f tree =
@@ -117,8 +104,7 @@ module _ (chosen : Filesystem ℕ → Bool) (world : World ℕ) (inode : Inode) 
       (λ k has. used_stays f k (used.named k has))
 
   upper_kept : (f : Filesystem ℕ) → UpperApart world f → UpperApart (with_less goes world) (less goes f)
-  upper_kept f apart is =
-      All-map (λ g. has_upper_in f.number g ≡ false) (less goes) world.filesystems
+  upper_kept f apart is = All-map (λ g. has_upper_in f.number g ≡ false) (less goes) world.filesystems
       (all_from_among (λ g. has_upper_in f.number (less goes g) ≡ false) world.filesystems (λ g m.
       upper_less f.number (goes g) g ∙ among_from_all (λ x. has_upper_in f.number x ≡ false) world.filesystems
       (apart (sym (overlay_less (goes f) f) ∙ is)) g m))

@@ -51,10 +51,8 @@ module _ (chosen : Filesystem ℕ → Bool) (world : World ℕ) (inode : Inode) 
   layered on merged = has_layer_on nat_eq on merged && is_mounted nat_eq mounted merged.number
 
   has_layer_less : (on : ℕ) (g : Filesystem ℕ) → has_layer_on nat_eq on (less went g) ≡ has_layer_on nat_eq on g
-  has_layer_less on g =
-      layers_on world on (less went g)
-      ∙ ap (list_any (λ layer. nat_eq on layer.filesystem)) (layers_without (went g) g)
-      ∙ sym (layers_on world on g)
+  has_layer_less on g = layers_on world on (less went g)
+      ∙ ap (list_any (λ layer. nat_eq on layer.filesystem)) (layers_without (went g) g) ∙ sym (layers_on world on g)
 
   -- the same filesystems live
   same_lives : (f : Filesystem ℕ) → filesystem_lives nat_eq (with_less went mounted) (less went f)
@@ -73,12 +71,9 @@ module _ (chosen : Filesystem ℕ → Bool) (world : World ℕ) (inode : Inode) 
     abbrev lives : Filesystem ℕ → Bool
     lives = filesystem_lives nat_eq mounted
 
-    used_before : (f : Filesystem ℕ) (k : ℕ) → is_inode_used (living world) f k ≡ true
-        → is_inode_used world f k ≡ true
-    used_before f k is =
-        used_too (living world) world f k
-        (λ m. among_numbers k _ (stay f.number k (is_among_numbers k _ m)))
-        (layers_stay (living world) world
+    used_before : (f : Filesystem ℕ) (k : ℕ) → is_inode_used (living world) f k ≡ true → is_inode_used world f k ≡ true
+    used_before f k is = used_too (living world) world f k
+        (λ m. among_numbers k _ (stay f.number k (is_among_numbers k _ m))) (layers_stay (living world) world
         (λ g m. (g, (among-from_filter lives world.filesystems g m).0, refl)) f.number k)
         (λ m. let from = among-from_flat_map (objects_of_overlay nat_eq f.number) (living world).filesystems k m in
         among-flat_map (objects_of_overlay nat_eq f.number) world.filesystems from.0 k
@@ -93,13 +88,10 @@ module _ (chosen : Filesystem ℕ → Bool) (world : World ℕ) (inode : Inode) 
         by true h = absurd (true≢false (sym (used_before f k h) ∙ went_unused f k e))
 
     pub swept_before : settled nat_eq (let_go_in chosen world inode) ≡ settled nat_eq world
-    swept_before =
-        ap (settled nat_eq) let_go_is_less
+    swept_before = ap (settled nat_eq) let_go_is_less
         ∙ ap (λ w. without_dead_groups nat_eq (without_dead_inodes nat_eq w)) living_less
-        ∙ ap (without_dead_groups nat_eq)
-        (inodes_before went (living world)
-        (All-filter lives (λ f. IsListedTree f.files) world.filesystems trees)
-        (all_from_among (λ f. is_overlay f ≡ true
+        ∙ ap (without_dead_groups nat_eq) (inodes_before went (living world)
+        (All-filter lives (λ f. IsListedTree f.files) world.filesystems trees) (all_from_among (λ f. is_overlay f ≡ true
         → All (λ g. has_upper_in f.number g ≡ false) (living world).filesystems) (living world).filesystems
         (λ f m is. All-filter lives (λ g. has_upper_in f.number g ≡ false) world.filesystems
         (among_from_all (λ x. is_overlay x ≡ true → All (λ g. has_upper_in x.number g ≡ false) world.filesystems)

@@ -1,13 +1,12 @@
 -- Inodes that nothing uses may go before the sweep of inodes.
-use Rattle.std.proofs.Common.{arith}
+use Rattle.std.proofs.Common.{arith, ◌≡◌, refl, sym, ap, subst, ◌∙◌, ⊎_elim, true≢false, ℕ, nat_eq, Bool, true, false, cond, not, ◌||◌, ◌&&◌, List, [], map, filter, flat_map, ◌++◌, ◌∷◌}
 use Rattle.std.proofs.lemmas.Grind.{common_steps}
-use Rattle.std.proofs.Common.{◌≡◌, refl, sym, ap, subst, ◌∙◌, ⊎_elim, true≢false, ℕ, nat_eq, Bool, true, false, cond, not, ◌||◌, ◌&&◌, List, [], map, filter, flat_map, ◌++◌, ◌∷◌, Option, Some, None, option_map}
 use Rattle.std.specs.Prelude.{All, filter_map}
 use Rattle.std.proofs.lemmas.Bool.{cases_Bool, not-true}
-use Rattle.vt_spec.specs.Lists.{holds_of, is_among}
-use Rattle.vt_spec.specs.Machine.Locked.{of_overlay, overlay_or}
+use Rattle.vt_spec.specs.Lists.{is_among}
+use Rattle.vt_spec.specs.Machine.Locked.{of_overlay}
 use Rattle.vt_spec.specs.Machine.Settled.{layers_in, located_in, named_in, objects_of_overlay, only_used, only_used_of, used_in, without_dead_in, without_dead_inodes}
-use Rattle.vt_spec.specs.Machine.World.{Filesystem, Overlay, World, is_overlay, layers_of, upper_object}
+use Rattle.vt_spec.specs.Machine.World.{Filesystem, World, is_overlay, layers_of, upper_object}
 use Rattle.vt_spec.proofs.Lists.{map_alike, map_twice}
 use Rattle.vt_laws_mounts.specs.LettingGo.InUse.{HasTrees, IsListedTree, UppersArePlain, has_upper_in, is_inode_used}
 use Rattle.vt_laws_mounts.specs.LettingGo.Overlays.{RealsAreThere}
@@ -26,44 +25,14 @@ upper_less number gone f = grind (arith, common_steps)
 
 -- what is not there has no real object, still
 pub reals_less : (gone : ℕ → Bool) (f : Filesystem ℕ) → HasReals f → HasReals (without_all gone f)
-reals_less gone f has number none = over f.overlay (has number) (gone number) refl none
-  where
-    over : (o : Option (Overlay ℕ))
-        → (f.files.tree.node number ≡ None → overlay_or None (λ overlay. overlay.real number) o ≡ None)
-        → (b : Bool) → gone number ≡ b → cond b None (f.files.tree.node number) ≡ None
-        → overlay_or None (λ overlay. overlay.real number) (option_map (reals_without gone) o) ≡ None
-    over None h b e n = refl
-    over (Some overlay) h true e n = ap (λ b. cond b None (overlay.real number)) e
-    over (Some overlay) h false e n = ap (λ b. cond b None (overlay.real number)) e ∙ h n
+reals_less gone f has number none = grind (arith, common_steps, reals_without)
 
 -- an overlay without inodes has fewer upper objects
 objects_less : (gone : ℕ → Bool) (number object : ℕ) (f : Filesystem ℕ)
     → Among object (objects_of_overlay nat_eq number (without_all gone f))
     → Among object (objects_of_overlay nat_eq number f)
-objects_less gone number object f = over f.overlay
-  where
-    over : (o : Option (Overlay ℕ))
-        → Among object (overlay_or [] (λ overlay.
-        cond (holds_of (λ layer. nat_eq number layer.filesystem) overlay.upper)
-        (filter_map (λ k. upper_object (overlay.real k)) (filter (λ k. not (gone k)) f.files.numbers)) [])
-        (option_map (reals_without gone) o))
-        → Among object (overlay_or [] (λ overlay.
-        cond (holds_of (λ layer. nat_eq number layer.filesystem) overlay.upper)
-        (filter_map (λ k. upper_object (overlay.real k)) f.files.numbers) []) o)
-    over None m = absurd m
-    over (Some overlay) m = here (holds_of (λ layer. nat_eq number layer.filesystem) overlay.upper) m
-      where
-        here : (b : Bool) → Among object (cond b (filter_map (λ k. upper_object (cond (gone k) None (overlay.real k)))
-            (filter (λ k. not (gone k)) f.files.numbers)) [])
-            → Among object (cond b (filter_map (λ k. upper_object (overlay.real k)) f.files.numbers) [])
-        here false n = absurd n
-        here true n =
-            let from = among-from_filter_map (λ k. upper_object (cond (gone k) None (overlay.real k)))
-            (filter (λ k. not (gone k)) f.files.numbers) object n in
-            let listed = among-from_filter (λ k. not (gone k)) f.files.numbers from.0 from.1 in
-            among-filter_map (λ k. upper_object (overlay.real k)) f.files.numbers from.0 object listed.0
-            (sym (ap (λ b. upper_object (cond b None (overlay.real from.0))) (not-true (gone from.0) listed.1))
-            ∙ from.2)
+objects_less gone number object f =
+    grind (arith, common_steps, reals_without, among-from_filter_map, among-from_filter, among-filter_map, not-true)
 
 -- what one world uses another one uses too
 within : (a b c d : List ℕ) (number : ℕ) → (Among number a → Among number c) → (Among number b → Among number d)
@@ -78,8 +47,7 @@ pub used_too : (some more : World ℕ) (f : Filesystem ℕ) (number : ℕ)
     → (Among number (flat_map (objects_of_overlay nat_eq f.number) some.filesystems)
     → Among number (flat_map (objects_of_overlay nat_eq f.number) more.filesystems))
     → is_inode_used some f number ≡ true → is_inode_used more f number ≡ true
-used_too some more f number located layers objects is =
-    is_among_numbers number (used_in nat_eq more f)
+used_too some more f number located layers objects is = is_among_numbers number (used_in nat_eq more f)
     (within (names ++ located_in nat_eq some f.number ++ layers_in nat_eq some f.number)
     (flat_map (objects_of_overlay nat_eq f.number) some.filesystems)
     (names ++ located_in nat_eq more f.number ++ layers_in nat_eq more f.number)
@@ -117,22 +85,18 @@ module _ (went : Filesystem ℕ → ℕ → Bool) (world : World ℕ) (f : Files
 
   pub swept_alike : only_used_of nat_eq (used_in nat_eq (with_less went world) (less went f)) (less went f)
       ≡ only_used_of nat_eq used f
-  swept_alike =
-      ap (λ u. only_used_of nat_eq u (less went f)) used_alike
+  swept_alike = ap (λ u. only_used_of nat_eq u (less went f)) used_alike
       ∙ left_of used (less went f) (numbers_without (went f) f tree.numbers) (reals_less (went f) f has)
       ∙ without_both (went f) (λ k. not (is_among nat_eq k used)) (λ k. not (is_among nat_eq k used))
-      (λ k. by k (went f k) refl) f
-      ∙ sym (left_of used f tree.numbers has)
+      (λ k. by k (went f k) refl) f ∙ sym (left_of used f tree.numbers has)
     where
-      by : (k : ℕ) (b : Bool) → went f k ≡ b
-          → not (is_among nat_eq k used) ≡ (b || not (is_among nat_eq k used))
+      by : (k : ℕ) (b : Bool) → went f k ≡ b → not (is_among nat_eq k used) ≡ (b || not (is_among nat_eq k used))
       by k true e = ap not (unused k e)
       by k false e = refl
 
 -- The sweep of inodes, of overlays first
 module _ (went : Filesystem ℕ → ℕ → Bool) (world : World ℕ) (trees : HasTrees world) (uppers : UppersArePlain world)
-    (reals : RealsAreThere world)
-    (unused : (f : Filesystem ℕ) → Among f world.filesystems → (k : ℕ) → went f k ≡ true
+    (reals : RealsAreThere world) (unused : (f : Filesystem ℕ) → Among f world.filesystems → (k : ℕ) → went f k ≡ true
     → is_inode_used world f k ≡ false) where
   abbrev left : World ℕ
   left = with_less went world
@@ -146,8 +110,7 @@ module _ (went : Filesystem ℕ → ℕ → Bool) (world : World ℕ) (trees : H
   -- no overlay has an upper object in an overlay
   no_upper_in : (f : Filesystem ℕ) → Among f world.filesystems → is_overlay f ≡ true → (g : Filesystem ℕ)
       → Among g world.filesystems → has_upper_in f.number g ≡ false
-  no_upper_in f m is g n =
-      among_from_all (λ x. has_upper_in f.number x ≡ false) world.filesystems
+  no_upper_in f m is g n = among_from_all (λ x. has_upper_in f.number x ≡ false) world.filesystems
       (among_from_all (λ x. is_overlay x ≡ true → All (λ y. has_upper_in x.number y ≡ false) world.filesystems)
       world.filesystems uppers f m is) g n
 
@@ -181,17 +144,13 @@ module _ (went : Filesystem ℕ → ℕ → Bool) (world : World ℕ) (trees : H
 
   first_alike : (f : Filesystem ℕ) → Among f world.filesystems
       → only_used nat_eq left (is_overlay (less went f)) (less went f) ≡ less plain_went (first f)
-  first_alike f m =
-      ap (λ b. only_used nat_eq left b (less went f)) (overlay_less (went f) f)
-      ∙ ⊎_elim
+  first_alike f m = ap (λ b. only_used nat_eq left b (less went f)) (overlay_less (went f) f) ∙ ⊎_elim
       (λ is. ap (λ b. only_used nat_eq left b (less went f)) is
       ∙ swept_alike went world f (tree_of f m) (reals_of f m) (unused f m)
-      (no_objects_left f m is ∙ sym (no_objects_in f m is))
-      ∙ sym (ap (λ b. only_used nat_eq world b f) is)
+      (no_objects_left f m is ∙ sym (no_objects_in f m is)) ∙ sym (ap (λ b. only_used nat_eq world b f) is)
       ∙ sym (stays_whole (first f) (overlay_first f ∙ is)))
       (λ isnt. ap (λ b. only_used nat_eq left b (less went f)) isnt
-      ∙ sym (ap (λ b. without_all (λ k. not b && went f k) f) isnt)
-      ∙ sym (ap (less plain_went) (plain_first f isnt)))
+      ∙ sym (ap (λ b. without_all (λ k. not b && went f k) f) isnt) ∙ sym (ap (less plain_went) (plain_first f isnt)))
       (cases_Bool (is_overlay f))
 
   abbrev second_world : World ℕ
@@ -201,8 +160,7 @@ module _ (went : Filesystem ℕ → ℕ → Bool) (world : World ℕ) (trees : H
   stage_one = ap (λ filesystems. record world { filesystems = filesystems })
       (map_twice (λ f. only_used nat_eq left (is_overlay f) f) (less went) world.filesystems
       ∙ map_alike (λ f. only_used nat_eq left (is_overlay (less went f)) (less went f)) (λ f. less plain_went (first f))
-      world.filesystems first_alike
-      ∙ sym (map_twice (less plain_went) first world.filesystems))
+      world.filesystems first_alike ∙ sym (map_twice (less plain_went) first world.filesystems))
 
   -- a plain tree that is there then was there before
   was_there : (g : Filesystem ℕ) → Among g second_world.filesystems → is_overlay g ≡ false → Among g world.filesystems
@@ -213,28 +171,18 @@ module _ (went : Filesystem ℕ → ℕ → Bool) (world : World ℕ) (trees : H
 
   object_before : (number object : ℕ) (f : Filesystem ℕ) → Among f world.filesystems
       → Among object (objects_of_overlay nat_eq number (first f)) → Among object (objects_of_overlay nat_eq number f)
-  object_before number object f m n =
-      ⊎_elim
+  object_before number object f m n = ⊎_elim
       (λ is. objects_less (λ k. not (is_among nat_eq k (used_in nat_eq world f))) number object f
-      (subst (λ x. Among object (objects_of_overlay nat_eq number x))
-      (ap (λ b. only_used nat_eq world b f) is
+      (subst (λ x. Among object (objects_of_overlay nat_eq number x)) (ap (λ b. only_used nat_eq world b f) is
       ∙ left_of (used_in nat_eq world f) f (tree_of f m).numbers (reals_of f m)) n))
       (λ isnt. subst (λ x. Among object (objects_of_overlay nat_eq number x)) (plain_first f isnt) n)
       (cases_Bool (is_overlay f))
 
   layers_first : (number : ℕ) → layers_in nat_eq second_world number ≡ layers_in nat_eq world number
-  layers_first number =
-      ap (λ layers. map (λ layer. layer.directory) (filter (λ layer. nat_eq number layer.filesystem) layers))
-      (flat_map-map first (of_overlay [] layers_of) world.filesystems (λ f. by f (is_overlay f)))
-    where
-      by : (f : Filesystem ℕ) (b : Bool)
-          → of_overlay [] layers_of (only_used nat_eq world b f) ≡ of_overlay [] layers_of f
-      by f true = layers-left (used_in nat_eq world f) f _
-      by f false = refl
+  layers_first number = grind (arith, common_steps, flat_map-map, layers-left)
 
   used_before : (f : Filesystem ℕ) (k : ℕ) → is_inode_used second_world f k ≡ true → is_inode_used world f k ≡ true
-  used_before f k is =
-      used_too second_world world f k (λ m. m) (subst (Among k) (layers_first f.number))
+  used_before f k is = used_too second_world world f k (λ m. m) (subst (Among k) (layers_first f.number))
       (λ m. let from = among-from_flat_map (objects_of_overlay nat_eq f.number) second_world.filesystems k m in
       let one = among-from_map first world.filesystems from.0 from.1 in
       among-flat_map (objects_of_overlay nat_eq f.number) world.filesystems one.0 k one.1
@@ -254,30 +202,24 @@ module _ (went : Filesystem ℕ → ℕ → Bool) (world : World ℕ) (trees : H
       → flat_map (objects_of_overlay nat_eq number) (with_less plain_went second_world).filesystems
       ≡ flat_map (objects_of_overlay nat_eq number) second_world.filesystems
   objects_second number = flat_map-map (less plain_went) (objects_of_overlay nat_eq number) second_world.filesystems
-      (λ g. ⊎_elim
-      (λ is. ap (objects_of_overlay nat_eq number) (stays_whole g is))
+      (λ g. ⊎_elim (λ is. ap (objects_of_overlay nat_eq number) (stays_whole g is))
       (λ isnt. no_objects world number (less plain_went g) (overlay_less (plain_went g) g ∙ isnt)
-      ∙ sym (no_objects world number g isnt))
-      (cases_Bool (is_overlay g)))
+      ∙ sym (no_objects world number g isnt)) (cases_Bool (is_overlay g)))
 
   second_alike : (g : Filesystem ℕ) → Among g second_world.filesystems
       → only_used nat_eq (with_less plain_went second_world) (not (is_overlay (less plain_went g))) (less plain_went g)
       ≡ only_used nat_eq second_world (not (is_overlay g)) g
-  second_alike g m =
-      ap (λ b. only_used nat_eq (with_less plain_went second_world) (not b) (less plain_went g))
-      (overlay_less (plain_went g) g)
-      ∙ ⊎_elim
+  second_alike g m = ap (λ b. only_used nat_eq (with_less plain_went second_world) (not b) (less plain_went g))
+      (overlay_less (plain_went g) g) ∙ ⊎_elim
       (λ is. ap (λ b. only_used nat_eq (with_less plain_went second_world) (not b) (less plain_went g)) is
       ∙ stays_whole g is ∙ sym (ap (λ b. only_used nat_eq second_world (not b) g) is))
       (λ isnt. ap (λ b. only_used nat_eq (with_less plain_went second_world) (not b) (less plain_went g)) isnt
       ∙ swept_alike plain_went second_world g (tree_of g (was_there g m isnt)) (reals_of g (was_there g m isnt))
-      (plain_unused g m isnt) (objects_second g.number)
-      ∙ sym (ap (λ b. only_used nat_eq second_world (not b) g) isnt))
+      (plain_unused g m isnt) (objects_second g.number) ∙ sym (ap (λ b. only_used nat_eq second_world (not b) g) isnt))
       (cases_Bool (is_overlay g))
 
   pub inodes_before : without_dead_inodes nat_eq left ≡ without_dead_inodes nat_eq world
-  inodes_before =
-      ap (without_dead_in nat_eq (λ f. not (is_overlay f))) stage_one
+  inodes_before = ap (without_dead_in nat_eq (λ f. not (is_overlay f))) stage_one
       ∙ ap (λ filesystems. record world { filesystems = filesystems })
       (map_twice (λ f. only_used nat_eq (with_less plain_went second_world) (not (is_overlay f)) f) (less plain_went)
       second_world.filesystems

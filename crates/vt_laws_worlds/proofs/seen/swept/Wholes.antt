@@ -1,10 +1,9 @@
 -- Mounts, filesystems and groups may go before the sweep.
-use Rattle.std.proofs.Common.{◌≡◌, refl, sym, ap, ◌∙◌, ℕ, nat_eq, Bool, true, false, cond, not, ◌||◌, ◌&&◌, List, filter, None}
-use Rattle.std.specs.List.{list_any}
+use Rattle.std.proofs.Common.{arith, ◌≡◌, ap, ◌∙◌, ℕ, nat_eq, Bool, false, not, ◌||◌, ◌&&◌, filter}
+use Rattle.std.proofs.lemmas.Grind.{common_steps}
 use Rattle.std.proofs.lemmas.Bool.{or_parts}
 use Rattle.vt_spec.specs.Machine.Mounts.{Mount}
-use Rattle.vt_spec.specs.Machine.Receives.{has_members, is_member_of}
-use Rattle.vt_spec.specs.Machine.Settled.{filesystem_lives, has_layer_on, is_mounted, mount_lives, settled, without_dead_filesystems, without_dead_groups, without_dead_inodes, without_dead_mounts}
+use Rattle.vt_spec.specs.Machine.Settled.{filesystem_lives, has_layer_on, is_mounted, mount_lives, without_dead_filesystems, without_dead_groups, without_dead_inodes, without_dead_mounts}
 use Rattle.vt_spec.specs.Machine.World.{Filesystem, World, with_mounts}
 use Rattle.vt_spec.proofs.Lists.{none-filter}
 use Rattle.vt_laws_mounts.specs.LettingGo.OneByOne.{let_go_filesystem}
@@ -18,8 +17,7 @@ skipped a b e = (or_parts a b e).1
 pub mounts_may_go_before : MountsMayGoBefore
 mounts_may_go_before world number =
     ap (λ mounts. without_dead_groups nat_eq (without_dead_inodes nat_eq (without_dead_filesystems nat_eq
-    (with_mounts world mounts))))
-    (filter_less (mount_lives nat_eq world)
+    (with_mounts world mounts)))) (filter_less (mount_lives nat_eq world)
     (λ mount. not (nat_eq mount.number number) || mount_lives nat_eq world mount) world.mounts
     (λ mount m e. skipped (not (nat_eq mount.number number)) (mount_lives nat_eq world mount) e))
 
@@ -37,50 +35,31 @@ module _ (world : World ℕ) (number : ℕ) where
   layered w on merged = has_layer_on nat_eq on merged && is_mounted nat_eq w merged.number
 
   less : (on : ℕ) (merged : Filesystem ℕ) → layered world on merged ≡ false → layered mounted on merged ≡ false
-  less on merged = by (has_layer_on nat_eq on merged)
-    where
-      by : (b : Bool) → (b && is_mounted nat_eq world merged.number) ≡ false
-          → (b && is_mounted nat_eq mounted merged.number) ≡ false
-      by true e = mounted_before merged.number e
-      by false e = refl
+  less on merged = grind (arith, common_steps, mounted_before)
 
   abbrev stays : Filesystem ℕ → Bool
   stays filesystem = not (nat_eq filesystem.number number) || filesystem_lives nat_eq world filesystem
 
   not_mounted : (filesystem : Filesystem ℕ) → stays filesystem ≡ false
       → is_mounted nat_eq mounted filesystem.number ≡ false
-  not_mounted filesystem e = mounted_before filesystem.number
-      (or_parts (is_mounted nat_eq world filesystem.number) _
+  not_mounted filesystem e = mounted_before filesystem.number (or_parts (is_mounted nat_eq world filesystem.number) _
       (skipped (not (nat_eq filesystem.number number)) (filesystem_lives nat_eq world filesystem) e)).0
 
-  not_layering : (on : ℕ) (filesystem : Filesystem ℕ) → stays filesystem ≡ false
-      → layered mounted on filesystem ≡ false
-  not_layering on filesystem e = by (has_layer_on nat_eq on filesystem)
-    where
-      by : (b : Bool) → (b && is_mounted nat_eq mounted filesystem.number) ≡ false
-      by true = not_mounted filesystem e
-      by false = refl
+  not_layering : (on : ℕ) (filesystem : Filesystem ℕ) → stays filesystem ≡ false → layered mounted on filesystem ≡ false
+  not_layering on filesystem e = grind (arith, common_steps, not_mounted)
 
   abbrev left : World ℕ
   left = without_dead_mounts nat_eq (let_go_filesystem world number)
 
   same_lives : (filesystem : Filesystem ℕ) → filesystem_lives nat_eq left filesystem
       ≡ filesystem_lives nat_eq mounted filesystem
-  same_lives filesystem =
-      ap (λ b. is_mounted nat_eq mounted filesystem.number || b)
+  same_lives filesystem = ap (λ b. is_mounted nat_eq mounted filesystem.number || b)
       (any-filter (layered mounted filesystem.number) stays world.filesystems
       (λ g m e. not_layering filesystem.number g e))
 
   -- what is let go is not in use then
   dead : (filesystem : Filesystem ℕ) → stays filesystem ≡ false → filesystem_lives nat_eq mounted filesystem ≡ false
-  dead filesystem e =
-      let parts = or_parts (is_mounted nat_eq world filesystem.number)
-      (list_any (layered world filesystem.number) world.filesystems)
-      (skipped (not (nat_eq filesystem.number number)) (filesystem_lives nat_eq world filesystem) e) in
-      ap (λ b. b || list_any (layered mounted filesystem.number) world.filesystems)
-      (mounted_before filesystem.number parts.0)
-      ∙ none_passes (layered mounted filesystem.number) world.filesystems
-      (λ g m. less filesystem.number g (fails (layered world filesystem.number) world.filesystems parts.1 g m))
+  dead filesystem e = grind (arith, common_steps, or_parts, skipped, mounted_before, none_passes, less, fails)
 
 pub filesystems_may_go_before : FilesystemsMayGoBefore
 filesystems_may_go_before world number =
@@ -92,25 +71,4 @@ filesystems_may_go_before world number =
 
 -- a group without members has none when mounts go
 pub groups_may_go_before : GroupsMayGoBefore
-groups_may_go_before world group = λ i. record (settled nat_eq world) { master = λ other. by other i }
-  where
-    last : List (Mount ℕ)
-    last = filter (mount_lives nat_eq world) world.mounts
-
-    by : (other : ℕ)
-        → cond (has_members nat_eq last other)
-        (cond (nat_eq other group && not (has_members nat_eq world.mounts other)) None (world.master other)) None
-        ≡ cond (has_members nat_eq last other) (world.master other) None
-    by other = at (has_members nat_eq world.mounts other) refl (nat_eq other group)
-      where
-        at : (b : Bool) → has_members nat_eq world.mounts other ≡ b → (c : Bool)
-            → cond (has_members nat_eq last other) (cond (c && not (has_members nat_eq world.mounts other)) None
-            (world.master other)) None
-            ≡ cond (has_members nat_eq last other) (world.master other) None
-        at b e false = refl
-        at true e true = ap (λ x. cond (has_members nat_eq last other) (cond (not x) None (world.master other)) None) e
-        at false e true =
-            let none : has_members nat_eq last other ≡ false =
-            none-filter (is_member_of nat_eq other) (mount_lives nat_eq world) world.mounts e in
-            ap (λ x. cond x (cond (not (has_members nat_eq world.mounts other)) None (world.master other)) None) none
-            ∙ sym (ap (λ x. cond x (world.master other) None) none)
+groups_may_go_before world group = grind (arith, common_steps, none-filter)

@@ -1,5 +1,6 @@
 -- No overlay has a layer in another.
-use Rattle.std.proofs.Common.{◌≡◌, refl, sym, ap, ◌∙◌, true≢false, ℕ, nat_eq, eqb-true, Bool, true, false, ◌&&◌, not, List, [], ◌∷◌, ◌++◌, map, filter, Option, Some, None, if◌then◌else◌}
+use Rattle.std.proofs.Common.{arith, ◌≡◌, refl, sym, ap, ◌∙◌, true≢false, ℕ, nat_eq, eqb-true, Bool, true, false, ◌&&◌, List, [], ◌∷◌, ◌++◌, map, filter, Option, Some, None, if◌then◌else◌}
+use Rattle.std.proofs.lemmas.Grind.{common_steps}
 use Rattle.std.proofs.lemmas.List.{append-nil}
 use Rattle.std.proofs.lemmas.List.Elements.{filter-append}
 use Rattle.std.specs.List.{filter_map, flat_map, list_all}
@@ -8,7 +9,7 @@ use Rattle.vt_spec.specs.Lists.{holds_of}
 use Rattle.vt_spec.specs.Machine.Invariants.{is_plain_layer}
 use Rattle.vt_spec.specs.Machine.Locked.{of_overlay, overlay_or}
 use Rattle.vt_spec.specs.Machine.Settled.{located_in, named_in, objects_of_overlay, used_in}
-use Rattle.vt_spec.specs.Machine.World.{Filesystem, Layer, Overlay, World, filesystem_numbered, is_overlay, layers_of, upper_object}
+use Rattle.vt_spec.specs.Machine.World.{Filesystem, Layer, Overlay, World, filesystem_numbered, layers_of, upper_object}
 use Rattle.vt_spec.proofs.Found.{found_passes}
 use Rattle.vt_laws_trees.proofs.layers.layers.UpperWorld.{overlay_found}
 use Rattle.vt_laws_worlds.specs.Seen.InodeUses.{OverlaysAreUsedByLocations}
@@ -28,20 +29,12 @@ module _ (world : World ℕ) (number : ℕ) (overlay : Overlay ℕ)
 
   -- a plain layer is not in this filesystem
   elsewhere : (layer : Layer ℕ) → is_plain_layer nat_eq world layer ≡ true → here layer ≡ false
-  elsewhere layer plain = by (here layer) refl
-    where
-      by : (b : Bool) → here layer ≡ b → here layer ≡ false
-      by false e = e
-      by true e = absurd (true≢false (sym (first_holds _ _ plain)
-          ∙ ap (λ n. not (is_overlay (filesystem_numbered nat_eq world n))) (sym (eqb-true number layer.filesystem e))
-          ∙ ap (λ o. not (elim o as (λ _. Bool) [ None ↦ false | Some _ ↦ true ])) is))
+  elsewhere layer plain = grind (arith, common_steps, true≢false, first_holds, eqb-true)
 
   none : (layers : List (Layer ℕ)) → list_all (is_plain_layer nat_eq world) layers ≡ true → filter here layers ≡ []
   none [] plain = refl
-  none (layer ∷ layers) plain =
-      ap (λ b. if b then layer ∷ filter here layers else filter here layers)
-      (elsewhere layer (first_holds _ _ plain))
-      ∙ none layers (second_holds (is_plain_layer nat_eq world layer) _ plain)
+  none (layer ∷ layers) plain = ap (λ b. if b then layer ∷ filter here layers else filter here layers)
+      (elsewhere layer (first_holds _ _ plain)) ∙ none layers (second_holds (is_plain_layer nat_eq world layer) _ plain)
 
   abbrev plain_overlay : Filesystem ℕ → Bool
   plain_overlay = of_overlay true (λ o. list_all (is_plain_layer nat_eq world) (layers_of o))
@@ -49,53 +42,44 @@ module _ (world : World ℕ) (number : ℕ) (overlay : Overlay ℕ)
   none_of : (o : Option (Overlay ℕ)) (f : Filesystem ℕ) → f.overlay ≡ o → plain_overlay f ≡ true
       → filter here (of_overlay [] layers_of f) ≡ []
   none_of None f e plain = ap (λ o. filter here (overlay_or [] layers_of o)) e
-  none_of (Some o) f e plain =
-      ap (λ o. filter here (overlay_or [] layers_of o)) e
-      ∙ none (layers_of o)
+  none_of (Some o) f e plain = ap (λ o. filter here (overlay_or [] layers_of o)) e ∙ none (layers_of o)
       (sym (ap (overlay_or true (λ o. list_all (is_plain_layer nat_eq world) (layers_of o))) e) ∙ plain)
 
   none_in : (all : List (Filesystem ℕ)) → list_all plain_overlay all ≡ true
       → filter here (flat_map (of_overlay [] layers_of) all) ≡ []
   none_in [] plain = refl
-  none_in (f ∷ all) plain =
-      filter-append here (of_overlay [] layers_of f) (flat_map (of_overlay [] layers_of) all)
+  none_in (f ∷ all) plain = filter-append here (of_overlay [] layers_of f) (flat_map (of_overlay [] layers_of) all)
       ∙ (λ i. none_of f.overlay f refl (first_holds _ _ plain) i
       ++ none_in all (second_holds (plain_overlay f) _ plain) i)
 
   abbrev objects_by : Filesystem ℕ → Overlay ℕ → List ℕ
-  objects_by f o = if holds_of here o.upper
-      then filter_map (λ n. upper_object (o.real n)) f.files.numbers else []
+  objects_by f o = if holds_of here o.upper then filter_map (λ n. upper_object (o.real n)) f.files.numbers else []
 
   no_upper : (o : Overlay ℕ) (upper : Option (Layer ℕ)) → o.upper ≡ upper
       → list_all (is_plain_layer nat_eq world) (layers_of o) ≡ true → holds_of here o.upper ≡ false
   no_upper o None e plain = ap (holds_of here) e
-  no_upper o (Some layer) e plain =
-      ap (holds_of here) e
+  no_upper o (Some layer) e plain = ap (holds_of here) e
       ∙ elsewhere layer (first_holds _ _ (sym (ap (λ upper. list_all (is_plain_layer nat_eq world)
       (option_to_list upper ++ option_to_list o.work ++ o.lowers)) e) ∙ plain))
 
   no_objects_of : (o : Option (Overlay ℕ)) (f : Filesystem ℕ) → f.overlay ≡ o → plain_overlay f ≡ true
       → objects_of_overlay nat_eq number f ≡ []
   no_objects_of None f e plain = ap (overlay_or [] (objects_by f)) e
-  no_objects_of (Some o) f e plain =
-      ap (overlay_or [] (objects_by f)) e
-      ∙ ap (λ b. if b then filter_map (λ n. upper_object (o.real n)) f.files.numbers else [])
-      (no_upper o o.upper refl
+  no_objects_of (Some o) f e plain = ap (overlay_or [] (objects_by f)) e
+      ∙ ap (λ b. if b then filter_map (λ n. upper_object (o.real n)) f.files.numbers else []) (no_upper o o.upper refl
       (sym (ap (overlay_or true (λ o. list_all (is_plain_layer nat_eq world) (layers_of o))) e) ∙ plain))
 
   no_objects : (all : List (Filesystem ℕ)) → list_all plain_overlay all ≡ true
       → flat_map (objects_of_overlay nat_eq number) all ≡ []
   no_objects [] plain = refl
-  no_objects (f ∷ all) plain =
-      (λ i. no_objects_of f.overlay f refl (first_holds _ _ plain) i
+  no_objects (f ∷ all) plain = (λ i. no_objects_of f.overlay f refl (first_holds _ _ plain) i
       ++ no_objects all (second_holds (plain_overlay f) _ plain) i)
 
 -- the filesystem that is found has the number
 number_is : (world : World ℕ) (number : ℕ) (overlay : Overlay ℕ)
     → (filesystem_numbered nat_eq world number).overlay ≡ Some overlay
     → (filesystem_numbered nat_eq world number).number ≡ number
-number_is world number overlay is =
-    sym (eqb-true number (filesystem_numbered nat_eq world number).number
+number_is world number overlay is = sym (eqb-true number (filesystem_numbered nat_eq world number).number
     (found_passes (λ (f : Filesystem ℕ). nat_eq number f.number) world.filesystems
     (filesystem_numbered nat_eq world number) (overlay_found world number overlay is)))
 
@@ -107,7 +91,6 @@ used_by_locations world number overlay is_world is =
     (λ i. used_in nat_eq world (record f { number = same i }))
     ∙ (λ i. f.files.tree.root ∷ (named_in f.files ++ located_in nat_eq world number
     ++ map (λ (layer : Layer ℕ). layer.directory) (none_in world number overlay is world.filesystems plain i)
-    ++ no_objects world number overlay is world.filesystems plain i))
-    ∙ ap (λ rest. f.files.tree.root ∷ rest)
+    ++ no_objects world number overlay is world.filesystems plain i)) ∙ ap (λ rest. f.files.tree.root ∷ rest)
     (append-nil (named_in f.files ++ located_in nat_eq world number ++ [])
     ∙ append-nil (named_in f.files ++ located_in nat_eq world number))

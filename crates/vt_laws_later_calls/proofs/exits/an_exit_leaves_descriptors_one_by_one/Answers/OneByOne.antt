@@ -33,8 +33,7 @@ still_located task number location (inl e) = inl e
 still_located task number location (inr (inl e)) = inr (inl e)
 still_located task number location (inr (inr m)) =
     let from = among-from_map (λ (d : Descriptor ℕ). d.location) (without_descriptor task number).descriptors location m
-    in
-    inr (inr (subst (λ l. Among l (map (λ (d : Descriptor ℕ). d.location) task.descriptors)) (sym from.2)
+    in inr (inr (subst (λ l. Among l (map (λ (d : Descriptor ℕ). d.location) task.descriptors)) (sym from.2)
     (among-map (λ (d : Descriptor ℕ). d.location) task.descriptors from.0
     (among-from_filter _ task.descriptors from.0 from.1).0)))
 
@@ -47,8 +46,7 @@ closing_comes_nowhere world task number there =
     let old = among-from_map change world.tasks from.0 from.1 in
     let was = by location old.0 old.1 (same_name task.name old.0.name)
     (subst (λ t. Among location (locations_of t)) old.2 from.2) in
-    location_among (all_locations world) location
-    (among-flat_map locations_of world.tasks was.0 location was.1 was.2))
+    location_among (all_locations world) location (among-flat_map locations_of world.tasks was.0 location was.1 was.2))
   where
     change : Task ℕ → Task ℕ
     change = replaced_if_called (without_descriptor task number)
@@ -64,8 +62,7 @@ gone_alike : (name : TaskName) (new : Task ℕ) → name ≡ new.name → (tasks
     → filter (λ other. not (same_name name other.name)) (map (replaced_if_called new) tasks)
     ≡ filter (λ other. not (same_name name other.name)) tasks
 gone_alike name new called [] = refl
-gone_alike name new called (old ∷ tasks) =
-    by (same_name new.name old.name) refl (gone_alike name new called tasks)
+gone_alike name new called (old ∷ tasks) = by (same_name new.name old.name) refl (gone_alike name new called tasks)
   where
     stays : Task ℕ → Bool
     stays other = not (same_name name other.name)
@@ -73,12 +70,9 @@ gone_alike name new called (old ∷ tasks) =
     by : (b : Bool) → same_name new.name old.name ≡ b
         → filter stays (map (replaced_if_called new) tasks) ≡ filter stays tasks
         → filter stays (cond b new old ∷ map (replaced_if_called new) tasks) ≡ filter stays (old ∷ tasks)
-    by true e rest =
-        ap (λ b. cond (not b) (new ∷ filter stays (map (replaced_if_called new) tasks))
-        (filter stays (map (replaced_if_called new) tasks)))
-        (ap (same_name name) (sym called) ∙ same_name_itself name)
-        ∙ rest
-        ∙ ap (λ b. cond (not b) (old ∷ filter stays tasks) (filter stays tasks))
+    by true e rest = ap (λ b. cond (not b) (new ∷ filter stays (map (replaced_if_called new) tasks))
+        (filter stays (map (replaced_if_called new) tasks))) (ap (same_name name) (sym called) ∙ same_name_itself name)
+        ∙ rest ∙ ap (λ b. cond (not b) (old ∷ filter stays tasks) (filter stays tasks))
         (sym (ap (λ n. same_name n old.name) called ∙ e))
     by false e rest = ap (λ left. cond (stays old) (old ∷ left) left) rest
 
@@ -106,16 +100,12 @@ module _ (fresh : Fresh ℕ) (task : Task ℕ) where
 
       by : (found : Option (Task ℕ)) → task_called world task.name ≡ found → EndsAlike rest
           → ended (one_by_one (closed (settled nat_eq world) found) rest) ≡ ended world
-      by None e later =
-          ap (λ now. ended (one_by_one now rest))
+      by None e later = ap (λ now. ended (one_by_one now rest))
           (one_sweep_with_overlays world world.tasks trees uppers reals (mounts_stand world kept)
-          (comes_nowhere_itself world))
-          ∙ later world trees uppers reals kept
-      by (Some one) e later =
-          ap (λ now. ended (one_by_one now rest))
+          (comes_nowhere_itself world)) ∙ later world trees uppers reals kept
+      by (Some one) e later = ap (λ now. ended (one_by_one now rest))
           (one_sweep_with_overlays world changed.tasks trees uppers reals (mounts_stand world kept)
-          (closing_comes_nowhere world one number
-          (called_there world.tasks task.name one e)))
+          (closing_comes_nowhere world one number (called_there world.tasks task.name one e)))
           ∙ later changed trees uppers reals (same_mounts world changed refl refl kept)
           ∙ ap (λ tasks. settled nat_eq (namespaces_ended nat_eq (record world { tasks = tasks })))
           (gone_alike task.name (without_descriptor one number) (name_found world task.name one e) world.tasks)

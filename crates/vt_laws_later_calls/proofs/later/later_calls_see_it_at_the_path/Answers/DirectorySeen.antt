@@ -45,8 +45,7 @@ use Rattle.vt_laws_later_calls.proofs.WaysPlaces.{EndsThere, directory_named_too
 use Rattle.vt_laws_later_calls.proofs.WaysStay.{StandsAs, node_in}
 
 module _ (world : World ℕ) (fresh : Fresh ℕ) (name : TaskName) (old new : List ℕ) (from to : Place ℕ)
-    (is : IsWorld nat_eq world)
-    (plain : IsPlain world) (serves : Serves nat_eq world fresh)
+    (is : IsWorld nat_eq world) (plain : IsPlain world) (serves : Serves nat_eq world fresh)
     (did : IsPermitted world fresh name (Rename old new) Done)
     (parts : NamesParts (looks_of nat_eq world) did.task old new from to did.permit)
     (to_walked : place_walk nat_eq (looks_of nat_eq world) did.task new ≡ Ok to)
@@ -77,72 +76,52 @@ module _ (world : World ℕ) (fresh : Fresh ℕ) (name : TaskName) (old new : Li
       (name_of to.last) (object_there from) permit_is parts.uncovered is_dir outside
 
   abbrev is_left : IsWorld nat_eq later × IsPlain later
-  is_left =
-      left_is world fresh name (Rename old new) Done is plain serves refl refl did from.parent
-      (name_of from.last) to.parent
-      (name_of to.last) (object_there from) permit_is parts.uncovered is_dir outside
+  is_left = left_is world fresh name (Rename old new) Done is plain serves refl refl did from.parent
+      (name_of from.last) to.parent (name_of to.last) (object_there from) permit_is parts.uncovered is_dir outside
 
   abbrev Fit : Location ℕ → Type 0
-  Fit =
-      Fits world fresh name (Rename old new) Done is plain serves refl refl did from.parent
-      (name_of from.last) to.parent
-      (name_of to.last) (object_there from) permit_is parts.uncovered is_dir outside
+  Fit = Fits world fresh name (Rename old new) Done is plain serves refl refl did from.parent
+      (name_of from.last) to.parent (name_of to.last) (object_there from) permit_is parts.uncovered is_dir outside
 
   mounts_are : (reading : Task ℕ) → reading.root ≡ did.task.root
       → MountsSeen world later is plain is_left.0 is_left.1 did.task reading
-  mounts_are =
-      mounts_seen world fresh name (Rename old new) Done is plain serves refl refl did from.parent
-      (name_of from.last) to.parent
-      (name_of to.last) (object_there from) permit_is parts.uncovered is_dir outside
+  mounts_are = mounts_seen world fresh name (Rename old new) Done is plain serves refl refl did from.parent
+      (name_of from.last) to.parent (name_of to.last) (object_there from) permit_is parts.uncovered is_dir outside
 
   objects_are : ObjectsStay world later Missing
-  objects_are =
-      objects_stay world fresh name (Rename old new) Done is plain serves refl refl did from.parent
-      (name_of from.last) to.parent
-      (name_of to.last) (object_there from) permit_is parts.uncovered is_dir outside
+  objects_are = objects_stay world fresh name (Rename old new) Done is plain serves refl refl did from.parent
+      (name_of from.last) to.parent (name_of to.last) (object_there from) permit_is parts.uncovered is_dir outside
       Missing refl
 
   ways_are : (reading : Task ℕ) → reading.root ≡ did.task.root
       → FitsWays world later is plain is_left.0 is_left.1 did.task reading Missing Fit
-  ways_are reading roots =
-      fits_ways world fresh name (Rename old new) Done is plain serves refl refl did from.parent
-      (name_of from.last) to.parent
-      (name_of to.last) (object_there from) permit_is parts.uncovered is_dir outside
+  ways_are reading roots = fits_ways world fresh name (Rename old new) Done is plain serves refl refl did from.parent
+      (name_of from.last) to.parent (name_of to.last) (object_there from) permit_is parts.uncovered is_dir outside
       reading roots Missing
 
   rights_are : (filesystem number : ℕ) → is_some (node_in later filesystem number) ≡ true
-      → is_some (node_in world filesystem number) ≡ true
-      → (who : Credentials) (wanted : ℕ)
+      → is_some (node_in world filesystem number) ≡ true → (who : Credentials) (wanted : ℕ)
       → node_allows who wanted (node_in later filesystem number)
       ≡ node_allows who wanted (node_in world filesystem number)
-  rights_are =
-      rights_left world fresh name (Rename old new) Done is plain serves refl refl did from.parent
-      (name_of from.last) to.parent
-      (name_of to.last) (object_there from) permit_is parts.uncovered is_dir outside
+  rights_are = rights_left world fresh name (Rename old new) Done is plain serves refl refl did from.parent
+      (name_of from.last) to.parent (name_of to.last) (object_there from) permit_is parts.uncovered is_dir outside
 
   to_fs : (mount_at nat_eq world to.parent).filesystem ≡ own_fs
-  to_fs =
-      to_shown world fresh name (Rename old new) Done is plain serves refl refl did from.parent
-      (name_of from.last) to.parent
-      (name_of to.last) (object_there from) None permit_is parts.uncovered
+  to_fs = to_shown world fresh name (Rename old new) Done is plain serves refl refl did from.parent
+      (name_of from.last) to.parent (name_of to.last) (object_there from) None permit_is parts.uncovered
 
   after_fs : (mount_at nat_eq later place_after).filesystem ≡ own_fs
-  after_fs =
-      ap (λ mounts. (mount_in nat_eq mounts to.parent.mount).filesystem)
+  after_fs = ap (λ mounts. (mount_in nat_eq mounts to.parent.mount).filesystem)
       (mounts_same world fresh name (Rename old new) Done is plain serves refl refl did from.parent
-      (name_of from.last) to.parent
-      (name_of to.last) (object_there from) permit_is parts.uncovered is_dir outside)
+      (name_of from.last) to.parent (name_of to.last) (object_there from) permit_is parts.uncovered is_dir outside)
       ∙ to_fs
 
   kept : IsKept was (node_at nat_eq later place_after)
-  kept =
-      subst (λ n. IsKept was (node_in later n object)) (sym after_fs)
+  kept = subst (λ n. IsKept was (node_in later n object)) (sym after_fs)
       (object_left world fresh name (Rename old new) Done is plain serves refl refl did from.parent
-      (name_of from.last) to.parent
-      (name_of to.last) (object_there from) None permit_is parts.uncovered
+      (name_of from.last) to.parent (name_of to.last) (object_there from) None permit_is parts.uncovered
       (object_later world fresh name (Rename old new) Done is plain serves refl refl did from.parent
-      (name_of from.last) to.parent
-      (name_of to.last) (object_there from) permit_is parts.uncovered is_dir outside))
+      (name_of from.last) to.parent (name_of to.last) (object_there from) permit_is parts.uncovered is_dir outside))
 
   directory_after : is_directory_at nat_eq later place_after ≡ true
   directory_after = directory_kept was (node_at nat_eq later place_after) kept ∙ is_dir
@@ -153,26 +132,15 @@ module _ (world : World ℕ) (fresh : Fresh ℕ) (name : TaskName) (old new : Li
   module _ (reader : TaskName) (reading : Task ℕ) (called : task_called later reader ≡ Some reading)
       (stands : StandsAs did.task reading) (looks : MayLook did.task reading) where
     abbrev KnownSo : Location ℕ → Type 0
-    KnownSo =
-        Known world later is plain is_left.0 is_left.1 did.task reading
-        own
-        (own_name later reader reading called) stands Missing
-        (mounts_are reading stands.root)
-        objects_are
-        Fit
+    KnownSo = Known world later is plain is_left.0 is_left.1 did.task reading own
+        (own_name later reader reading called) stands Missing (mounts_are reading stands.root) objects_are Fit
         (ways_are reading stands.root)
 
     here_is : (here : Location ℕ) → KnownSo here
         → node_at nat_eq later here ≡ node_in later (mount_at nat_eq world here).filesystem here.node
-    here_is here known =
-        node_here world later is plain is_left.0 is_left.1 did.task reading
-        own
-        (own_name later reader reading called) stands Missing
-        (mounts_are reading stands.root)
-        objects_are
-        Fit
-        (ways_are reading stands.root)
-        here known.0
+    here_is here known = node_here world later is plain is_left.0 is_left.1 did.task reading own
+        (own_name later reader reading called) stands Missing (mounts_are reading stands.root) objects_are Fit
+        (ways_are reading stands.root) here known.0
 
     now_there : (here : Location ℕ) → KnownSo here
         → is_some (node_in later (mount_at nat_eq world here).filesystem here.node) ≡ true
@@ -185,55 +153,39 @@ module _ (world : World ℕ) (fresh : Fresh ℕ) (name : TaskName) (old new : Li
     searched here known directory e = inl (by looks)
       where
         by : MayLook did.task reading → may_do (looks_of nat_eq later) reading here execute_right ≡ true
-        by (inr all) =
-            search_all reading.credentials all (node_at nat_eq later here)
+        by (inr all) = search_all reading.credentials all (node_at nat_eq later here)
             (ap is_directory_node (here_is here known)
             ∙ objects_are.directory (mount_at nat_eq world here).filesystem here.node known.0.0.1 (now_there here known)
             ∙ directory)
-        by (inl same) =
-            ap (λ who. node_allows who execute_right (node_at nat_eq later here)) same
+        by (inl same) = ap (λ who. node_allows who execute_right (node_at nat_eq later here)) same
             ∙ ap (node_allows did.task.credentials execute_right) (here_is here known)
             ∙ rights_are (mount_at nat_eq world here).filesystem here.node
-            (now_there here known) known.0.0.1 did.task.credentials execute_right
-            ∙ e
+            (now_there here known) known.0.0.1 did.task.credentials execute_right ∙ e
 
     leads : LeadsToo (looks_of nat_eq world) (looks_of nat_eq later) did.task reading Missing KnownSo
-    leads =
-        ways_lead world later is plain is_left.0 is_left.1 did.task reading
-        own
-        (own_name later reader reading called) stands Missing
-        (mounts_are reading stands.root)
-        objects_are
-        Fit
-        (ways_are reading stands.root)
-        searched
+    leads = ways_lead world later is plain is_left.0 is_left.1 did.task reading own
+        (own_name later reader reading called) stands Missing (mounts_are reading stands.root) objects_are Fit
+        (ways_are reading stands.root) searched
         (root_fits world fresh name (Rename old new) Done is plain serves refl refl did from.parent
-        (name_of from.last) to.parent
-        (name_of to.last) (object_there from) permit_is parts.uncovered is_dir outside)
+        (name_of from.last) to.parent (name_of to.last) (object_there from) permit_is parts.uncovered is_dir outside)
         (directory_fits world fresh name (Rename old new) Done is plain serves refl refl did from.parent
-        (name_of from.last) to.parent
-        (name_of to.last) (object_there from) permit_is parts.uncovered is_dir outside)
+        (name_of from.last) to.parent (name_of to.last) (object_there from) permit_is parts.uncovered is_dir outside)
 
     new_stepped : KnownSo to.parent → stepped nat_eq (looks_of nat_eq later) reading to.parent to.last ≡ Ok place_after
-    new_stepped known =
-        stepped_by later reading to.parent to.last parts.to_named (Some object)
+    new_stepped known = stepped_by later reading to.parent to.last parts.to_named (Some object)
         (ap (λ o. entry_named (name_of to.last) (entries_in o))
         (here_is to.parent known ∙ ap (λ n. node_in later n to.parent.node) to_fs)
         ∙ new_left world fresh name (Rename old new) Done is plain serves refl refl did from.parent
-        (name_of from.last) to.parent
-        (name_of to.last) (object_there from) None permit_is parts.uncovered
+        (name_of from.last) to.parent (name_of to.last) (object_there from) None permit_is parts.uncovered
         (ap (λ n. is_some (node_in later n to.parent.node)) (sym to_fs) ∙ now_there to.parent known))
         ∙ ap Ok (free_left world fresh name (Rename old new) Done is plain serves refl refl did from.parent
-        (name_of from.last) to.parent
-        (name_of to.last) (object_there from) None permit_is parts.uncovered
+        (name_of from.last) to.parent (name_of to.last) (object_there from) None permit_is parts.uncovered
         place_after known.0.1.0.0 after_fs refl)
 
     new_told : (later_fresh : Fresh ℕ)
         → ((policy nat_eq later_fresh later reader (Lstat new)).answer ≡ Ok (Told (stat_line was)))
         ⊎ ((policy nat_eq later_fresh later reader (Lstat new)).answer ≡ Err (denial W6))
-    new_told later_fresh =
-        ⊎_elim
-        (λ ends. inl (lstat_of later later_fresh reader reading called new _ ends.1
+    new_told later_fresh = ⊎_elim (λ ends. inl (lstat_of later later_fresh reader reading called new _ ends.1
         ∙ ap (λ line. Ok (Told line)) (told_alike was (node_at nat_eq later place_after) kept)))
         (λ stop. inr (lstat_refused later later_fresh reader reading called new stop.0 stop.2 ∙ ap Err stop.1))
         (symlink_named_too (looks_of nat_eq world)
@@ -251,16 +203,14 @@ module _ (world : World ℕ) (fresh : Fresh ℕ) (name : TaskName) (old new : Li
         stepped_by later reading from.parent from.last parts.from_named None
         (ap (λ o. entry_named (name_of from.last) (entries_in o)) (here_is from.parent known)
         ∙ old_left world fresh name (Rename old new) Done is plain serves refl refl did from.parent
-        (name_of from.last) to.parent
-        (name_of to.last) (object_there from) None permit_is parts.uncovered
+        (name_of from.last) to.parent (name_of to.last) (object_there from) None permit_is parts.uncovered
         seen.moves.replaced_other (now_there from.parent known))) in
         lstat_refused later later_fresh reader reading called old stop.0 stop.2 ∙ ap Err stop.1
 
     -- its names
     list_walk : EndsThere Missing (directory_walk nat_eq (looks_of nat_eq later) reading new) place_after
         (named_place (looks_of nat_eq world) did.task new to to_walked parts.to_named).here.left
-    list_walk =
-        directory_named_too (looks_of nat_eq world)
+    list_walk = directory_named_too (looks_of nat_eq world)
         (looks_of nat_eq later) did.task reading Missing KnownSo leads new to parts.to_named
         (named_place (looks_of nat_eq world) did.task new to to_walked parts.to_named) place_after new_stepped
         (directory_no_link (node_at nat_eq later place_after) directory_after) directory_after
@@ -274,8 +224,7 @@ module _ (world : World ℕ) (fresh : Fresh ℕ) (name : TaskName) (old new : Li
     new_listed : (later_fresh : Fresh ℕ) → Listed later_fresh ⊎ (RefusedBy later_fresh C1 ⊎ RefusedBy later_fresh W6)
     new_listed later_fresh = by list_walk
       where
-        read : (b : Bool)
-            → (policy nat_eq later_fresh later reader (Ls new)).answer
+        read : (b : Bool) → (policy nat_eq later_fresh later reader (Ls new)).answer
             ≡ cond b (Ok (Names (names_in (node_at nat_eq later place_after)))) (Err (denial C1))
             → Listed later_fresh ⊎ (RefusedBy later_fresh C1 ⊎ RefusedBy later_fresh W6)
         read true e = inl (e ∙ ap (λ entries. Ok (Names (map (λ (entry : List ℕ × ℕ). entry.0) entries))) kept.names)
@@ -284,8 +233,7 @@ module _ (world : World ℕ) (fresh : Fresh ℕ) (name : TaskName) (old new : Li
         by : EndsThere Missing (directory_walk nat_eq (looks_of nat_eq later) reading new) place_after
             (named_place (looks_of nat_eq world) did.task new to to_walked parts.to_named).here.left
             → Listed later_fresh ⊎ (RefusedBy later_fresh C1 ⊎ RefusedBy later_fresh W6)
-        by (inl ends) =
-            read (node_allows reading.credentials read_right (node_at nat_eq later place_after))
+        by (inl ends) = read (node_allows reading.credentials read_right (node_at nat_eq later place_after))
             (list_of later later_fresh reader reading called new is_left.1 _ ends.1)
         by (inr stop) = inr (inr (list_refused later later_fresh reader reading called new stop.0 stop.2
             ∙ ap Err stop.1))
@@ -302,8 +250,7 @@ module _ (world : World ℕ) (fresh : Fresh ℕ) (name : TaskName) (old new : Li
         by : EndsThere Missing (directory_walk nat_eq (looks_of nat_eq later) reading new) place_after
             (named_place (looks_of nat_eq world) did.task new to to_walked parts.to_named).here.left
             → Listed later_fresh ⊎ RefusedBy later_fresh W6
-        by (inl ends) =
-            inl (list_of later later_fresh reader reading called new is_left.1 _ ends.1
+        by (inl ends) = inl (list_of later later_fresh reader reading called new is_left.1 _ ends.1
             ∙ ap (λ b. cond b (Ok (Names (names_in (node_at nat_eq later place_after)))) (Err (denial C1)))
             (may_read (node_at nat_eq later place_after) directory_after)
             ∙ ap (λ entries. Ok (Names (map (λ (entry : List ℕ × ℕ). entry.0) entries))) kept.names)
@@ -319,8 +266,7 @@ module _ (old new : List ℕ) (world : World ℕ) (fresh : Fresh ℕ) (name : Ta
     (stands : StandsOutside world task (object_there from))
     (granted : (policy nat_eq fresh world name (Rename old new)).answer ≡ Ok Done) where
   abbrev RenamedTold : Type 0
-  RenamedTold =
-      (line : StatLine) × IsAnswered world name (Lstat old) (Told line)
+  RenamedTold = (line : StatLine) × IsAnswered world name (Lstat old) (Told line)
       × IsAnsweredUnless W6 (policy nat_eq fresh world name (Rename old new)).world name (Lstat new) (Told line)
       × IsRefused W6 (policy nat_eq fresh world name (Rename old new)).world name (Lstat old)
       × ((reader : TaskName) (reading : Task ℕ)
@@ -329,8 +275,7 @@ module _ (old new : List ℕ) (world : World ℕ) (fresh : Fresh ℕ) (name : Ta
       × IsRefused W6 (policy nat_eq fresh world name (Rename old new)).world reader (Lstat old))
 
   abbrev RenamedListed : Type 0
-  RenamedListed =
-      (names : List (List ℕ)) × IsAnsweredUnless C1 world name (Ls old) (Names names)
+  RenamedListed = (names : List (List ℕ)) × IsAnsweredUnless C1 world name (Ls old) (Names names)
       × IsAnsweredUnlessBy C1 W6 (policy nat_eq fresh world name (Rename old new)).world name (Ls new) (Names names)
       × ((reader : TaskName) (reading : Task ℕ)
       → LooksFrom (policy nat_eq fresh world name (Rename old new)).world task reader reading
@@ -349,8 +294,7 @@ module _ (old new : List ℕ) (world : World ℕ) (fresh : Fresh ℕ) (name : Ta
   two = ap (is_one_object nat_eq (looks_of nat_eq world) (object_there from)) free
 
   parts : NamesParts (looks_of nat_eq world) did.task old new from to did.permit
-  parts =
-      names_parts (looks_of nat_eq world) did.task old new from to did.permit
+  parts = names_parts (looks_of nat_eq world) did.task old new from to did.permit
       (ap (λ t. old_leaf_walk nat_eq (looks_of nat_eq world) t old) task_is ∙ from_is) to_here two did.judged
 
   to_walked : place_walk nat_eq (looks_of nat_eq world) did.task new ≡ Ok to
@@ -368,10 +312,8 @@ module _ (old new : List ℕ) (world : World ℕ) (fresh : Fresh ℕ) (name : Ta
 
   caller_here : task_called (policy nat_eq fresh world name (Rename old new)).world name
       ≡ Some (raised_task name did.task)
-  caller_here =
-      caller world fresh name (Rename old new) Done is plain serves refl refl did from.parent
-      (name_of from.last) to.parent
-      (name_of to.last) (object_there from) permit_is parts.uncovered is_dir outside
+  caller_here = caller world fresh name (Rename old new) Done is plain serves refl refl did from.parent
+      (name_of from.last) to.parent (name_of to.last) (object_there from) permit_is parts.uncovered is_dir outside
 
   same_stand : (reader : TaskName) (reading : Task ℕ)
       → LooksFrom (policy nat_eq fresh world name (Rename old new)).world task reader reading
@@ -389,11 +331,9 @@ module _ (old new : List ℕ) (world : World ℕ) (fresh : Fresh ℕ) (name : Ta
         (raised_task name did.task) caller_here (raised_stands name did.task) (inl (raised_credentials name did.task)),
     λ reader reading looks. (
       new_told world fresh name old new from to is plain serves did parts to_walked permit_is is_dir outside reader
-          reading looks.called
-          (same_stand reader reading looks) (inr looks.all),
+          reading looks.called (same_stand reader reading looks) (inr looks.all),
       old_missing world fresh name old new from to is plain serves did parts to_walked permit_is is_dir outside reader
-          reading looks.called
-          (same_stand reader reading looks) (inr looks.all),
+          reading looks.called (same_stand reader reading looks) (inr looks.all),
     ),
   )
 
@@ -405,8 +345,7 @@ module _ (old new : List ℕ) (world : World ℕ) (fresh : Fresh ℕ) (name : Ta
         (raised_task name did.task) caller_here (raised_stands name did.task) (inl (raised_credentials name did.task)),
     λ reader reading looks.
         all_listed world fresh name old new from to is plain serves did parts to_walked permit_is is_dir outside reader
-        reading looks.called
-        (same_stand reader reading looks) (inr looks.all) looks.all,
+        reading looks.called (same_stand reader reading looks) (inr looks.all) looks.all,
   )
 
 pub rename_directory_then_lstat : RenameDirectoryThenLstat

@@ -101,11 +101,9 @@ names_parts looks task old new from to permit from_is to_is two e =
       to_named = ap (λ (p : Place ℕ). is_special p.last) (sym same_to) ∙ named.0.0;
       uncovered = ap (λ (p : Place ℕ). is_mount_point_anywhere looks (object_there p)) (sym same_from)
           ∙ (or_parts (is_mount_point_anywhere looks (object_there olds.0)) _ last.0.1.1.1.1.1.1.1.0).0;
-      permit_is =
-          sym (same_ok _ permit last.1)
+      permit_is = sym (same_ok _ permit last.1)
           ∙ (λ i. ToRename (same_from i).parent (name_of (same_from i).last) (same_to i).parent
-          (name_of (same_to i).last)
-          (object_there (same_from i)) (same_to i).object);
+          (name_of (same_to i).last) (object_there (same_from i)) (same_to i).object);
     }
 
 -- what is kept is told alike
@@ -125,8 +123,7 @@ there_is test None default e = absurd (true≢false (sym e))
 there_is test (Some a) default e = e
 
 module _ (world : World ℕ) (fresh : Fresh ℕ) (name : TaskName) (old new : List ℕ) (from to : Place ℕ)
-    (is : IsWorld nat_eq world)
-    (plain : IsPlain world) (serves : Serves nat_eq world fresh)
+    (is : IsWorld nat_eq world) (plain : IsPlain world) (serves : Serves nat_eq world fresh)
     (did : IsPermitted world fresh name (Rename old new) Done)
     (parts : NamesParts (looks_of nat_eq world) did.task old new from to did.permit) where
   abbrev object : ℕ
@@ -143,22 +140,18 @@ module _ (world : World ℕ) (fresh : Fresh ℕ) (name : TaskName) (old new : Li
 
   seen : MayBeRenamed world from.parent (name_of from.last) to.parent (name_of to.last) (object_there from) to.object
   seen = may world fresh name (Rename old new) Done is plain serves refl refl did from.parent
-      (name_of from.last) to.parent (name_of to.last)
-      (object_there from) to.object parts.permit_is parts.uncovered
+      (name_of from.last) to.parent (name_of to.last) (object_there from) to.object parts.permit_is parts.uncovered
 
   object_fs : (mount_at nat_eq world (object_there from)).filesystem ≡ fs
-  object_fs =
-      object_shown world fresh name (Rename old new) Done is plain serves refl refl did from.parent
-      (name_of from.last) to.parent (name_of to.last)
-      (object_there from) to.object parts.permit_is parts.uncovered
+  object_fs = object_shown world fresh name (Rename old new) Done is plain serves refl refl did from.parent
+      (name_of from.last) to.parent (name_of to.last) (object_there from) to.object parts.permit_is parts.uncovered
 
   abbrev pub before : Option (Node ℕ)
   before = (files_at nat_eq world from.parent).tree.node object
 
   pub is_directory_before : is_directory_there nat_eq (looks_of nat_eq world) from ≡ true
       → is_directory_node before ≡ true
-  is_directory_before e =
-      ap (λ n. is_directory_node (node_in world n object)) (sym object_fs)
+  is_directory_before e = ap (λ n. is_directory_node (node_in world n object)) (sym object_fs)
       ∙ there_is (is_directory_at nat_eq world) from.object from.parent e
 
   -- Before the call
@@ -169,8 +162,7 @@ module _ (world : World ℕ) (fresh : Fresh ℕ) (name : TaskName) (old new : Li
   own = called_own world fresh name (Rename old new) Done is plain serves refl refl did
 
   old_stepped : stepped nat_eq (looks_of nat_eq world) did.task from.parent from.last ≡ Ok place_before
-  old_stepped =
-      stepped_by world did.task from.parent from.last parts.from_named (Some object) seen.moves.named
+  old_stepped = stepped_by world did.task from.parent from.last parts.from_named (Some object) seen.moves.named
       ∙ ap Ok (free_over world is (object_there from) parts.uncovered place_before (sym object_fs) refl)
 
   pub old_told : (other_fresh : Fresh ℕ)
@@ -179,8 +171,7 @@ module _ (world : World ℕ) (fresh : Fresh ℕ) (name : TaskName) (old new : Li
       let walk = surely _ _ _ (symlink_named_too (looks_of nat_eq world) (looks_of nat_eq world) did.task did.task Never
       (IsFound world is did.task)
       (itself_leads Never world is plain did.task own) old from parts.from_named at_old place_before
-      (λ known. old_stepped)
-      (λ slash.
+      (λ known. old_stepped) (λ slash.
       let directory = is_directory_before (parts.from_slash (sym at_old.slash_is ∙ slash)) in
       (directory_no_link before directory, directory))) in
       lstat_of world other_fresh name did.task did.called old _ walk.1
@@ -191,15 +182,13 @@ module _ (world : World ℕ) (fresh : Fresh ℕ) (name : TaskName) (old new : Li
   old_listed directory_there other_fresh =
       let directory = is_directory_before directory_there in
       let walk = surely _ _ _ (directory_named_too (looks_of nat_eq world)
-      (looks_of nat_eq world) did.task did.task Never
-      (IsFound world is did.task)
+      (looks_of nat_eq world) did.task did.task Never (IsFound world is did.task)
       (itself_leads Never world is plain did.task own) old from parts.from_named at_old place_before
       (λ known. old_stepped) (directory_no_link before directory) directory) in
       by (node_allows did.task.credentials read_right before)
       (list_of world other_fresh name did.task did.called old plain _ walk.1)
     where
-      by : (b : Bool)
-          → (policy nat_eq other_fresh world name (Ls old)).answer
+      by : (b : Bool) → (policy nat_eq other_fresh world name (Ls old)).answer
           ≡ cond b (Ok (Names (names_in before))) (Err (denial C1))
           → ((policy nat_eq other_fresh world name (Ls old)).answer ≡ Ok (Names (names_in before)))
           ⊎ ((policy nat_eq other_fresh world name (Ls old)).answer ≡ Err (denial C1))
@@ -208,10 +197,8 @@ module _ (world : World ℕ) (fresh : Fresh ℕ) (name : TaskName) (old new : Li
 
   -- After it
   left_is : IsWorld nat_eq later × IsPlain later
-  left_is =
-      is_left world fresh name (Rename old new) Done is plain serves refl refl did from.parent
-      (name_of from.last) to.parent (name_of to.last)
-      (object_there from) to.object parts.permit_is parts.uncovered
+  left_is = is_left world fresh name (Rename old new) Done is plain serves refl refl did from.parent
+      (name_of from.last) to.parent (name_of to.last) (object_there from) to.object parts.permit_is parts.uncovered
 
   module _ (reader : TaskName) (reading : Task ℕ) (path : List ℕ)
       (called : task_called later reader ≡ Some reading) where
@@ -226,16 +213,11 @@ module _ (world : World ℕ) (fresh : Fresh ℕ) (name : TaskName) (old new : Li
 
       -- the directory is found, through this mount
       parent_found : IsFound later left_is.0 reading lead.place.parent
-      parent_found =
-          ⊎_elim
-          (λ ends. parent_known (looks_of nat_eq later) (looks_of nat_eq later) reading reading Never
-          (IsFound later left_is.0 reading)
-          (itself_leads Never later left_is.0 left_is.1 reading
-          (own_name later reader reading called)) path lead.place named_so at_name ends.1)
-          (λ stop. absurd stop.1)
+      parent_found = ⊎_elim (λ ends. parent_known (looks_of nat_eq later) (looks_of nat_eq later) reading reading Never
+          (IsFound later left_is.0 reading) (itself_leads Never later left_is.0 left_is.1 reading
+          (own_name later reader reading called)) path lead.place named_so at_name ends.1) (λ stop. absurd stop.1)
           (front_too (looks_of nat_eq later) (looks_of nat_eq later) reading reading Never
-          (IsFound later left_is.0 reading)
-          (itself_leads Never later left_is.0 left_is.1 reading
+          (IsFound later left_is.0 reading) (itself_leads Never later left_is.0 left_is.1 reading
           (own_name later reader reading called)) path lead.place named_so at_name)
 
       parent_fs : (mount_at nat_eq later lead.place.parent).filesystem ≡ fs
@@ -252,19 +234,15 @@ module _ (world : World ℕ) (fresh : Fresh ℕ) (name : TaskName) (old new : Li
     -- by the new name
     module _ (lead : LeadsToName world later reading path to.parent to.last) where
       to_fs : (mount_at nat_eq world to.parent).filesystem ≡ fs
-      to_fs =
-          to_shown world fresh name (Rename old new) Done is plain serves refl refl did from.parent
-          (name_of from.last) to.parent (name_of to.last)
-          (object_there from) to.object parts.permit_is parts.uncovered
+      to_fs = to_shown world fresh name (Rename old new) Done is plain serves refl refl did from.parent
+          (name_of from.last) to.parent (name_of to.last) (object_there from) to.object parts.permit_is parts.uncovered
 
       abbrev place_after : Location ℕ
       place_after = record { mount = lead.place.parent.mount; node = object }
 
       entry_after : entry_at (tree_in later fs) to.parent.node (name_of to.last) ≡ Some object
-      entry_after =
-          new_left world fresh name (Rename old new) Done is plain serves refl refl did from.parent
-          (name_of from.last) to.parent (name_of to.last)
-          (object_there from) to.object parts.permit_is parts.uncovered
+      entry_after = new_left world fresh name (Rename old new) Done is plain serves refl refl did from.parent
+          (name_of from.last) to.parent (name_of to.last) (object_there from) to.object parts.permit_is parts.uncovered
           (there to.parent to.last parts.to_named to_fs lead)
 
       entry_here : entry_named (name_of lead.place.last) (entries_in (node_at nat_eq later lead.place.parent))
@@ -272,25 +250,21 @@ module _ (world : World ℕ) (fresh : Fresh ℕ) (name : TaskName) (old new : Li
       entry_here = leads_to to.parent to.last parts.to_named to_fs lead (Some object) entry_after
 
       object_there_still : is_some (node_at nat_eq later place_after) ≡ true
-      object_there_still =
-          (tree_here later left_is.0 lead.place.parent
+      object_there_still = (tree_here later left_is.0 lead.place.parent
           (directory_from_entry (name_of lead.place.last) object
           (node_at nat_eq later lead.place.parent) entry_here)).tree.alive
           lead.place.parent.node (name_of lead.place.last) object entry_here
 
       kept : IsKept before (node_at nat_eq later place_after)
-      kept =
-          subst (λ n. IsKept before (node_in later n object))
+      kept = subst (λ n. IsKept before (node_in later n object))
           (sym (parent_fs to.parent to.last parts.to_named to_fs lead))
           (object_left world fresh name (Rename old new) Done is plain serves refl refl did from.parent
-          (name_of from.last) to.parent (name_of to.last)
-          (object_there from) to.object parts.permit_is parts.uncovered
+          (name_of from.last) to.parent (name_of to.last) (object_there from) to.object parts.permit_is parts.uncovered
           (ap (λ n. is_some (node_in later n object)) (sym (parent_fs to.parent to.last parts.to_named to_fs lead))
           ∙ object_there_still))
 
       new_stepped : stepped nat_eq (looks_of nat_eq later) reading lead.place.parent lead.place.last ≡ Ok place_after
-      new_stepped =
-          stepped_by later reading lead.place.parent lead.place.last
+      new_stepped = stepped_by later reading lead.place.parent lead.place.last
           (named_so to.parent to.last parts.to_named to_fs lead) (Some object) entry_here
           ∙ ap Ok (free_left world fresh name (Rename old new) Done is plain serves refl refl did from.parent
           (name_of from.last) to.parent
@@ -307,12 +281,10 @@ module _ (world : World ℕ) (fresh : Fresh ℕ) (name : TaskName) (old new : Li
           → (policy nat_eq later_fresh later reader (Lstat path)).answer ≡ Ok (Told (stat_line before))
       new_told slashed later_fresh =
           let walk = surely _ _ _ (symlink_named_too (looks_of nat_eq later)
-          (looks_of nat_eq later) reading reading Never
-          (IsFound later left_is.0 reading)
+          (looks_of nat_eq later) reading reading Never (IsFound later left_is.0 reading)
           (itself_leads Never later left_is.0 left_is.1 reading (own_name later reader reading called)) path lead.place
           (named_so to.parent to.last parts.to_named to_fs lead)
-          (at_name to.parent to.last parts.to_named to_fs lead) place_after
-          (λ known. new_stepped)
+          (at_name to.parent to.last parts.to_named to_fs lead) place_after (λ known. new_stepped)
           (λ slash. let now = directory_after (slashed slash) in
           (directory_no_link (node_at nat_eq later place_after) now, now))) in
           lstat_of later later_fresh reader reading called path _ walk.1
@@ -324,8 +296,7 @@ module _ (world : World ℕ) (fresh : Fresh ℕ) (name : TaskName) (old new : Li
       new_listed directory_there later_fresh =
           let now = directory_after directory_there in
           let walk = surely _ _ _ (directory_named_too (looks_of nat_eq later)
-          (looks_of nat_eq later) reading reading Never
-          (IsFound later left_is.0 reading)
+          (looks_of nat_eq later) reading reading Never (IsFound later left_is.0 reading)
           (itself_leads Never later left_is.0 left_is.1 reading (own_name later reader reading called)) path lead.place
           (named_so to.parent to.last parts.to_named to_fs lead)
           (at_name to.parent to.last parts.to_named to_fs lead) place_after
@@ -333,8 +304,7 @@ module _ (world : World ℕ) (fresh : Fresh ℕ) (name : TaskName) (old new : Li
           by (node_allows reading.credentials read_right (node_at nat_eq later place_after))
           (list_of later later_fresh reader reading called path left_is.1 _ walk.1)
         where
-          by : (b : Bool)
-              → (policy nat_eq later_fresh later reader (Ls path)).answer
+          by : (b : Bool) → (policy nat_eq later_fresh later reader (Ls path)).answer
               ≡ cond b (Ok (Names (names_in (node_at nat_eq later place_after)))) (Err (denial C1))
               → ((policy nat_eq later_fresh later reader (Ls path)).answer ≡ Ok (Names (names_in before)))
               ⊎ ((policy nat_eq later_fresh later reader (Ls path)).answer ≡ Err (denial C1))
@@ -347,11 +317,9 @@ module _ (world : World ℕ) (fresh : Fresh ℕ) (name : TaskName) (old new : Li
     old_gone lead later_fresh =
         let named : is_special lead.place.last ≡ false = named_so from.parent from.last parts.from_named refl lead in
         let stop = symlink_missing (looks_of nat_eq later) (looks_of nat_eq later) reading reading Missing
-        (IsFound later left_is.0 reading)
-        (itself_leads Missing later left_is.0 left_is.1 reading
+        (IsFound later left_is.0 reading) (itself_leads Missing later left_is.0 left_is.1 reading
         (own_name later reader reading called)) path lead.place named
-        (at_name from.parent from.last parts.from_named refl lead) (denial W6) refl
-        (λ known.
+        (at_name from.parent from.last parts.from_named refl lead) (denial W6) refl (λ known.
         stepped_by later reading lead.place.parent lead.place.last named None
         (leads_to from.parent from.last parts.from_named refl lead None
         (old_left world fresh name (Rename old new) Done is plain serves refl refl did from.parent

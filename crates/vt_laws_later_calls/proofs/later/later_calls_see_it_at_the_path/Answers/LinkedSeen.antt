@@ -88,9 +88,7 @@ module _ (world : World ℕ) (fresh : Fresh ℕ) (name : TaskName) (old new : Li
   later = (policy nat_eq fresh world name (LinkTo old new)).world
 
   seen_to : SeesTo world did.task (ToChange place.parent change)
-  seen_to =
-      subst (SeesTo world did.task) parts.permit_is
-      (given_permits_are_seen_to world fresh did.task did.permit is
+  seen_to = subst (SeesTo world did.task) parts.permit_is (given_permits_are_seen_to world fresh did.task did.permit is
       (given_of world fresh name (LinkTo old new) Done serves refl refl did))
 
   in_directory : is_directory_at nat_eq world place.parent ≡ true
@@ -126,8 +124,7 @@ module _ (world : World ℕ) (fresh : Fresh ℕ) (name : TaskName) (old new : Li
   object_other : object.node ≢ place.parent.node
   object_other same =
       true≢false (sym in_directory ∙ ap (λ n. is_directory_node ((files_at nat_eq world place.parent).tree.node n))
-      (sym same)
-      ∙ sym (ap (is_directory_at nat_eq world) same_object) ∙ parts.no_directory)
+      (sym same) ∙ sym (ap (is_directory_at nat_eq world) same_object) ∙ parts.no_directory)
 
   there : (reader : TaskName) (reading : Task ℕ) → task_called later reader ≡ Some reading
       → StandsAs did.task reading → MayLook did.task reading
@@ -136,20 +133,14 @@ module _ (world : World ℕ) (fresh : Fresh ℕ) (name : TaskName) (old new : Li
       let own = own_name later reader reading called in
       let at_name = named_place (looks_of nat_eq world) did.task new place parts.walked parts.named in
       let walk = surely _ _ _ (symlink_named_too (looks_of nat_eq world)
-      (looks_of nat_eq later) did.task reading Never _
-      (leads world fresh name
+      (looks_of nat_eq later) did.task reading Never _ (leads world fresh name
       (LinkTo old new) Done is plain serves refl refl did place.parent change fresh asks does something tt tree Never
-      stay
-      reading own stands rights looks) new place parts.named at_name
-      (record { mount = place.parent.mount; node = object.node })
-      (λ known.
+      stay reading own stands rights looks) new place parts.named at_name
+      (record { mount = place.parent.mount; node = object.node }) (λ known.
       stepped_by later reading place.parent place.last parts.named (Some object.node)
-      (ap (λ o. entry_named (name_of place.last) (entries_in o))
-      (seen_there world fresh name
+      (ap (λ o. entry_named (name_of place.last) (entries_in o)) (seen_there world fresh name
       (LinkTo old new) Done is plain serves refl refl did place.parent change fresh asks does something tt tree Never
-      stay
-      reading own stands known)
-      ∙ name_leads (files_at nat_eq world place.parent) Never place.parent.node
+      stay reading own stands known) ∙ name_leads (files_at nat_eq world place.parent) Never place.parent.node
       (name_of place.last) object.node in_directory seen_to.1.name_is_free.free)
       ∙ ap Ok (ap (λ mounts. topmost nat_eq mounts (record { mount = place.parent.mount; node = object.node }))
       (later_mounts world fresh name
@@ -157,23 +148,18 @@ module _ (world : World ℕ) (fresh : Fresh ℕ) (name : TaskName) (old new : Li
       ∙ uncovered world is (record { mount = place.parent.mount; node = object.node })
       (sym (ap (is_directory_at nat_eq world) same_object) ∙ parts.no_directory)))
       (λ slash. absurd (true≢false (sym slash ∙ at_name.slash_is ∙ parts.no_slash)))) in
-      lstat_of later later_fresh reader reading called new _ walk.1
-      ∙ ap (λ o. Ok (Told (stat_line o)))
+      lstat_of later later_fresh reader reading called new _ walk.1 ∙ ap (λ o. Ok (Told (stat_line o)))
       (seen_at world fresh name
       (LinkTo old new) Done is plain serves refl refl did place.parent change fresh asks does something tt tree Never
-      stay
-      reading own stands object.node
-      ∙ all_stays world fresh name
+      stay reading own stands object.node ∙ all_stays world fresh name
       (LinkTo old new) Done is plain serves refl refl did place.parent change fresh asks does something tt tree
       (ap option_to_list seen_to.1.name_is_free.free) object.node
       ∙ named_other (files_at nat_eq world place.parent) Never place.parent.node
-      (name_of place.last) object.node in_directory seen_to.1.name_is_free.free
-      object.node object_other
+      (name_of place.last) object.node in_directory seen_to.1.name_is_free.free object.node object_other
       ∙ sym (ap (node_at nat_eq world) same_object))
 
   caller_there : task_called later name ≡ Some (raised_task name did.task)
-  caller_there =
-      caller world fresh name
+  caller_there = caller world fresh name
       (LinkTo old new) Done is plain serves refl refl did place.parent change fresh asks does something tt tree Never
       stay
 
@@ -184,8 +170,7 @@ link_then_lstat old new world fresh name task is plain serves called granted = (
   there world fresh name old new is plain serves did parts name (raised_task name did.task)
       (caller_there world fresh name old new is plain serves did parts) (raised_stands name did.task)
       (inl (raised_credentials name did.task)),
-  λ reader reading looks.
-      there world fresh name old new is plain serves did parts reader reading looks.called
+  λ reader reading looks. there world fresh name old new is plain serves did parts reader reading looks.called
       (subst (λ t. StandsAs t reading) (sym task_is) (all_stands _ task reader reading looks)) (inr looks.all),
 )
   where

@@ -57,8 +57,7 @@ rmdir_parts looks task path place permit walk (removes_directory _ other end wor
     let same : other ≡ place = same_end other place (sym end ∙ walk) in
     record {
       walked = (old_parts looks task path place walk).0;
-      named = ap (λ (p : Place ℕ). is_special p.last) (sym same)
-          ∙ special_word other.last word.0 word.1.0 word.1.1.0;
+      named = ap (λ (p : Place ℕ). is_special p.last) (sym same) ∙ special_word other.last word.0 word.1.0 word.1.1.0;
       permit_is = ap (λ (p : Place ℕ). ToRemoveDirectory p.parent (name_of p.last) (object_there p)) same;
     }
 
@@ -76,55 +75,38 @@ module _ (world : World ℕ) (fresh : Fresh ℕ) (name : TaskName) (path : List 
       (missing : Refused (denial W6)) where
     abbrev Fit : Location ℕ → Type 0
     Fit = Fits world fresh name (Rmdir path) Done is plain serves refl refl did place.parent word
-        (object_there place) parts.permit_is
-        reading stands.root Refused
+        (object_there place) parts.permit_is reading stands.root Refused
 
     abbrev KnownSo : Location ℕ → Type 0
-    KnownSo =
-        Known world later is plain
+    KnownSo = Known world later is plain
         (is_left world fresh name (Rmdir path) Done is plain serves refl refl did place.parent word
         (object_there place) parts.permit_is).0
         (is_left world fresh name (Rmdir path) Done is plain serves refl refl did place.parent word
-        (object_there place) parts.permit_is).1
-        did.task reading
+        (object_there place) parts.permit_is).1 did.task reading
         (own_task world fresh name (Rmdir path) Done is plain serves refl refl did place.parent word
-        (object_there place) parts.permit_is)
-        (own_name later reader reading called) stands Refused
+        (object_there place) parts.permit_is) (own_name later reader reading called) stands Refused
         (mounts_seen world fresh name (Rmdir path) Done is plain serves refl refl did place.parent word
-        (object_there place) parts.permit_is
-        reading stands.root)
+        (object_there place) parts.permit_is reading stands.root)
         (objects_stay world fresh name (Rmdir path) Done is plain serves refl refl did place.parent word
-        (object_there place) parts.permit_is
-        Refused missing)
-        Fit
+        (object_there place) parts.permit_is Refused missing) Fit
         (fits_ways world fresh name (Rmdir path) Done is plain serves refl refl did place.parent word
-        (object_there place) parts.permit_is
-        reading stands.root Refused)
+        (object_there place) parts.permit_is reading stands.root Refused)
 
-    here_is : (here : Location ℕ) → KnownSo here
-        → node_at nat_eq later here
+    here_is : (here : Location ℕ) → KnownSo here → node_at nat_eq later here
         ≡ node_in later (mount_at nat_eq world here).filesystem here.node
-    here_is here known =
-        node_here world later is plain
+    here_is here known = node_here world later is plain
         (is_left world fresh name (Rmdir path) Done is plain serves refl refl did place.parent word
         (object_there place) parts.permit_is).0
         (is_left world fresh name (Rmdir path) Done is plain serves refl refl did place.parent word
-        (object_there place) parts.permit_is).1
-        did.task reading
+        (object_there place) parts.permit_is).1 did.task reading
         (own_task world fresh name (Rmdir path) Done is plain serves refl refl did place.parent word
-        (object_there place) parts.permit_is)
-        (own_name later reader reading called) stands Refused
+        (object_there place) parts.permit_is) (own_name later reader reading called) stands Refused
         (mounts_seen world fresh name (Rmdir path) Done is plain serves refl refl did place.parent word
-        (object_there place) parts.permit_is
-        reading stands.root)
+        (object_there place) parts.permit_is reading stands.root)
         (objects_stay world fresh name (Rmdir path) Done is plain serves refl refl did place.parent word
-        (object_there place) parts.permit_is
-        Refused missing)
-        Fit
+        (object_there place) parts.permit_is Refused missing) Fit
         (fits_ways world fresh name (Rmdir path) Done is plain serves refl refl did place.parent word
-        (object_there place) parts.permit_is
-        reading stands.root Refused)
-        here known.0
+        (object_there place) parts.permit_is reading stands.root Refused) here known.0
 
     now_there : (here : Location ℕ) → KnownSo here
         → is_some (node_in later (mount_at nat_eq world here).filesystem here.node) ≡ true
@@ -137,46 +119,33 @@ module _ (world : World ℕ) (fresh : Fresh ℕ) (name : TaskName) (path : List 
     searched here known directory e = inl (by looks)
       where
         by : MayLook did.task reading → may (looks_of nat_eq later) reading here execute_right ≡ true
-        by (inr all) =
-            search_all reading.credentials all (node_at nat_eq later here)
+        by (inr all) = search_all reading.credentials all (node_at nat_eq later here)
             (ap is_directory_node (here_is here known)
             ∙ (objects_stay world fresh name (Rmdir path) Done is plain serves refl refl did place.parent word
             (object_there place)
             parts.permit_is Refused missing).directory (mount_at nat_eq world here).filesystem here.node known.0.0.1
-            (now_there here known)
-            ∙ directory)
-        by (inl same) =
-            ap (λ who. node_allows who execute_right (node_at nat_eq later here)) same
+            (now_there here known) ∙ directory)
+        by (inl same) = ap (λ who. node_allows who execute_right (node_at nat_eq later here)) same
             ∙ ap (node_allows did.task.credentials execute_right) (here_is here known)
             ∙ rights_left world fresh name (Rmdir path) Done is plain serves refl refl did place.parent word
-            (object_there place)
-            parts.permit_is (mount_at nat_eq world here).filesystem here.node
-            (now_there here known) known.0.0.1 did.task.credentials execute_right
-            ∙ e
+            (object_there place) parts.permit_is (mount_at nat_eq world here).filesystem here.node
+            (now_there here known) known.0.0.1 did.task.credentials execute_right ∙ e
 
     module _ (root_fits : Fit did.task.root) (directory_fits : Fit did.task.directory) where
       leads : LeadsToo (looks_of nat_eq world) (looks_of nat_eq later) did.task reading Refused KnownSo
-      leads =
-          ways_lead world later is plain
+      leads = ways_lead world later is plain
           (is_left world fresh name (Rmdir path) Done is plain serves refl refl did place.parent word
           (object_there place) parts.permit_is).0
           (is_left world fresh name (Rmdir path) Done is plain serves refl refl did place.parent word
-          (object_there place) parts.permit_is).1
-          did.task reading
+          (object_there place) parts.permit_is).1 did.task reading
           (own_task world fresh name (Rmdir path) Done is plain serves refl refl did place.parent word
-          (object_there place) parts.permit_is)
-          (own_name later reader reading called) stands Refused
+          (object_there place) parts.permit_is) (own_name later reader reading called) stands Refused
           (mounts_seen world fresh name (Rmdir path) Done is plain serves refl refl did place.parent word
-          (object_there place) parts.permit_is
-          reading stands.root)
+          (object_there place) parts.permit_is reading stands.root)
           (objects_stay world fresh name (Rmdir path) Done is plain serves refl refl did place.parent word
-          (object_there place)
-          parts.permit_is Refused missing)
-          Fit
+          (object_there place) parts.permit_is Refused missing) Fit
           (fits_ways world fresh name (Rmdir path) Done is plain serves refl refl did place.parent word
-          (object_there place) parts.permit_is
-          reading stands.root Refused)
-          searched root_fits directory_fits
+          (object_there place) parts.permit_is reading stands.root Refused) searched root_fits directory_fits
 
       gone : (later_fresh : Fresh ℕ)
           → (deny : Deny) × Refused deny × ((policy nat_eq later_fresh later reader (Lstat path)).answer ≡ Err deny)
@@ -188,16 +157,13 @@ module _ (world : World ℕ) (fresh : Fresh ℕ) (name : TaskName) (path : List 
           stepped_by later reading place.parent place.last parts.named None
           (ap (λ o. entry_named word (entries_in o)) (here_is place.parent known)
           ∙ name_left world fresh name (Rmdir path) Done is plain serves refl refl did place.parent word
-          (object_there place) parts.permit_is
-          (now_there place.parent known))) in
+          (object_there place) parts.permit_is (now_there place.parent known))) in
           (stop.0.deny, stop.1, lstat_refused later later_fresh reader reading called path stop.0 stop.2)
 
   abbrev OutsideOf : Task ℕ → Location ℕ → Type 0
-  OutsideOf reading here =
-      (roots : reading.root ≡ did.task.root)
+  OutsideOf reading here = (roots : reading.root ≡ did.task.root)
       → IsOutside world fresh name (Rmdir path) Done is plain serves refl refl did place.parent word
-      (object_there place) parts.permit_is
-      reading roots here
+      (object_there place) parts.permit_is reading roots here
 
   root_outside : (reading : Task ℕ) → OutsideOf reading did.task.root
   root_outside reading roots removed =
@@ -241,8 +207,7 @@ pub rmdir_then_lstat : RmdirThenLstat
 rmdir_then_lstat path world fresh name task place is plain serves called walk granted = (
   gone_or_lost world fresh name path is plain serves did place parts name (raised_task name did.task) caller_here
       (raised_stands name did.task) (inl (raised_credentials name did.task)),
-  λ reader reading looks.
-      gone_or_lost world fresh name path is plain serves did place parts reader reading looks.called
+  λ reader reading looks. gone_or_lost world fresh name path is plain serves did place parts reader reading looks.called
       (subst (λ t. StandsAs t reading) (sym task_is) (all_stands _ task reader reading looks)) (inr looks.all),
   λ elsewhere. (
     gone_outside world fresh name path is plain serves did place parts name (raised_task name did.task) caller_here
@@ -266,8 +231,7 @@ rmdir_then_lstat path world fresh name task place is plain serves called walk gr
         (subst (λ (t : Task ℕ). IsOneInode world t.directory (object_there place)) task_is one)
 
     parts : RmdirParts (looks_of nat_eq world) did.task path place did.permit
-    parts =
-        rmdir_parts (looks_of nat_eq world) did.task path place did.permit
+    parts = rmdir_parts (looks_of nat_eq world) did.task path place did.permit
         (ap (λ t. old_walk nat_eq (looks_of nat_eq world) t path) task_is ∙ walk) did.granted
 
     caller_here : task_called (policy nat_eq fresh world name (Rmdir path)).world name

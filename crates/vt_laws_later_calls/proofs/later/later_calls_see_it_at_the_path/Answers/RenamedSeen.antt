@@ -60,8 +60,7 @@ use Rattle.vt_spec.proofs.Options.{and_then-Ok}
 
 -- walks of a world lead where they lead
 pub itself_leads : (Refused : Deny → Type 0) (world : World ℕ) (is : IsWorld nat_eq world) → IsPlain world
-    → (task : Task ℕ)
-    → task_called world task.name ≡ Some task
+    → (task : Task ℕ) → task_called world task.name ≡ Some task
     → LeadsToo (looks_of nat_eq world) (looks_of nat_eq world) task task Refused (IsFound world is task)
 itself_leads Refused world is plain task called = record {
   root = refl;
@@ -127,11 +126,9 @@ rename_parts looks task old new from to permit from_is to_is file free e =
       to_slash = no_slash_there to.slash (is_directory_there nat_eq looks olds.0)
           (ap (is_directory_there nat_eq looks) same_from ∙ file)
           (ap (λ (p : Place ℕ). p.slash && not (is_directory_there nat_eq looks olds.0)) (sym to_same) ∙ slash.0.0);
-      permit_is =
-          sym (same_ok _ permit last.1)
+      permit_is = sym (same_ok _ permit last.1)
           ∙ (λ i. ToRename (same_from i).parent (name_of (same_from i).last) (same_to i).parent
-          (name_of (same_to i).last)
-          (object_there (same_from i)) (same_to i).object)
+          (name_of (same_to i).last) (object_there (same_from i)) (same_to i).object)
           ∙ ap (ToRename from.parent (name_of from.last) to.parent (name_of to.last) (object_there from)) free;
     }
 
@@ -141,8 +138,7 @@ there_no test None default there e = absurd (true≢false there)
 there_no test (Some a) default there e = e
 
 module _ (world : World ℕ) (fresh : Fresh ℕ) (name : TaskName) (old new : List ℕ) (from to : Place ℕ)
-    (is : IsWorld nat_eq world)
-    (plain : IsPlain world) (serves : Serves nat_eq world fresh)
+    (is : IsWorld nat_eq world) (plain : IsPlain world) (serves : Serves nat_eq world fresh)
     (did : IsPermitted world fresh name (Rename old new) Done)
     (file : is_directory_there nat_eq (looks_of nat_eq world) from ≡ false)
     (parts : RenameParts (looks_of nat_eq world) did.task old new from to did.permit) where
@@ -156,9 +152,7 @@ module _ (world : World ℕ) (fresh : Fresh ℕ) (name : TaskName) (old new : Li
   later = (policy nat_eq fresh world name (Rename old new)).world
 
   may : MayBeRenamed world from.parent (name_of from.last) to.parent (name_of to.last) (object_there from) None
-  may =
-      subst (SeesTo world did.task) parts.permit_is
-      (given_permits_are_seen_to world fresh did.task did.permit is
+  may = subst (SeesTo world did.task) parts.permit_is (given_permits_are_seen_to world fresh did.task did.permit is
       (given_of world fresh name (Rename old new) Done serves refl refl did))
 
   from_directory : is_directory_at nat_eq world from.parent ≡ true
@@ -179,21 +173,18 @@ module _ (world : World ℕ) (fresh : Fresh ℕ) (name : TaskName) (old new : Li
   object_place = λ i. record { mount = may.object_mount i; node = object }
 
   no_directory : is_directory_node ((files_at nat_eq world from.parent).tree.node object) ≡ false
-  no_directory =
-      sym (ap (is_directory_at nat_eq world) object_place)
+  no_directory = sym (ap (is_directory_at nat_eq world) object_place)
       ∙ there_no (is_directory_at nat_eq world) from.object from.parent parts.from_there file
 
   free : entry_at (files_at nat_eq world from.parent).tree to.parent.node (name_of to.last) ≡ None
-  free =
-      ap (λ l. entry_at (files_at nat_eq world l).tree to.parent.node (name_of to.last)) (sym to_mount_place)
+  free = ap (λ l. entry_at (files_at nat_eq world l).tree to.parent.node (name_of to.last)) (sym to_mount_place)
       ∙ none_of _ (sym may.replaces)
     where
       to_mount_place : record { mount = to.parent.mount; node = from.parent.node } ≡ from.parent
       to_mount_place = λ i. record { mount = may.to_mount i; node = from.parent.node }
 
       none_of : (o : Option ℕ) → option_map {U = Location ℕ}
-          (λ number. record { mount = to.parent.mount; node = number }) o ≡ None
-          → o ≡ None
+          (λ number. record { mount = to.parent.mount; node = number }) o ≡ None → o ≡ None
       none_of None e = refl
       none_of (Some x) e = cc
 
@@ -212,17 +203,13 @@ module _ (world : World ℕ) (fresh : Fresh ℕ) (name : TaskName) (old new : Li
 
   stay : TreeStays (files_at nat_eq world from.parent).tree
       (changed nat_eq (files_at nat_eq world from.parent) change).tree Missing
-  stay =
-      ways_moved (files_at nat_eq world from.parent) Missing from.parent.node (name_of from.last) to.parent.node
-      (name_of to.last) object
-      may.moves.named no_directory in_directory free refl
+  stay = ways_moved (files_at nat_eq world from.parent) Missing from.parent.node (name_of from.last) to.parent.node
+      (name_of to.last) object may.moves.named no_directory in_directory free refl
 
   rights : RightsStay (files_at nat_eq world from.parent).tree
       (changed nat_eq (files_at nat_eq world from.parent) change).tree
-  rights =
-      rights_moved (files_at nat_eq world from.parent) Missing from.parent.node (name_of from.last) to.parent.node
-      (name_of to.last) object
-      may.moves.named no_directory in_directory free
+  rights = rights_moved (files_at nat_eq world from.parent) Missing from.parent.node (name_of from.last) to.parent.node
+      (name_of to.last) object may.moves.named no_directory in_directory free
 
   object_apart : (directory : ℕ) → is_directory_node ((files_at nat_eq world from.parent).tree.node directory) ≡ true
       → object ≢ directory
@@ -239,8 +226,7 @@ module _ (world : World ℕ) (fresh : Fresh ℕ) (name : TaskName) (old new : Li
       let at_name = named_place (looks_of nat_eq world) did.task old from parts.from_walked parts.from_named in
       let own = called_own world fresh name (Rename old new) Done is plain serves refl refl did in
       let walk = surely _ _ _ (symlink_named_too (looks_of nat_eq world) (looks_of nat_eq world) did.task did.task Never
-      (IsFound world is did.task)
-      (itself_leads Never world is plain did.task own) old from parts.from_named at_name
+      (IsFound world is did.task) (itself_leads Never world is plain did.task own) old from parts.from_named at_name
       (record { mount = from.parent.mount; node = object })
       (λ known. stepped_by world did.task from.parent from.last parts.from_named (Some object) may.moves.named
       ∙ ap Ok (uncovered world is (record { mount = from.parent.mount; node = object }) no_directory))
@@ -255,47 +241,34 @@ module _ (world : World ℕ) (fresh : Fresh ℕ) (name : TaskName) (old new : Li
     leads_so : LeadsToo (looks_of nat_eq world) (looks_of nat_eq later) did.task reading Missing
         (KnownToo world fresh name
         (Rename old new) Done is plain serves refl refl did from.parent change fresh asks does something allowed tree
-        Missing stay
-        reading own_reader stands)
-    leads_so =
-        leads world fresh name
+        Missing stay reading own_reader stands)
+    leads_so = leads world fresh name
         (Rename old new) Done is plain serves refl refl did from.parent change fresh asks does something allowed tree
-        Missing stay
-        reading own_reader stands rights looks
+        Missing stay reading own_reader stands rights looks
 
     -- the new name
     to_seen : KnownToo world fresh name
         (Rename old new) Done is plain serves refl refl did from.parent change fresh asks does something allowed tree
-        Missing stay
-        reading own_reader stands to.parent
+        Missing stay reading own_reader stands to.parent
         → entry_named (name_of to.last) (entries_in (node_at nat_eq later to.parent)) ≡ Some object
-    to_seen known =
-        ap (λ l. entry_named (name_of to.last) (entries_in (node_at nat_eq later l))) to_place
-        ∙ ap (λ o. entry_named (name_of to.last) (entries_in o))
-        (seen_at world fresh name
+    to_seen known = ap (λ l. entry_named (name_of to.last) (entries_in (node_at nat_eq later l))) to_place
+        ∙ ap (λ o. entry_named (name_of to.last) (entries_in o)) (seen_at world fresh name
         (Rename old new) Done is plain serves refl refl did from.parent change fresh asks does something allowed tree
-        Missing stay
-        reading own_reader stands to.parent.node
-        ∙ node_changed world fresh name
+        Missing stay reading own_reader stands to.parent.node ∙ node_changed world fresh name
         (Rename old new) Done is plain serves refl refl did from.parent change fresh asks does something allowed tree
         to.parent.node (ap (λ l. is_some (node_in later (mount_at nat_eq world l).filesystem to.parent.node))
-        (sym to_place)
-        ∙ known_there world fresh name
+        (sym to_place) ∙ known_there world fresh name
         (Rename old new) Done is plain serves refl refl did from.parent change fresh asks does something allowed tree
-        Missing stay
-        reading own_reader stands to.parent known))
+        Missing stay reading own_reader stands to.parent known))
         ∙ moved_entry (files_at nat_eq world from.parent) Missing from.parent.node (name_of from.last) to.parent.node
-        (name_of to.last) object
-        may.moves.named no_directory in_directory free
+        (name_of to.last) object may.moves.named no_directory in_directory free
 
     new_stepped : KnownToo world fresh name
         (Rename old new) Done is plain serves refl refl did from.parent change fresh asks does something allowed tree
-        Missing stay
-        reading own_reader stands to.parent
+        Missing stay reading own_reader stands to.parent
         → stepped nat_eq (looks_of nat_eq later) reading to.parent to.last
         ≡ Ok (record { mount = from.parent.mount; node = object })
-    new_stepped known =
-        stepped_by later reading to.parent to.last parts.to_named (Some object) (to_seen known)
+    new_stepped known = stepped_by later reading to.parent to.last parts.to_named (Some object) (to_seen known)
         ∙ ap (λ m. Ok (topmost nat_eq later.mounts (record { mount = m; node = object }))) may.to_mount
         ∙ ap (λ mounts. Ok (topmost nat_eq mounts (record { mount = from.parent.mount; node = object })))
         (later_mounts world fresh name
@@ -304,12 +277,9 @@ module _ (world : World ℕ) (fresh : Fresh ℕ) (name : TaskName) (old new : Li
 
     object_seen : node_at nat_eq later (record { mount = from.parent.mount; node = object })
         ≡ node_at nat_eq world (record { mount = from.parent.mount; node = object })
-    object_seen =
-        seen_at world fresh name
+    object_seen = seen_at world fresh name
         (Rename old new) Done is plain serves refl refl did from.parent change fresh asks does something allowed tree
-        Missing stay
-        reading own_reader stands object
-        ∙ all_stays world fresh name
+        Missing stay reading own_reader stands object ∙ all_stays world fresh name
         (Rename old new) Done is plain serves refl refl did from.parent change fresh asks does something allowed tree
         (ap option_to_list free) object
         ∙ moved_object (files_at nat_eq world from.parent) Missing from.parent.node (name_of from.last) to.parent.node
@@ -317,13 +287,11 @@ module _ (world : World ℕ) (fresh : Fresh ℕ) (name : TaskName) (old new : Li
         may.moves.named no_directory in_directory free (object_apart from.parent.node from_directory)
         (object_apart to.parent.node in_directory)
 
-    new_told : (later_fresh : Fresh ℕ)
-        → ((policy nat_eq later_fresh later reader (Lstat new)).answer ≡ Ok (Told line))
+    new_told : (later_fresh : Fresh ℕ) → ((policy nat_eq later_fresh later reader (Lstat new)).answer ≡ Ok (Told line))
         ⊎ ((policy nat_eq later_fresh later reader (Lstat new)).answer ≡ Err (denial W6))
     new_told later_fresh =
         let at_name = named_place (looks_of nat_eq world) did.task new to parts.to_walked parts.to_named in
-        ⊎_elim
-        (λ ends. inl (lstat_of later later_fresh reader reading called new _ ends.1
+        ⊎_elim (λ ends. inl (lstat_of later later_fresh reader reading called new _ ends.1
         ∙ ap (λ o. Ok (Told (stat_line o))) object_seen))
         (λ stop. inr (lstat_refused later later_fresh reader reading called new stop.0 stop.2 ∙ ap Err stop.1))
         (symlink_named_too (looks_of nat_eq world)
@@ -339,19 +307,15 @@ module _ (world : World ℕ) (fresh : Fresh ℕ) (name : TaskName) (old new : Li
         (named_place (looks_of nat_eq world) did.task old from parts.from_walked parts.from_named) (denial W6) refl
         (λ known.
         stepped_by later reading from.parent from.last parts.from_named None
-        (ap (λ o. entry_named (name_of from.last) (entries_in o))
-        (seen_there world fresh name
+        (ap (λ o. entry_named (name_of from.last) (entries_in o)) (seen_there world fresh name
         (Rename old new) Done is plain serves refl refl did from.parent change fresh asks does something allowed tree
-        Missing stay
-        reading own_reader stands known)
+        Missing stay reading own_reader stands known)
         ∙ moved_missing (files_at nat_eq world from.parent) Missing from.parent.node (name_of from.last) to.parent.node
-        (name_of to.last) object
-        may.moves.named no_directory in_directory free)) in
+        (name_of to.last) object may.moves.named no_directory in_directory free)) in
         lstat_refused later later_fresh reader reading called old stop.0 stop.2 ∙ ap Err stop.1
 
   caller_there : task_called later name ≡ Some (raised_task name did.task)
-  caller_there =
-      caller world fresh name
+  caller_there = caller world fresh name
       (Rename old new) Done is plain serves refl refl did from.parent change fresh asks does something allowed tree
       Missing stay
 
@@ -362,8 +326,7 @@ rename_then_lstat old new world fresh name task from to is plain serves called f
   new_told world fresh name old new from to is plain serves did file parts name (raised_task name did.task) caller_here
       (raised_stands name did.task) (inl (raised_credentials name did.task)),
   old_missing world fresh name old new from to is plain serves did file parts name
-      (raised_task name did.task) caller_here
-      (raised_stands name did.task) (inl (raised_credentials name did.task)),
+      (raised_task name did.task) caller_here (raised_stands name did.task) (inl (raised_credentials name did.task)),
   λ reader reading looks. (
     new_told world fresh name old new from to is plain serves did file parts reader reading looks.called
         (subst (λ t. StandsAs t reading) (sym task_is) (all_stands _ task reader reading looks)) (inr looks.all),
@@ -379,8 +342,7 @@ rename_then_lstat old new world fresh name task from to is plain serves called f
     task_is = same_Some did.task task (sym did.called ∙ called)
 
     parts : RenameParts (looks_of nat_eq world) did.task old new from to did.permit
-    parts =
-        rename_parts (looks_of nat_eq world) did.task old new from to did.permit
+    parts = rename_parts (looks_of nat_eq world) did.task old new from to did.permit
         (ap (λ t. old_leaf_walk nat_eq (looks_of nat_eq world) t old) task_is ∙ from_is)
         (ap (λ t. new_walk nat_eq (looks_of nat_eq world) t new) task_is ∙ to_is) file free did.judged
 

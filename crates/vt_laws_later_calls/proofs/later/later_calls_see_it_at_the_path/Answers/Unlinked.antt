@@ -83,16 +83,12 @@ module _ (world : World ℕ) (fresh : Fresh ℕ) (name : TaskName) (path : List 
   later = (policy nat_eq fresh world name (Unlink path)).world
 
   seen_to : SeesTo world did.task (ToChange place.parent change)
-  seen_to =
-      subst (SeesTo world did.task) parts.permit_is
-      (given_permits_are_seen_to world fresh did.task did.permit is
+  seen_to = subst (SeesTo world did.task) parts.permit_is (given_permits_are_seen_to world fresh did.task did.permit is
       (given_of world fresh name (Unlink path) Done serves refl refl did))
 
   in_directory : is_directory_at nat_eq world place.parent ≡ true
-  in_directory =
-      directory_from_entry (name_of place.last) (object_there place).node
-      ((files_at nat_eq world place.parent).tree.node place.parent.node)
-      seen_to.1.named
+  in_directory = directory_from_entry (name_of place.last) (object_there place).node
+      ((files_at nat_eq world place.parent).tree.node place.parent.node) seen_to.1.named
 
   something : is_some (node_at nat_eq world place.parent) ≡ true
   something = directory_used (files_at nat_eq world place.parent).tree place.parent.node in_directory
@@ -109,45 +105,36 @@ module _ (world : World ℕ) (fresh : Fresh ℕ) (name : TaskName) (path : List 
       (ap (change_of fresh world) parts.permit_is)
       (ap (λ p. (apply nat_eq fresh world did.task p).world) parts.permit_is) something tt tree Missing
       (ways_removed (files_at nat_eq world place.parent) Missing place.parent.node (name_of place.last)
-      (object_there place).node
-      seen_to.1.named seen_to.2 refl)
-      reading (own_name later reader reading called) stands
+      (object_there place).node seen_to.1.named seen_to.2 refl) reading (own_name later reader reading called) stands
       (rights_removed (files_at nat_eq world place.parent) Missing place.parent.node (name_of place.last)
-      (object_there place).node
-      seen_to.1.named seen_to.2) looks)
+      (object_there place).node seen_to.1.named seen_to.2) looks)
       path place parts.named (named_place (looks_of nat_eq world) did.task path place parts.walked parts.named)
-      (denial W6) refl
-      (λ known.
+      (denial W6) refl (λ known.
       stepped_by later reading place.parent place.last parts.named None
       (ap (λ o. entry_named (name_of place.last) (entries_in o))
       (seen_there world fresh name (Unlink path) Done is plain serves refl refl did place.parent change fresh
       (ap (change_of fresh world) parts.permit_is)
       (ap (λ p. (apply nat_eq fresh world did.task p).world) parts.permit_is) something tt tree Missing
       (ways_removed (files_at nat_eq world place.parent) Missing place.parent.node (name_of place.last)
-      (object_there place).node
-      seen_to.1.named seen_to.2 refl)
+      (object_there place).node seen_to.1.named seen_to.2 refl)
       reading (own_name later reader reading called) stands known)
       ∙ name_missing (files_at nat_eq world place.parent) Missing place.parent.node (name_of place.last)
-      (object_there place).node
-      seen_to.1.named seen_to.2)) in
+      (object_there place).node seen_to.1.named seen_to.2)) in
       lstat_refused later later_fresh reader reading called path stop.0 stop.2 ∙ ap Err stop.1
 
   caller_there : task_called later name ≡ Some (raised_task name did.task)
-  caller_there =
-      caller world fresh name (Unlink path) Done is plain serves refl refl did place.parent change fresh
+  caller_there = caller world fresh name (Unlink path) Done is plain serves refl refl did place.parent change fresh
       (ap (change_of fresh world) parts.permit_is)
       (ap (λ p. (apply nat_eq fresh world did.task p).world) parts.permit_is) something tt tree Missing
       (ways_removed (files_at nat_eq world place.parent) Missing place.parent.node (name_of place.last)
-      (object_there place).node
-      seen_to.1.named seen_to.2 refl)
+      (object_there place).node seen_to.1.named seen_to.2 refl)
 
 pub unlink_then_lstat : UnlinkThenLstat
 unlink_then_lstat path world fresh name task is plain serves called granted = (
   gone world fresh name path is plain serves did parts name (raised_task name did.task)
       (caller_there world fresh name path is plain serves did parts) (raised_stands name did.task)
       (inl (raised_credentials name did.task)),
-  λ reader reading looks.
-      gone world fresh name path is plain serves did parts reader reading looks.called
+  λ reader reading looks. gone world fresh name path is plain serves did parts reader reading looks.called
       (subst (λ t. StandsAs t reading) (sym task_is) (all_stands _ task reader reading looks)) (inr looks.all),
 )
   where

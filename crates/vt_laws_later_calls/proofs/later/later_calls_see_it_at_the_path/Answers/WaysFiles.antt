@@ -40,23 +40,18 @@ named_step looks task here Dot object e bare = ap Ok (same_Some here object (sam
 named_step looks task here DotDot object e bare =
     let both = and_then-Ok (stepped nat_eq looks task here DotDot) _ (Some object) e in
     both.1 ∙ ap Ok (same_Some both.0 object (same_ok (Some both.0) (Some object) both.2))
-named_step looks task here (Named name) object e bare =
-    ap (λ o. ok_or (option_map (topmost looks) o) (denial W6))
-    (same_ok (entry_location nat_eq looks here name) (Some object) e)
-    ∙ ap Ok bare
+named_step looks task here (Named name) object e bare = ap (λ o. ok_or (option_map (topmost looks) o) (denial W6))
+    (same_ok (entry_location nat_eq looks here name) (Some object) e) ∙ ap Ok bare
 
 placed_parts : (looks : Looks ℕ) (task : Task ℕ) (here : Here ℕ) (last : LastWord) (slash : Bool) (place : Place ℕ)
-    → stopped_by (steps_at nat_eq looks task here last)
-    (and_then (unless (search_rules nat_eq looks task here.location)
-    (object_named nat_eq looks task here.location last))
-    (λ object. Ok (record {
+    → stopped_by (steps_at nat_eq looks task here last) (and_then (unless (search_rules nat_eq looks task here.location)
+    (object_named nat_eq looks task here.location last)) (λ object. Ok (record {
       parent = here.location;
       last = last;
       object = object;
       slash = slash;
       steps = steps_at nat_eq looks task here last;
-    }))) ≡ Ok place
-    → NoneFails (search_rules nat_eq looks task here.location)
+    }))) ≡ Ok place → NoneFails (search_rules nat_eq looks task here.location)
     × (object_named nat_eq looks task here.location last ≡ Ok place.object)
 placed_parts looks task here last slash place e =
     let both = and_then-Ok (unless (search_rules nat_eq looks task here.location)
@@ -99,8 +94,7 @@ entry_of looks task here DotDot o special e = absurd (true≢false special)
 entry_of looks task here (Named name) o special e = same_ok _ o e
 
 pub file_place : (looks : Looks ℕ) (task : Task ℕ) (depth : ℕ) (start : Here ℕ) (text : List ℕ) (slash : Bool)
-    (end : Place ℕ)
-    → file_walked nat_eq depth looks task start text slash ≡ Ok end → is_special end.last ≡ false
+    (end : Place ℕ) → file_walked nat_eq depth looks task start text slash ≡ Ok end → is_special end.last ≡ false
     → IsFilePlace looks task end
 file_place looks task zero start text slash end e special = cc
 file_place looks task (suc depth) start text slash end e special =
@@ -110,20 +104,17 @@ file_place looks task (suc depth) start text slash end e special =
     let places = both_walked (placed nat_eq looks task here (final_word (reverse (words text)))
     (slash || ends_in_slash text)) _ end prefixes.2 in
     by here places.0 places.1 (symlink_there nat_eq looks places.0) places.2
-    (λ next inner g. file_place looks task depth next inner
-    (slash || ends_in_slash text) end g special)
+    (λ next inner g. file_place looks task depth next inner (slash || ends_in_slash text) end g special)
   where
     by : (here : Here ℕ) (place : Place ℕ)
         → placed nat_eq looks task here (final_word (reverse (words text))) (slash || ends_in_slash text) ≡ Ok place
-        → (link : Option (List ℕ))
-        → file_or_symlink nat_eq looks place link (λ inner.
+        → (link : Option (List ℕ)) → file_or_symlink nat_eq looks place link (λ inner.
         then_walk (walk_unless place.steps (follow_rules nat_eq looks (symlink_of here place) inner)
         (symlink_start nat_eq looks task here.location (symlink_of here place) inner))
         (λ next. file_walked nat_eq depth looks task next inner (slash || ends_in_slash text))) ≡ Ok end
         → ((next : Here ℕ) (inner : List ℕ)
         → file_walked nat_eq depth looks task next inner (slash || ends_in_slash text) ≡ Ok end
-        → IsFilePlace looks task end)
-        → IsFilePlace looks task end
+        → IsFilePlace looks task end) → IsFilePlace looks task end
     by here place ends None g rec =
         let same : entered nat_eq looks place ≡ end = same_end (entered nat_eq looks place) end g in
         let named : is_special place.last ≡ false = ap (λ (p : Place ℕ). is_special p.last) same ∙ special in
@@ -144,27 +135,23 @@ file_place looks task (suc depth) start text slash end e special =
 module _ (looks later : Looks ℕ) (task reader : Task ℕ) (Refused : Deny → Type 0) (Known : Location ℕ → Type 0)
     (leads : LeadsToo looks later task reader Refused Known)
     (bare : (object : Location ℕ) (text : List ℕ) → symlink_text (looks.node object) ≡ Some text
-    → topmost looks object ≡ object)
-    (root_directory : is_directory_at looks task.root ≡ true) where
+    → topmost looks object ≡ object) (root_directory : is_directory_at looks task.root ≡ true) where
   -- words, of which the last leads to what is there now, which is no link
   named_from : (depth : ℕ) (start here : Here ℕ) (word : List ℕ) (front : List (List ℕ)) (next : Location ℕ)
       → suc start.left ≤ 41 → suc start.left ≤ depth
       → words_walked nat_eq looks task (followed nat_eq looks task) start front ≡ Ok here
       → NoneFails (search_rules nat_eq looks task here.location)
       → (Known here.location → stepped nat_eq later reader here.location (last_word word) ≡ Ok next)
-      → symlink_text (later.node next) ≡ None
-      → Known start.location → (steps : List (List ℕ))
+      → symlink_text (later.node next) ≡ None → Known start.location → (steps : List (List ℕ))
       → EndsThere Refused (words_walked nat_eq later reader (followed_to depth later reader) (at start steps)
       (word ∷ front)) next here.left
   named_from depth start here word front next few few_too walked searched found no_link known steps =
       through looks later task reader Refused Known leads (λ r. EndsThere Refused r next here.left)
       (words_walked nat_eq later reader (followed_to depth later reader) (at start steps) front) _ here
       ((words_lead looks later task reader Refused Known leads 41 depth start front here few few_too walked).1 known
-      steps)
-      (λ steps_there known_there.
+      steps) (λ steps_there known_there.
       by steps_there (last_too looks later task reader Refused Known leads here
-      (last_word word) next steps_there known_there searched
-      (found known_there)))
+      (last_word word) next steps_there known_there searched (found known_there)))
       (λ stop refused. inr (stop, refused, refl))
     where
       by : (steps_there : List (List ℕ))
@@ -173,16 +160,15 @@ module _ (looks later : Looks ℕ) (task reader : Task ℕ) (Refused : Deny → 
           (λ there.
           if_symlink there (symlink_text (later.node there.location))
           (followed_to depth later reader here.location there))) next here.left
-      by steps_there (inl e) =
-          inl (
-            e.0,
-            ap (λ r. then_walk r (λ there.
-                if_symlink there (symlink_text (later.node there.location))
-                (followed_to depth later reader here.location there))) e.1
-                ∙ ap (λ o. if_symlink (record { location = next; left = here.left; steps = e.0 }) o
-                (followed_to depth later reader here.location
-                (record { location = next; left = here.left; steps = e.0 }))) no_link,
-          )
+      by steps_there (inl e) = inl (
+        e.0,
+        ap (λ r. then_walk r (λ there.
+            if_symlink there (symlink_text (later.node there.location))
+            (followed_to depth later reader here.location there))) e.1
+            ∙ ap (λ o. if_symlink (record { location = next; left = here.left; steps = e.0 }) o
+            (followed_to depth later reader here.location
+            (record { location = next; left = here.left; steps = e.0 }))) no_link,
+      )
       by steps_there (inr stop) = inr (
         stop.0,
         stop.1,
@@ -193,28 +179,23 @@ module _ (looks later : Looks ℕ) (task reader : Task ℕ) (Refused : Deny → 
 
   -- words, of which the last leads to a link whose text leads there
   linked_from : (depth : ℕ) (start here : Here ℕ) (word : List ℕ) (front : List (List ℕ)) (link : Here ℕ)
-      (inner : List ℕ)
-      (next : Location ℕ) (left : ℕ)
-      → suc start.left ≤ 41 → suc start.left ≤ suc depth
+      (inner : List ℕ) (next : Location ℕ) (left : ℕ) → suc start.left ≤ 41 → suc start.left ≤ suc depth
       → words_walked nat_eq looks task (followed nat_eq looks task) start front ≡ Ok here
       → NoneFails (search_rules nat_eq looks task here.location)
       → stepped nat_eq looks task here.location (last_word word) ≡ Ok link.location → link.left ≡ here.left
       → symlink_text (looks.node link.location) ≡ Some inner → NoneFails (follow_rules nat_eq looks link inner)
-      → ends_in_slash inner ≡ false
-      → ((steps : List (List ℕ)) → Known here.location
+      → ends_in_slash inner ≡ false → ((steps : List (List ℕ)) → Known here.location
       → EndsThere Refused (words_walked nat_eq later reader (followed_to depth later reader)
       (at (symlink_start nat_eq looks task here.location link inner) steps) (reverse (words inner))) next left)
       → Known start.location → (steps : List (List ℕ))
       → EndsThere Refused (words_walked nat_eq later reader (followed_to (suc depth) later reader) (at start steps)
-      (word
-      ∷ front)) next left
+      (word ∷ front)) next left
   linked_from depth start here word front link inner next left few few_too walked searched stepping same text follows
       no_slash ends known steps =
       through looks later task reader Refused Known leads (λ r. EndsThere Refused r next left)
       (words_walked nat_eq later reader (followed_to (suc depth) later reader) (at start steps) front) _ here
       ((words_lead looks later task reader Refused Known leads 41
-      (suc depth) start front here few few_too walked).1 known steps)
-      (λ steps_there known_there.
+      (suc depth) start front here few few_too walked).1 known steps) (λ steps_there known_there.
       through looks later task reader Refused Known leads (λ r. EndsThere Refused r next left)
       (word_walked nat_eq later reader (at here steps_there) (last_word word)) _ link
       (word_too looks later task reader Refused Known leads here link
@@ -222,32 +203,27 @@ module _ (looks later : Looks ℕ) (task reader : Task ℕ) (Refused : Deny → 
       (leads.step here.location (last_word word) link.location known_there (not-false _ searched.0) stepping))
       (λ steps_link known_link.
       subst (λ o. EndsThere Refused (if_symlink (at link steps_link) o
-      (followed_to (suc depth) later reader here.location
-      (at link steps_link))) next left)
+      (followed_to (suc depth) later reader here.location (at link steps_link))) next left)
       (sym (leads.link link.location known_link ∙ text))
       (by steps_link (walk_passed steps_link (follow_rules nat_eq later (at link steps_link) inner) _
-      (leads.nosymfollow link.location known_link ∙ follows.0, follows.1))
-      (ends _ known_there)))
-      (λ stop refused. inr (stop, refused, refl)))
-      (λ stop refused. inr (stop, refused, refl))
+      (leads.nosymfollow link.location known_link ∙ follows.0, follows.1)) (ends _ known_there)))
+      (λ stop refused. inr (stop, refused, refl))) (λ stop refused. inr (stop, refused, refl))
     where
-      inside : Result (Here ℕ) (Stop ℕ)
-          → Result (Here ℕ) (Stop ℕ)
+      inside : Result (Here ℕ) (Stop ℕ) → Result (Here ℕ) (Stop ℕ)
       inside r = then_walk r (λ reached.
           walk_unless reached.steps (slash_rules nat_eq later inner reached.location) reached)
 
       finish : (r : Result (Here ℕ) (Stop ℕ)) → EndsThere Refused r next left
           → EndsThere Refused (then_walk r (λ reached. walk_unless reached.steps
           (slash_rules nat_eq later inner reached.location) reached)) next left
-      finish r (inl e) =
-          inl (
-            e.0,
-            ap (λ r. then_walk r (λ reached.
-                walk_unless reached.steps (slash_rules nat_eq later inner reached.location) reached)) e.1
-                ∙ walk_passed e.0 (slash_rules nat_eq later inner next)
-                (record { location = next; left = left; steps = e.0 })
-                (ap (λ b. cond b (not (is_directory_at later next)) false) no_slash, tt),
-          )
+      finish r (inl e) = inl (
+        e.0,
+        ap (λ r. then_walk r (λ reached.
+            walk_unless reached.steps (slash_rules nat_eq later inner reached.location) reached)) e.1
+            ∙ walk_passed e.0 (slash_rules nat_eq later inner next)
+            (record { location = next; left = left; steps = e.0 })
+            (ap (λ b. cond b (not (is_directory_at later next)) false) no_slash, tt),
+      )
       finish r (inr stop) = inr (
         stop.0,
         stop.1,
@@ -255,31 +231,26 @@ module _ (looks later : Looks ℕ) (task reader : Task ℕ) (Refused : Deny → 
             walk_unless reached.steps (slash_rules nat_eq later inner reached.location) reached)) stop.2,
       )
 
-      by : (steps_link : List (List ℕ))
-          → walk_unless steps_link (follow_rules nat_eq later (at link steps_link) inner)
+      by : (steps_link : List (List ℕ)) → walk_unless steps_link (follow_rules nat_eq later (at link steps_link) inner)
           (symlink_start nat_eq later reader here.location (at link steps_link) inner)
           ≡ Ok (symlink_start nat_eq later reader here.location (at link steps_link) inner)
           → EndsThere Refused (words_walked nat_eq later reader (followed_to depth later reader)
           (at (symlink_start nat_eq looks task here.location link inner)
-          (symlink_start nat_eq later reader here.location
-          (at link steps_link) inner).steps)
+          (symlink_start nat_eq later reader here.location (at link steps_link) inner).steps)
           (reverse (words inner))) next left
           → EndsThere Refused (followed_to (suc depth) later reader here.location (at link steps_link) inner) next left
-      by steps_link pass ends_so =
-          subst (λ r. EndsThere Refused (then_walk r (λ start.
+      by steps_link pass ends_so = subst (λ r. EndsThere Refused (then_walk r (λ start.
           then_walk (words_walked nat_eq later reader (followed_to depth later reader) start (reverse (words inner)))
           (λ reached. walk_unless reached.steps (slash_rules nat_eq later inner reached.location) reached))) next left)
           (sym (pass ∙ (λ i. Ok (record {
             location = start_same looks later task reader Refused Known leads here.location here.location inner refl i;
             left = link.left - 1;
             steps = (symlink_start nat_eq later reader here.location (at link steps_link) inner).steps;
-          }))))
-          (finish _ ends_so)
+          })))) (finish _ ends_so)
 
   -- what a walk to a file is to find
   abbrev FindsFile : ℕ → Location ℕ → Here ℕ → List ℕ → Bool → Type 0
-  FindsFile depth file start text slash =
-      (slash ≡ false) × (ends_in_slash text ≡ false)
+  FindsFile depth file start text slash = (slash ≡ false) × (ends_in_slash text ≡ false)
       × (left : ℕ) × (Known start.location → (steps : List (List ℕ))
       → EndsThere Refused (words_walked nat_eq later reader (followed_to depth later reader) (at start steps) (reverse
       (words text))) file left)
@@ -304,8 +275,7 @@ module _ (looks later : Looks ℕ) (task reader : Task ℕ) (Refused : Deny → 
       → file_walked nat_eq depth looks task start text slash ≡ Ok end → is_special end.last ≡ false → end.slash ≡ false
       → (other : ℕ) → suc start.left ≤ other → (file : Location ℕ)
       → (Known end.parent → stepped nat_eq later reader end.parent end.last ≡ Ok file)
-      → symlink_text (later.node file) ≡ None
-      → FindsFile other file start text slash
+      → symlink_text (later.node file) ≡ None → FindsFile other file start text slash
   file_too zero start text slash end few is e special no_slash other few_too file found no_text = cc
   file_too (suc depth) start text slash end few is e special no_slash other few_too file found no_text =
       let prefixes = both_walked (prefix_walked nat_eq looks task (followed nat_eq looks task) start
@@ -314,8 +284,7 @@ module _ (looks later : Looks ℕ) (task reader : Task ℕ) (Refused : Deny → 
       let places = both_walked (placed nat_eq looks task here (final_word (reverse (words text)))
       (slash || ends_in_slash text)) _ end prefixes.2 in
       by other few_too (reverse (words text)) here places.0 prefixes.1 places.1
-      (symlink_there nat_eq looks places.0) refl places.2
-      (λ deep next inner next_few next_is walks less.
+      (symlink_there nat_eq looks places.0) refl places.2 (λ deep next inner next_few next_is walks less.
       file_too depth next inner (slash
       || ends_in_slash text) end next_few next_is walks special no_slash deep less file found no_text)
     where
@@ -353,8 +322,7 @@ module _ (looks later : Looks ℕ) (task reader : Task ℕ) (Refused : Deny → 
                 (λ known. (λ i. stepped nat_eq later reader (parent_is i) (last_is i))
                 ∙ found (subst Known parent_is known)) no_text,
           )
-      by other few_too [] here place walked ends (Some inner) same g rec =
-          absurd (no_text_there
+      by other few_too [] here place walked ends (Some inner) same g rec = absurd (no_text_there
           (sym (directory_no_link (looks.node start.location) is)
           ∙ ap (λ (h : Here ℕ). symlink_text (looks.node h.location)) (same_end start here walked)
           ∙ ap (symlink_there nat_eq looks) (same_end _ place ends) ∙ same))
@@ -377,18 +345,15 @@ module _ (looks later : Looks ℕ) (task reader : Task ℕ) (Refused : Deny → 
           let here_is : is_directory_at looks here.location ≡ true = not-false _ parts.0.0 in
           let rest = rec other starts.0 inner (omega arith)
           (subst (λ (h : Here ℕ). is_directory_at looks h.location ≡ true) begins.1
-          (start_directory here.location inner here_is))
-          starts.2 (omega arith) in
+          (start_directory here.location inner here_is)) starts.2 (omega arith) in
           let slashes = or_parts slash (ends_in_slash text) rest.0 in (
             slashes.0,
             slashes.1,
             rest.2,
             linked_from other start here word front (symlink_of here place) inner file rest.2 few few_too walked parts.0
                 (named_step looks task here.location (last_word word) link.0 (parts.1 ∙ ap Ok link.1)
-                (bare link.0 inner link.2) ∙ ap Ok
-                (sym link_is))
-                refl (ap (λ l. symlink_text (looks.node l)) link_is ∙ link.2) begins.0 rest.1
-                (λ steps known.
+                (bare link.0 inner link.2) ∙ ap Ok (sym link_is))
+                refl (ap (λ l. symlink_text (looks.node l)) link_is ∙ link.2) begins.0 rest.1 (λ steps known.
                 subst (λ (h : Here ℕ). EndsThere Refused
                 (words_walked nat_eq later reader (followed_to other later reader)
                 (at h steps) (reverse (words inner))) file rest.2) (sym begins.1)

@@ -65,8 +65,7 @@ record FileParts (looks : Looks ℕ) (task : Task ℕ) (path : List ℕ) (place 
   walked : file_walked nat_eq 41 looks task (walk_start task path) path false ≡ Ok place
 
 file_parts : (looks : Looks ℕ) (task : Task ℕ) (path : List ℕ) (place : Place ℕ)
-    → file_walk nat_eq looks task path ≡ Ok place
-    → FileParts looks task path place
+    → file_walk nat_eq looks task path ≡ Ok place → FileParts looks task path place
 file_parts looks task path place e =
     let texts = both_walked (path_text {N = ℕ} path) _ place e in
     let same : path ≡ texts.0 = path_parsed path texts.0 texts.1 in
@@ -106,11 +105,9 @@ file_of (Some node) e = by node.content refl e
 
 -- the walk to an object, where its words are walked
 object_by_words : (later : Looks ℕ) (reader : Task ℕ) (path : List ℕ) (next : Location ℕ) (left : ℕ)
-    → path_text {N = ℕ} path ≡ Ok path
-    → ends_in_slash path ≡ false
+    → path_text {N = ℕ} path ≡ Ok path → ends_in_slash path ≡ false
     → EndsAt (words_walked nat_eq later reader (followed_to 41 later reader) (walk_start reader path)
-    (reverse (words path))) next left
-    → EndsAt (object_walk nat_eq later reader path) next left
+    (reverse (words path))) next left → EndsAt (object_walk nat_eq later reader path) next left
 object_by_words later reader path next left parsed no_slash ends = (
   ends.0,
   ap (λ r. then_walk (then_walk r (λ text.
@@ -150,14 +147,11 @@ module _ (world later : World ℕ) (is : IsWorld nat_eq world) (task : Task ℕ)
       let finds = file_too (looks_of nat_eq world) (looks_of nat_eq later) task reader Never Known leads_so
       (λ object text e. uncovered world is object (link_no_directory (node_at nat_eq world object) text e))
       (root_found world is task called).1 41 (walk_start task path) path false place
-      (omega arith) start_is parts.walked named no_slash
-      41 (omega arith) file found no_link in (
+      (omega arith) start_is parts.walked named no_slash 41 (omega arith) file found no_link in (
         finds.2,
-        object_by_words (looks_of nat_eq later) reader path file finds.2 parts.parsed finds.1
-            (surely _ file finds.2
+        object_by_words (looks_of nat_eq later) reader path file finds.2 parts.parsed finds.1 (surely _ file finds.2
             (subst (λ start. EndsThere Never (words_walked nat_eq (looks_of nat_eq later) reader (followed_to 41
-            (looks_of nat_eq later) reader) start
-            (reverse (words path))) file finds.2)
+            (looks_of nat_eq later) reader) start (reverse (words path))) file finds.2)
             (sym (begun (looks_of nat_eq world) (looks_of nat_eq later) task reader Never Known leads_so path))
             (finds.3 (start_known (looks_of nat_eq world) (looks_of nat_eq later) task reader Never Known leads_so
             task.directory path leads_so.working_known) []))),
@@ -168,8 +162,7 @@ kept : (A B : Type 0) (C : Deny → Type 0) → (A × B) ⊎ ((deny : Deny) × �
 kept A B C (inl e) = e.0
 kept A B C (inr refused) = absurd refused.1
 
-either_read : (b : Bool) (bytes : List ℕ)
-    → (cond b (Ok (Bytes bytes)) (Err (denial C1)) ≡ Ok (Bytes bytes))
+either_read : (b : Bool) (bytes : List ℕ) → (cond b (Ok (Bytes bytes)) (Err (denial C1)) ≡ Ok (Bytes bytes))
     ⊎ (cond b (Ok (Bytes bytes)) (Err (denial C1)) ≡ Err (denial C1))
 either_read true bytes = inl refl
 either_read false bytes = inr refl
@@ -178,9 +171,7 @@ either_read false bytes = inr refl
 abbrev ReadsSo : World ℕ → Task ℕ → List ℕ → List ℕ → Attr → Type 0
 ReadsSo later task path bytes attr =
     (reader : TaskName) (reading : Task ℕ) → task_called later reader ≡ Some reading → StandsAs task reading
-    → MayLook task reading
-    → (later_fresh : Fresh ℕ)
-    → (policy nat_eq later_fresh later reader (Read path)).answer
+    → MayLook task reading → (later_fresh : Fresh ℕ) → (policy nat_eq later_fresh later reader (Read path)).answer
     ≡ cond (allows reading.credentials attr File read_right) (Ok (Bytes bytes)) (Err (denial C1))
 
 module _ (world : World ℕ) (fresh : Fresh ℕ) (name : TaskName) (path bytes : List ℕ) (is : IsWorld nat_eq world)
@@ -203,24 +194,20 @@ module _ (world : World ℕ) (fresh : Fresh ℕ) (name : TaskName) (path bytes :
     new_read reader reading called stands looks later_fresh =
         let self = own_name left reader reading called in
         let seen = node_seen world fresh name (Write path bytes) Done is plain serves refl refl did place.parent
-        (name_of place.last)
-        (new_file did.task file_mode bytes) permit reading self stands looks in
+        (name_of place.last) (new_file did.task file_mode bytes) permit reading self stands looks in
         let finds = file_found world left is did.task own path place walk named no_slash
         (record { mount = place.parent.mount; node = fresh 0 }) reading _
         (made_leads world fresh name (Write path bytes) Done is plain serves refl refl did place.parent
-        (name_of place.last)
-        (new_file did.task file_mode bytes) permit reading self stands looks)
+        (name_of place.last) (new_file did.task file_mode bytes) permit reading self stands looks)
         (new_stepped world fresh name (Write path bytes) Done is plain serves refl refl did place.parent
-        (name_of place.last)
-        (new_file did.task file_mode bytes) permit reading self stands looks place.last named refl)
+        (name_of place.last) (new_file did.task file_mode bytes) permit reading self stands looks place.last named refl)
         (ap symlink_text seen) in
         read_of left later_fresh reader reading called path left_plain _ finds.1.1
         (new_attr did.task file_mode) bytes seen
 
     new_maker : task_called left name ≡ Some (raised_task name did.task)
     new_maker = maker world fresh name (Write path bytes) Done is plain serves refl refl did place.parent
-        (name_of place.last)
-        (new_file did.task file_mode bytes) permit
+        (name_of place.last) (new_file did.task file_mode bytes) permit
 
   -- a file that got other bytes
   module _ (file : Location ℕ) (object : place.object ≡ Some file)
@@ -268,8 +255,7 @@ module _ (world : World ℕ) (fresh : Fresh ℕ) (name : TaskName) (path bytes :
         let seen : node_at nat_eq left file ≡ Some (record { attr = old.0; content = Regular bytes }) =
         seen_at world fresh name
         (Write path bytes) Done is plain serves refl refl did file change fresh asks does something tt tree Never stay
-        reading self stands file.node
-        ∙ all_stays world fresh name
+        reading self stands file.node ∙ all_stays world fresh name
         (Write path bytes) Done is plain serves refl refl did file change fresh asks does something tt tree refl
         file.node
         ∙ there (files_at nat_eq world file) file.node (node_with_bytes bytes) ∙ ap (node_with_bytes bytes) old.2 in
@@ -318,13 +304,10 @@ write_then_read path bytes world fresh name task is plain serves called granted 
     seen attr reads there_still = (
       λ later_fresh. subst (λ a. (a ≡ Ok (Bytes bytes)) ⊎ (a ≡ Err (denial C1)))
           (sym (reads name (raised_task name did.task) there_still (raised_stands name did.task) (inl
-          (raised_credentials name did.task)) later_fresh))
-          (either_read _ bytes),
-      λ reader reading looks later_fresh.
-          reads reader reading looks.called
+          (raised_credentials name did.task)) later_fresh)) (either_read _ bytes),
+      λ reader reading looks later_fresh. reads reader reading looks.called
           (subst (λ t. StandsAs t reading) (sym task_is) (all_stands _ task reader reading looks))
-          (inr looks.all) later_fresh
-          ∙ ap (λ b. cond b (Ok (Bytes bytes)) (Err (denial C1)))
+          (inr looks.all) later_fresh ∙ ap (λ b. cond b (Ok (Bytes bytes)) (Err (denial C1)))
           (read_all reading.credentials looks.all attr (Regular bytes)),
     )
 
@@ -338,11 +321,9 @@ write_then_read path bytes world fresh name task is plain serves called granted 
         (sym (ap (written_permit nat_eq (looks_of nat_eq world) did.task parts.0 bytes) object) ∙ e) in
         let permit_is = sym (same_ok _ did.permit rules.1) in
         seen _ (old_read world fresh name path bytes is plain serves did parts.0 parts.1 words_pass.0 words_pass.1 file
-        object rules.0.0
-        rules.0.1.1.0 permit_is)
+        object rules.0.0 rules.0.1.1.0 permit_is)
         (rewriter world fresh name path bytes is plain serves did parts.0 parts.1 words_pass.0 words_pass.1 file object
-        rules.0.0
-        rules.0.1.1.0 permit_is)
+        rules.0.0 rules.0.1.1.0 permit_is)
     by None object e =
         let small = passing ((nat_lt largest_file (length bytes), E6) ∷ []) _ did.permit
         (sym (ap (written_permit nat_eq (looks_of nat_eq world) did.task parts.0 bytes) object) ∙ e) in

@@ -34,11 +34,9 @@ Quiet world fresh place first =
     (group : ℕ) (receiver mount : Mount ℕ) → (mount_at nat_eq world place).propagation ≡ Shared group
     → Among receiver world.mounts → receives nat_eq world group receiver ≡ true → Among mount world.mounts
     → stands_at nat_eq (record { mount = receiver.number; node = place.node }) mount ≡ true
-    → (receives nat_eq world group first ≡ false)
-    ⊎ ((nat_eq first.root place.node ≡ false)
+    → (receives nat_eq world group first ≡ false) ⊎ ((nat_eq first.root place.node ≡ false)
     ⊎ (may_go nat_eq (world_after (one_of world fresh place first))
-    (mount_numbered nat_eq (world_after (one_of world fresh place first)) mount.number)
-    ≡ false))
+    (mount_numbered nat_eq (world_after (one_of world fresh place first)) mount.number) ≡ false))
 
 quiet : (world : World ℕ) (fresh : Fresh ℕ) (place : Location ℕ) (flags : MountFlags) (filesystem : Filesystem ℕ)
     → Quiet world fresh place (new_mount filesystem.number filesystem.files.tree.root flags)
@@ -111,9 +109,7 @@ unmount_takes_what_stood_there world fresh source place group receiver mount ser
     (among-filter (takes_part nat_eq world place) (receivers_of nat_eq world (mount_at nat_eq world place)) receiver
     (subst (λ k. Among receiver (unwrap_or (option_map (receivers nat_eq world) (group_of k)) [])) (sym shared)
     (among-filter (receives nat_eq world group) world.mounts receiver (among_from_contains world.mounts receiver r)
-    hears))
-    takes)
-    (among_from_contains world.mounts mount n) stood hearing root may
+    hears)) takes) (among_from_contains world.mounts mount n) stood hearing root may
 
 pub unmount_takes_what_stood_beside : UnmountTakesWhatStoodBeside
 unmount_takes_what_stood_beside = (
@@ -129,8 +125,7 @@ unmount_takes_what_stood_beside = (
       let places = new_mounts_keep_places world fresh place filesystem flags serves mounts.one_number mounts.nowhere
       mounts.standing there free mounts.one_child in
       taken_beside larger fresh place first can there (stands_on_mount world mounts) ends places free group receiver
-      mount
-      shared (among_from_contains world.mounts receiver r) hears (among_from_contains world.mounts mount n) stood
+      mount shared (among_from_contains world.mounts receiver r) hears (among_from_contains world.mounts mount n) stood
       apart may,
   λ world fresh source place serves mounts there free group receiver mount shared r hears n stood apart may.
       let first = bound nat_eq world source in
@@ -143,7 +138,6 @@ unmount_takes_what_stood_beside = (
       let places = binds_keep_places world fresh source place false serves mounts.one_number mounts.nowhere
       mounts.standing there free mounts.one_child in
       taken_beside world fresh place first can there (stands_on_mount world mounts) ends places free group receiver
-      mount
-      shared (among_from_contains world.mounts receiver r) hears (among_from_contains world.mounts mount n) stood
+      mount shared (among_from_contains world.mounts receiver r) hears (among_from_contains world.mounts mount n) stood
       apart may,
 )

@@ -1,5 +1,6 @@
 -- What a granted call makes of the mounts.
-use Rattle.std.proofs.Common.{◌≡◌, refl, sym, ap, subst, ◌∙◌, false, Bool, List, Ok, Some, nat_eq, ok_or, ℕ, option_map, true≢false}
+use Rattle.std.proofs.Common.{arith, ◌≡◌, refl, sym, ap, ◌∙◌, false, Bool, List, Ok, Some, nat_eq, ok_or, ℕ, option_map, true≢false}
+use Rattle.std.proofs.lemmas.Grind.{common_steps}
 use Rattle.vt_spec.specs.Language.Calls.Call.{Bind, Exit, Lazy, MountOverlay, MountPlain, MoveMount, PivotRoot, Remount, Rmdir, SetType, Setns, Unshare, Rename}
 use Rattle.vt_laws_mounts.specs.Mounts.Granted.{BindBinds, ExitEnds, LazyUnmounts, MountMounts, MoveMoves, OverlayMounts, PivotPivots, RemountSetsFlags, RmdirTakesMounts, SetnsEnters, TypeIsSet, UnshareCopies, RenameOfOneObject, RenameReplaces}
 use Rattle.vt_spec.specs.Language.Calls.{Call, MountFlags, OverlayWords, TaskName, TypeWord}
@@ -35,8 +36,7 @@ module _ (fresh : Fresh ℕ) (world : World ℕ) (task : Task ℕ) where
 
   -- what a permit by which a call is granted makes of the mounts
   abbrev Makes : Call → List (Mount ℕ) → Permit ℕ → Type 0
-  Makes call mounts permit =
-      IsGranted nat_eq looks (overfills nat_eq fresh world task) task call permit
+  Makes call mounts permit = IsGranted nat_eq looks (overfills nat_eq fresh world task) task call permit
       → (apply nat_eq fresh world task permit).world.mounts ≡ mounts
 
   abbrev mounts_by : Permit ℕ → List (Mount ℕ)
@@ -52,8 +52,7 @@ module _ (fresh : Fresh ℕ) (world : World ℕ) (task : Task ℕ) where
       let second = one_end (destination_walk nat_eq looks task path) two here end f in
       λ i. mounts_by (ToBind (first i).location (second i).location recursive)
 
-  move_made : (source path : List ℕ) (from here : Here ℕ)
-      → walk_end (source_walk nat_eq looks task source) ≡ Ok from
+  move_made : (source path : List ℕ) (from here : Here ℕ) → walk_end (source_walk nat_eq looks task source) ≡ Ok from
       → walk_end (destination_walk nat_eq looks task path) ≡ Ok here
       → (permit : Permit ℕ) → Makes (MoveMount source path)
       (moved_to nat_eq fresh world from.location.mount here.location).mounts permit
@@ -87,8 +86,7 @@ module _ (fresh : Fresh ℕ) (world : World ℕ) (task : Task ℕ) where
       (one_end (directory_walk nat_eq looks task path) one here end e)
 
   remount_made : (path : List ℕ) (flags : MountFlags) (here : Here ℕ)
-      → walk_end (directory_walk nat_eq looks task path) ≡ Ok here
-      → (permit : Permit ℕ) → Makes (Remount path flags)
+      → walk_end (directory_walk nat_eq looks task path) ≡ Ok here → (permit : Permit ℕ) → Makes (Remount path flags)
       (with_flags nat_eq world here.location.mount flags).mounts permit
   remount_made path flags here e permit (changes_flags _ _ one admin end passed) =
       ap (λ (here : Here ℕ). mounts_by (ToSetFlags here.location.mount flags))
@@ -103,8 +101,7 @@ module _ (fresh : Fresh ℕ) (world : World ℕ) (task : Task ℕ) where
       (one_end (directory_walk nat_eq looks task path) one here end e)
 
   pivot_made : (new put : List ℕ) (root here : Here ℕ) → walk_end (source_walk nat_eq looks task new) ≡ Ok root
-      → walk_end (destination_walk nat_eq looks task put) ≡ Ok here
-      → (permit : Permit ℕ) → Makes (PivotRoot new put)
+      → walk_end (destination_walk nat_eq looks task put) ≡ Ok here → (permit : Permit ℕ) → Makes (PivotRoot new put)
       (pivoted nat_eq world task.namespace (mount_at nat_eq world task.root)
       (mount_at nat_eq world root.location) here.location).mounts permit
   pivot_made new put root here e f permit (pivots_root _ _ one two admin start end passed) =
@@ -131,21 +128,14 @@ module _ (fresh : Fresh ℕ) (world : World ℕ) (task : Task ℕ) where
       → Makes (Setns target)
       (namespaces_ended nat_eq (namespace_entered nat_eq world task other.namespace)).mounts permit
   setns_made target other e permit (enters_namespace _ namespace found passed) =
-      ap (λ namespace. mounts_by (ToEnterNamespace namespace))
-      (same_ok namespace other.namespace
+      ap (λ namespace. mounts_by (ToEnterNamespace namespace)) (same_ok namespace other.namespace
       (sym found ∙ ap (λ o. ok_or (option_map (λ (t : Task ℕ). t.namespace) o) (denial S2)) e))
 
   -- the names of a rename are at the ends of its walks
   same_names : (old new : List ℕ) (from to one two : Place ℕ) → walk_end (old_leaf_walk nat_eq looks task old) ≡ Ok from
       → walk_end (rename_new_walk nat_eq looks task new (is_directory_there nat_eq looks from)) ≡ Ok to
       → AreNames nat_eq looks task old new one two → (one ≡ from) × (two ≡ to)
-  same_names old new from to one two e f names =
-      let first = one_end (old_leaf_walk nat_eq looks task old) one from names.from_end e in (
-        first,
-        one_end (rename_new_walk nat_eq looks task new (is_directory_there nat_eq looks from)) two to
-            (subst (λ from. rename_new_walk nat_eq looks task new (is_directory_there nat_eq looks from) ≡ Ok two) first
-            names.to_end) f,
-      )
+  same_names old new from to one two e f names = grind (arith, common_steps, one_end)
 
   rename_made : (old new : List ℕ) (from to : Place ℕ) → walk_end (old_leaf_walk nat_eq looks task old) ≡ Ok from
       → walk_end (rename_new_walk nat_eq looks task new (is_directory_there nat_eq looks from)) ≡ Ok to
@@ -166,9 +156,7 @@ module _ (fresh : Fresh ℕ) (world : World ℕ) (task : Task ℕ) where
       → (permit : Permit ℕ) → Makes (Rename old new) world.mounts permit
   one_object_made old new from to e f same permit (keeps_names _ _ one two names as_one passed) = refl
   one_object_made old new from to e f same permit (renames _ _ one two names another passed) =
-      let ends = same_names old new from to one two e f names in
-      absurd (true≢false (sym same
-      ∙ (λ i. is_one_object nat_eq looks (object_there (sym ends.0 i)) (sym ends.1 i).object) ∙ another))
+      grind (arith, common_steps, same_names, true≢false)
 
 pub bind_binds : BindBinds
 bind_binds fresh world name task source path recursive from here e f =
@@ -214,8 +202,7 @@ rmdir_takes_mounts fresh world name task path place e =
     leaves_mounts fresh world name task (Rmdir path) _ Done refl (rmdir_made fresh world task path place e)
 
 pub exit_ends : ExitEnds
-exit_ends fresh world name task =
-    leaves_mounts fresh world name task Exit _ Done refl (exit_made fresh world task)
+exit_ends fresh world name task = leaves_mounts fresh world name task Exit _ Done refl (exit_made fresh world task)
 
 pub unshare_copies : UnshareCopies
 unshare_copies fresh world name task =

@@ -1,7 +1,6 @@
 -- The list of mounts after an unshare.
-use Rattle.std.proofs.Common.{arith}
+use Rattle.std.proofs.Common.{arith, ◌≡◌, refl, sym, ap, ◌∙◌, List, [], None, eq-eqb, eqb-true, true≢false, Option, Some, flat_map, map, nat_eq, option_map, unwrap_or, ℕ, ◌+◌, ◌∷◌, inl, inr}
 use Rattle.std.proofs.lemmas.Grind.{common_steps}
-use Rattle.std.proofs.Common.{◌≡◌, refl, sym, ap, ◌∙◌, List, [], None, eq-eqb, eqb-true, true≢false, Option, Some, cond, flat_map, map, nat_eq, option_map, unwrap_or, ℕ, ◌+◌, ◌∷◌, inl, inr}
 use Rattle.std.proofs.lemmas.List.Folds.{flat_map-map}
 use Rattle.vt_spec.proofs.Lists.{Among, among-filter, among-from_filter}
 use Rattle.vt_spec.specs.FileTree.{path_down}
@@ -23,8 +22,7 @@ use Rattle.vt_laws_mounts.specs.Mounts.Ending.{is_in}
 pub map_alike : {A B C : Type 0} (f : A → C) (g : B → C) (h : A → B) (xs : List A)
     → ((x : A) → Among x xs → g (h x) ≡ f x) → map g (map h xs) ≡ map f xs
 map_alike f g h [] same = refl
-map_alike f g h (y ∷ ys) same =
-    ap (λ x. x ∷ map g (map h ys)) (same y (inl refl))
+map_alike f g h (y ∷ ys) same = ap (λ x. x ∷ map g (map h ys)) (same y (inl refl))
     ∙ ap (λ l. f y ∷ l) (map_alike f g h ys (λ x m. same x (inr m)))
 
 pub map_both : {A C : Type 0} (f g : A → C) (xs : List A) → ((x : A) → Among x xs → g x ≡ f x) → map g xs ≡ map f xs
@@ -40,13 +38,7 @@ new_place : (new : ℕ → ℕ) (copy : Mount ℕ → Mount ℕ) → ((mount : M
     ≡ index_from (nat_eq number) k (map (λ (x : Mount ℕ). x.number) mounts)
 new_place new copy numbers number k [] same = refl
 new_place new copy numbers number k (mount ∷ rest) same =
-    ap (λ n. cond (nat_eq (new number) n) (Some k)
-    (index_from (nat_eq (new number)) (k + 1) (map (λ (x : Mount ℕ). x.number) (map copy rest)))) (numbers mount)
-    ∙ ap (λ b. cond b (Some k)
-    (index_from (nat_eq (new number)) (k + 1) (map (λ (x : Mount ℕ). x.number) (map copy rest)))) (same mount
-    (inl refl))
-    ∙ ap (cond (nat_eq number mount.number) (Some k))
-    (new_place new copy numbers number (k + 1) rest (λ other m. same other (inr m)))
+    grind (arith, common_steps, new_place new copy numbers number (k + 1) rest)
 
 module _ (world : World ℕ) (fresh : Fresh ℕ) (task : Task ℕ) (serves : Serves nat_eq world fresh)
     (mounts : MountInvariants nat_eq world) where
@@ -65,18 +57,7 @@ module _ (world : World ℕ) (fresh : Fresh ℕ) (task : Task ℕ) (serves : Ser
   new_apart : (a b : Mount ℕ) → Among a copied → Among b copied
       → nat_eq (new_number a.number) (new_number b.number) ≡ nat_eq a.number b.number
   new_apart a b m n =
-      grind (
-        arith,
-        common_steps,
-        new_number,
-        eq-eqb,
-        eqb-true,
-        true≢false,
-        one_index,
-        is_one_of,
-        odds-distinct,
-        served-distinct,
-      )
+      grind (arith, common_steps, eq-eqb, eqb-true, true≢false, one_index, is_one_of, odds-distinct, served-distinct)
 
   -- the parent of a mount of a namespace is in the namespace
   parent_inside : (namespace : ℕ) (mount : Mount ℕ) → Among mount (mounts_of nat_eq world namespace)
@@ -106,11 +87,9 @@ module _ (world : World ℕ) (fresh : Fresh ℕ) (task : Task ℕ) (serves : Ser
       → place_cell after (map copy copied) (location_on_copy new_number place) ≡ place_cell world copied place
   copied_cell parent m there place same =
       let number : number_among nat_eq (map (λ (other : Mount ℕ). other.number) (map copy copied))
-      (new_number place.mount)
-      ≡ number_among nat_eq (map (λ (other : Mount ℕ). other.number) copied) place.mount =
+      (new_number place.mount) ≡ number_among nat_eq (map (λ (other : Mount ℕ). other.number) copied) place.mount =
       ap (λ n. number_among nat_eq (map (λ (other : Mount ℕ). other.number) (map copy copied)) (new_number n))
-      (sym same)
-      ∙ ap (λ k. unwrap_or k 0)
+      (sym same) ∙ ap (λ k. unwrap_or k 0)
       (new_place new_number copy (λ mount. refl) parent.number 1 copied (λ other n. new_apart parent other m n))
       ∙ ap (number_among nat_eq (map (λ (other : Mount ℕ). other.number) copied)) same in
       let shows : mount_point_spot nat_eq after (location_on_copy new_number place)
@@ -187,8 +166,7 @@ unshare_lists_the_same world fresh task serves mounts empty =
     ap (λ (l : List (Mount ℕ)). map (mount_line nat_eq now l) l) (unshare_copies_mounts world fresh task empty)
     ∙ map_alike (mount_line nat_eq world those)
     (mount_line nat_eq now (map (copy world fresh task serves mounts) those))
-    (copy world fresh task serves mounts) those
-    (copied_line world fresh task serves mounts)
+    (copy world fresh task serves mounts) those (copied_line world fresh task serves mounts)
 
 pub unshare_lists_others_the_same : UnshareListsOthersTheSame
 unshare_lists_others_the_same world fresh task namespace serves mounts other =

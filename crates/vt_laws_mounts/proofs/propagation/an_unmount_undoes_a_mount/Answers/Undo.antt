@@ -42,7 +42,6 @@ unmount_undoes_bind world fresh source place serves mounts there free_place noth
       back = has_its_record_back world fresh place mount can there on_old free;
       gone = copy_is_gone world fresh place mount can there on_old free
           (binds_keep_places world fresh source place false serves mounts.one_number mounts.nowhere mounts.standing
-          there
-          free_place mounts.one_child);
+          there free_place mounts.one_child);
       masters = masters_back world fresh place mount can there on_old free;
     }

@@ -1,5 +1,6 @@
 -- An unmount of a mount that was attached: the others are as they were before.
-use Rattle.std.proofs.Common.{◌≡◌, refl, sym, ap, subst, ◌∙◌, true, false, nat_eq, ℕ, List, None, Option, Some, [], filter, flat_map, inl, inr, is_some, map, true≢false, ⊎_elim, ◌++◌, ◌∷◌, ◌⊎◌, eqb-true}
+use Rattle.std.proofs.Common.{arith, ◌≡◌, refl, sym, ap, subst, ◌∙◌, true, false, nat_eq, ℕ, List, None, Option, Some, [], filter, flat_map, inl, inr, is_some, map, true≢false, ⊎_elim, ◌++◌, ◌∷◌, ◌⊎◌, eqb-true}
+use Rattle.std.proofs.lemmas.Grind.{common_steps}
 use Rattle.std.specs.Prelude.{Contains}
 use Rattle.std.proofs.lemmas.Bool.{false_from_ne_true}
 use Rattle.std.proofs.lemmas.Option.{same_Some}
@@ -32,11 +33,10 @@ use Rattle.vt_laws_mounts.proofs.propagation.PropagationCopies.{copies, push}
 use Rattle.vt_laws_mounts.proofs.propagation.PropagationHeard.{groups_after, only_part}
 use Rattle.vt_laws_mounts.proofs.propagation.PropagationHearing.{old_up, old_up_after}
 use Rattle.vt_laws_mounts.proofs.propagation.PropagationUp.{heard, hears, lives_up}
-use Rattle.vt_laws_mounts.proofs.mounts.Receivers.{receives_completely, receives_soundly}
+use Rattle.vt_laws_mounts.proofs.mounts.Receivers.{receives_completely, receives_soundly, receiver_receives}
 use Rattle.vt_laws_mounts.proofs.ends.Unmounting.{root_mounts_stay, unmount_keeps_the_order, what_goes_is_detached, what_stays_keeps, what_stays_keeps_its_place, what_stays_keeps_its_type, groups_keep_their_masters, middle}
 use Rattle.vt_laws_mounts.proofs.ends.UnmountingGoes.{what_goes_is_named}
 use Rattle.vt_spec.proofs.Worlds.{master-regrouped_by, number-mount_in}
-use Rattle.vt_laws_mounts.proofs.mounts.Receivers.{receiver_receives}
 use Rattle.vt_laws_mounts.proofs.propagation.OneAttached.{one_of, later_number, part_old, hears_group}
 
 -- No mount stands at the node of the place on a mount that receives from the destination's group
@@ -49,8 +49,7 @@ NoneAtReceivers world place =
 module _ (world : World ℕ) (fresh : Fresh ℕ) (place : Location ℕ) (first : Mount ℕ)
     (can : CanAttach (one_of world fresh place first)) (there : is_mount world place.mount ≡ true)
     (on_old : (mount : Mount ℕ) → Among mount world.mounts → (at : Location ℕ) → mount.mount_point ≡ Some at
-    → is_mount world at.mount ≡ true)
-    (free : NoneAtReceivers world place) where
+    → is_mount world at.mount ≡ true) (free : NoneAtReceivers world place) where
   abbrev it : Attachment
   it = one_of world fresh place first
 
@@ -84,15 +83,11 @@ module _ (world : World ℕ) (fresh : Fresh ℕ) (place : Location ℕ) (first :
   -- the mounts that were there are as they were
   kept : (number : ℕ) → is_mount world number ≡ true
       → mount_numbered nat_eq after number ≡ mount_numbered nat_eq world number
-  kept number is =
-      attach_leaves_mounts world fresh place (first ∷ []) number is
-      (none_from_among
+  kept number is = attach_leaves_mounts world fresh place (first ∷ []) number is (none_from_among
       (λ (receiver : Mount ℕ).
       stands_at nat_eq (record { mount = receiver.number; node = place.node }) (mount_numbered nat_eq world number))
-      (filter (takes_part nat_eq world place) (receivers_of nat_eq world destination))
-      (λ receiver m.
-      let t =
-      receiver_receives world destination receiver
+      (filter (takes_part nat_eq world place) (receivers_of nat_eq world destination)) (λ receiver m.
+      let t = receiver_receives world destination receiver
       (among-from_filter (takes_part nat_eq world place) (receivers_of nat_eq world destination) receiver m).0 in
       free t.0 receiver (mount_numbered nat_eq world number) t.1 t.2 t.3 (found_there world.mounts number is)))
 
@@ -105,22 +100,16 @@ module _ (world : World ℕ) (fresh : Fresh ℕ) (place : Location ℕ) (first :
   IsOldOrNew mount = Among mount world.mounts ⊎ ((part : Mount ℕ) × IsPart it part × (mount ≡ copy part))
 
   old_or_new : (mount : Mount ℕ) → Among mount after.mounts → IsOldOrNew mount
-  old_or_new mount m =
-      ⊎_elim
-      (λ front.
-      ⊎_elim
-      (λ pushed.
+  old_or_new mount m = ⊎_elim (λ front.
+      ⊎_elim (λ pushed.
       let from = among-from_map push_it world.mounts mount pushed in
-      let number : mount.number ≡ from.0.number =
-      ap (λ (x : Mount ℕ). x.number) from.2 ∙ (push_keeps world supplied
+      let number : mount.number ≡ from.0.number = ap (λ (x : Mount ℕ). x.number) from.2 ∙ (push_keeps world supplied
       (graft_of nat_eq world supplied place false (first ∷ [])) parts from.0).number in
       let same : mount ≡ from.0 =
       sym (found_itself after.mounts one_after mount m) ∙ ap (mount_numbered nat_eq after) number
       ∙ kept_itself from.0 from.1 in
-      inl (subst (λ x. Among x world.mounts) (sym same) from.1))
-      (λ arrived. of_copies destination arrived (inl refl))
-      (among-append (map push_it world.mounts) (copies_of destination) mount front))
-      (λ rest.
+      inl (subst (λ x. Among x world.mounts) (sym same) from.1)) (λ arrived. of_copies destination arrived (inl refl))
+      (among-append (map push_it world.mounts) (copies_of destination) mount front)) (λ rest.
       let from = among-from_flat_map copies_of (rest_of parts) mount rest in
       of_copies from.0 from.2 (inr from.1))
       (among-append (map push_it world.mounts ++ copies_of destination) (flat_map copies_of (rest_of parts)) mount m)
@@ -138,15 +127,13 @@ module _ (world : World ℕ) (fresh : Fresh ℕ) (place : Location ℕ) (first :
 
       of_copies : (part : Mount ℕ)
           → Among mount (copies world (copies_from nat_eq fresh (parts_of nat_eq world place) (first ∷ [])) place false
-          (first ∷ []) part)
-          → Among part (parts_of nat_eq world place) → IsOldOrNew mount
-      of_copies part n p =
-          inr (
-            part,
-            contains_from_among (parts_of nat_eq world place) part p,
-            ⊎_elim (λ e. e) (λ none. absurd none) n
-                ∙ sym (is_copy it can part first (contains_from_among (parts_of nat_eq world place) part p) of_first),
-          )
+          (first ∷ []) part) → Among part (parts_of nat_eq world place) → IsOldOrNew mount
+      of_copies part n p = inr (
+        part,
+        contains_from_among (parts_of nat_eq world place) part p,
+        ⊎_elim (λ e. e) (λ none. absurd none) n
+            ∙ sym (is_copy it can part first (contains_from_among (parts_of nat_eq world place) part p) of_first),
+      )
 
   copy_number : (part : Mount ℕ) → (copy part).number ≡ new part
   copy_number part = number-mount_in after.mounts (new part)
@@ -183,31 +170,20 @@ module _ (world : World ℕ) (fresh : Fresh ℕ) (place : Location ℕ) (first :
       (record { mount = receiver.number; node = at.node })) after.mounts child found in
       let stood : stands_at nat_eq (record { mount = receiver.number; node = place.node }) child ≡ true =
       ap (λ (l : Location ℕ). stands_at nat_eq (record { mount = receiver.number; node = l.node }) child) at_is ∙ t.1 in
-      let shared : destination.propagation ≡ Shared group =
-      ap (λ (x : Mount ℕ). x.propagation) (sym destination_later)
+      let shared : destination.propagation ≡ Shared group = ap (λ (x : Mount ℕ). x.propagation) (sym destination_later)
       ∙ ap (λ (l : Location ℕ). (mount_at nat_eq after l).propagation) at_is ∙ f in
-      ⊎_elim
-      (λ old_child.
-      ⊎_elim
-      (λ old.
-      true≢false
-      (sym stood
-      ∙ free group receiver child shared old
+      ⊎_elim (λ old_child.
+      ⊎_elim (λ old.
+      true≢false (sym stood ∙ free group receiver child shared old
       (still_hears group receiver old (receives_completely after groups_later group receiver
-      (among_from_contains after.mounts receiver contained) hears_it))
-      old_child))
-      (λ copied.
-      true≢false
+      (among_from_contains after.mounts receiver contained) hears_it)) old_child)) (λ copied. true≢false
       (sym (on_old child old_child (record { mount = receiver.number; node = place.node })
       (stands_there (record { mount = receiver.number; node = place.node }) child stood))
       ∙ ap (λ (x : Mount ℕ). is_mount world x.number) copied.2
       ∙ ap (is_mount world) (copy_number copied.0) ∙ copy_new copied.0 copied.1))
-      (old_or_new receiver (among_from_contains after.mounts receiver contained)))
-      (λ copied.
-      true≢false
+      (old_or_new receiver (among_from_contains after.mounts receiver contained))) (λ copied. true≢false
       (sym is ∙ ap (is_mount world) (sym same ∙ ap (λ (x : Mount ℕ). x.number) copied.2 ∙ copy_number copied.0)
-      ∙ copy_new copied.0 copied.1))
-      (old_or_new child t.0)
+      ∙ copy_new copied.0 copied.1)) (old_or_new child t.0)
     where
       still_hears : (one : ℕ) (x : Mount ℕ) → Among x world.mounts → receives nat_eq after one x ≡ true
           → receives nat_eq world one x ≡ true
@@ -226,16 +202,14 @@ module _ (world : World ℕ) (fresh : Fresh ℕ) (place : Location ℕ) (first :
   undone = unmounted nat_eq after gone
 
   left_among : (number : ℕ) → is_mount world number ≡ true → Among (mount_left after gone number) undone.mounts
-  left_among number is =
-      found_there undone.mounts number
+  left_among number is = found_there undone.mounts number
       (ap (is_among nat_eq number) (unmount_keeps_the_order after gone)
       ∙ later_number world fresh place first there number is)
 
   type_stays : (number : ℕ) → is_mount world number ≡ true
       → has_its_master undone (mount_numbered nat_eq world number).propagation ≡ true
       → (mount_left after gone number).propagation ≡ (mount_numbered nat_eq world number).propagation
-  type_stays number is e =
-      what_stays_keeps_its_type after gone number (stays number is)
+  type_stays number is e = what_stays_keeps_its_type after gone number (stays number is)
       (ap (λ (x : Mount ℕ). has_its_master undone x.propagation) (kept number is) ∙ e)
       ∙ ap (λ (x : Mount ℕ). x.propagation) (kept number is)
 
@@ -248,10 +222,7 @@ module _ (world : World ℕ) (fresh : Fresh ℕ) (place : Location ℕ) (first :
       let shared : (mount_numbered nat_eq world member.0.number).propagation ≡ Shared group =
       ap (λ (x : Mount ℕ). x.propagation) (found_itself world.mounts can.one_number member.0 member.1)
       ∙ member_shared group member.0 member.2 in
-      any_from_among (is_member_of nat_eq group) undone.mounts (mount_left after gone member.0.number)
-      (left_among member.0.number is)
-      (shared_member group (mount_left after gone member.0.number)
-      (type_stays member.0.number is (ap (has_its_master undone) shared) ∙ shared))
+      grind (arith, common_steps, any_from_among, left_among, shared_member, type_stays)
 
   master_there : (number : ℕ) → is_mount world number ≡ true
       → has_its_master undone (mount_numbered nat_eq world number).propagation ≡ true
@@ -260,9 +231,7 @@ module _ (world : World ℕ) (fresh : Fresh ℕ) (place : Location ℕ) (first :
       by : (kind : Propagation ℕ) → (mount_numbered nat_eq world number).propagation ≡ kind
           → has_its_master undone (mount_numbered nat_eq world number).propagation ≡ true
       by (Shared group) e = ap (has_its_master undone) e
-      by (Slave master) e =
-          ap (has_its_master undone) e
-          ∙ still_members master
+      by (Slave master) e = ap (has_its_master undone) e ∙ still_members master
           (live_members world.master (has_members nat_eq world.mounts) master
           (lives_in world can.groups (mount_numbered nat_eq world number) (found_there world.mounts number is) master
           (ap source_of e)))
@@ -275,29 +244,17 @@ module _ (world : World ℕ) (fresh : Fresh ℕ) (place : Location ℕ) (first :
     where
       by : (found : Option (Location ℕ)) → (mount_numbered nat_eq world number).mount_point ≡ found
           → (mount_left after gone number).mount_point ≡ (mount_numbered nat_eq world number).mount_point
-      by None e =
-          root_mounts_stay after gone number (ap (λ (x : Mount ℕ). x.mount_point) (kept number is) ∙ e) ∙ sym e
-      by (Some at) e =
-          what_stays_keeps_its_place after gone number at (stays number is)
-          (ap (λ (x : Mount ℕ). x.mount_point) (kept number is) ∙ e)
-          (stays at.mount
-          (on_old (mount_numbered nat_eq world number) (found_there world.mounts number is) at e))
-          ∙ sym e
+      by None e = root_mounts_stay after gone number (ap (λ (x : Mount ℕ). x.mount_point) (kept number is) ∙ e) ∙ sym e
+      by (Some at) e = what_stays_keeps_its_place after gone number at (stays number is)
+          (ap (λ (x : Mount ℕ). x.mount_point) (kept number is) ∙ e) (stays at.mount
+          (on_old (mount_numbered nat_eq world number) (found_there world.mounts number is) at e)) ∙ sym e
 
   pub has_its_record_back : (number : ℕ) → is_mount world number ≡ true
       → mount_left after gone number ≡ mount_numbered nat_eq world number
   has_its_record_back number is =
       let k = what_stays_keeps after gone number (stays number is) in
       let same = kept number is in
-      λ i. record {
-        number = (k.number ∙ ap (λ (x : Mount ℕ). x.number) same) i;
-        namespace = (k.namespace ∙ ap (λ (x : Mount ℕ). x.namespace) same) i;
-        mount_point = place_stays number is i;
-        filesystem = (k.filesystem ∙ ap (λ (x : Mount ℕ). x.filesystem) same) i;
-        root = (k.root ∙ ap (λ (x : Mount ℕ). x.root) same) i;
-        flags = (k.flags ∙ ap (λ (x : Mount ℕ). x.flags) same) i;
-        propagation = type_stays number is (master_there number is) i;
-      }
+      grind (arith, common_steps, place_stays, type_stays, master_there)
 
   -- All copies go
   part_later : (part : Mount ℕ) → IsPart it part → Among part after.mounts
@@ -321,21 +278,15 @@ module _ (world : World ℕ) (fresh : Fresh ℕ) (place : Location ℕ) (first :
   off_copy part c mount m at e = false_from_ne_true (nat_eq (copy part).number at.mount) (λ same.
       let number : at.mount ≡ new part = sym (eqb-true (copy part).number at.mount same) ∙ copy_number part in
       let no_mount_there : is_mount world at.mount ≡ false = ap (is_mount world) number ∙ copy_new part c in
-      ⊎_elim
-      (λ old. true≢false (sym (on_old mount old at e) ∙ no_mount_there))
-      (λ copied.
+      ⊎_elim (λ old. true≢false (sym (on_old mount old at e) ∙ no_mount_there)) (λ copied.
       let on : record { mount = copied.0.number; node = place.node } ≡ at =
       same_Some (record { mount = copied.0.number; node = place.node }) at
       (sym (copy_stands copied.0 copied.1) ∙ ap (λ (x : Mount ℕ). x.mount_point) (sym copied.2) ∙ e) in
-      true≢false
-      (sym (is_one_of world.mounts copied.0 (part_old world fresh place first there copied.0 copied.1))
-      ∙ ap (λ (l : Location ℕ). is_mount world l.mount) on ∙ no_mount_there))
-      (old_or_new mount m))
+      true≢false (sym (is_one_of world.mounts copied.0 (part_old world fresh place first there copied.0 copied.1))
+      ∙ ap (λ (l : Location ℕ). is_mount world l.mount) on ∙ no_mount_there)) (old_or_new mount m))
 
   may_leave : (part : Mount ℕ) → IsPart it part → may_go nat_eq after (copy part) ≡ true
-  may_leave part c =
-      ap (only_cover nat_eq (copy part))
-      (filter_none (stands_on nat_eq (copy part).number) after.mounts
+  may_leave part c = ap (only_cover nat_eq (copy part)) (filter_none (stands_on nat_eq (copy part).number) after.mounts
       (none_from_among (stands_on nat_eq (copy part).number) after.mounts
       (λ mount m. by mount m mount.mount_point refl)))
     where
@@ -351,30 +302,26 @@ module _ (world : World ℕ) (fresh : Fresh ℕ) (place : Location ℕ) (first :
     where
       only : is_shared destination.propagation ≡ false → group_of destination.propagation ≡ None
           → Goes after (copy destination) (copy part).number
-      only e f =
-          subst (λ x. Goes after (copy destination) (copy x).number) (sym (only_part it can f part c))
+      only e f = subst (λ x. Goes after (copy destination) (copy x).number) (sym (only_part it can f part c))
           (alone (record { mount = destination.number; node = place.node }) (copy_stands destination destination_part)
           (ap (λ (x : Mount ℕ). is_shared x.propagation) destination_later ∙ e))
 
       by : (kind : Propagation ℕ) → destination.propagation ≡ kind → Goes after (copy destination) (copy part).number
       by (Shared group) e =
           at_receiver (record { mount = destination.number; node = place.node }) group part (copy part)
-          (copy_stands destination destination_part)
-          (ap (λ (x : Mount ℕ). x.propagation) destination_later ∙ e)
+          (copy_stands destination destination_part) (ap (λ (x : Mount ℕ). x.propagation) destination_later ∙ e)
           (contains_from_among after.mounts part (part_later part c))
           (receives_soundly after group part (hears_later part c group e))
           (found_at_its_place after.mounts one_place (copy part)
           (among_from_contains after.mounts (copy part) (each_is_copied it part first can c of_first).there)
-          (record { mount = part.number; node = place.node }) (copy_stands part c))
-          (may_leave part c)
+          (record { mount = part.number; node = place.node }) (copy_stands part c)) (may_leave part c)
       by (Slave master) e = only (ap is_shared e) (ap group_of e)
       by Private e = only (ap is_shared e) (ap group_of e)
       by Unbindable e = only (ap is_shared e) (ap group_of e)
 
   pub copy_is_gone : OneMountAMountPoint after.mounts → (part : Mount ℕ) → IsPart it part
       → mount_left after gone (new part) ≡ detached (copy part)
-  copy_is_gone one_place part c =
-      what_goes_is_detached after gone (new part)
+  copy_is_gone one_place part c = what_goes_is_detached after gone (new part)
       ((what_goes_is_named after gone (new part) groups_later).1
       (subst (Goes after (copy destination)) (copy_number part) (copy_goes one_place part c)))
 
@@ -383,8 +330,7 @@ module _ (world : World ℕ) (fresh : Fresh ℕ) (place : Location ℕ) (first :
   masters_back group has = by (world.master group) refl
     where
       by : (found : Option ℕ) → world.master group ≡ found → undone.master group ≡ world.master group
-      by None e =
-          master-regrouped_by (list_any (lost_a_group nat_eq (middle after (going nat_eq after
+      by None e = master-regrouped_by (list_any (lost_a_group nat_eq (middle after (going nat_eq after
           (mount_numbered nat_eq after gone))))
           (middle after (going nat_eq after (mount_numbered nat_eq after gone))).mounts)
           (middle after (going nat_eq after (mount_numbered nat_eq after gone))) group
@@ -395,8 +341,6 @@ module _ (world : World ℕ) (fresh : Fresh ℕ) (place : Location ℕ) (first :
           let life = lives_in world can.groups one.0 one.1 group (ap source_of (member_shared group one.0 one.2)) in
           groups_keep_their_masters after gone group master
           (old_master world (supply it can) place false (first ∷ []) (serve_images it can) can.each_once group has ∙ e)
-          (still_members master
-          (live_members world.master (has_members nat_eq world.mounts) master
+          (still_members master (live_members world.master (has_members nat_eq world.mounts) master
           (lives_up world.master (has_members nat_eq world.mounts) group master life (above group master master e
-          (here master)))))
-          ∙ sym e
+          (here master))))) ∙ sym e

@@ -1,5 +1,6 @@
 -- Lines are refused by their own rules.
-use Rattle.std.proofs.Common.{refl, subst, ℕ, nat_eq, Bool, true, false, nat_lt, length, List, [], ◌∷◌, ◌++◌, Option, Some, None, Result, Ok, Err}
+use Rattle.std.proofs.Common.{arith, refl, ℕ, nat_eq, Bool, true, false, List, [], ◌∷◌, ◌++◌, Option, Some, None, Result, Ok, Err}
+use Rattle.std.proofs.lemmas.Grind.{common_steps}
 use Rattle.std.specs.List.{list_any}
 use Rattle.vt_laws_rules.proofs.rules.Outcomes.{IsOwn, RefusesOwn, among_more, error_is}
 use Rattle.vt_laws_rules.proofs.rules.OwnRules.{policy_refuses_own}
@@ -14,8 +15,7 @@ use Rattle.vt_spec.specs.Lists.{Fresh}
 use Rattle.vt_spec.specs.Machine.Outcomes.{Outcome, judged}
 use Rattle.vt_spec.specs.Machine.Run.{Step, line_step_by, requested, spoken_step}
 use Rattle.vt_spec.specs.Machine.Run.Step.{Answered, Silent}
-use Rattle.vt_spec.specs.Language.Script.{Grammar, Request, is_silent, request_of}
-use Rattle.vt_spec.specs.Language.Limits.{longest_line}
+use Rattle.vt_spec.specs.Language.Script.{Grammar, Request, request_of}
 use Rattle.vt_spec.specs.Language.Script.Request.{Asking, Calling}
 use Rattle.vt_spec.specs.Machine.Sealed.{directed, no_such_task}
 use Rattle.vt_spec.specs.Machine.World.{World}
@@ -68,7 +68,4 @@ line_own false true grammar world line fresh = tt
 line_own false false grammar world line fresh = spoken_own grammar world line fresh
 
 pub denied_line_is_own : DeniedLineIsOwn
-denied_line_is_own grammar world line fresh outcome deny steps e =
-    error_is (IsOwn (rules_of_request (request_of grammar line))) outcome.answer deny e
-    (subst (StepRefusesOwn (rules_of_request (request_of grammar line))) steps
-    (line_own (nat_lt longest_line (length line)) (is_silent line) grammar world line fresh))
+denied_line_is_own grammar world line fresh outcome deny steps e = grind (arith, common_steps, error_is, line_own)

@@ -1,5 +1,6 @@
 -- The rules of walks are in order, but for those of links and of slashes.
-use Rattle.std.proofs.Common.{◌≡◌, refl, subst, ℕ, nat_eq, Bool, true, false, not, ◌&&◌, is_some, [], ◌∷◌, ◌++◌, Option, Some, None, option_map, ok_or, Result, Ok, Err, IfErr, cond}
+use Rattle.std.proofs.Common.{arith, ◌≡◌, refl, ℕ, nat_eq, Bool, true, false, not, ◌&&◌, is_some, [], ◌∷◌, ◌++◌, Option, Some, None, ok_or, Result, Ok, Err, IfErr, cond}
+use Rattle.std.proofs.lemmas.Grind.{common_steps}
 use Rattle.vt_laws_rules.proofs.rules.Outcomes.{error_is}
 use Rattle.vt_laws_rules.specs.RuleOrder.{MissingBeforeSlash, RemovedBeforeSlash, RemovedBeforeSlashOfRename, StepRulesInOrder}
 use Rattle.vt_laws_rules.specs.RuleRanks.{IsInOrder}
@@ -7,12 +8,10 @@ use Rattle.vt_spec.specs.declared.errors.Deny.{Deny}
 use Rattle.vt_spec.specs.declared.errors.Rule.{Rule}
 use Rattle.vt_spec.specs.declared.errors.Rule.TheVariants.{W3, W6, W8}
 use Rattle.vt_spec.specs.Errors.{Rules, denial, unless}
-use Rattle.vt_spec.specs.Lists.{last_or}
-use Rattle.vt_spec.specs.Machine.Mounts.{Location, topmost}
+use Rattle.vt_spec.specs.Machine.Mounts.{Location}
 use Rattle.vt_spec.specs.Machine.Walking.{LastWord, Place, Stop, then_walk, walk_end, walk_unless}
 use Rattle.vt_spec.proofs.Walk.{entry_location, hops, is_directory_there, is_lost, is_top, place_walk, search_rules, stepped}
-use Rattle.vt_spec.specs.Machine.Walking.LastWord.{Dot, DotDot, Named, NoWord}
-use Rattle.vt_spec.specs.Machine.World.{Task, World, is_removed_at}
+use Rattle.vt_spec.specs.Machine.World.{Task, World}
 use Rattle.std.proofs.lemmas.Bool.{and_from}
 
 module _ (world : World ℕ) (task : Task ℕ) (here : Location ℕ) where
@@ -32,18 +31,12 @@ module _ (world : World ℕ) (task : Task ℕ) (here : Location ℕ) where
   lost false false stays parent = tt
 
   steps : (word : LastWord) → StandsAfterSearch (stepped nat_eq world task here word)
-  steps NoWord = tt
-  steps Dot = tt
-  steps DotDot =
-      let end = last_or here (hops nat_eq world task here) in
-      lost (is_top nat_eq world task end) (is_lost nat_eq world end) end _
-  steps (Named name) = found (option_map (topmost nat_eq world.mounts) (entry_location nat_eq world here name))
+  steps word = grind (arith, common_steps, hops, lost, is_top, is_lost, found, entry_location)
 
 pub step_rules_in_order : StepRulesInOrder
 step_rules_in_order world task here word deny e =
     error_is (λ d. IsInOrder (search_rules nat_eq world task here ++ ((true, d.rule) ∷ [])))
-    (stepped nat_eq world task here word) deny e
-    (steps world task here word)
+    (stepped nat_eq world task here word) deny e (steps world task here word)
 
 -- a place that a rule stops at goes no further
 stops : (fails : Bool) (rule : Rule) (place : Place ℕ) (next : Place ℕ → Result (Place ℕ) (Stop ℕ)) → fails ≡ true
@@ -53,15 +46,10 @@ stops false rule place next e = cc
 
 -- a walk to that place is refused so, whatever is asked behind it
 stops_there : (walk : Result (Place ℕ) (Stop ℕ)) (place : Place ℕ) (fails : Place ℕ → Bool) (rule : Rule)
-    (more : Place ℕ → Rules)
-    → walk ≡ Ok place → fails place ≡ true
+    (more : Place ℕ → Rules) → walk ≡ Ok place → fails place ≡ true
     → walk_end (then_walk (then_walk walk (λ p. walk_unless p.steps ((fails p, rule) ∷ []) p))
-    (λ p. walk_unless p.steps (more p) p)) ≡ Err
-    (denial rule)
-stops_there (Ok found) place fails rule more leads e =
-    let same : place ≡ found = cc in
-    stops (fails found) rule found (λ p. walk_unless p.steps (more p) p) (subst (λ p. fails p ≡ true) same e)
-stops_there (Err stop) place fails rule more leads e = cc
+    (λ p. walk_unless p.steps (more p) p)) ≡ Err (denial rule)
+stops_there walk place fails rule more leads e = cc
 
 missing : {A : Type 0} (object : Option A) → object ≡ None → not (is_some object) ≡ true
 missing None e = refl
@@ -69,11 +57,7 @@ missing (Some object) e = cc
 
 pub removed_before_slash : RemovedBeforeSlash
 removed_before_slash world task path place leads none removed =
-    stops_there (place_walk nat_eq world task path) place
-    (λ p. not (is_some p.object) && is_removed_at nat_eq world p.parent) W8
-    (λ p. (p.slash && not (is_some p.object), W6) ∷ []) leads
-    (and_from (not (is_some place.object)) (is_removed_at nat_eq world place.parent)
-    (missing place.object none) removed)
+    grind (arith, common_steps, stops_there, place_walk, and_from, missing)
 
 pub missing_before_slash : MissingBeforeSlash
 missing_before_slash world task path place leads none =
@@ -82,8 +66,4 @@ missing_before_slash world task path place leads none =
 
 pub removed_before_slash_of_rename : RemovedBeforeSlashOfRename
 removed_before_slash_of_rename world task path place old_is_directory leads none removed =
-    stops_there (place_walk nat_eq world task path) place
-    (λ p. not (is_some p.object) && is_removed_at nat_eq world p.parent) W8
-    (λ p. (p.slash && not old_is_directory, W3) ∷ []) leads
-    (and_from (not (is_some place.object)) (is_removed_at nat_eq world place.parent)
-    (missing place.object none) removed)
+    grind (arith, common_steps, stops_there, place_walk, and_from, missing)

@@ -18,19 +18,14 @@ use Rattle.vt_spec.specs.Machine.Policy.{call_outcome, filesystems_changed_by, f
 use Rattle.vt_spec.specs.Machine.World.{Task, World}
 
 pub no_task_is_refused : NoTaskIsRefused
-no_task_is_refused fresh world name call none =
-    subst
-    (λ found. (after world (ok_or found (denial S2))
-    (λ task.
+no_task_is_refused fresh world name call none = subst (λ found. (after world (ok_or found (denial S2)) (λ task.
     finished nat_eq world name call (filesystems_changed_by nat_eq world (judge_in nat_eq fresh world task call))
-    (call_outcome nat_eq fresh world task call))).answer ≡ Err (denial S2))
-    (sym none) refl
+    (call_outcome nat_eq fresh world task call))).answer ≡ Err (denial S2)) (sym none) refl
 
 pub first_rules_answer : FirstRulesAnswer
 first_rules_answer fresh world name task call there some =
     refused_as (λ deny. IsLeastOf deny.rule (failing (asked_first world task call)))
-    (policy nat_eq fresh world name call).answer
-    (asked fresh world task call)
+    (policy nat_eq fresh world name call).answer (asked fresh world task call)
     (policy_asked fresh world name task call there)
     (before_least 0 (asked_first world task call) (decided (asked_last fresh world task call))
     (front_in_order 0 (asked_first world task call) ((true, W1) ∷ []) (first_in_order world task call)) some)
@@ -45,8 +40,7 @@ left_to_decide fresh world task call last none e =
 pub walks_answer_next : WalksAnswerNext
 walks_answer_next fresh world name task call deny there none e =
     denied_as (policy nat_eq fresh world name call).answer (asked fresh world task call) deny
-    (policy_asked fresh world name task call there)
-    (left_to_decide fresh world task call (Err deny) none e)
+    (policy_asked fresh world name task call there) (left_to_decide fresh world task call (Err deny) none e)
 
 -- the table at the end of the walks is in order
 ends_in_order : (last : Result Rules Deny) (rules : Rules) → last ≡ Ok rules → IfOk last IsInOrderAfterWalk
@@ -57,6 +51,5 @@ pub last_rules_answer : LastRulesAnswer
 last_rules_answer fresh world name task call rules there none e =
     least_as (policy nat_eq fresh world name call).answer (unless rules (Ok true)) (failing rules)
     (policy_asked fresh world name task call there
-    ∙ ap result_err (left_to_decide fresh world task call (Ok rules) none e))
-    (table_least (rank W9 + 1) rules
+    ∙ ap result_err (left_to_decide fresh world task call (Ok rules) none e)) (table_least (rank W9 + 1) rules
     (ends_in_order (asked_last fresh world task call) rules e (last_in_order fresh world task call)))

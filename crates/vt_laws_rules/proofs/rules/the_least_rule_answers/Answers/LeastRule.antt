@@ -1,4 +1,5 @@
 -- In a table that is in the policy's order, the first rule that fails is the least of those that fail.
+use Rattle.std.proofs.lemmas.Grind.{common_steps}
 use Rattle.std.proofs.Common.{◌≡◌, ◌≢◌, refl, subst, ap, ℕ, ◌+◌, ◌*◌, ◌≤◌, Bool, true, false, ◌||◌, nat_le, List, [], ◌∷◌, ◌++◌, drop, Result, Ok, Err, arith}
 use Rattle.std.specs.Prelude.{IsErrAnd, slice_index}
 use Rattle.std.specs.Result.{result_err}
@@ -21,14 +22,12 @@ below_all e f = omega arith
 
 -- a rule stands where its name stands
 same_rank : (a b : Rule) → bytes_eq (rule_name a) (rule_name b) ≡ true → rank a ≡ rank b
-same_rank a b e =
-    ap (λ name. 100 * place_of_letter (slice_index name 0) letters + value_from 10 0 (drop 1 name))
+same_rank a b e = ap (λ name. 100 * place_of_letter (slice_index name 0) letters + value_from 10 0 (drop 1 name))
     ((bytes_eq-Decides (rule_name a) (rule_name b)).0 e)
 
 -- each rule of a table in order that fails stands at or after its begin
 from_least : (least : ℕ) (rows : Rules) (other : Rule) → is_in_order_from least rows ≡ true
-    → is_among other (failing rows) ≡ true
-    → least ≤ rank other
+    → is_among other (failing rows) ≡ true → least ≤ rank other
 from_least least [] other order among = cc
 from_least least ((true, rule) ∷ rows) other order among =
     let below : least ≤ rank rule = leb-true least (rank rule) ((and_parts (nat_le least (rank rule)) _ order).0) in
@@ -45,8 +44,7 @@ first_is_least : (least : ℕ) (rule : Rule) (rows : Rules) → is_in_order_from
     → IsLeastOf rule (failing ((true, rule) ∷ rows))
 first_is_least least rule rows order = (
   or_left (bytes_eq (rule_name rule) (rule_name rule)) _ ((bytes_eq-Decides (rule_name rule) (rule_name rule)).1 refl),
-  λ other among.
-      either_so (bytes_eq (rule_name rule) (rule_name other)) (is_among other (failing rows)) among
+  λ other among. either_so (bytes_eq (rule_name rule) (rule_name other)) (is_among other (failing rows)) among
       (λ same. subst (λ n. rank rule ≤ n) (same_rank rule other same) (omega arith))
       (λ later. from_least (rank rule) rows other ((and_parts (nat_le least (rank rule)) _ order).1) later),
 )
@@ -84,25 +82,16 @@ front_in_order least ((fails, rule) ∷ rows) more order =
 -- what is told of one result is told of another that is refused alike
 module _ {A B : Type 0} where
   pub least_as : (answer : Result A Deny) (other : Result B Deny) (rules : List Rule)
-      → result_err answer ≡ result_err other
-      → IsAnsweredByLeast other rules → IsAnsweredByLeast answer rules
-  least_as (Ok a) (Ok b) [] e h = refl
-  least_as (Ok a) (Ok b) (rule ∷ rules) e h = h
-  least_as (Ok a) (Err deny) rules e h = cc
-  least_as (Err deny) (Ok b) rules e h = cc
-  least_as (Err deny) (Err other) [] e h = h
-  least_as (Err deny) (Err other) (rule ∷ rules) e h = let same : other ≡ deny = cc in
-      subst (λ d. IsLeastOf d.rule (rule ∷ rules)) same h
+      → result_err answer ≡ result_err other → IsAnsweredByLeast other rules → IsAnsweredByLeast answer rules
+  least_as answer other rules e h = grind (arith, common_steps)
 
   pub refused_as : (P : Deny → Type 0) (answer : Result A Deny) (other : Result B Deny)
-      → result_err answer ≡ result_err other
-      → IsErrAnd other P → IsErrAnd answer P
+      → result_err answer ≡ result_err other → IsErrAnd other P → IsErrAnd answer P
   refused_as P answer (Ok b) e h = absurd h
   refused_as P (Ok a) (Err other) e h = cc
   refused_as P (Err deny) (Err other) e h = let same : other ≡ deny = cc in subst P same h
 
   pub denied_as : (answer : Result A Deny) (other : Result B Deny) (deny : Deny) → result_err answer ≡ result_err other
-      → other ≡ Err deny
-      → answer ≡ Err deny
+      → other ≡ Err deny → answer ≡ Err deny
   denied_as (Ok a) other deny e denied = cc
   denied_as (Err one) other deny e denied = cc

@@ -1,5 +1,6 @@
 -- What has a name, and what a task is at, stays where what nothing uses goes.
-use Rattle.std.proofs.Common.{eqb-true, ◌≡◌, refl, sym, ap, subst, ◌∙◌, true≢false, ℕ, nat_eq, eq-eqb, Bool, true, false, not, cond, List, [], ◌∷◌, ◌++◌, map, ◌&&◌, ◌||◌, ⊎_elim, Some, None, is_some}
+use Rattle.std.proofs.Common.{arith, eqb-true, ◌≡◌, refl, sym, ap, subst, ◌∙◌, true≢false, ℕ, nat_eq, eq-eqb, Bool, true, false, not, cond, List, [], ◌∷◌, ◌++◌, map, ◌&&◌, ◌||◌, ⊎_elim, Some, None, is_some}
+use Rattle.std.proofs.lemmas.Grind.{common_steps}
 use Rattle.std.specs.Prelude.{filter_map, unwrap_or}
 use Rattle.std.specs.List.{filter, find, list_any}
 use Rattle.std.proofs.lemmas.List.Elements.{All-filter}
@@ -23,22 +24,7 @@ filtered : (stays : ℕ → Bool) (number : ℕ) (list : List (Filesystem ℕ)) 
     → numbered number (filter (λ f. stays f.number) list) ≡ numbered number list
 filtered stays number [] h = refl
 filtered stays number (filesystem ∷ list) h =
-    by (nat_eq number filesystem.number) refl (stays filesystem.number) refl (filtered stays number list h)
-  where
-    by : (b : Bool) → nat_eq number filesystem.number ≡ b → (c : Bool) → stays filesystem.number ≡ c
-        → numbered number (filter (λ f. stays f.number) list) ≡ numbered number list
-        → numbered number (cond c (filesystem ∷ filter (λ f. stays f.number) list) (filter (λ f. stays f.number) list))
-        ≡ unwrap_or (cond b (Some filesystem) (find (λ f. nat_eq number f.number) list)) (no_filesystem number)
-    by true e true d rest =
-        ap (λ b. unwrap_or (cond b (Some filesystem)
-        (find (λ f. nat_eq number f.number) (filter (λ f. stays f.number) list)))
-        (no_filesystem number)) e
-    by true e false d rest = absurd (true≢false (sym h ∙ ap stays (eqb-true number filesystem.number e) ∙ d))
-    by false e true d rest =
-        ap (λ b. unwrap_or (cond b (Some filesystem)
-        (find (λ f. nat_eq number f.number) (filter (λ f. stays f.number) list)))
-        (no_filesystem number)) e ∙ rest
-    by false e false d rest = rest
+    grind (arith, common_steps, numbered, true≢false, eqb-true, filtered stays number list h)
 
 -- a mount of a shorter list, where those of its number stay
 filtered_mount : (stays : Mount ℕ → Bool) (number : ℕ) (list : List (Mount ℕ))
@@ -46,20 +32,7 @@ filtered_mount : (stays : Mount ℕ → Bool) (number : ℕ) (list : List (Mount
     → mount_in nat_eq (filter stays list) number ≡ mount_in nat_eq list number
 filtered_mount stays number [] h = refl
 filtered_mount stays number (mount ∷ list) h =
-    by (nat_eq number mount.number) refl (stays mount) refl (filtered_mount stays number list h)
-  where
-    by : (b : Bool) → nat_eq number mount.number ≡ b → (c : Bool) → stays mount ≡ c
-        → mount_in nat_eq (filter stays list) number ≡ mount_in nat_eq list number
-        → mount_in nat_eq (cond c (mount ∷ filter stays list) (filter stays list)) number
-        ≡ unwrap_or (cond b (Some mount) (find (λ m. nat_eq number m.number) list)) (no_mount number)
-    by true e true d rest =
-        ap (λ b. unwrap_or (cond b (Some mount) (find (λ m. nat_eq number m.number) (filter stays list)))
-        (no_mount number)) e
-    by true e false d rest = absurd (true≢false (sym (h mount (sym (eqb-true number mount.number e))) ∙ d))
-    by false e true d rest =
-        ap (λ b. unwrap_or (cond b (Some mount) (find (λ m. nat_eq number m.number) (filter stays list)))
-        (no_mount number)) e ∙ rest
-    by false e false d rest = rest
+    grind (arith, common_steps, true≢false, eqb-true, filtered_mount stays number list h)
 
 -- a filesystem of a list of which each was changed, but not its number
 mapped_node : (change : Filesystem ℕ → Filesystem ℕ) → ((f : Filesystem ℕ) → (change f).number ≡ f.number)
@@ -67,14 +40,12 @@ mapped_node : (change : Filesystem ℕ → Filesystem ℕ) → ((f : Filesystem 
     → (change (numbered number list)).files.tree.node object ≡ (numbered number list).files.tree.node object
     → (numbered number (map change list)).files.tree.node object ≡ (numbered number list).files.tree.node object
 mapped_node change same number object [] h = refl
-mapped_node change same number object (filesystem ∷ list) h =
-    ap (λ n. (unwrap_or
+mapped_node change same number object (filesystem ∷ list) h = ap (λ n. (unwrap_or
     (cond (nat_eq number n) (Some (change filesystem)) (find (λ f. nat_eq number f.number) (map change list)))
     (no_filesystem number)).files.tree.node object) (same filesystem)
     ∙ by (nat_eq number filesystem.number) h (λ g. mapped_node change same number object list g)
   where
-    by : (b : Bool)
-        → (change (unwrap_or (cond b (Some filesystem) (find (λ f. nat_eq number f.number) list))
+    by : (b : Bool) → (change (unwrap_or (cond b (Some filesystem) (find (λ f. nat_eq number f.number) list))
         (no_filesystem number))).files.tree.node object
         ≡ (unwrap_or (cond b (Some filesystem) (find (λ f. nat_eq number f.number) list))
         (no_filesystem number)).files.tree.node object
@@ -92,13 +63,11 @@ module _ (chosen : Filesystem ℕ → Bool) (world : World ℕ) (number object :
   round_keeps : is_among nat_eq object (used_in nat_eq world (filesystem_numbered nat_eq world number)) ≡ true
       → (filesystem_numbered nat_eq (without_dead_in nat_eq chosen world) number).files.tree.node object ≡
       (filesystem_numbered nat_eq world number).files.tree.node object
-  round_keeps used =
-      mapped_node (λ f. only_used nat_eq world (chosen f) f)
+  round_keeps used = mapped_node (λ f. only_used nat_eq world (chosen f) f)
       (λ f. number-only_used world (chosen f) f) number object world.filesystems
       (by (chosen (numbered number world.filesystems)))
     where
-      by : (b : Bool)
-          → (only_used nat_eq world b (numbered number world.filesystems)).files.tree.node object ≡
+      by : (b : Bool) → (only_used nat_eq world b (numbered number world.filesystems)).files.tree.node object ≡
           (numbered number world.filesystems).files.tree.node object
       by true = used_stays world (numbered number world.filesystems) object used
       by false = refl
@@ -115,16 +84,13 @@ module _ (world : World ℕ) where
   first_round = without_dead_in nat_eq is_overlay living
 
   abbrev stays_by_number : ℕ → Bool
-  stays_by_number number =
-      is_mounted nat_eq mounted_world number
+  stays_by_number number = is_mounted nat_eq mounted_world number
       || list_any (λ merged. has_layer_on nat_eq number merged
       && is_mounted nat_eq mounted_world merged.number) mounted_world.filesystems
 
   living_numbered : (number : ℕ) → is_mounted nat_eq mounted_world number ≡ true
       → filesystem_numbered nat_eq living number ≡ filesystem_numbered nat_eq world number
-  living_numbered number mounted =
-      filtered stays_by_number number world.filesystems
-      (ap (λ b. b || list_any
+  living_numbered number mounted = filtered stays_by_number number world.filesystems (ap (λ b. b || list_any
       (λ merged. has_layer_on nat_eq number merged
       && is_mounted nat_eq mounted_world merged.number) mounted_world.filesystems) mounted)
 
@@ -155,8 +121,7 @@ module _ (world : World ℕ) where
       -- the directory of the name is used too, so the name is still there after the first round
       directory_stays : (filesystem_numbered nat_eq first_round number).files.tree.node named.0 ≡
           (filesystem_numbered nat_eq living number).files.tree.node named.0
-      directory_stays =
-          round_keeps is_overlay living number named.0
+      directory_stays = round_keeps is_overlay living number named.0
           (entry_used (used_in nat_eq living (filesystem_numbered nat_eq living number))
           (filesystem_numbered nat_eq living number).files used_first tree named.0 named.1 object named.2)
 
@@ -165,22 +130,17 @@ module _ (world : World ℕ) where
 
       used_second : is_among nat_eq object (used_in nat_eq first_round (filesystem_numbered nat_eq first_round number))
           ≡ true
-      used_second =
-          ⊎_elim
-          (λ is. (named_is_used first_round
+      used_second = ⊎_elim (λ is. (named_is_used first_round
           (filesystem_numbered nat_eq first_round number) is).named object named_second)
           (λ missing. none_is_not None object refl
           (ap (λ (f : Filesystem ℕ). entry_at f.files.tree named_second.0 named_second.1) (sym missing.0)
-          ∙ named_second.2))
-          (numbered_all (λ f. IsFileTree f.files) number first_round.filesystems
+          ∙ named_second.2)) (numbered_all (λ f. IsFileTree f.files) number first_round.filesystems
           (without_dead_in_is is_overlay living trees))
 
 pub named_stays : NamedStays
-named_stays world number object trees mounted named =
-    ⊎_elim
+named_stays world number object trees mounted named = ⊎_elim
     (λ is. named_stays_there world living_trees number object mounted named_living
-    (subst (λ (f : Filesystem ℕ). IsFileTree f.files) (sym same) is))
-    (λ missing. none_is_not None object refl
+    (subst (λ (f : Filesystem ℕ). IsFileTree f.files) (sym same) is)) (λ missing. none_is_not None object refl
     (ap (λ (f : Filesystem ℕ). entry_at f.files.tree named.0 named.1) (sym missing.0) ∙ named.2))
     (numbered_all (λ f. IsFileTree f.files) number world.filesystems trees)
   where
@@ -208,19 +168,11 @@ listed_node test (first ∷ list) location h t =
         → is_among nat_eq location.node (map (λ l. l.node) (filter test list)) ≡ true)
         → is_among nat_eq location.node (map (λ l. l.node) (cond c (first ∷ filter test list) (filter test list)))
         ≡ true
-    by true e true d g rest =
-        ap (λ b. b || is_among nat_eq location.node (map (λ l. l.node) (filter test list)))
-        (eq-eqb location.node first.node (ap (λ (l : Location ℕ). l.node) (same_location_is location first e)))
-    by true e false d g rest = absurd (true≢false (sym t ∙ ap test (same_location_is location first e) ∙ d))
-    by false e true d g rest =
-        or_right (nat_eq location.node first.node)
-        (is_among nat_eq location.node (map (λ l. l.node) (filter test list))) (rest g)
-    by false e false d g rest = rest g
+    by b e c d g rest = grind (arith, common_steps, eq-eqb, same_location_is, true≢false, or_right)
 
 -- its mount is located
 located_mount : (list : List (Location ℕ)) (location : Location ℕ)
-    → list_any (same_location nat_eq location) list ≡ true
-    → list_any (λ l. nat_eq location.mount l.mount) list ≡ true
+    → list_any (same_location nat_eq location) list ≡ true → list_any (λ l. nat_eq location.mount l.mount) list ≡ true
 located_mount [] location h = absurd (true≢false (sym h))
 located_mount (first ∷ list) location h =
     by (same_location nat_eq location first) refl h (λ g. located_mount list location g)
@@ -230,8 +182,7 @@ located_mount (first ∷ list) location h =
         → (list_any (same_location nat_eq location) list ≡ true
         → list_any (λ l. nat_eq location.mount l.mount) list ≡ true)
         → (nat_eq location.mount first.mount || list_any (λ l. nat_eq location.mount l.mount) list) ≡ true
-    by true e g rest =
-        ap (λ b. b || list_any (λ l. nat_eq location.mount l.mount) list)
+    by true e g rest = ap (λ b. b || list_any (λ l. nat_eq location.mount l.mount) list)
         ((and_parts (nat_eq location.mount first.mount) (nat_eq location.node first.node) e).0)
     by false e g rest = or_right (nat_eq location.mount first.mount)
         (list_any (λ l. nat_eq location.mount l.mount) list) (rest g)
@@ -246,16 +197,12 @@ listed_mounts (mount ∷ list) number h = by (nat_eq number mount.number) h (λ 
         → (is_among nat_eq number (map (λ m. m.number) list) ≡ true
         → list_any (λ m. nat_eq (mount_in nat_eq list number).filesystem m.filesystem) list ≡ true)
         → (nat_eq (unwrap_or (cond b (Some mount) (find (λ m. nat_eq number m.number) list))
-        (no_mount number)).filesystem mount.filesystem
-        || list_any
-        (λ m. nat_eq
+        (no_mount number)).filesystem mount.filesystem || list_any (λ m. nat_eq
         (unwrap_or (cond b (Some mount) (find (λ m. nat_eq number m.number) list))
         (no_mount number)).filesystem m.filesystem) list) ≡ true
-    by true g rest =
-        ap (λ b. b || list_any (λ m. nat_eq mount.filesystem m.filesystem) list)
+    by true g rest = ap (λ b. b || list_any (λ m. nat_eq mount.filesystem m.filesystem) list)
         (eq-eqb mount.filesystem mount.filesystem refl)
-    by false g rest =
-        or_right (nat_eq (mount_in nat_eq list number).filesystem mount.filesystem)
+    by false g rest = or_right (nat_eq (mount_in nat_eq list number).filesystem mount.filesystem)
         (list_any (λ m. nat_eq (mount_in nat_eq list number).filesystem m.filesystem) list) (rest g)
 
 still_listed : (stays : Mount ℕ → Bool) (list : List (Mount ℕ)) (number : ℕ)
@@ -271,19 +218,13 @@ still_listed stays (mount ∷ list) number h g =
         → (is_among nat_eq number (map (λ m. m.number) list) ≡ true
         → is_among nat_eq number (map (λ m. m.number) (filter stays list)) ≡ true)
         → is_among nat_eq number (map (λ m. m.number) (cond c (mount ∷ filter stays list) (filter stays list))) ≡ true
-    by true e true d k rest = ap (λ b. b || is_among nat_eq number (map (λ m. m.number) (filter stays list))) e
-    by true e false d k rest = absurd (true≢false (sym (h mount (sym (eqb-true number mount.number e))) ∙ d))
-    by false e true d k rest =
-        or_right (nat_eq number mount.number) (is_among nat_eq number (map (λ m. m.number) (filter stays list)))
-        (rest k)
-    by false e false d k rest = rest k
+    by b e c d k rest = grind (arith, common_steps, true≢false, eqb-true, or_right)
 
 module _ (world : World ℕ) (location : Location ℕ)
     (located : list_any (same_location nat_eq location) (all_locations world) ≡ true)
     (listed : is_among nat_eq location.mount (map (λ m. m.number) world.mounts) ≡ true) where
   mount_stays : (mount : Mount ℕ) → mount.number ≡ location.mount → mount_lives nat_eq world mount ≡ true
-  mount_stays mount same =
-      or_right (is_some mount.namespace) (is_located nat_eq world mount.number)
+  mount_stays mount same = or_right (is_some mount.namespace) (is_located nat_eq world mount.number)
       (ap (is_located nat_eq world) same ∙ located_mount (all_locations world) location located)
 
   abbrev shown_filesystem : ℕ
@@ -294,27 +235,22 @@ module _ (world : World ℕ) (location : Location ℕ)
       (filtered_mount (mount_lives nat_eq world) location.mount world.mounts mount_stays)
 
   shown_mounted : is_mounted nat_eq (mounted_world world) shown_filesystem ≡ true
-  shown_mounted =
-      listed_mounts (filter (mount_lives nat_eq world) world.mounts) location.mount
+  shown_mounted = listed_mounts (filter (mount_lives nat_eq world) world.mounts) location.mount
       (still_listed (mount_lives nat_eq world) world.mounts location.mount mount_stays listed)
 
   -- what it is at is used, in a world with these mounts and tasks
-  located_used : (filesystems : List (Filesystem ℕ))
-      → is_among nat_eq location.node
+  located_used : (filesystems : List (Filesystem ℕ)) → is_among nat_eq location.node
       (used_in nat_eq (record (mounted_world world) { filesystems = filesystems })
       (numbered shown_filesystem filesystems)) ≡ true
-  located_used filesystems =
-      among_located (record (mounted_world world) { filesystems = filesystems })
-      (numbered shown_filesystem filesystems) location.node
-      (ap (λ n. is_among nat_eq location.node
+  located_used filesystems = among_located (record (mounted_world world) { filesystems = filesystems })
+      (numbered shown_filesystem filesystems) location.node (ap (λ n. is_among nat_eq location.node
       (located_in nat_eq (record (mounted_world world) { filesystems = filesystems }) n))
       (number_numbered shown_filesystem filesystems)
       ∙ listed_node (λ l. nat_eq shown_filesystem (mount_at nat_eq (mounted_world world) l).filesystem)
       (all_locations world ++ map root_of (mounted_world world).mounts ++ filter_map (λ mount. mount.mount_point)
       (mounted_world world).mounts) location
       (list_any-append (same_location nat_eq location) (all_locations world ++ map root_of (mounted_world world).mounts)
-      (filter_map (λ mount. mount.mount_point) (mounted_world world).mounts)
-      ∙ ap (λ b. b
+      (filter_map (λ mount. mount.mount_point) (mounted_world world).mounts) ∙ ap (λ b. b
       || list_any (same_location nat_eq location)
       (filter_map (λ mount. mount.mount_point) (mounted_world world).mounts))
       (list_any-append (same_location nat_eq location) (all_locations world) (map root_of (mounted_world world).mounts)

@@ -1,10 +1,10 @@
 -- Looks at counted inodes and at the tree.
-use Rattle.std.proofs.Common.{◌≡◌, refl, sym, ap, ◌∙◌, ⊎_elim, ℕ, zero, suc, nat_eq, Bool, true, false, true≢false, cond, ◌||◌, List, [], ◌∷◌, length, Option, Some, None}
+use Rattle.std.proofs.Common.{arith, ◌≡◌, refl, sym, ap, ◌∙◌, ⊎_elim, ℕ, zero, suc, nat_eq, Bool, true, false, true≢false, cond, ◌||◌, List, [], ◌∷◌, length, Option, Some, None}
+use Rattle.std.proofs.lemmas.Grind.{common_steps}
 use Rattle.vt_spec.specs.FileTree.{has_entry_to, named_parent}
 use Rattle.vt_spec.specs.Lists.{chain, is_among, when}
 use Rattle.vt_spec.specs.Rights.{is_directory}
-use Rattle.vt_spec.specs.Tree.{Content, Node, Tree, entries_in, is_directory_node, kind_of, parent_in, parent_of}
-use Rattle.vt_spec.specs.Tree.Content.{Directory, Regular, Symlink, Whiteout}
+use Rattle.vt_spec.specs.Tree.{Node, Tree, entries_in, is_directory_node, parent_in}
 use Rattle.vt_spec.specs.TreeInvariant.{HasOwnParents, IsTree}
 use Rattle.vt_laws_mounts.specs.Counts.Looking.{CountedTreeIsTheTree, DirectoriesLieAlike}
 use Rattle.std.proofs.Math.Bool.{or-false}
@@ -17,14 +17,7 @@ counted_tree_is_the_tree world filesystem inodes counted =
 
 -- what is no directory is its own parent
 own_parent : (own : ℕ) (o : Option (Node ℕ)) → is_directory_node o ≡ false → parent_in own o ≡ own
-own_parent own None e = refl
-own_parent own (Some node) e = by node.content e
-  where
-    by : (content : Content ℕ) → is_directory (kind_of content) ≡ false → parent_of own content ≡ own
-    by (Directory parent entries opaque) e = cc
-    by (Regular bytes) e = refl
-    by (Symlink text) e = refl
-    by Whiteout e = refl
+own_parent own o e = grind (arith, common_steps)
 
 twice : (a : Bool) → (a || a) ≡ a
 twice true = refl
@@ -46,40 +39,27 @@ module _ (tree : Tree ℕ) (is : IsTree tree) (own : HasOwnParents tree) (top : 
   -- a directory without a name is its own parent
   parent_is_own : (d : ℕ) → has_entry_to nat_eq tree (parent_in d (tree.node d)) d ≡ false
       → parent_in d (tree.node d) ≡ d
-  parent_is_own d unnamed =
-      ⊎_elim
-      (λ directory. own d directory (λ name.
+  parent_is_own d unnamed = ⊎_elim (λ directory. own d directory (λ name.
       true≢false (sym (among_targets name.1 (entries_in (tree.node name.0)) d name.2)
       ∙ ap (λ p. has_entry_to nat_eq tree p d) (sym (is.one_parent name.0 name.1 d name.2 directory)) ∙ unnamed)))
-      (λ none. own_parent d (tree.node d) none)
-      (cases_Bool (is_directory_node (tree.node d)))
+      (λ none. own_parent d (tree.node d) none) (cases_Bool (is_directory_node (tree.node d)))
 
   repeats : (d : ℕ) → above d ≡ Some d → (most : ℕ) → among (chain most above d) ≡ nat_eq top d
   repeats d self zero = or-false (nat_eq top d)
-  repeats d self (suc most) =
-      ap (λ o. among (next_of (chain most above) d o)) self
+  repeats d self (suc most) = ap (λ o. among (next_of (chain most above) d o)) self
       ∙ ap (λ b. nat_eq top d || b) (repeats d self most) ∙ twice (nat_eq top d)
 
   alike : (most d : ℕ) → among (chain most above d) ≡ among (chain most named d)
   alike zero d = refl
-  alike (suc most) d =
-      at (nat_eq d tree.root) refl (has_entry_to nat_eq tree (parent_in d (tree.node d)) d) refl
-      (alike most (parent_in d (tree.node d)))
-      (λ self. repeats d self most)
+  alike (suc most) d = at (nat_eq d tree.root) refl (has_entry_to nat_eq tree (parent_in d (tree.node d)) d) refl
+      (alike most (parent_in d (tree.node d))) (λ self. repeats d self most)
     where
       at : (r : Bool) → nat_eq d tree.root ≡ r → (e : Bool) → has_entry_to nat_eq tree (parent_in d (tree.node d)) d ≡ e
           → among (chain most above (parent_in d (tree.node d))) ≡ among (chain most named (parent_in d (tree.node d)))
           → (above d ≡ Some d → among (chain most above d) ≡ nat_eq top d)
           → among (next_of (chain most above) d (cond r None (Some (parent_in d (tree.node d)))))
           ≡ among (next_of (chain most named) d (cond r None (when e (parent_in d (tree.node d)))))
-      at true root e entry later self = refl
-      at false root true entry later self = ap (λ b. nat_eq top d || b) later
-      at false root false entry later self =
-          let same : parent_in d (tree.node d) ≡ d = parent_is_own d entry in
-          ap (λ p. nat_eq top d || among (chain most above p)) same
-          ∙ ap (λ b. nat_eq top d || b) (self
-          (ap (λ b. cond b None (Some (parent_in d (tree.node d)))) root ∙ ap Some same))
-          ∙ twice (nat_eq top d) ∙ sym (or-false (nat_eq top d))
+      at r root e entry later self = grind (arith, common_steps, parent_is_own, twice, or-false)
 
 pub directories_lie_alike : DirectoriesLieAlike
 directories_lie_alike world filesystem inodes top directory is own counted =

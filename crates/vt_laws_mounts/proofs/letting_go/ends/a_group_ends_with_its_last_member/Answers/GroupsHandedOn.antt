@@ -1,22 +1,20 @@
 -- A group that loses its last member hands its slaves on.
-use Rattle.std.proofs.Common.{arith}
+use Rattle.std.proofs.Common.{arith, ◌≡◌, refl, ap, ◌∙◌, ℕ, suc, nat_eq, eqb-true, eq-eqb, Bool, true, false, cond, ◌||◌, find, length, true≢false, Option, Some, None, option_to_list}
 use Rattle.std.proofs.lemmas.Grind.{common_steps}
-use Rattle.std.proofs.Common.{◌≡◌, refl, sym, ap, ◌∙◌, ⊎_elim, ℕ, suc, nat_eq, eqb-true, eq-eqb, Bool, true, false, cond, not, ◌||◌, find, length, true≢false, Option, Some, None, is_some, option_to_list}
 use Rattle.std.specs.List.{list_all, list_any}
 use Rattle.std.proofs.lemmas.Bool.{and_parts, or_parts, cases_Bool}
-use Rattle.vt_spec.specs.Lists.{chain, holds_of, then_some}
-use Rattle.vt_spec.specs.Machine.Mounts.{Mount, Propagation, group_of, source_of}
+use Rattle.vt_spec.specs.Lists.{chain}
+use Rattle.vt_spec.specs.Machine.Mounts.{Propagation, source_of}
 use Rattle.vt_spec.specs.Machine.Mounts.Propagation.{Private, Shared, Slave, Unbindable}
-use Rattle.vt_spec.specs.Machine.Receives.{has_members, heir, inherited, inheriting, is_lost_group, is_member_of, lost_a_group, regrouped, regrouped_by}
+use Rattle.vt_spec.specs.Machine.Receives.{has_members, heir, inherited, is_lost_group, lost_a_group, regrouped, regrouped_by}
 use Rattle.vt_spec.specs.Machine.World.{World}
-use Rattle.vt_laws_mounts.specs.LettingGo.Groups.{GroupsLiveBut, NoGroupIsHandedOn, OneGroupIsHandedOn, hand_on, handed_on, is_group_or_lives, master_handed_on, mount_handed_on}
+use Rattle.vt_laws_mounts.specs.LettingGo.Groups.{GroupsLiveBut, NoGroupIsHandedOn, OneGroupIsHandedOn, hand_on, handed_on, is_group_or_lives, master_handed_on}
 use Rattle.vt_laws_mounts.proofs.letting_go.Lists.{fails, map_same, one_passes, or_second, passes}
 use Rattle.vt_spec.proofs.Found.{find-chain_start}
 use Rattle.vt_spec.proofs.Lists.{map_alike}
 
 find_after_start : (p : ℕ → Bool) (next : ℕ → Option ℕ) (n a : ℕ) → p a ≡ false
-    → list_all p (option_to_list (next a)) ≡ true
-    → find p (chain (suc n) next a) ≡ next a
+    → list_all p (option_to_list (next a)) ≡ true → find p (chain (suc n) next a) ≡ next a
 find_after_start p next n a e above = grind (arith, common_steps, find-chain_start, and_parts)
 
 module _ (world : World ℕ) (group : ℕ) (live : GroupsLiveBut group world)
@@ -55,68 +53,16 @@ module _ (world : World ℕ) (group : ℕ) (live : GroupsLiveBut group world)
 
   no_lower : list_any (lost_a_group nat_eq world) world.mounts ≡ false → (other : ℕ)
       → master_handed_on group (world.master group) (world.master other) ≡ world.master other
-  no_lower none other = by (holds_of (nat_eq group) (world.master other)) refl
-    where
-      is_it : (o : Option ℕ) → holds_of (nat_eq group) o ≡ true → o ≡ Some group
-      is_it None e = absurd (true≢false (sym e))
-      is_it (Some x) e = ap Some (sym (eqb-true group x e))
-
-      member_source : (mount : Mount ℕ) → is_member_of nat_eq other mount ≡ true
-          → source_of mount.propagation ≡ Some other
-      member_source mount e = of mount.propagation e
-        where
-          of : (kind : Propagation ℕ) → holds_of (nat_eq other) (group_of kind) ≡ true → source_of kind ≡ Some other
-          of (Shared own) f = ap Some (sym (eqb-true other own f))
-          of (Slave up) f = absurd (true≢false (sym f))
-          of Private f = absurd (true≢false (sym f))
-          of Unbindable f = absurd (true≢false (sym f))
-
-      has : world.master other ≡ Some group → (b : Bool) → lives other ≡ b → ⊥
-      has below true e =
-          let t = one_passes (is_member_of nat_eq other) world.mounts e in
-          let source = member_source t.0 t.2 in
-          true≢false
-          (sym (or_second (is_lost_group nat_eq world (source_of t.0.propagation))
-          (is_lost_group nat_eq world (then_some (source_of t.0.propagation) world.master))
-          (ap (λ o. is_lost_group nat_eq world (then_some o world.master)) source
-          ∙ ap (is_lost_group nat_eq world) below ∙ ap not empty))
-          ∙ fails (lost_a_group nat_eq world) world.mounts none t.0 t.1)
-      has below false e =
-          ⊎_elim
-          (λ same. true≢false
-          (sym (and_parts (lives group) true
-          (sym (ap (λ o. list_all lives (option_to_list o)) (ap world.master (sym (eqb-true other group same)) ∙ below))
-          ∙ live.its_master)).0 ∙ empty))
-          (λ differ. true≢false
-          (sym (ap is_some below) ∙ ap is_some (live.in_use other (ap (λ b. b || false) differ) e)))
-          (cases_Bool (nat_eq other group))
-
-      by : (b : Bool) → holds_of (nat_eq group) (world.master other) ≡ b
-          → cond b (world.master group) (world.master other) ≡ world.master other
-      by true e = absurd (has (is_it (world.master other) e) (lives other) refl)
-      by false e = refl
+  no_lower none other =
+      grind (arith, common_steps, true≢false, eqb-true, one_passes, or_second, fails, and_parts, cases_Bool)
 
   one_handed_on : regrouped nat_eq world ≡ hand_on world group
   one_handed_on = by (list_any (lost_a_group nat_eq world) world.mounts) refl
     where
       by : (b : Bool) → list_any (lost_a_group nat_eq world) world.mounts ≡ b
           → regrouped_by nat_eq b world ≡ hand_on world group
-      by true e = λ i. record world {
-        mounts = map_alike (inheriting nat_eq world) (mount_handed_on group (world.master group)) world.mounts
-            (λ mount m. ap (λ kind. record mount { propagation = kind })
-            (inherited_handed_on mount.propagation
-            (passes (λ x. list_all (is_group_or_lives world group)
-            (option_to_list (source_of x.propagation))) world.mounts live.of_mounts mount m))) i;
-        master = λ other. heir_handed_on (world.master other) (live.of_groups other) i;
-      }
-      by false e = λ i. record world {
-        mounts = sym (map_same (mount_handed_on group (world.master group)) world.mounts
-            (λ mount m. ap (λ kind. record mount { propagation = kind })
-            (no_slave mount.propagation
-            (or_parts (is_lost_group nat_eq world (source_of mount.propagation)) _
-            (fails (lost_a_group nat_eq world) world.mounts e mount m)).0))) i;
-        master = λ other. sym (no_lower e other) i;
-      }
+      by true e = grind (arith, common_steps, map_alike, inherited_handed_on, passes, heir_handed_on)
+      by false e = grind (arith, common_steps, map_same, no_slave, or_parts, fails, no_lower)
 
 pub one_group_is_handed_on : OneGroupIsHandedOn
 one_group_is_handed_on world group live empty = one_handed_on world group live empty

@@ -71,8 +71,7 @@ module _ (fresh : Fresh ℕ) (world : World ℕ) (task : Task ℕ) where
       ≡ take size (drop offset (bytes_in (node_at nat_eq world descriptor.location))))))
 
   bytes_granted : (call : Call) (permit : Permit ℕ) (bytes : List ℕ) → Granted call permit
-      → (apply nat_eq fresh world task permit).answer ≡ Ok (Bytes bytes)
-      → ToldBytes call bytes
+      → (apply nat_eq fresh world task permit).answer ≡ Ok (Bytes bytes) → ToldBytes call bytes
   unfolding are_bytes
   bytes_granted call permit bytes (reads_file path here end passed) e =
       inl (here.location, an_object path here end, sym (same_bytes _ bytes e), not_true _ passed.1.1.0)
@@ -90,8 +89,7 @@ are_opened answer = false
 
 module _ (fresh : Fresh ℕ) (world : World ℕ) (task : Task ℕ) where
   abbrev Opens : Permit ℕ → Type 0
-  Opens permit =
-      (file : Location ℕ) × (access : Access) × (left : World ℕ)
+  Opens permit = (file : Location ℕ) × (access : Access) × (left : World ℕ)
       × (apply nat_eq fresh world task permit ≡ opened left task file access)
       × ((node_allows task.credentials (access_rights access) (node_at nat_eq world file) ≡ true)
       ⊎ (file.node ≡ fresh 0))
@@ -128,16 +126,13 @@ module _ (fresh : Fresh ℕ) (world : World ℕ) (task : Task ℕ) where
   opens_granted call permit number granted e = absurd (true≢false (sym (ap are_opened e)))
 
 pub opens_are_by_right : OpensAreByRight
-opens_are_by_right fresh world call task permit number given e =
-    opens_granted fresh world task call permit number
+opens_are_by_right fresh world call task permit number given e = opens_granted fresh world task call permit number
     (calls_are_granted nat_eq (looks_of nat_eq world) (overfills nat_eq fresh world task) task call permit given) e
 
 pub names_are_told_by_right : NamesAreToldByRight
-names_are_told_by_right fresh world call task permit names given e =
-    names_granted fresh world task call permit names
+names_are_told_by_right fresh world call task permit names given e = names_granted fresh world task call permit names
     (calls_are_granted nat_eq (looks_of nat_eq world) (overfills nat_eq fresh world task) task call permit given) e
 
 pub bytes_are_told_by_right : BytesAreToldByRight
-bytes_are_told_by_right fresh world call task permit bytes given e =
-    bytes_granted fresh world task call permit bytes
+bytes_are_told_by_right fresh world call task permit bytes given e = bytes_granted fresh world task call permit bytes
     (calls_are_granted nat_eq (looks_of nat_eq world) (overfills nat_eq fresh world task) task call permit given) e

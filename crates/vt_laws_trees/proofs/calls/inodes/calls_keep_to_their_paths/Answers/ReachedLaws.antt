@@ -26,8 +26,7 @@ calls_keep_to_their_paths fresh world name call task filesystem number plain no_
         (granted_spares fresh world task filesystem number call permit
         (calls_are_granted nat_eq (looks_of nat_eq world) (overfills nat_eq fresh world task) task call permit judged)
         apart root)
-    by (Err deny) judged =
-        inode_after_call Kept filesystem number (inr refl) fresh world name call (inl refl)
+    by (Err deny) judged = inode_after_call Kept filesystem number (inr refl) fresh world name call (inl refl)
         (λ other permit is_other granted.
         let same : other ≡ task = cc in
         let both = sym (ap (λ t. judge_in nat_eq fresh world t call) same) ∙ granted in cc)

@@ -1,5 +1,6 @@
 -- What a permit names lies where the walks of its call lead, or its descriptors are.
-use Rattle.std.proofs.Common.{Err, Result, ap, eqb-true, is_some, map, nat_eq, not, option_map, refl, subst, sym, true≢false, ◌&&◌, ◌∙◌}
+use Rattle.std.proofs.Common.{arith, Result, ap, eqb-true, is_some, map, nat_eq, not, option_map, refl, subst, sym, true≢false, ◌&&◌, ◌∙◌}
+use Rattle.std.proofs.lemmas.Grind.{common_steps}
 use Rattle.std.proofs.Math.Bool.{and-false}
 use Rattle.std.proofs.lemmas.Bool.{or_parts}
 use Rattle.std.specs.Prelude.{Bool, List, None, Ok, Option, Some, [], false, option_to_list, true, unwrap_or, ℕ, ⊤, ◌++◌, ◌||◌, ◌∷◌, ◌≡◌}
@@ -19,11 +20,10 @@ use Rattle.vt_spec.specs.Machine.Mounts.{Location}
 use Rattle.vt_spec.specs.Machine.Permits.{Permit}
 use Rattle.vt_spec.specs.Machine.Permits.Permit.{ToRename, ToWritePart}
 use Rattle.vt_spec.specs.Machine.Rules.Removing.{object_there, rename_new_walk}
-use Rattle.vt_spec.specs.Machine.Walking.{Place, Stop, is_special, name_of, then_walk, walk_unless}
+use Rattle.vt_spec.specs.Machine.Walking.{Place, Stop, is_special, name_of, walk_unless}
 use Rattle.vt_spec.proofs.Walk.{directory_walk, file_walk, is_directory_there, new_leaf_walk, new_walk, object_walk, old_leaf_walk, old_walk, symlink_walk}
-use Rattle.vt_spec.specs.Machine.World.{Descriptor, Task, World, files_at, mount_at, mount_numbered, node_at}
+use Rattle.vt_spec.specs.Machine.World.{Descriptor, Task, World, mount_at, mount_numbered, node_at}
 use Rattle.vt_spec.specs.Tree.{entries_in, entry_named}
-use Rattle.vt_spec.specs.declared.errors.Rule.TheVariants.{W3}
 use Rattle.vt_laws_trees.proofs.trees.TreesWalked.{IsNewPlace, IsOldPlace, IsPlace, at_end, ends_new_walk, ends_old_leaf_walk, ends_old_walk, not_true, place_named}
 
 -- a walk that is only checked further ended before
@@ -35,13 +35,7 @@ checked_same steps ((false, rule) ∷ rows) a b e = checked_same steps rows a b 
 renamed_walk : (world : World ℕ) (task : Task ℕ) (path : List ℕ) (directory : Bool) (place : Place ℕ)
     → rename_new_walk nat_eq (looks_of nat_eq world) task path directory ≡ Ok place
     → new_walk nat_eq world task path ≡ Ok place
-renamed_walk world task path directory place e = by (new_walk nat_eq world task path) e
-  where
-    by : (walk : Result (Place ℕ) (Stop ℕ))
-        → then_walk walk (λ found. walk_unless found.steps ((found.slash && not directory, W3) ∷ []) found) ≡ Ok place
-        → walk ≡ Ok place
-    by (Ok found) e = ap Ok (checked_same found.steps ((found.slash && not directory, W3) ∷ []) found place e)
-    by (Err stop) e = cc
+renamed_walk world task path directory place e = grind (arith, common_steps, new_walk, checked_same)
 
 -- the object of a place is found beside its directory, in one filesystem
 object_is : (o : Option (Location ℕ)) (other : Location ℕ) → is_some o ≡ true
@@ -81,8 +75,7 @@ module _ (fresh : Fresh ℕ) (world : World ℕ) (task : Task ℕ) (filesystem n
   spared_in : (shown : ℕ) (locations : List (Location ℕ)) → AllIn shown locations → Apart locations
       → (nat_eq filesystem shown && is_among nat_eq number (map (λ location. location.node) locations)) ≡ false
   spared_in shown [] are apart = and-false (nat_eq filesystem shown)
-  spared_in shown (location ∷ locations) are apart =
-      spread (nat_eq filesystem shown) (nat_eq number location.node) _
+  spared_in shown (location ∷ locations) are apart = spread (nat_eq filesystem shown) (nat_eq number location.node) _
       (ap (λ f. nat_eq filesystem f && nat_eq number location.node) (sym are.0) ∙ or_false_left _ _ apart)
       (spared_in shown locations are.1 ((or_parts _ _ apart).1))
 
@@ -94,22 +87,14 @@ module _ (fresh : Fresh ℕ) (world : World ℕ) (task : Task ℕ) (filesystem n
 
   object_beside : (place : Place ℕ) → IsPlace world place → is_special place.last ≡ false
       → AllIn (In place.parent) (option_to_list place.object)
-  object_beside place is plain =
-      subst (λ o. AllIn (In place.parent) (option_to_list o))
+  object_beside place is plain = subst (λ o. AllIn (In place.parent) (option_to_list o))
       (sym (place_named world place.parent place.last place.object plain is).1)
       (beside place.parent (entry_named (name_of place.last) (entries_in (node_at nat_eq world place.parent))))
 
   spared_removed : (place : Place ℕ) → IsOldPlace world task place → is_special place.last ≡ false
-      → Apart (place.parent ∷ option_to_list place.object)
-      → (nat_eq filesystem (In place.parent)
+      → Apart (place.parent ∷ option_to_list place.object) → (nat_eq filesystem (In place.parent)
       && is_among nat_eq number (place.parent.node ∷ (object_there place).node ∷ [])) ≡ false
-  spared_removed place is plain apart =
-      spared_in (In place.parent) (place.parent ∷ object_there place ∷ [])
-      (refl, subst (AllIn (In place.parent)) listed (object_beside place is.0 plain))
-      (subst (λ list. Apart (place.parent ∷ list)) listed apart)
-    where
-      listed : option_to_list place.object ≡ object_there place ∷ []
-      listed = object_is place.object place.parent is.1
+  spared_removed place is plain apart = grind (arith, common_steps, spared_in, object_beside, object_is)
 
   spared_new : (directory : Location ℕ) → Apart (directory_and_new fresh directory)
       → (nat_eq filesystem (In directory) && is_among nat_eq number (directory.node ∷ evens fresh 0 ∷ [])) ≡ false
@@ -125,49 +110,7 @@ module _ (fresh : Fresh ℕ) (world : World ℕ) (task : Task ℕ) (filesystem n
       → Apart ((from.parent ∷ option_to_list from.object) ++ (to.parent ∷ option_to_list to.object))
       → IsSpared (ToRename from.parent (name_of from.last) to.parent (name_of to.last) (object_there from) to.object)
   moved_spares from to is word is_to word_to mounts apart =
-      subst (λ list. (nat_eq filesystem (In from.parent) && is_among nat_eq number
-      (from.parent.node ∷ to.parent.node ∷ (object_there from).node ∷ list)) ≡ false) named
-      (spared_in (In from.parent) (from.parent ∷ to.parent ∷ object_there from ∷ option_to_list to.object)
-      (refl, (sym one, (old_beside.0, new_beside (option_to_list to.object) (object_beside to is_to word_to))))
-      (swapped (at from.parent) (at (object_there from)) (at to.parent)
-      (is_at_one_of world filesystem number (option_to_list to.object))
-      (subst (λ list. Apart ((from.parent ∷ list) ++ (to.parent ∷ option_to_list to.object))) listed apart)))
-    where
-      at : Location ℕ → Bool
-      at location = nat_eq filesystem (In location) && nat_eq number location.node
-
-      one : In from.parent ≡ In to.parent
-      one = ap (λ mount. (mount_numbered nat_eq world mount).filesystem) mounts
-
-      listed : option_to_list from.object ≡ object_there from ∷ []
-      listed = object_is from.object from.parent is.1
-
-      old_beside : AllIn (In from.parent) (object_there from ∷ [])
-      old_beside = subst (AllIn (In from.parent)) listed (object_beside from is.0 word)
-
-      new_beside : (list : List (Location ℕ)) → AllIn (In to.parent) list → AllIn (In from.parent) list
-      new_beside [] are = tt
-      new_beside (location ∷ list) are = (are.0 ∙ sym one, new_beside list are.1)
-
-      entry : Option ℕ
-      entry = entry_named (name_of to.last) (entries_in (node_at nat_eq world to.parent))
-
-      nodes : (o : Option ℕ)
-          → map (λ (location : Location ℕ). location.node)
-          (option_to_list (option_map (λ object. record { mount = to.parent.mount; node = object }) o))
-          ≡ option_to_list o
-      nodes None = refl
-      nodes (Some object) = refl
-
-      named : map (λ (location : Location ℕ). location.node) (option_to_list to.object)
-          ≡ option_to_list (entry_named (name_of to.last)
-          (entries_in ((files_at nat_eq world from.parent).tree.node to.parent.node)))
-      named =
-          ap (λ o. map (λ (location : Location ℕ). location.node) (option_to_list o))
-          (place_named world to.parent to.last to.object word_to is_to).1
-          ∙ nodes entry
-          ∙ ap (λ mount. option_to_list (entry_named (name_of to.last)
-          (entries_in (node_at nat_eq world (record { mount = mount; node = to.parent.node }))))) (sym mounts)
+      grind (arith, common_steps, spared_in, object_beside, swapped, object_is, place_named)
 
   pwritten_spares : (file : Location ℕ) (offset : ℕ) (bytes : List ℕ) → Apart (file ∷ [])
       → IsSpared (ToWritePart file offset bytes)
@@ -195,14 +138,11 @@ module _ (fresh : Fresh ℕ) (world : World ℕ) (task : Task ℕ) (filesystem n
   granted_spares call permit (writes_new_file path bytes place end named missing fits passed) apart root =
       spared_new place.parent (subst (λ o. Apart (file_or_new fresh place.parent o)) missing
       (apart_at (file_walk nat_eq world task path) place (file_or_new_at fresh) end apart))
-  granted_spares call permit (makes_directory path mode place end passed) apart root =
-      spared_new place.parent
+  granted_spares call permit (makes_directory path mode place end passed) apart root = spared_new place.parent
       (apart_at (new_walk nat_eq world task path) place (directory_and_new_at fresh) end apart)
-  granted_spares call permit (makes_symlink text path place fits end passed) apart root =
-      spared_new place.parent
+  granted_spares call permit (makes_symlink text path place fits end passed) apart root = spared_new place.parent
       (apart_at (new_leaf_walk nat_eq world task path) place (directory_and_new_at fresh) end apart)
-  granted_spares call permit (makes_whiteout path place end passed) apart root =
-      spared_new place.parent
+  granted_spares call permit (makes_whiteout path place end passed) apart root = spared_new place.parent
       (apart_at (new_leaf_walk nat_eq world task path) place (directory_and_new_at fresh) end apart)
   granted_spares call permit (makes_hard_link old new from place from_end end named passed) apart root =
       spared_in (In place.parent) (place.parent ∷ from.location ∷ []) (
@@ -212,17 +152,13 @@ module _ (fresh : Fresh ℕ) (world : World ℕ) (task : Task ℕ) (filesystem n
               (eqb-true from.location.mount place.parent.mount (not_true _ passed.1.1.1.1.1.0)),
           tt,
         ),
-      )
-      (apart_at (symlink_walk nat_eq world task old) from (λ walk. place.parent ∷ object_at walk) from_end
+      ) (apart_at (symlink_walk nat_eq world task old) from (λ walk. place.parent ∷ object_at walk) from_end
       (apart_at (new_leaf_walk nat_eq world task new) place
       (λ walk. directory_at walk ++ object_at (symlink_walk nat_eq world task old)) end apart))
-  granted_spares call permit (unlinks path place end named passed) apart root =
-      spared_removed place
+  granted_spares call permit (unlinks path place end named passed) apart root = spared_removed place
       (at_end (IsOldPlace world task) (old_leaf_walk nat_eq world task path) place (ends_old_leaf_walk world task path)
-      end)
-      named.0 (apart_at (old_leaf_walk nat_eq world task path) place directory_and_object_at end apart)
-  granted_spares call permit (removes_directory path place end word passed) apart root =
-      spared_removed place
+      end) named.0 (apart_at (old_leaf_walk nat_eq world task path) place directory_and_object_at end apart)
+  granted_spares call permit (removes_directory path place end word passed) apart root = spared_removed place
       (at_end (IsOldPlace world task) (old_walk nat_eq world task path) place (ends_old_walk world task path) end)
       (special_word place.last word.0 word.1.0 word.1.1.0)
       (apart_at (old_walk nat_eq world task path) place directory_and_object_at end apart)
@@ -230,11 +166,9 @@ module _ (fresh : Fresh ℕ) (world : World ℕ) (task : Task ℕ) (filesystem n
       let to_end = renamed_walk world task new (is_directory_there nat_eq world from) to names.to_end in
       moved_spares from to
       (at_end (IsOldPlace world task) (old_leaf_walk nat_eq world task old) from (ends_old_leaf_walk world task old)
-      names.from_end)
-      names.from_named.0
+      names.from_end) names.from_named.0
       (at_end (IsNewPlace world task) (new_walk nat_eq world task new) to (ends_new_walk world task new) to_end).0
-      names.to_named.0
-      (eqb-true from.parent.mount to.parent.mount (not_true _ passed.1.1.1.1.1.1.1.1.0))
+      names.to_named.0 (eqb-true from.parent.mount to.parent.mount (not_true _ passed.1.1.1.1.1.1.1.1.0))
       (apart_at (new_walk nat_eq world task new) to
       (λ walk. (from.parent ∷ option_to_list from.object) ++ directory_and_object_at walk) to_end
       (apart_at (old_leaf_walk nat_eq world task old) from
@@ -250,8 +184,7 @@ module _ (fresh : Fresh ℕ) (world : World ℕ) (task : Task ℕ) (filesystem n
       spared_new place.parent (subst (λ o. Apart (nothing_or_new fresh place.parent o)) missing
       (apart_at (file_walk nat_eq world task path) place (nothing_or_new_at fresh) end apart))
   granted_spares call permit (creates_exclusively path access mode place room end named passed) apart root =
-      spared_new place.parent
-      (apart_at (new_walk nat_eq world task path) place (directory_and_new_at fresh) end apart)
+      spared_new place.parent (apart_at (new_walk nat_eq world task path) place (directory_and_new_at fresh) end apart)
   granted_spares call permit (writes_part which offset bytes descriptor found passed) apart root =
       pwritten_spares descriptor.location offset bytes
       (subst (λ o. Apart (option_to_list (option_map (λ (d : Descriptor ℕ). d.location) o)))

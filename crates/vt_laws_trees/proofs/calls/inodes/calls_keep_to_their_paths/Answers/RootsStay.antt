@@ -1,21 +1,22 @@
 -- The root of a filesystem stays its root, as long as the filesystem is there.
-use Rattle.std.proofs.Common.{◌≡◌, refl, sym, ap, subst, ◌∙◌, inl, inr, ◌⊎◌, true≢false, ℕ, ◌+◌, nat_eq, eqb-true, eq-eqb, Bool, true, false, not, cond, ◌||◌, List, [], ◌∷◌, ◌++◌, map, filter, find, Option, Some, None, is_some, option_map, unwrap_or, Ok, Err, ok_or}
+use Rattle.std.proofs.Common.{arith, ◌≡◌, refl, sym, ap, subst, ◌∙◌, inl, inr, ◌⊎◌, true≢false, ℕ, ◌+◌, nat_eq, eqb-true, eq-eqb, Bool, true, false, not, cond, ◌||◌, List, [], ◌∷◌, ◌++◌, map, filter, find, Option, Some, None, is_some, option_map, Ok, Err, ok_or}
+use Rattle.std.proofs.lemmas.Grind.{common_steps}
 use Rattle.std.proofs.lemmas.Option.{same_Some}
 use Rattle.vt_laws_trees.specs.Calls.Reached.{RootsStay, root_in}
 use Rattle.vt_laws_rules.proofs.judged.CallsJudged.{policy_judges_then_applies}
 use Rattle.vt_spec.specs.declared.errors.Rule.TheVariants.{S2}
 use Rattle.vt_spec.specs.Errors.{denial}
-use Rattle.vt_spec.specs.FileTree.{FileTree, a_name}
-use Rattle.vt_spec.specs.Language.Changes.{Change, changed, with_moved, without_parent}
+use Rattle.vt_spec.specs.FileTree.{FileTree}
+use Rattle.vt_spec.specs.Language.Changes.{Change, changed, with_moved}
 use Rattle.vt_spec.specs.Language.Changes.Change.{AddName, CopyUp, Make, Move, Remove, SetAttr, SetBytes, SetMark}
 use Rattle.vt_spec.specs.Lists.{Fresh, evens, odds}
 use Rattle.vt_spec.specs.Machine.Apply.{apply}
-use Rattle.vt_spec.specs.Machine.CopyUp.{Merge, Stack, copied_each, copied_up, copy_named, copy_of, hides_directory, is_in_upper, line_to, merge_changed, merge_with_link, merge_with_moved, merge_with_new, merge_without_name, name_left, shown_in_lowers_at, upper_directory_named, upper_of, without_contents}
-use Rattle.vt_spec.specs.Machine.Detach.{deepest_first, without_replaced}
-use Rattle.vt_spec.specs.Machine.Filesystems.{filesystem_changed, filesystems_raised, merge_of, overlay_changed, raised, raised_if_changed, stack_of, with_change, with_files}
+use Rattle.vt_spec.specs.Machine.CopyUp.{Merge, Stack, copied_each, copied_up, copy_of, hides_directory, is_in_upper, line_to, merge_changed, merge_with_link, merge_with_moved, merge_with_new, merge_without_name, name_left, shown_in_lowers_at, upper_directory_named, upper_of, without_contents}
+use Rattle.vt_spec.specs.Machine.Detach.{without_replaced}
+use Rattle.vt_spec.specs.Machine.Filesystems.{filesystem_changed, merge_of, overlay_changed, raised, raised_if_changed, stack_of, with_change, with_files}
 use Rattle.vt_spec.specs.Machine.Judge.{Judgement, judge_in}
-use Rattle.vt_spec.specs.Machine.Mounts.{Location, mount_tree}
-use Rattle.vt_spec.specs.Machine.Namespaces.{namespace_entered, unshared}
+use Rattle.vt_spec.specs.Machine.Mounts.{Location}
+use Rattle.vt_spec.specs.Machine.Namespaces.{unshared}
 use Rattle.vt_spec.specs.Machine.Descriptors.{is_copied_up, pwritten, with_copy}
 use Rattle.vt_spec.specs.Machine.NewMounts.{plain_filesystem}
 use Rattle.vt_spec.specs.Machine.Outcomes.{Outcome, after, denied}
@@ -23,7 +24,7 @@ use Rattle.vt_spec.specs.Machine.Permits.{Permit}
 use Rattle.vt_spec.specs.Machine.Permits.Permit.{ToChange, ToEnterNamespace, ToExit, ToMake, ToMountOverlay, ToMountPlain, ToOpen, ToOpenNew, ToRemoveDirectory, ToRename, ToSetType, ToUnmount, ToUnmountLazily, ToUnshare, ToWritePart}
 use Rattle.vt_spec.specs.Machine.Policy.{filesystems_changed_by, finished, finished_by, only_looks}
 use Rattle.vt_spec.specs.Machine.Settled.{filesystem_lives, only_used, only_used_by, settled, used_in, without_dead_filesystems, without_dead_in, without_dead_mounts}
-use Rattle.vt_spec.specs.Machine.World.{Filesystem, Layer, Overlay, Task, World, filesystem_at, filesystem_numbered, is_overlay, mount_at, mount_numbered, no_filesystem, replaced_if_numbered, task_called, without_task}
+use Rattle.vt_spec.specs.Machine.World.{Filesystem, Layer, Overlay, Task, World, filesystem_at, filesystem_numbered, is_overlay, mount_at, no_filesystem, replaced_if_numbered, task_called, without_task}
 use Rattle.vt_spec.specs.Tree.{Node}
 use Rattle.vt_laws_trees.proofs.trees.TreesOfWorlds.{number_numbered, numbered}
 use Rattle.vt_laws_trees.proofs.trees.ChangesByOthers.{lazily_filesystems, typed_filesystems}
@@ -31,18 +32,7 @@ use Rattle.vt_spec.proofs.Worlds.{filesystems-taken_away, filesystems-without_re
 
 -- a change of a tree leaves its root
 changed_root : (files : FileTree ℕ) (change : Change ℕ) → (changed nat_eq files change).tree.root ≡ files.tree.root
-changed_root files (Make directory name number node) = refl
-changed_root files (AddName directory name object) = refl
-changed_root files (Remove directory name object) = refl
-changed_root files (Move from old to new object) = alone _
-  where
-    alone : (replaced : Option ℕ) → (without_parent nat_eq files replaced).tree.root ≡ files.tree.root
-    alone None = refl
-    alone (Some object) = refl
-changed_root files (SetBytes file bytes) = refl
-changed_root files (SetAttr object attr) = refl
-changed_root files (SetMark directory opaque) = refl
-changed_root files (CopyUp object) = refl
+changed_root files change = grind (arith, common_steps)
 
 -- A change of an overlay leaves the roots of its tree and of that of its upper layer
 abbrev SameRoots : Merge ℕ → Merge ℕ → Type 0
@@ -53,20 +43,12 @@ and_roots was then now first later = (later.0 ∙ first.0, later.1 ∙ first.1)
 
 copy_roots : (merge : Merge ℕ) (object copy : ℕ) (o : Option (Node ℕ)) (in_upper : Bool)
     → SameRoots merge (copy_of nat_eq merge object copy o in_upper)
-copy_roots merge object copy None in_upper = (refl, refl)
-copy_roots merge object copy (Some node) true = (refl, refl)
-copy_roots merge object copy (Some node) false = (refl, by (a_name nat_eq merge.files object) _)
-  where
-    by : (name : Option (ℕ × List ℕ)) (upper : FileTree ℕ)
-        → (copy_named nat_eq merge copy name upper).tree.root ≡ upper.tree.root
-    by None upper = refl
-    by (Some name) upper = refl
+copy_roots merge object copy o in_upper = grind (arith, common_steps)
 
 copied_roots : (fresh : Fresh ℕ) (k : ℕ) (merge : Merge ℕ) (list : List ℕ)
     → SameRoots merge (copied_each nat_eq fresh k merge list)
 copied_roots fresh k merge [] = (refl, refl)
-copied_roots fresh k merge (object ∷ rest) =
-    and_roots merge copied (copied_each nat_eq fresh (k + 1) copied rest)
+copied_roots fresh k merge (object ∷ rest) = and_roots merge copied (copied_each nat_eq fresh (k + 1) copied rest)
     (copy_roots merge object (fresh k) (merge.files.tree.node object) (is_in_upper merge object))
     (copied_roots fresh (k + 1) copied rest)
   where
@@ -116,8 +98,7 @@ merged_roots fresh stack merge (Remove directory name object) =
       root-emptied (name_left nat_eq (odds fresh) stack copied copied.upper directory name)
           (upper_directory_named copied directory name)
           ∙ root-name_left_by (is_some (shown_in_lowers_at nat_eq stack copied directory name))
-          (odds fresh) stack copied.upper
-          (upper_of copied directory) name,
+          (odds fresh) stack copied.upper (upper_of copied directory) name,
     )
   where
     copied : Merge ℕ
@@ -150,22 +131,13 @@ module _ (number : ℕ) where
 
   -- each filesystem keeps its number and its root
   abbrev Keeps : (Filesystem ℕ → Filesystem ℕ) → Type 0
-  Keeps change =
-      (filesystem : Filesystem ℕ)
-      → ((change filesystem).number ≡ filesystem.number)
+  Keeps change = (filesystem : Filesystem ℕ) → ((change filesystem).number ≡ filesystem.number)
       × ((change filesystem).files.tree.root ≡ filesystem.files.tree.root)
 
   mapped : (change : Filesystem ℕ → Filesystem ℕ) → Keeps change → (list : List (Filesystem ℕ))
       → root_of (map change list) ≡ root_of list
   mapped change keeps [] = refl
-  mapped change keeps (first ∷ rest) =
-      ap (λ n. root_at (found (nat_eq number n) (change first) (map change rest))) (keeps first).0
-      ∙ by (nat_eq number first.number) (mapped change keeps rest)
-    where
-      by : (b : Bool) → root_of (map change rest) ≡ root_of rest
-          → root_at (found b (change first) (map change rest)) ≡ root_at (found b first rest)
-      by true later = ap Some (keeps first).1
-      by false later = later
+  mapped change keeps (first ∷ rest) = grind (arith, common_steps, mapped change keeps rest)
 
   module _ (root : ℕ) where
     abbrev Is : List (Filesystem ℕ) → Type 0
@@ -175,53 +147,23 @@ module _ (number : ℕ) where
     replaced_root : (new : Filesystem ℕ) → (number ≡ new.number → new.files.tree.root ≡ root)
         → (list : List (Filesystem ℕ)) → Is list → Is (map (replaced_if_numbered nat_eq new) list)
     replaced_root new here [] h = h
-    replaced_root new here (first ∷ rest) h =
-        by (nat_eq new.number first.number) refl (nat_eq number first.number) refl h (replaced_root new here rest)
-      where
-        others : List (Filesystem ℕ)
-        others = map (replaced_if_numbered nat_eq new) rest
-
-        by : (b : Bool) → nat_eq new.number first.number ≡ b → (c : Bool) → nat_eq number first.number ≡ c
-            → root_at (found c first rest) ≡ Some root → (Is rest → Is others)
-            → Is (cond b new first ∷ others)
-        by true e true f h later =
-            let same : number ≡ new.number =
-            eqb-true number first.number f ∙ sym (eqb-true new.number first.number e)
-            in
-            ap (λ c. root_at (found c new others)) (eq-eqb number new.number same) ∙ ap Some (here same)
-        by true e false f h later =
-            ap (λ n. root_at (found (nat_eq number n) new others)) (eqb-true new.number first.number e)
-            ∙ ap (λ c. root_at (found c new others)) f ∙ later h
-        by false e true f h later = ap (λ c. root_at (found c first others)) f ∙ h
-        by false e false f h later = ap (λ c. root_at (found c first others)) f ∙ later h
+    replaced_root new here (first ∷ rest) h = grind (arith, common_steps, eqb-true, eq-eqb, replaced_root new here rest)
 
     -- one filesystem more
     added_root : (new : Filesystem ℕ) (list : List (Filesystem ℕ)) → Is list → Is (list ++ (new ∷ []))
     added_root new [] h = cc
-    added_root new (first ∷ rest) h = by (nat_eq number first.number) h (added_root new rest)
-      where
-        by : (b : Bool) → root_at (found b first rest) ≡ Some root → (Is rest → Is (rest ++ (new ∷ [])))
-            → root_at (found b first (rest ++ (new ∷ []))) ≡ Some root
-        by true h later = h
-        by false h later = later h
+    added_root new (first ∷ rest) h = grind (arith, common_steps, added_root new rest)
 
     -- the filesystem that is found has it
     root_found : (list : List (Filesystem ℕ)) → Is list → (numbered number list).files.tree.root ≡ root
-    root_found list = by (find (λ filesystem. nat_eq number filesystem.number) list)
-      where
-        by : (o : Option (Filesystem ℕ)) → root_at o ≡ Some root
-            → (unwrap_or o (no_filesystem number)).files.tree.root ≡ root
-        by None e = cc
-        by (Some one) e = same_Some one.files.tree.root root e
+    root_found list = grind (arith, common_steps, same_Some)
 
     -- What a permit leaves
     -- a filesystem that is found by a number has it, if the number is this one
     its_root : (world : World ℕ) (shown : ℕ) → Is world.filesystems
         → number ≡ (numbered shown world.filesystems).number → (numbered shown world.filesystems).files.tree.root ≡ root
-    its_root world shown h same =
-        ap (λ n. (numbered n world.filesystems).files.tree.root)
-        (sym (same ∙ number_numbered shown world.filesystems))
-        ∙ root_found world.filesystems h
+    its_root world shown h same = ap (λ n. (numbered n world.filesystems).files.tree.root)
+        (sym (same ∙ number_numbered shown world.filesystems)) ∙ root_found world.filesystems h
 
     change_root : (fresh : Fresh ℕ) (world : World ℕ) (location : Location ℕ) (change : Change ℕ)
         → Is world.filesystems → Is (with_change nat_eq fresh world location change).filesystems
@@ -236,8 +178,7 @@ module _ (number : ℕ) where
         merged_in : (overlay : Overlay ℕ) (upper : Option (Layer ℕ))
             → Is (overlay_changed nat_eq fresh world at overlay upper change).filesystems
         merged_in overlay None = h
-        merged_in overlay (Some upper) =
-            replaced_root (with_files below merge.upper)
+        merged_in overlay (Some upper) = replaced_root (with_files below merge.upper)
             (λ same. roots.1 ∙ its_root world upper.filesystem h same)
             (map (replaced_if_numbered nat_eq new) world.filesystems)
             (replaced_root new (λ same. roots.0 ∙ its_root world shown h same) world.filesystems h)
@@ -258,8 +199,7 @@ module _ (number : ℕ) where
             roots = merged_roots fresh (stack_of nat_eq world overlay upper) was change
 
         by : (o : Option (Overlay ℕ)) → Is (filesystem_changed nat_eq fresh world at o change).filesystems
-        by None =
-            replaced_root (with_files at (changed nat_eq at.files change))
+        by None = replaced_root (with_files at (changed nat_eq at.files change))
             (λ same. changed_root at.files change ∙ its_root world shown h same) world.filesystems h
         by (Some overlay) = merged_in overlay overlay.upper
 
@@ -292,36 +232,23 @@ module _ (number : ℕ) where
       root_left task (ToWritePart file offset bytes) = written_left file offset bytes
       root_left task ToExit = same_list _ (filesystems-taken_away (without_task world task.name) _)
       root_left task ToUnshare = same_list _ (filesystems-taken_away (unshared nat_eq world fresh task) _)
-      root_left task (ToEnterNamespace namespace) =
-          same_list _ (filesystems-taken_away (namespace_entered nat_eq world task namespace) _)
+      root_left task (ToEnterNamespace namespace) = grind (arith, common_steps, filesystems-taken_away)
       root_left task (ToMountPlain place flags) = added_root (plain_filesystem nat_eq fresh) world.filesystems h
       root_left task (ToMountOverlay place overlay flags) = added_root _ world.filesystems h
       root_left task (ToUnmount mount) = same_list _ (filesystems-taken_away world _)
-      root_left task (ToUnmountLazily mount) =
-          same_list _
-          (lazily_filesystems
-          (deepest_first nat_eq world (mount_tree nat_eq world.mounts (mount_numbered nat_eq world mount))) world)
+      root_left task (ToUnmountLazily mount) = grind (arith, common_steps, lazily_filesystems)
       root_left task (ToSetType mount word recursive) = same_list _ (typed_filesystems fresh world mount word recursive)
       root_left task permit = h
 
   -- What the sweep and the raising of change numbers leave
   raises : (changes : List ℕ) → Keeps (raised_if_changed nat_eq changes)
-  raises changes filesystem = by _
-    where
-      chosen : Bool → Filesystem ℕ
-      chosen b = cond b (record filesystem { change = raised filesystem.change }) filesystem
-
-      by : (b : Bool) → ((chosen b).number ≡ filesystem.number)
-          × ((chosen b).files.tree.root ≡ filesystem.files.tree.root)
-      by true = (refl, refl)
-      by false = (refl, refl)
+  raises changes filesystem = grind (arith, common_steps)
 
   only_used_keeps : (world : World ℕ) (chosen : Filesystem ℕ → Bool)
       → Keeps (λ filesystem. only_used nat_eq world (chosen filesystem) filesystem)
   only_used_keeps world chosen filesystem = by (chosen filesystem)
     where
-      whole : (b : Bool) (used : List ℕ)
-          → ((only_used_by nat_eq b used filesystem).number ≡ filesystem.number)
+      whole : (b : Bool) (used : List ℕ) → ((only_used_by nat_eq b used filesystem).number ≡ filesystem.number)
           × ((only_used_by nat_eq b used filesystem).files.tree.root ≡ filesystem.files.tree.root)
       whole true used = (refl, refl)
       whole false used = (refl, refl)
@@ -342,17 +269,7 @@ module _ (number : ℕ) where
 
       stays : lives number ≡ true → (list : List (Filesystem ℕ)) → root_of (filter passing list) ≡ root_of list
       stays alive [] = refl
-      stays alive (first ∷ rest) =
-          by (lives first.number) refl (nat_eq number first.number) refl (stays alive rest)
-        where
-          by : (b : Bool) → lives first.number ≡ b → (c : Bool) → nat_eq number first.number ≡ c
-              → root_of (filter passing rest) ≡ root_of rest
-              → root_of (cond b (first ∷ filter passing rest) (filter passing rest)) ≡ root_at (found c first rest)
-          by true e true f later = ap (λ c. root_at (found c first (filter passing rest))) f
-          by true e false f later = ap (λ c. root_at (found c first (filter passing rest))) f ∙ later
-          by false e true f later =
-              absurd (true≢false (sym alive ∙ ap lives (eqb-true number first.number f) ∙ e))
-          by false e false f later = later
+      stays alive (first ∷ rest) = grind (arith, common_steps, true≢false, eqb-true, stays alive rest)
 
       goes : lives number ≡ false → (list : List (Filesystem ℕ)) → root_of (filter passing list) ≡ None
       goes dead [] = refl
@@ -361,8 +278,7 @@ module _ (number : ℕ) where
           by : (b : Bool) → lives first.number ≡ b → (c : Bool) → nat_eq number first.number ≡ c
               → root_of (filter passing rest) ≡ None
               → root_of (cond b (first ∷ filter passing rest) (filter passing rest)) ≡ None
-          by true e true f later =
-              absurd (true≢false (sym e ∙ ap lives (sym (eqb-true number first.number f)) ∙ dead))
+          by true e true f later = absurd (true≢false (sym e ∙ ap lives (sym (eqb-true number first.number f)) ∙ dead))
           by true e false f later = ap (λ c. root_at (found c first (filter passing rest))) f ∙ later
           by false e c f later = later
 
@@ -371,11 +287,9 @@ module _ (number : ℕ) where
       by_number true e = inl (stays e list)
       by_number false e = inr (goes e list)
 
-  settled_root : (world : World ℕ)
-      → (root_of (settled nat_eq world).filesystems ≡ root_of world.filesystems)
+  settled_root : (world : World ℕ) → (root_of (settled nat_eq world).filesystems ≡ root_of world.filesystems)
       ⊎ (root_of (settled nat_eq world).filesystems ≡ None)
-  settled_root world =
-      subst (λ o. (o ≡ root_of world.filesystems) ⊎ (o ≡ None)) (sym used)
+  settled_root world = subst (λ o. (o ≡ root_of world.filesystems) ⊎ (o ≡ None)) (sym used)
       (filtered (λ n. filesystem_lives nat_eq mounted (no_filesystem n)) world.filesystems)
     where
       mounted : World ℕ
@@ -388,8 +302,7 @@ module _ (number : ℕ) where
       merged = without_dead_in nat_eq is_overlay living
 
       used : root_of (settled nat_eq world).filesystems ≡ root_of living.filesystems
-      used =
-          mapped _ (only_used_keeps merged (λ filesystem. not (is_overlay filesystem))) merged.filesystems
+      used = mapped _ (only_used_keeps merged (λ filesystem. not (is_overlay filesystem))) merged.filesystems
           ∙ mapped _ (only_used_keeps living is_overlay) living.filesystems
 
 pub roots_stay : RootsStay
@@ -403,33 +316,17 @@ roots_stay fresh world name call filesystem root is =
     finished_stays : (b : Bool) (changes : List ℕ) (outcome : Outcome ℕ)
         → root_in outcome.world filesystem ≡ Some root → Stays (finished_by nat_eq b world name changes outcome).world
     finished_stays true changes outcome h = inl h
-    finished_stays false changes outcome h = by (settled_root filesystem outcome.world)
-      where
-        raised_root : root_of filesystem (filesystems_raised nat_eq changes (settled nat_eq outcome.world)).filesystems
-            ≡ root_of filesystem (settled nat_eq outcome.world).filesystems
-        raised_root = mapped filesystem _ (raises filesystem changes) (settled nat_eq outcome.world).filesystems
-
-        left : Option ℕ
-        left = root_of filesystem (settled nat_eq outcome.world).filesystems
-
-        by : (left ≡ root_of filesystem outcome.world.filesystems) ⊎ (left ≡ None)
-            → Stays (filesystems_raised nat_eq changes (settled nat_eq outcome.world))
-        by (inl same) = inl (raised_root ∙ same ∙ h)
-        by (inr gone) = inr (raised_root ∙ gone)
+    finished_stays false changes outcome h = grind (arith, common_steps, settled_root, mapped, raises)
 
     by_permit : (changes : List ℕ) (task : Task ℕ) (judgement : Judgement ℕ)
         → Stays (finished nat_eq world name call changes (after world judgement (apply nat_eq fresh world task))).world
-    by_permit changes task (Ok permit) =
-        finished_stays _ changes (apply nat_eq fresh world task permit)
+    by_permit changes task (Ok permit) = finished_stays _ changes (apply nat_eq fresh world task permit)
         (root_left filesystem root fresh world is task permit)
     by_permit changes task (Err deny) = finished_stays (only_looks call || true) changes (denied world deny) is
 
-    by_task : (o : Option (Task ℕ))
-        → Stays (after world (ok_or o (denial S2)) (λ task.
-        finished nat_eq world name call
-        (filesystems_changed_by nat_eq world (judge_in nat_eq fresh world task call))
+    by_task : (o : Option (Task ℕ)) → Stays (after world (ok_or o (denial S2)) (λ task.
+        finished nat_eq world name call (filesystems_changed_by nat_eq world (judge_in nat_eq fresh world task call))
         (after world (judge_in nat_eq fresh world task call) (apply nat_eq fresh world task)))).world
     by_task None = inl is
-    by_task (Some task) =
-        by_permit (filesystems_changed_by nat_eq world (judge_in nat_eq fresh world task call)) task
+    by_task (Some task) = by_permit (filesystems_changed_by nat_eq world (judge_in nat_eq fresh world task call)) task
         (judge_in nat_eq fresh world task call)

@@ -1,5 +1,6 @@
 -- One step of a program.
-use Rattle.std.proofs.Common.{◌≡◌, refl, subst, ℕ, ◌+◌, ◌%◌, nat_eq, true, false}
+use Rattle.std.proofs.Common.{arith, ◌≡◌, subst, ℕ, ◌+◌, ◌%◌, nat_eq, true, false}
+use Rattle.std.proofs.lemmas.Grind.{common_steps}
 use Rattle.std.specs.List.{list_all}
 use Rattle.vt_laws_rules.specs.Numbers.{KeepsTo}
 use Rattle.vt_laws_worlds.proofs.permits.in_use.InUseServes.{counts_serve_worlds, handed_numbers_serve_worlds}
@@ -17,7 +18,6 @@ use Rattle.vt_laws_worlds.specs.Permits.Taken.{counts_taken, handed_to, is_ungro
 use Rattle.vt_laws_trees.specs.Runs.Handed.{counts_from, is_counted_before}
 use Rattle.vt_spec.specs.Machine.Mounts.{Mount}
 use Rattle.vt_spec.specs.Machine.Permits.{Permit}
-use Rattle.vt_spec.specs.Machine.Permits.Permit.{ToMake, ToMountPlain, ToOpenNew}
 use Rattle.vt_spec.specs.Machine.Run.{Serves}
 use Rattle.vt_spec.specs.Machine.World.{World}
 
@@ -25,19 +25,12 @@ module _ (next inode : ℕ) (world : World ℕ) (counted : KeepsTo (is_counted_b
     (even : inode % 2 ≡ 0) where
   serves : (permit : Permit ℕ) → (makes_inode permit ≡ true → is_in_use world inode ≡ false)
       → Serves nat_eq world (handed_to next inode permit)
-  serves (ToMake directory name node) unused =
-      handed_numbers_serve_worlds next 0 inode world counted even (unused refl)
-  serves (ToOpenNew directory name node access) unused =
-      handed_numbers_serve_worlds next 0 inode world counted even (unused refl)
-  serves (ToMountPlain place flags) unused =
-      handed_numbers_serve_worlds next 2 inode world counted even (unused refl)
-  serves permit unused = counts_serve_worlds next world counted
+  serves permit unused = grind (arith, common_steps, handed_numbers_serve_worlds, counts_serve_worlds)
 
 pub steps_are_given : StepsAreGiven
 steps_are_given next inode world task permit step =
     given_with_any_supply world task permit (counts_from next) (handed_to next inode permit) step.whole
-    (serves next inode world step.counted step.even permit step.unused)
-    (record {
+    (serves next inode world step.counted step.even permit step.unused) (record {
       serves = counts_serve_worlds next world step.counted;
       called = step.called;
       call = step.call;
@@ -59,9 +52,7 @@ steps_keep_worlds next inode later world task permit other step low same =
           same_worlds_keep_to_numbers (is_counted_before (next + counts_taken world task permit))
           (left_by (handed_to next inode permit) world task permit) other same left.1
           (given_counts_go_on next inode world task permit step.even step.whole step.plain step.ungrouped step.counted
-          given)
-          renaming
-          (λ number named.
+          given) renaming (λ number named.
           leaves number (counted_later (next + counts_taken world task permit) later number low named));
     }
 

@@ -1,5 +1,6 @@
 -- Where no mount is in a group none is afterwards, if none is made shared.
-use Rattle.std.proofs.Common.{◌≡◌, refl, sym, ap, subst, ◌∙◌, ⊎_elim, true≢false, ℕ, zero, suc, nat_eq, Bool, true, false, cond, ◌&&◌, List, [], ◌∷◌, ◌++◌, map, filter, flat_map, length, Option, Some, None}
+use Rattle.std.proofs.Common.{arith, ◌≡◌, refl, sym, ap, subst, ◌∙◌, ⊎_elim, true≢false, ℕ, zero, suc, nat_eq, Bool, true, false, cond, ◌&&◌, List, [], ◌∷◌, ◌++◌, map, filter, flat_map, length, Option, Some, None}
+use Rattle.std.proofs.lemmas.Grind.{common_steps}
 use Rattle.std.specs.Prelude.{All, option_map}
 use Rattle.std.specs.List.{list_all}
 use Rattle.std.proofs.lemmas.Bool.{and_parts}
@@ -18,14 +19,14 @@ use Rattle.vt_spec.specs.Machine.Apply.{apply}
 use Rattle.vt_spec.specs.Machine.Attach.{Copies, Twig, added_mounts, attach, bind_tree, bindable_children, bindable_tree, copies_from, stands_under, with_moved_mounts}
 use Rattle.vt_spec.specs.Machine.Detach.{after_going, deepest_first, mount_point_left, taken_away, unmounted, unmounted_if_there, without_mounts_on, without_replaced}
 use Rattle.vt_spec.specs.Machine.Filesystems.{filesystem_changed, with_change}
-use Rattle.vt_spec.specs.Machine.Mounts.{Location, Mount, Propagation, children, detached, mount_tree, numbers_by, replaced_if_same, stands_on, with_mount}
+use Rattle.vt_spec.specs.Machine.Mounts.{Location, Mount, Propagation, children, detached, mount_tree, numbers_by, stands_on, with_mount}
 use Rattle.vt_spec.specs.Machine.Mounts.Propagation.{Private, Shared, Slave, Unbindable}
 use Rattle.vt_spec.specs.Machine.Namespaces.{copied_mount, is_in_ended, namespace_entered, namespaces_ended, pivoted_mount, unshared}
 use Rattle.vt_spec.specs.Machine.Descriptors.{is_copied_up, overwritten, pwritten, with_copy}
 use Rattle.vt_spec.specs.Machine.NewMounts.{new_mount, plain_filesystem, with_new_filesystem}
 use Rattle.vt_spec.specs.Machine.Permits.{Permit}
 use Rattle.vt_spec.specs.Machine.Permits.Permit.{ToBind, ToChange, ToEnterNamespace, ToExit, ToMake, ToMountOverlay, ToMountPlain, ToMove, ToOpen, ToOpenNew, ToPivot, ToRemoveDirectory, ToRename, ToSetFlags, ToSetType, ToUnmount, ToUnmountLazily, ToUnshare, ToWritePart}
-use Rattle.vt_spec.specs.Machine.Receives.{inherited, inheriting, regrouped, regrouped_by}
+use Rattle.vt_spec.specs.Machine.Receives.{inherited, regrouped}
 use Rattle.vt_spec.specs.Machine.Settled.{mount_lives, settled}
 use Rattle.vt_spec.specs.Machine.Types.{named_mounts, retyped_mount, type_after, with_new_groups, with_type}
 use Rattle.vt_spec.specs.Machine.World.{Filesystem, Task, World, filesystem_at, is_overlay, mount_at, mount_numbered, mounts_of, node_at, with_mounts, without_task}
@@ -56,20 +57,13 @@ inherited_free world Private e = refl
 inherited_free world Unbindable e = refl
 
 regrouped_free : (world : World ℕ) → IsUngrouped world → IsUngrouped (regrouped nat_eq world)
-regrouped_free world is = by _
-  where
-    by : (b : Bool) → IsUngrouped (regrouped_by nat_eq b world)
-    by true = all-map free (inheriting nat_eq world)
-        (λ mount e. inherited_free world mount.propagation e) world.mounts is
-    by false = is
+regrouped_free world is = grind (arith, common_steps, all-map, inherited_free)
 
 taken_free : (world : World ℕ) (gone : List ℕ) → IsUngrouped world → IsUngrouped (taken_away nat_eq world gone)
-taken_free world gone is =
-    regrouped_free (with_mounts world (map (after_going nat_eq world gone) world.mounts))
+taken_free world gone is = regrouped_free (with_mounts world (map (after_going nat_eq world gone) world.mounts))
     (all-map free (after_going nat_eq world gone) (λ mount e. by mount e _) world.mounts is)
   where
-    by : (mount : Mount ℕ) → free mount ≡ true → (b : Bool)
-        → free (cond b (detached mount)
+    by : (mount : Mount ℕ) → free mount ≡ true → (b : Bool) → free (cond b (detached mount)
         (record mount { mount_point = option_map (mount_point_left nat_eq world gone) mount.mount_point })) ≡ true
     by mount e true = refl
     by mount e false = e
@@ -80,11 +74,7 @@ ended_free world is =
 
 there_free : (world : World ℕ) (mount : Mount ℕ) → IsUngrouped world
     → IsUngrouped (unmounted_if_there nat_eq world mount)
-there_free world mount is = by _
-  where
-    by : (b : Bool) → IsUngrouped (cond b (unmounted nat_eq world mount.number) world)
-    by true = taken_free world _ is
-    by false = is
+there_free world mount is = grind (arith, common_steps, taken_free)
 
 folded_free : (list : List (Mount ℕ)) (world : World ℕ) → IsUngrouped world
     → IsUngrouped (folded (unmounted_if_there nat_eq) world list)
@@ -94,11 +84,7 @@ folded_free (mount ∷ list) world is =
 
 replaced_free : (new : Mount ℕ) → free new ≡ true → (mounts : List (Mount ℕ)) → AllFree mounts
     → AllFree (with_mount nat_eq mounts new)
-replaced_free new is mounts all = all-map free (replaced_if_same nat_eq new) (λ mount e. by mount e _) mounts all
-  where
-    by : (mount : Mount ℕ) → free mount ≡ true → (b : Bool) → free (cond b new mount) ≡ true
-    by mount e true = is
-    by mount e false = e
+replaced_free new is mounts all = grind (arith, common_steps, all-map)
 
 each_replaced : (list mounts : List (Mount ℕ)) → AllFree list → AllFree mounts
     → AllFree (folded (with_mount nat_eq) mounts list)
@@ -110,16 +96,14 @@ each_replaced (new ∷ list) mounts first next =
 -- A change of a plain filesystem leaves the mounts.
 change_free : (world : World ℕ) → IsPlain world → (fresh : Fresh ℕ) (location : Location ℕ) (change : Change ℕ)
     → IsUngrouped world → IsUngrouped (with_change nat_eq fresh world location change)
-change_free world plain fresh location change is =
-    subst IsUngrouped
+change_free world plain fresh location change is = subst IsUngrouped
     (sym (ap (λ o. filesystem_changed nat_eq fresh world (filesystem_at nat_eq world location) o change)
     (plain_numbered world plain (mount_at nat_eq world location).filesystem))) is
 
 -- What is attached
 attached_free : (world : World ℕ) (fresh : Fresh ℕ) (place : Location ℕ) (moves : Bool) (mounts : List (Mount ℕ))
     → IsUngrouped world → AllFree mounts → IsUngrouped (attach nat_eq world fresh place moves mounts)
-attached_free world fresh place moves mounts is all =
-    subst IsUngrouped
+attached_free world fresh place moves mounts is all = subst IsUngrouped
     (sym (at_destination world place mounts (found_ungrouped world.mounts is place.mount) moves fresh)) (by moves)
   where
     new : Copies ℕ
@@ -134,33 +118,23 @@ attached_free world fresh place moves mounts is all =
     copies : (b : Bool) → AllFree (made b)
     copies b =
         all-map free {p = λ (twig : Twig ℕ). is_ungrouped twig.propagation} (copy_by world place mounts true b new)
-        (λ twig e. e) (twigs world place mounts)
-        (all-map (λ (twig : Twig ℕ). is_ungrouped twig.propagation)
+        (λ twig e. e) (twigs world place mounts) (all-map (λ (twig : Twig ℕ). is_ungrouped twig.propagation)
         (λ (mount : Mount ℕ). record { origin = mount; propagation = mount.propagation }) (λ mount e. e) mounts all)
 
     front : (list : List (Mount ℕ)) → AllFree list → AllFree (map (λ (mount : Mount ℕ). mount) list)
     front list h = all-map free (λ (mount : Mount ℕ). mount) (λ mount e. e) list h
 
     by : (b : Bool) → AllFree (start b ++ added_mounts b (made b) ++ [])
-    by true =
-        all_append (start true ++ []) []
-        (all_append (start true) []
+    by true = all_append (start true ++ []) [] (all_append (start true) []
         (front (folded (with_mount nat_eq) world.mounts (made true))
         (each_replaced (made true) world.mounts (copies true) is)) refl) refl
-    by false =
-        all_append (start false ++ made false) []
+    by false = all_append (start false ++ made false) []
         (all_append (start false) (made false) (front world.mounts is) (copies false)) refl
 
 -- A type that is no group's
 type_free : (new : ℕ) (word : TypeWord) → makes_groups word ≡ false → (kind : Propagation ℕ)
     → is_ungrouped kind ≡ true → is_ungrouped (type_after new word kind) ≡ true
-type_free new ToShared makes kind e = absurd (true≢false makes)
-type_free new ToSlave makes (Shared group) e = absurd (true≢false (sym e))
-type_free new ToSlave makes (Slave master) e = absurd (true≢false (sym e))
-type_free new ToSlave makes Private e = refl
-type_free new ToSlave makes Unbindable e = refl
-type_free new ToPrivate makes kind e = refl
-type_free new ToUnbindable makes kind e = refl
+type_free new word makes kind e = grind (arith, common_steps, true≢false)
 
 module _ (world : World ℕ) (plain : IsPlain world) (is : IsUngrouped world) (task : Task ℕ) (fresh : Fresh ℕ) where
   each_free : (mount : Mount ℕ) → Among mount world.mounts → free mount ≡ true
@@ -172,20 +146,14 @@ module _ (world : World ℕ) (plain : IsPlain world) (is : IsUngrouped world) (t
   bindable_free : (depth : ℕ) (top : Mount ℕ) → free top ≡ true → (mount : Mount ℕ)
       → Among mount (bindable_tree nat_eq depth world.mounts top) → free mount ≡ true
   bindable_free zero top e mount among = ⊎_elim (λ same. ap free same ∙ e) (λ none. absurd none) among
-  bindable_free (suc depth) top e mount among =
-      ⊎_elim (λ same. ap free same ∙ e)
-      (λ below.
-      let found =
-      among-from_flat_map (bindable_tree nat_eq depth world.mounts)
+  bindable_free (suc depth) top e mount among = ⊎_elim (λ same. ap free same ∙ e) (λ below.
+      let found = among-from_flat_map (bindable_tree nat_eq depth world.mounts)
       (bindable_children nat_eq world.mounts top.number) mount below in
-      bindable_free depth found.0 (child_free top.number found.0 found.1) mount found.2)
-      among
+      bindable_free depth found.0 (child_free top.number found.0 found.1) mount found.2) among
     where
       child_free : (number : ℕ) (child : Mount ℕ) → Among child (bindable_children nat_eq world.mounts number)
           → free child ≡ true
-      child_free number child m =
-          each_free child
-          (among-from_filter (stands_on nat_eq number) world.mounts child
+      child_free number child m = each_free child (among-from_filter (stands_on nat_eq number) world.mounts child
           (among-from_filter _ (children nat_eq world.mounts number) child m).0).0
 
   -- the mounts under a source, which a recursive bind copies with it
@@ -197,23 +165,20 @@ module _ (world : World ℕ) (plain : IsPlain world) (is : IsUngrouped world) (t
 
   bind_free : (source : Location ℕ) (recursive : Bool) → AllFree (bind_tree nat_eq world source recursive)
   bind_free source false = ap (λ b. b && true) (found_free source.mount)
-  bind_free source true =
-      ap (λ b. b && list_all free (copied_below source)) (found_free source.mount)
+  bind_free source true = ap (λ b. b && list_all free (copied_below source)) (found_free source.mount)
       ∙ all_pass free (copied_below source) (λ mount among.
       let found =
       among-from_flat_map (bindable_tree nat_eq (length world.mounts) world.mounts) (below source) mount among in
       let child =
       among-from_filter (stands_under nat_eq world source) (bindable_children nat_eq world.mounts source.mount) found.0
       found.1 in
-      bindable_free (length world.mounts) found.0
-      (each_free found.0
+      bindable_free (length world.mounts) found.0 (each_free found.0
       (among-from_filter (stands_on nat_eq source.mount) world.mounts found.0
       (among-from_filter _ (children nat_eq world.mounts source.mount) found.0 child.0).0).0) mount found.2)
 
   without_free : (gone : Location ℕ) (location : Location ℕ) (change : Change ℕ)
       → IsUngrouped (with_change nat_eq fresh (without_mounts_on nat_eq world gone) location change)
-  without_free gone location change =
-      change_free (without_mounts_on nat_eq world gone)
+  without_free gone location change = change_free (without_mounts_on nat_eq world gone)
       (subst (All (λ (f : Filesystem ℕ). is_overlay f ≡ false)) (sym (filesystems-taken_away world _)) plain)
       fresh location change (taken_free world _ is)
 
@@ -229,18 +194,15 @@ module _ (world : World ℕ) (plain : IsPlain world) (is : IsUngrouped world) (t
   written_free : (file : Location ℕ) (offset : ℕ) (bytes : List ℕ)
       → IsUngrouped (pwritten nat_eq fresh world file offset bytes)
   written_free file offset [] = is
-  written_free file offset (byte ∷ bytes) =
-      change_free world plain fresh file
+  written_free file offset (byte ∷ bytes) = change_free world plain fresh file
       (SetBytes file.node (overwritten offset (byte ∷ bytes) (bytes_in (node_at nat_eq world file)))) is
 
   typed_free : (number : ℕ) (word : TypeWord) (recursive : Bool) → makes_groups word ≡ false
       → IsUngrouped (with_type nat_eq fresh world number word recursive)
-  typed_free number word recursive makes =
-      regrouped_free (record world {
-        mounts = map (retyped_mount nat_eq group word named) world.mounts;
-        master = with_new_groups nat_eq group world.master named;
-      })
-      (all-map free (retyped_mount nat_eq group word named) (λ mount e. by mount e _) world.mounts is)
+  typed_free number word recursive makes = regrouped_free (record world {
+    mounts = map (retyped_mount nat_eq group word named) world.mounts;
+    master = with_new_groups nat_eq group world.master named;
+  }) (all-map free (retyped_mount nat_eq group word named) (λ mount e. by mount e _) world.mounts is)
     where
       named : List (Mount ℕ)
       named = named_mounts nat_eq world number recursive
@@ -256,15 +218,7 @@ module _ (world : World ℕ) (plain : IsPlain world) (is : IsUngrouped world) (t
 
   pivoted_free : (root new : Mount ℕ) (put : Location ℕ)
       → AllFree (map (pivoted_mount nat_eq root new put) world.mounts)
-  pivoted_free root new put = all-map free (pivoted_mount nat_eq root new put)
-      (λ mount e. by mount e _ _) world.mounts is
-    where
-      by : (mount : Mount ℕ) → free mount ≡ true → (a b : Bool)
-          → free (cond a (record mount { mount_point = root.mount_point })
-          (cond b (record mount { mount_point = Some put }) mount)) ≡ true
-      by mount e true b = e
-      by mount e false true = e
-      by mount e false false = e
+  pivoted_free root new put = grind (arith, common_steps, all-map)
 
   applied_free : (permit : Permit ℕ) → IsNoOverlay permit → makes_shared permit ≡ false
       → IsUngrouped (apply nat_eq fresh world task permit).world
@@ -280,10 +234,8 @@ module _ (world : World ℕ) (plain : IsPlain world) (is : IsUngrouped world) (t
       change_free world plain (odds fresh) directory (Make directory.node name (evens fresh 0) node) is
   applied_free (ToWritePart file offset bytes) other shared = written_free file offset bytes
   applied_free ToExit other shared = ended_free (without_task world task.name) is
-  applied_free ToUnshare other shared =
-      ended_free (unshared nat_eq world fresh task)
-      (all_append world.mounts (map copied own) is
-      (all-map free copied (λ mount e. e) own
+  applied_free ToUnshare other shared = ended_free (unshared nat_eq world fresh task)
+      (all_append world.mounts (map copied own) is (all-map free copied (λ mount e. e) own
       (all-filter free (λ (mount : Mount ℕ). holds_of (nat_eq task.namespace) mount.namespace) world.mounts is)))
     where
       own : List (Mount ℕ)
@@ -291,8 +243,7 @@ module _ (world : World ℕ) (plain : IsPlain world) (is : IsUngrouped world) (t
 
       copied : Mount ℕ → Mount ℕ
       copied = copied_mount (numbers_by nat_eq (odds fresh) own) (evens fresh 0)
-  applied_free (ToEnterNamespace namespace) other shared =
-      ended_free (namespace_entered nat_eq world task namespace) is
+  applied_free (ToEnterNamespace namespace) other shared = ended_free (namespace_entered nat_eq world task namespace) is
   applied_free (ToMountPlain place flags) other shared =
       attached_free (with_new_filesystem world (plain_filesystem nat_eq fresh)) (odds fresh) place false
       (new_mount (fresh 0) (fresh 2) flags ∷ []) is refl
@@ -304,8 +255,7 @@ module _ (world : World ℕ) (plain : IsPlain world) (is : IsUngrouped world) (t
       (all_pass free _
       (tree_is world.mounts each_free (length world.mounts) (mount_numbered nat_eq world mount) (found_free mount)))
   applied_free (ToUnmount mount) other shared = taken_free world _ is
-  applied_free (ToUnmountLazily mount) other shared =
-      folded_free
+  applied_free (ToUnmountLazily mount) other shared = folded_free
       (deepest_first nat_eq world (mount_tree nat_eq world.mounts (mount_numbered nat_eq world mount))) world is
   applied_free (ToSetFlags mount flags) other shared =
       replaced_free (record (mount_numbered nat_eq world mount) { flags = flags }) (found_free mount) world.mounts is
@@ -319,6 +269,5 @@ module _ (world : World ℕ) (plain : IsPlain world) (is : IsUngrouped world) (t
 
   pub left_free : (permit : Permit ℕ) → IsNoOverlay permit → makes_shared permit ≡ false
       → IsUngrouped (settled nat_eq (apply nat_eq fresh world task permit).world)
-  left_free permit other shared =
-      all-filter free (mount_lives nat_eq (apply nat_eq fresh world task permit).world)
+  left_free permit other shared = all-filter free (mount_lives nat_eq (apply nat_eq fresh world task permit).world)
       (apply nat_eq fresh world task permit).world.mounts (applied_free permit other shared)
