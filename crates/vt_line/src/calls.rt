@@ -12,7 +12,8 @@ use crate::names::CallName;
 use crate::version::Version;
 use crate::words::{Words, path_word};
 use std::alloc::{AllocError, Global};
-use vt_request::{Call, LookCall, TaskCall};
+use vt_request::Call;
+use vt_spec::errors::{Deny, Rule};
 
 /// Why no call was read.
 #[derive(Clone, Copy)]
@@ -33,10 +34,24 @@ impl From<AllocError> for ReadError {
     }
 }
 
+/// S1 (EINVAL) or S5 (ENOMEM).
+impl From<ReadError> for Deny {
+    ghost use Rattle.vt_line.specs.Calls.{refusal};
+
+    ghost from_gives = { λ error deny. deny ≡ refusal error };
+
+    fn from(error: ReadError) -> Deny {
+        match error {
+            ReadError::Grammar => Rule::S1.denial(),
+            ReadError::Memory => Rule::S5.denial(),
+        }
+    }
+}
+
 /// The words of a call that has a path alone.
 #[tactic(auto, unfolding(crate::specs::Calls::lone_path))]
-fn lone_path(mut words: Words<'_>) -> Option<&[u8]>
-    ensures { option_map (λ path. path.now) result ≡ lone_path words.entry }
+fn lone_path<'a>(words: &mut Words<'a>) -> Option<&'a [u8]>
+    ensures { option_map (λ path. path.now) result ≡ lone_path words.old }
 {
     let path = path_word(words.next()?)?;
     words.end()?;
@@ -45,8 +60,8 @@ fn lone_path(mut words: Words<'_>) -> Option<&[u8]>
 
 /// The words of a call that has two paths, or a text and a path.
 #[tactic(auto, unfolding(crate::specs::Calls::path_pair))]
-fn path_pair(mut words: Words<'_>) -> Option<(&[u8], &[u8])>
-    ensures { option_map (λ paths. (paths.0.now, paths.1.now)) result ≡ path_pair words.entry }
+fn path_pair<'a>(words: &mut Words<'a>) -> Option<(&'a [u8], &'a [u8])>
+    ensures { option_map (λ paths. (paths.0.now, paths.1.now)) result ≡ path_pair words.old }
 {
     let first = path_word(words.next()?)?;
     let second = path_word(words.next()?)?;
@@ -55,8 +70,8 @@ fn path_pair(mut words: Words<'_>) -> Option<(&[u8], &[u8])>
 }
 
 /// A path that is kept, and no more.
-fn path(alloc: Global, words: Words<'_>) -> Result<Vec<u8>, ReadError>
-    ensures { ArePathsRead (λ (path : Vec _). path.items) (lone_path words.entry) result }
+fn path(alloc: Global, words: &mut Words<'_>) -> Result<Vec<u8>, ReadError>
+    ensures { ArePathsRead (λ (path : Vec _). path.items) (lone_path words.old) result }
 {
     let Some(path) = lone_path(words) else {
         return Err(ReadError::Grammar);
@@ -65,8 +80,8 @@ fn path(alloc: Global, words: Words<'_>) -> Result<Vec<u8>, ReadError>
 }
 
 /// Two paths that are kept, and no more.
-fn paths(alloc: Global, words: Words<'_>) -> Result<(Vec<u8>, Vec<u8>), ReadError>
-    ensures { ArePathsRead (λ (paths : Vec _ × Vec _). (paths.0.items, paths.1.items)) (path_pair words.entry) result }
+fn paths(alloc: Global, words: &mut Words<'_>) -> Result<(Vec<u8>, Vec<u8>), ReadError>
+    ensures { ArePathsRead (λ (paths : Vec _ × Vec _). (paths.0.items, paths.1.items)) (path_pair words.old) result }
 {
     let Some((first, second)) = path_pair(words) else {
         return Err(ReadError::Grammar);
@@ -75,13 +90,14 @@ fn paths(alloc: Global, words: Words<'_>) -> Result<(Vec<u8>, Vec<u8>), ReadErro
 }
 
 /// The call of this name with these words, in a version of the language. What it keeps is copied last.
+#[inline(always)]
 pub fn call(
     version: Version,
     alloc: Global,
     name: CallName,
-    words: Words<'_>,
+    words: &mut Words<'_>,
 ) -> Result<Call, ReadError>
-    ensures { IsCallRead (call_named (version_of version) name words.entry) result }
+    ensures { IsCallRead (call_named (version_of version) name words.old) result }
 {
     match name {
         CallName::Path(name) => Ok(name.call(path(alloc, words)?)),
@@ -95,29 +111,20 @@ pub fn call(
         CallName::Chown => files::chown(alloc, words),
         CallName::Opaque => files::opaque(alloc, words),
         CallName::Open => files::open(alloc, words),
-        CallName::Pread => files::pread(words).ok_or(ReadError::Grammar),
+        CallName::Pread => files::pread(words),
         CallName::Pwrite => files::pwrite(alloc, words),
-        CallName::Close => files::close(words).ok_or(ReadError::Grammar),
-        CallName::Umask => tasks::umask(words).ok_or(ReadError::Grammar),
-        CallName::Drop => tasks::drop(words).ok_or(ReadError::Grammar),
+        CallName::Close => files::close(words),
+        CallName::Umask => tasks::umask(words),
+        CallName::Drop => tasks::drop(words),
         CallName::Fork => tasks::fork(alloc, words),
-        CallName::Exit => words
-            .end()
-            .map(|()| Call::Task(TaskCall::Exit))
-            .ok_or(ReadError::Grammar),
-        CallName::Unshare => words
-            .end()
-            .map(|()| Call::Task(TaskCall::Unshare))
-            .ok_or(ReadError::Grammar),
+        CallName::Exit => tasks::exit(words),
+        CallName::Unshare => tasks::unshare(words),
         CallName::Setns => tasks::setns(alloc, words),
         CallName::Mount => mounting::mount(version, alloc, words),
         CallName::Remount => mounting::remount(version, alloc, words),
         CallName::SetType => mounting::set_type(alloc, words, false),
         CallName::SetTypeRecursive => mounting::set_type(alloc, words, true),
-        CallName::Mounts => words
-            .end()
-            .map(|()| Call::Look(LookCall::ListMounts))
-            .ok_or(ReadError::Grammar),
+        CallName::Mounts => mounting::mounts(words),
         CallName::PivotRoot => mounting::pivot_root(version, alloc, words),
     }
 }
