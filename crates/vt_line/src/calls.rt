@@ -1,6 +1,7 @@
 //! The calls of the grammar, read from the words behind their names.
 ghost use Rattle.std.specs.Prelude.{◌≡◌, option_map};
 ghost use Rattle.std.specs.Global.{Vec};
+ghost use Rattle.vt_spec.specs.Language.Script.Version.{One};
 ghost use Rattle.vt_line.specs.Calls.{call_named, lone_path, path_pair, ArePathsRead, IsCallRead};
 ghost use Rattle.vt_line.specs.Versions.{version_of};
 
@@ -8,7 +9,7 @@ mod files;
 mod mounting;
 mod tasks;
 
-use crate::names::CallName;
+use crate::names::{CallName, PairCall, PathCall};
 use crate::version::Version;
 use crate::words::{Words, path_word};
 use std::alloc::{AllocError, Global};
@@ -89,6 +90,23 @@ fn paths(alloc: Global, words: &mut Words<'_>) -> Result<(Vec<u8>, Vec<u8>), Rea
     Ok((first.to_vec(alloc)?, second.to_vec(alloc)?))
 }
 
+/// A call that is given a path alone.
+#[inline(never)]
+fn path_call(alloc: Global, name: PathCall, words: &mut Words<'_>) -> Result<Call, ReadError>
+    ensures { IsCallRead (call_named One (CallName.Path name) words.old) result }
+{
+    Ok(name.call(path(alloc, words)?))
+}
+
+/// A call that is given two paths, or a text and a path.
+#[inline(never)]
+fn pair_call(alloc: Global, name: PairCall, words: &mut Words<'_>) -> Result<Call, ReadError>
+    ensures { IsCallRead (call_named One (CallName.Pair name) words.old) result }
+{
+    let (first, second) = paths(alloc, words)?;
+    Ok(name.call(first, second))
+}
+
 /// The call of this name with these words, in a version of the language. What it keeps is copied last.
 #[inline(always)]
 pub fn call(
@@ -100,11 +118,8 @@ pub fn call(
     ensures { IsCallRead (call_named (version_of version) name words.old) result }
 {
     match name {
-        CallName::Path(name) => Ok(name.call(path(alloc, words)?)),
-        CallName::Pair(name) => {
-            let (first, second) = paths(alloc, words)?;
-            Ok(name.call(first, second))
-        }
+        CallName::Path(name) => path_call(alloc, name, words),
+        CallName::Pair(name) => pair_call(alloc, name, words),
         CallName::Write => files::write(alloc, words),
         CallName::Mkdir => files::mkdir(alloc, words),
         CallName::Chmod => files::chmod(alloc, words),

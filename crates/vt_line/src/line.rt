@@ -34,6 +34,14 @@ pub enum Line {
     Ask(Directive),
 }
 
+/// Lets go of a call whose task's name was refused memory. It is kept out of line, so that elsewhere a call is moved as one.
+#[inline(never)]
+fn given_up(_call: Call) -> Deny
+    ensures { result ≡ denial S5 }
+{
+    Rule::S5.denial()
+}
+
 /// A task's call, by their texts and the words behind them. What is kept of them is copied once all are of the grammar.
 #[inline(always)]
 fn task_call(
@@ -53,7 +61,9 @@ fn task_call(
         return Err(Rule::S1.denial());
     }
     let call = call(version, alloc, name, words)?;
-    let task = task_name(alloc, task)?;
+    let Ok(task) = task_name(alloc, task) else {
+        return Err(given_up(call));
+    };
     Ok(Line::Call(task, call))
 }
 
@@ -70,7 +80,7 @@ fn directive(name: &[u8], words: &Words<'_>) -> Option<Directive>
 }
 
 /// What a line asks for, by its words.
-#[inline(always)]
+#[inline(never)]
 fn words_request(version: Version, alloc: Global, mut words: Words<'_>) -> Result<Line, Deny>
     ensures { IsRequestRead (request_of_texts (overlays (version_of version)) words.entry) result }
 {
@@ -106,8 +116,7 @@ fn request(version: Version, alloc: Global, line: &[u8]) -> Result<Line, Deny>
     ensures { IsRequestRead (request_of (overlays (version_of version)) line.now) result }
 {
     if !is_unescaped(line) {
-        let line = escaped_request(version, alloc, line)?;
-        return Ok(line);
+        return escaped_request(version, alloc, line);
     }
     words_request(version, alloc, Words::of_tokens(line))
 }
