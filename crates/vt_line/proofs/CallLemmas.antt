@@ -205,3 +205,20 @@ pub pivot_asked : (version : Version) (words : List (List ℕ)) (new put : List 
 pivot_asked version words new put is e =
     ap (λ version. call_named version PivotRoot words) is ∙ pivot_named words
     ∙ ap (option_map (with_pair spec.Call.PivotRoot)) e
+
+-- each version has the same calls of paths
+pub path_every : (version : Version) (name : CallName) (of : PathCall) (words : List (List ℕ)) (read : Result KeptCall ReadError)
+    → name ≡ Path of → IsCallRead (call_named One (Path of) words) read → IsCallRead (call_named version name words) read
+path_every version name of words read is known =
+    let same : call_named One (Path of) words ≡ call_named version name words =
+    path_named One of words ∙ sym (path_named version of words)
+    ∙ ap (λ name. call_named version name words) (sym is) in
+    subst (λ asked. IsCallRead asked read) same known
+
+pub pair_every : (version : Version) (name : CallName) (of : PairCall) (words : List (List ℕ)) (read : Result KeptCall ReadError)
+    → name ≡ Pair of → IsCallRead (call_named One (Pair of) words) read → IsCallRead (call_named version name words) read
+pair_every version name of words read is known =
+    let same : call_named One (Pair of) words ≡ call_named version name words =
+    pair_named One of words ∙ sym (pair_named version of words)
+    ∙ ap (λ name. call_named version name words) (sym is) in
+    subst (λ asked. IsCallRead asked read) same known

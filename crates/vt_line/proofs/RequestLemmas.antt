@@ -1,12 +1,18 @@
 -- What a line asks for, by its texts.
-use Rattle.std.proofs.Common.{inl, inr, IfSome, Bool, List, None, Option, Some, Err, [], ap, arith, codes, cond, false, length, lit≤, option_map, refl, subst, suc, sym, true, unwrap_or, ℕ, ◌<◌, ◌≡◌, ◌≤◌, ◌∙◌, ◌∷◌, leb, IsSomeAnd}
+use Rattle.std.proofs.Common.{inl, inr, ⊎_elim, eqb, IfErr, IfOk, IfSome, Bool, List, None, Ok, Option, Result, Some, Err, [], ap, arith, codes, cond, false, length, lit≤, option_map, refl, subst, suc, sym, true, unwrap_or, ℕ, ◌<◌, ◌≡◌, ◌≤◌, ◌∙◌, ◌∷◌, ◌||◌, ◌⊎◌, leb, IsSomeAnd}
+use Rattle.std.specs.List.{list_all}
 use Rattle.std.specs.Str.{bytes_eq}
+use Rattle.std.proofs.lemmas.Bool.{false≢true}
 use Rattle.std.proofs.lemmas.Bool.Decides.{nat_tests}
+use Rattle.vt_spec.specs.Errors.{denial}
+use Rattle.vt_spec.specs.declared.errors.Deny.{Deny}
+use Rattle.vt_spec.specs.declared.errors.Rule.TheVariants.{S1, S5}
+use Rattle.vt_spec.specs.Language.Limits.{longest_line}
 use Rattle.vt_spec.specs.Language.Calls.{Call, Directive, plain_flags}
 use Rattle.vt_spec.specs.Language.Calls as asked
 use Rattle.vt_spec.specs.Language.Calls.Call.{MountOverlay, MountPlain}
 use Rattle.vt_spec.specs.Lists.{then_some}
-use Rattle.vt_spec.specs.Language.Script.{Request, Version, access_word, asked_by, attribute_words, bytes_word, call_asked, call_words, capabilities_word, chown_call, creation_words, descriptor_word, descriptor_words, directive_asked, each_of, flags_or_plain, flags_word, fork_words, groups_word, identity_word, kept_or_identity, may_have, mode_word, mount_words, mounting_words, naming_words, no_more, offset_word, options_of, overlays, path_alone, path_word, raw_tokens, request_of, request_of_texts, second_words, some_tasks, task_word, task_words, token_text, two_paths, type_word, word_then, yes_or_no_word}
+use Rattle.vt_spec.specs.Language.Script.{Request, Version, access_word, asked_by, attribute_words, bytes_word, call_asked, call_words, capabilities_word, chown_call, creation_words, descriptor_word, descriptor_words, directive_asked, each_of, flags_or_plain, flags_word, fork_words, groups_word, identity_word, is_plain, is_silent, kept_or_identity, may_have, mode_word, mount_words, mounting_words, naming_words, no_more, offset_word, options_of, overlays, path_alone, path_word, raw_tokens, request_of, request_of_texts, second_words, some_tasks, task_word, task_words, token_text, two_paths, type_word, word_then, yes_or_no_word}
 use Rattle.vt_spec.specs.Language.Script.Request.{Asking, Calling}
 use Rattle.vt_spec.specs.Language.Script.Version.{One, Two}
 use Rattle.vt_spec.specs.Language.Script.Who.{Nobody, Someone}
@@ -18,10 +24,14 @@ use Rattle.vt_line.specs.declared.names.PairCall.{PairCall}
 use Rattle.vt_line.specs.declared.names.PairCall.TheVariants as pair
 use Rattle.vt_line.specs.declared.names.PathCall.{PathCall}
 use Rattle.vt_line.specs.declared.names.PathCall.TheVariants as path
-use Rattle.vt_line.specs.Calls.{IsCallRead, IsRequestRead, KeepsWords, TakesMemory, as_read, call_named}
+use Rattle.vt_line.specs.declared.line.Line.{Line}
+use Rattle.vt_line.specs.declared.line.Line.TheVariants as line
+use Rattle.vt_line.specs.Calls.{AsksFor, IsCallRead, IsRequestRead, KeepsWords, TakesMemory, as_read, call_named, refusal}
+use Rattle.vt_line.specs.Lines.{IsReadingOf, IsSilent, IsSpoken}
 use Rattle.vt_line.specs.Names.{name_text, pair_text, path_text}
 use Rattle.vt_line.specs.Tokens.{few_texts}
 use Rattle.vt_line.proofs.Splits.{each_of-length}
+use Rattle.vt_line.proofs.TokenLemmas.{plain-tokens}
 
 -- What reads at most so many words answers nothing to more.
 abbrev Stops : {B : Type 0} → ℕ → (List (List ℕ) → Option B) → Type 0
@@ -323,16 +333,82 @@ some_takes task (Some call) keeps = inl keeps
 
 pub request-long : (asked : Option Request) (task : List ℕ) (call : Option Call) (c : Call)
     → asked ≡ option_map (Calling task) call → call ≡ Some c
-    → 8 < length task → IsRequestRead asked (Err Memory)
+    → 8 < length task → IsRequestRead asked (Err (denial S5))
 request-long asked task call c is there long =
-    subst (λ asked. IsSomeAnd asked TakesMemory) (sym (is ∙ ap (option_map (Calling task)) there)) (inr long)
+    inr (refl, subst (λ asked. IsSomeAnd asked TakesMemory) (sym (is ∙ ap (option_map (Calling task)) there)) (inr long))
 
 pub if_some : {A : Type 0} (P : A → Type 0) (a : Option A) (x : A) → a ≡ Some x → IfSome a P → P x
 if_some P a x e h = subst (λ a. IfSome a P) e h
 
 pub request-refused : (asked : Option Request) (task : List ℕ) (call : Option Call) (e : ReadError)
     → asked ≡ option_map (Calling task) call
-    → IsCallRead call (Err e) → IsRequestRead asked (Err e)
-request-refused asked task call Grammar is none = is ∙ ap (option_map (Calling task)) none
-request-refused asked task call Memory is some = subst (λ asked. IsSomeAnd asked TakesMemory) (sym is)
-    (some_takes task call some)
+    → IsCallRead call (Err e) → IsRequestRead asked (Err (refusal e))
+request-refused asked task call Grammar is none = inl (refl, is ∙ ap (option_map (Calling task)) none)
+request-refused asked task call Memory is some =
+    inr (refl, subst (λ asked. IsSomeAnd asked TakesMemory) (sym is) (some_takes task call some))
+
+-- a line without escapes is read by its tokens
+pub request-plain : (version : Version) (line : List ℕ) → list_all (λ byte. eqb byte 32 || is_plain byte) line ≡ true
+    → request_of (overlays version) line ≡ request_of_texts (overlays version) (raw_tokens line)
+unfolding request_of
+request-plain version line plain = ap (λ texts. then_some texts (request_of_texts (overlays version)))
+    (plain-tokens line plain)
+
+-- how a line was read, by its request
+pub read-silent : (text : List ℕ) (asked : Option Request) (r : Result Line Deny) → is_silent text ≡ false
+    → IsRequestRead asked r → (r ≡ Ok line.Silent → IsSilent text) × (IsSilent text → r ≡ Ok line.Silent)
+read-silent text asked r spoken read = (
+  λ is. absurd (subst (λ r. IsRequestRead asked r) is read),
+  λ silent. absurd (false≢true (sym spoken ∙ silent.1)),
+)
+
+pub read-reading : (version : Version) (text : List ℕ) (r : Result Line Deny) → IsSpoken text
+    → IsRequestRead (request_of (overlays version) text) r → IfOk r (IsReadingOf version text)
+read-reading version text (Ok line.Silent) spoken read = absurd read
+read-reading version text (Ok (line.Call task call)) spoken read = (spoken, read)
+read-reading version text (Ok (line.Ask directive)) spoken read = (spoken, read)
+read-reading version text (Err deny) spoken read = tt
+
+pub read-refused : (asked : Option Request) (r : Result Line Deny) → IsRequestRead asked r
+    → IfErr r (λ deny. (deny ≡ denial S1) ⊎ (deny ≡ denial S5))
+read-refused asked (Ok line) read = tt
+read-refused asked (Err deny) (inl grammar) = inl grammar.0
+read-refused asked (Err deny) (inr memory) = inr memory.0
+
+lacks : (asked : Option Request) (line : Line) → AsksFor line asked → asked ≡ None → ⊥
+lacks asked line.Silent read none = read
+lacks asked (line.Call task call) read none = cc
+lacks asked (line.Ask directive) read none = cc
+
+-- no refusal is by two rules
+apart : (deny : Deny) → deny ≡ denial S1 → deny ≡ denial S5 → ⊥
+apart deny grammar memory =
+    let same : S1 ≡ S5 = sym (ap (λ d. d.rule) grammar) ∙ ap (λ d. d.rule) memory in
+    cc
+
+grammar-refusal : (asked : Option Request) (r : Result Line Deny) → IsRequestRead asked r
+    → (r ≡ Err (denial S1) → asked ≡ None) × (asked ≡ None → r ≡ Err (denial S1))
+grammar-refusal asked (Ok line) read = (λ is. cc, λ none. absurd (lacks asked line read none))
+grammar-refusal asked (Err deny) (inl grammar) = (λ is. grammar.1, λ none. ap Err grammar.0)
+grammar-refusal asked (Err deny) (inr memory) = (
+  λ is. let grammar : deny ≡ denial S1 = cc in absurd (apart deny grammar memory.0),
+  λ none. absurd (subst (λ asked. IsSomeAnd asked TakesMemory) none memory.1),
+)
+
+pub read-grammar : (text : List ℕ) (asked : Option Request) (r : Result Line Deny) → IsSpoken text
+    → IsRequestRead asked r
+    → (r ≡ Err (denial S1) → (longest_line < length text) ⊎ (IsSpoken text × (asked ≡ None)))
+    × ((longest_line < length text) ⊎ (IsSpoken text × (asked ≡ None)) → r ≡ Err (denial S1))
+read-grammar text asked r spoken read =
+    let ways = grammar-refusal asked r read in (
+      λ is. inr (spoken, ways.0 is),
+      λ why. ⊎_elim (λ long. let short = spoken.0 in absurd (omega arith)) (λ none. ways.1 none.1) why,
+    )
+
+pub read-memory : (text : List ℕ) (asked : Option Request) (r : Result Line Deny) → IsSpoken text
+    → IsRequestRead asked r → r ≡ Err (denial S5) → IsSpoken text × IsSomeAnd asked TakesMemory
+read-memory text asked (Ok line) spoken read is = cc
+read-memory text asked (Err deny) spoken (inl grammar) is =
+    let memory : deny ≡ denial S5 = cc in
+    absurd (apart deny grammar.0 memory)
+read-memory text asked (Err deny) spoken (inr memory) is = (spoken, memory.1)

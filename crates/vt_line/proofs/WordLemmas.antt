@@ -16,7 +16,9 @@ use Rattle.vt_cred.specs.Caps.{capability_table}
 use Rattle.vt_spec.specs.Language.Calls.CapabilityWord.{These}
 use Rattle.vt_spec.specs.PathText.{parts}
 use Rattle.vt_spec.specs.Language.Script.{task_word, name_of_parts, each_of, with_first, child_number, capability_named, capabilities_word, union, groups_word, identity_word}
+use Rattle.vt_spec.specs.Lists.{is_empty_list}
 use Rattle.vt_spec.proofs.Options.{cond-None}
+use Rattle.vt_line.specs.Tokens.{cut}
 
 -- a task's name by its first part
 pub task_word-other : (text first : List ℕ) (rest : List (List ℕ)) → parts 46 text ≡ first ∷ rest → bytes_eq first (codes "t") ≡ false → task_word text ≡ None
@@ -26,6 +28,10 @@ task_word-other text first rest e other = ap name_of_parts e
 pub task_word-children : (text first : List ℕ) (rest : List (List ℕ)) → parts 46 text ≡ first ∷ rest → bytes_eq first (codes "t") ≡ true → task_word text ≡ each_of child_number rest
 task_word-children text first rest e same = ap name_of_parts e
     ∙ ap (λ same. cond same (each_of child_number rest) None) same
+
+-- the first task has no number
+pub first_task : (text : List ℕ) → bytes_eq text (codes "t") ≡ true → task_word text ≡ Some []
+first_task text same = ap task_word ((bytes_eq-Decides text (codes "t")).0 same)
 
 task_some : (words : List (List ℕ)) → is_some (name_of_parts words) ≡ true
     → name_of_parts words ≡ each_of child_number (drop 1 words)
@@ -152,19 +158,13 @@ groups_word-wrong text some wrong =
     groups_word-parts text some
     ∙ cond-None (leb (length (parts 44 text)) 32) (each_of identity_word (parts 44 text)) wrong
 
-pub words_end : {A : Type 0} (all left : List A) (at : ℕ) (size : ℕ) (ended : Option (Unit {0}))
-    → ended ≡ then_some (leb size at) tt → size ≡ length all
-    → drop at all ≡ left → (IsSome ended → left ≡ []) × (left ≡ [] → IsSome ended)
-words_end all left at size ended is count rest = by_test (leb size at) refl is where
-  by_test : (test : Bool) → leb size at ≡ test → ended ≡ then_some test tt
-      → (IsSome ended → left ≡ []) × (left ≡ [] → IsSome ended)
-  by_test true e is =
-      let past : length all ≤ at = grind (arith, nat_tests) in
-      (λ some. sym rest ∙ drop_all at all past, λ none. ap is_some is)
-  by_test false e is =
-      let within : at < length all = grind (arith, nat_tests) in
-      let size = length-drop at all in (
-        λ some. absurd (false≢true (ap is_some (sym is) ∙ some)),
-        λ none.
-            absurd (let e = ap length (rest ∙ none) in omega (arith, within, size, e)),
-      )
+-- words end where none is left
+pub words_end : {A : Type 0} (left : List A) (ended : Option (Unit {0})) → ended ≡ then_some (is_empty_list left) tt
+    → (IsSome ended → left ≡ []) × (left ≡ [] → IsSome ended)
+words_end [] ended is = (λ some. refl, λ none. ap is_some is)
+words_end (word ∷ rest) ended is = (λ some. absurd (false≢true (ap is_some (sym is) ∙ some)), λ none. cc)
+
+-- and of texts behind one another none is left where no size is
+pub cut_end : (bytes sizes : List ℕ) → eqb (length sizes) 0 ≡ is_empty_list (cut bytes sizes)
+cut_end bytes [] = refl
+cut_end bytes (size ∷ sizes) = grind (arith, nat_tests)

@@ -5,6 +5,9 @@ use Rattle.vt_spec.specs.Language.Calls.Call.{Close, Drop, Exit, Fork, ListMount
 use Rattle.vt_spec.specs.Language.Script.{Request, Version, call_read, call_words, mount_words, names_no_upper, no_more, path_word, word_then}
 use Rattle.vt_spec.specs.Language.Script.Request.{Asking, Calling}
 use Rattle.vt_spec.specs.Lists.{then_some, when}
+use Rattle.vt_spec.specs.Errors.{denial}
+use Rattle.vt_spec.specs.declared.errors.Deny.{Deny}
+use Rattle.vt_spec.specs.declared.errors.Rule.TheVariants.{S1, S5}
 use Rattle.vt_request.specs.declared.request.Call.{Call}
 use Rattle.vt_request.specs.declared.task.TheConstants.{INLINE_NUMBERS}
 use Rattle.vt_request.specs.Requests.{call_of, capabilities_of, directive_of}
@@ -62,6 +65,11 @@ ArePathsRead of asked (Ok paths) = asked ≡ Some (of paths)
 ArePathsRead of asked (Err Grammar) = asked ≡ None
 ArePathsRead of asked (Err Memory) = IsSome asked
 
+-- the refusal of a line of which no call was read
+abbrev pub refusal : ReadError → Deny
+refusal Grammar = denial S1
+refusal Memory = denial S5
+
 -- the request that a line asks for; one without an answer asks for none
 abbrev pub AsksFor : Line → Option Request → Type 0
 AsksFor line.Silent asked = ⊥
@@ -69,10 +77,10 @@ AsksFor (line.Call task call) asked = asked ≡ Some (Calling task (call_of call
 AsksFor (line.Ask directive) asked = asked ≡ Some (Asking (directive_of directive))
 
 -- a request was read, or why none was
-abbrev pub IsRequestRead : Option Request → Result Line ReadError → Type 0
+abbrev pub IsRequestRead : Option Request → Result Line Deny → Type 0
 IsRequestRead asked (Ok line) = AsksFor line asked
-IsRequestRead asked (Err Grammar) = asked ≡ None
-IsRequestRead asked (Err Memory) = IsSomeAnd asked TakesMemory
+IsRequestRead asked (Err deny) =
+    ((deny ≡ denial S1) × (asked ≡ None)) ⊎ ((deny ≡ denial S5) × IsSomeAnd asked TakesMemory)
 
 -- a path, and no more
 unfoldable pub lone_path : List (List ℕ) → Option (List ℕ)

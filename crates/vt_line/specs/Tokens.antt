@@ -1,5 +1,5 @@
 -- The texts of a line, free of capacities, and how a token's bytes are read.
-use Rattle.std.specs.Prelude.{List, None, Option, [], drop, if◌then◌else◌, length, map, nat_le, take, ℕ, ◌∷◌}
+use Rattle.std.specs.Prelude.{List, None, Option, Some, [], drop, if◌then◌else◌, length, nat_le, take, ℕ, ◌∷◌}
 use denote.Ref.{Bor}
 use Rattle.vt_spec.specs.Language.Script as spec
 use Rattle.vt_spec.specs.Language.Script.{each_of, raw_tokens, token_text}
@@ -15,10 +15,6 @@ reading_of AfterX = spec.Reading.AfterX
 reading_of (AfterHigh digit) = spec.Reading.AfterHigh digit
 reading_of Failed = spec.Reading.Failed
 
--- the bytes of each text
-abbrev pub texts_of : List (Bor (List ℕ)) → List (List ℕ)
-texts_of texts = map (λ text. text.now) texts
-
 -- the texts of a line, if each token spells one and they are not too many for any call
 abbrev pub few_texts : List ℕ → Option (List (List ℕ))
 few_texts line = if nat_le (length (raw_tokens line)) MOST_TEXTS then each_of token_text (raw_tokens line) else None
@@ -27,3 +23,8 @@ few_texts line = if nat_le (length (raw_tokens line)) MOST_TEXTS then each_of to
 abbrev pub cut : List ℕ → List ℕ → List (List ℕ)
 cut bytes [] = []
 cut bytes (size ∷ sizes) = take size bytes ∷ cut (drop size bytes) sizes
+
+-- the words that are left of bytes: texts behind one another where their sizes are known, and else tokens
+abbrev pub words_left : List ℕ → Option (Bor (List ℕ)) → List (List ℕ)
+words_left bytes None = raw_tokens bytes
+words_left bytes (Some sizes) = cut bytes sizes.now

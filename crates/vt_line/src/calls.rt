@@ -1,6 +1,7 @@
 //! The calls of the grammar, read from the words behind their names.
 ghost use Rattle.std.specs.Prelude.{◌≡◌, option_map};
 ghost use Rattle.std.specs.Global.{Vec};
+ghost use Rattle.vt_spec.specs.Language.Script.Version.{One};
 ghost use Rattle.vt_line.specs.Calls.{call_named, lone_path, path_pair, ArePathsRead, IsCallRead};
 ghost use Rattle.vt_line.specs.Versions.{version_of};
 
@@ -8,11 +9,12 @@ mod files;
 mod mounting;
 mod tasks;
 
-use crate::names::CallName;
+use crate::names::{CallName, PairCall, PathCall};
 use crate::version::Version;
 use crate::words::{Words, path_word};
 use std::alloc::{AllocError, Global};
-use vt_request::{Call, LookCall, TaskCall};
+use vt_request::Call;
+use vt_spec::errors::{Deny, Rule};
 
 /// Why no call was read.
 #[derive(Clone, Copy)]
@@ -33,10 +35,24 @@ impl From<AllocError> for ReadError {
     }
 }
 
+/// S1 (EINVAL) or S5 (ENOMEM).
+impl From<ReadError> for Deny {
+    ghost use Rattle.vt_line.specs.Calls.{refusal};
+
+    ghost from_gives = { λ error deny. deny ≡ refusal error };
+
+    fn from(error: ReadError) -> Deny {
+        match error {
+            ReadError::Grammar => Rule::S1.denial(),
+            ReadError::Memory => Rule::S5.denial(),
+        }
+    }
+}
+
 /// The words of a call that has a path alone.
 #[tactic(auto, unfolding(crate::specs::Calls::lone_path))]
-fn lone_path(mut words: Words<'_>) -> Option<&[u8]>
-    ensures { option_map (λ path. path.now) result ≡ lone_path words.entry }
+fn lone_path<'a>(words: &mut Words<'a>) -> Option<&'a [u8]>
+    ensures { option_map (λ path. path.now) result ≡ lone_path words.old }
 {
     let path = path_word(words.next()?)?;
     words.end()?;
@@ -45,8 +61,8 @@ fn lone_path(mut words: Words<'_>) -> Option<&[u8]>
 
 /// The words of a call that has two paths, or a text and a path.
 #[tactic(auto, unfolding(crate::specs::Calls::path_pair))]
-fn path_pair(mut words: Words<'_>) -> Option<(&[u8], &[u8])>
-    ensures { option_map (λ paths. (paths.0.now, paths.1.now)) result ≡ path_pair words.entry }
+fn path_pair<'a>(words: &mut Words<'a>) -> Option<(&'a [u8], &'a [u8])>
+    ensures { option_map (λ paths. (paths.0.now, paths.1.now)) result ≡ path_pair words.old }
 {
     let first = path_word(words.next()?)?;
     let second = path_word(words.next()?)?;
@@ -55,8 +71,8 @@ fn path_pair(mut words: Words<'_>) -> Option<(&[u8], &[u8])>
 }
 
 /// A path that is kept, and no more.
-fn path(alloc: Global, words: Words<'_>) -> Result<Vec<u8>, ReadError>
-    ensures { ArePathsRead (λ (path : Vec _). path.items) (lone_path words.entry) result }
+fn path(alloc: Global, words: &mut Words<'_>) -> Result<Vec<u8>, ReadError>
+    ensures { ArePathsRead (λ (path : Vec _). path.items) (lone_path words.old) result }
 {
     let Some(path) = lone_path(words) else {
         return Err(ReadError::Grammar);
@@ -65,8 +81,8 @@ fn path(alloc: Global, words: Words<'_>) -> Result<Vec<u8>, ReadError>
 }
 
 /// Two paths that are kept, and no more.
-fn paths(alloc: Global, words: Words<'_>) -> Result<(Vec<u8>, Vec<u8>), ReadError>
-    ensures { ArePathsRead (λ (paths : Vec _ × Vec _). (paths.0.items, paths.1.items)) (path_pair words.entry) result }
+fn paths(alloc: Global, words: &mut Words<'_>) -> Result<(Vec<u8>, Vec<u8>), ReadError>
+    ensures { ArePathsRead (λ (paths : Vec _ × Vec _). (paths.0.items, paths.1.items)) (path_pair words.old) result }
 {
     let Some((first, second)) = path_pair(words) else {
         return Err(ReadError::Grammar);
@@ -74,50 +90,56 @@ fn paths(alloc: Global, words: Words<'_>) -> Result<(Vec<u8>, Vec<u8>), ReadErro
     Ok((first.to_vec(alloc)?, second.to_vec(alloc)?))
 }
 
+/// A call that is given a path alone.
+#[inline(never)]
+fn path_call(alloc: Global, name: PathCall, words: &mut Words<'_>) -> Result<Call, ReadError>
+    ensures { IsCallRead (call_named One (CallName.Path name) words.old) result }
+{
+    Ok(name.call(path(alloc, words)?))
+}
+
+/// A call that is given two paths, or a text and a path.
+#[inline(never)]
+fn pair_call(alloc: Global, name: PairCall, words: &mut Words<'_>) -> Result<Call, ReadError>
+    ensures { IsCallRead (call_named One (CallName.Pair name) words.old) result }
+{
+    let (first, second) = paths(alloc, words)?;
+    Ok(name.call(first, second))
+}
+
 /// The call of this name with these words, in a version of the language. What it keeps is copied last.
+#[inline(always)]
 pub fn call(
     version: Version,
     alloc: Global,
     name: CallName,
-    words: Words<'_>,
+    words: &mut Words<'_>,
 ) -> Result<Call, ReadError>
-    ensures { IsCallRead (call_named (version_of version) name words.entry) result }
+    ensures { IsCallRead (call_named (version_of version) name words.old) result }
 {
     match name {
-        CallName::Path(name) => Ok(name.call(path(alloc, words)?)),
-        CallName::Pair(name) => {
-            let (first, second) = paths(alloc, words)?;
-            Ok(name.call(first, second))
-        }
+        CallName::Path(name) => path_call(alloc, name, words),
+        CallName::Pair(name) => pair_call(alloc, name, words),
         CallName::Write => files::write(alloc, words),
         CallName::Mkdir => files::mkdir(alloc, words),
         CallName::Chmod => files::chmod(alloc, words),
         CallName::Chown => files::chown(alloc, words),
         CallName::Opaque => files::opaque(alloc, words),
         CallName::Open => files::open(alloc, words),
-        CallName::Pread => files::pread(words).ok_or(ReadError::Grammar),
+        CallName::Pread => files::pread(words),
         CallName::Pwrite => files::pwrite(alloc, words),
-        CallName::Close => files::close(words).ok_or(ReadError::Grammar),
-        CallName::Umask => tasks::umask(words).ok_or(ReadError::Grammar),
-        CallName::Drop => tasks::drop(words).ok_or(ReadError::Grammar),
+        CallName::Close => files::close(words),
+        CallName::Umask => tasks::umask(words),
+        CallName::Drop => tasks::drop(words),
         CallName::Fork => tasks::fork(alloc, words),
-        CallName::Exit => words
-            .end()
-            .map(|()| Call::Task(TaskCall::Exit))
-            .ok_or(ReadError::Grammar),
-        CallName::Unshare => words
-            .end()
-            .map(|()| Call::Task(TaskCall::Unshare))
-            .ok_or(ReadError::Grammar),
+        CallName::Exit => tasks::exit(words),
+        CallName::Unshare => tasks::unshare(words),
         CallName::Setns => tasks::setns(alloc, words),
         CallName::Mount => mounting::mount(version, alloc, words),
         CallName::Remount => mounting::remount(version, alloc, words),
         CallName::SetType => mounting::set_type(alloc, words, false),
         CallName::SetTypeRecursive => mounting::set_type(alloc, words, true),
-        CallName::Mounts => words
-            .end()
-            .map(|()| Call::Look(LookCall::ListMounts))
-            .ok_or(ReadError::Grammar),
+        CallName::Mounts => mounting::mounts(words),
         CallName::PivotRoot => mounting::pivot_root(version, alloc, words),
     }
 }

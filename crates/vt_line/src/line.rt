@@ -11,12 +11,11 @@ ghost use Rattle.vt_spec.specs.declared.errors.Rule.TheVariants.{S1, S5};
 ghost use Rattle.vt_request.specs.Requests.{directive_of};
 ghost use Rattle.vt_line.specs.Calls.{IsRequestRead, TakesMemory};
 ghost use Rattle.vt_line.specs.Lines.{IsSilent, IsSpoken, IsReadingOf};
-ghost use Rattle.vt_line.specs.Tokens.{texts_of};
 ghost use Rattle.vt_line.specs.Versions.{version_of};
 
-use crate::calls::{ReadError, call};
+use crate::calls::call;
 use crate::names::CallName;
-use crate::token::{Texts, Unescaped, is_silent, is_unescaped, unescaped_texts};
+use crate::token::{Unescaped, is_silent, is_unescaped};
 use crate::version::Version;
 use crate::words::{Words, is_task, task_name};
 use std::alloc::Global;
@@ -35,32 +34,43 @@ pub enum Line {
     Ask(Directive),
 }
 
+/// Lets go of a call whose task's name was refused memory. It is kept out of line, so that elsewhere a call is moved as one.
+#[inline(never)]
+fn given_up(_call: Call) -> Deny
+    ensures { result ≡ denial S5 }
+{
+    Rule::S5.denial()
+}
+
 /// A task's call, by their texts and the words behind them. What is kept of them is copied once all are of the grammar.
+#[inline(always)]
 fn task_call(
     version: Version,
     alloc: Global,
     task: &[u8],
     name: &[u8],
-    words: Words<'_>,
-) -> Result<Line, ReadError>
+    words: &mut Words<'_>,
+) -> Result<Line, Deny>
     ensures { let task = option_map Someone (task_word task.now) in
-        IsRequestRead (asked_by (overlays (version_of version)) task (name.now ∷ words.entry)) result }
+        IsRequestRead (asked_by (overlays (version_of version)) task (name.now ∷ words.old)) result }
 {
     let Some(name) = CallName::from_text(name) else {
-        return Err(ReadError::Grammar);
+        return Err(Rule::S1.denial());
     };
     if !is_task(task) {
-        return Err(ReadError::Grammar);
+        return Err(Rule::S1.denial());
     }
     let call = call(version, alloc, name, words)?;
-    let task = task_name(alloc, task)?;
+    let Ok(task) = task_name(alloc, task) else {
+        return Err(given_up(call));
+    };
     Ok(Line::Call(task, call))
 }
 
 /// The directive of this name, with these words. Both versions of the language read it alike.
-fn directive(name: &[u8], words: Words<'_>) -> Option<Directive>
+fn directive(name: &[u8], words: &Words<'_>) -> Option<Directive>
     ensures { option_map (λ directive. Asking (directive_of directive)) result
-        ≡ directive_asked (overlays One) (name.now ∷ words.entry) }
+        ≡ directive_asked (overlays One) (name.now ∷ words.now) }
 {
     if name != b"peers".as_slice() {
         return None;
@@ -69,46 +79,46 @@ fn directive(name: &[u8], words: Words<'_>) -> Option<Directive>
     Some(Directive::Peers)
 }
 
-/// What a line asks for, by its texts.
-fn texts_request(version: Version, alloc: Global, texts: Texts<'_>) -> Result<Line, ReadError>
-    ensures { IsRequestRead (request_of_texts (overlays (version_of version)) (texts_of texts.entry.items)) result }
+/// What a line asks for, by its words.
+#[inline(never)]
+fn words_request(version: Version, alloc: Global, mut words: Words<'_>) -> Result<Line, Deny>
+    ensures { IsRequestRead (request_of_texts (overlays (version_of version)) words.entry) result }
 {
-    let mut words = Words::new(texts);
     let (Some(who), Some(name)) = (words.next(), words.next()) else {
-        return Err(ReadError::Grammar);
+        return Err(Rule::S1.denial());
     };
     if who != b"!".as_slice() {
-        return task_call(version, alloc, who, name, words);
+        return task_call(version, alloc, who, name, &mut words);
     }
-    let Some(directive) = directive(name, words) else {
-        return Err(ReadError::Grammar);
+    let Some(directive) = directive(name, &words) else {
+        return Err(Rule::S1.denial());
     };
     Ok(Line::Ask(directive))
 }
 
-/// What a line asks for that has escapes, or bytes that no token has.
-fn escaped_request(version: Version, alloc: Global, line: &[u8]) -> Result<Line, ReadError>
+/// What a line asks for that has escapes, or bytes that no token has. The texts take much of the stack, so it is no part
+/// of its callers.
+#[inline(never)]
+fn escaped_request(version: Version, alloc: Global, line: &[u8]) -> Result<Line, Deny>
     requires { length line.now ≤ longest_line }
     ensures { IsRequestRead (request_of (overlays (version_of version)) line.now) result }
 {
-    let Some(unescaped) = Unescaped::from_line(line) else {
-        return Err(ReadError::Grammar);
+    let Some(texts) = Unescaped::from_line(line) else {
+        return Err(Rule::S1.denial());
     };
-    texts_request(version, alloc, unescaped.texts())
+    words_request(version, alloc, Words::of_texts(&texts))
 }
 
 /// What a line asks for, if it is of the grammar.
-fn request(version: Version, alloc: Global, line: &[u8]) -> Result<Line, ReadError>
+#[inline(always)]
+fn request(version: Version, alloc: Global, line: &[u8]) -> Result<Line, Deny>
     requires { length line.now ≤ longest_line }
     ensures { IsRequestRead (request_of (overlays (version_of version)) line.now) result }
 {
     if !is_unescaped(line) {
         return escaped_request(version, alloc, line);
     }
-    let Some(texts) = unescaped_texts(line) else {
-        return Err(ReadError::Grammar);
-    };
-    texts_request(version, alloc, texts)
+    words_request(version, alloc, Words::of_tokens(line))
 }
 
 impl Line {
@@ -149,10 +159,6 @@ impl Line {
         if is_silent(line) {
             return Ok(Line::Silent);
         }
-        match request(version, alloc, line) {
-            Ok(line) => Ok(line),
-            Err(ReadError::Grammar) => Err(Rule::S1.denial()),
-            Err(ReadError::Memory) => Err(Rule::S5.denial()),
-        }
+        request(version, alloc, line)
     }
 }

@@ -1,9 +1,9 @@
 //! The tokens of a line, and the texts that they spell.
-ghost use Rattle.std.specs.Prelude.{◌≡◌, ◌+◌, ◌≤◌, ◌<◌, ◌||◌, ◌==◌, ◌++◌, Some, None, length, option_map, cond, sum, true, false, IfSome};
+ghost use Rattle.std.specs.Prelude.{◌≡◌, ◌≢◌, ◌+◌, ◌≤◌, ◌<◌, ◌||◌, ◌==◌, ◌++◌, ◌∷◌, [], ℕ, Some, None, length, option_map, slice_index, cond, MatchOption};
 ghost use Rattle.std.specs.List.{list_all};
 ghost use Rattle.vt_spec.specs.Language.Script.{is_silent, is_plain, raw_tokens, token_text, each_of, next_reading, completed};
-ghost use Rattle.vt_spec.specs.Language.Limits.{longest_line};
-ghost use Rattle.vt_line.specs.Tokens.{reading_of, texts_of, few_texts, cut};
+ghost use Rattle.vt_spec.specs.Lists.{is_empty_list};
+ghost use Rattle.vt_line.specs.Tokens.{reading_of};
 
 use crate::hex::HexDigit;
 use arrayvec::ArrayVec;
@@ -12,9 +12,6 @@ use vt_io::line::LONGEST_LINE;
 
 /// The most texts that a line of the grammar has: those of `fork` with a child's credentials.
 pub const MOST_TEXTS: usize = 6;
-
-/// The texts of a line.
-pub type Texts<'a> = ArrayVec<&'a [u8], MOST_TEXTS>;
 
 /// Whether a line has no answer: it is spaces alone, or a comment.
 pub fn is_silent(line: &[u8]) -> bool
@@ -76,35 +73,53 @@ impl Reading {
     }
 }
 
+/// Whether a byte of a line is a space, or stands for itself in a token.
+fn is_unescaped_byte(byte: u8) -> bool
+    ensures { result ≡ (byte == 32 || is_plain byte) }
+{
+    matches!(byte, b' '..=b'~') & (byte != b'\\')
+}
+
 /// Whether each token of a line is its own text: it has no escape and no byte that a token cannot have.
 pub fn is_unescaped(line: &[u8]) -> bool
     ensures { result ≡ list_all (λ byte. byte == 32 || is_plain byte) line.now }
 {
     let mut unescaped = true;
     for byte in line {
-        unescaped &= (*byte == b' ') | is_plain(*byte);
+        unescaped &= is_unescaped_byte(*byte);
     }
     unescaped
 }
 
-/// The texts of a line without escapes, which are its tokens: they stand between spaces.
-///
-/// Nothing where there are more than a line of the grammar has.
-pub fn unescaped_texts(line: &[u8]) -> Option<Texts<'_>>
-    requires { list_all (λ byte. byte == 32 || is_plain byte) line.now ≡ true }
-    ensures { option_map (λ texts. texts_of texts.items) result ≡ few_texts line.now }
+/// The index of the first space, or the line's length.
+fn first_space(line: &[u8]) -> usize
+    ensures within { result ≤ length line.now }
+    ensures before { (k : ℕ) → k < result → slice_index line.now k ≢ 32 }
+    ensures space { result < length line.now → slice_index line.now result ≡ 32 }
 {
-    let mut texts = Texts::new();
-    let tokens = line
-        .split(|byte| *byte == b' ')
-        .filter(|token| !token.is_empty());
-    for token in tokens {
-        if texts.is_full() {
-            return None;
-        }
-        texts.push(token);
+    line.iter()
+        .position(|byte| *byte == b' ')
+        .unwrap_or(line.len())
+}
+
+/// The first token of a line, and what follows it.
+pub fn split_first_token(line: &[u8]) -> Option<(&[u8], &[u8])>
+    ensures { MatchOption result (raw_tokens line.now ≡ [])
+        (λ parts. raw_tokens line.now ≡ parts.0.now ∷ raw_tokens parts.1.now) }
+{
+    let start = line.iter().position(|byte| *byte != b' ')?;
+    let line = &line[start..];
+    Some(line.split_at(first_space(line)))
+}
+
+/// Whether a line has no token.
+pub fn has_no_token(line: &[u8]) -> bool
+    ensures { result ≡ is_empty_list (raw_tokens line.now) }
+{
+    match line.iter().position(|byte| *byte != b' ') {
+        Some(_) => false,
+        None => true,
     }
-    Some(texts)
 }
 
 /// The texts of a line that has escapes, one behind the other.
@@ -146,9 +161,9 @@ fn unescape(token: &[u8], text: &mut ArrayVec<u8, LONGEST_LINE>) -> bool
 }
 
 impl Unescaped {
-    ghost use Rattle.std.specs.Prelude.{◌≡◌, ◌≤◌, length, option_map};
+    ghost use Rattle.std.specs.Prelude.{◌≡◌, ◌≤◌, length, sum};
     ghost use Rattle.vt_spec.specs.Language.Limits.{longest_line};
-    ghost use Rattle.vt_line.specs.Tokens.{texts_of, few_texts};
+    ghost use Rattle.vt_line.specs.Tokens.{cut, few_texts};
 
     /// The texts that a line's tokens spell.
     ///
@@ -175,17 +190,11 @@ impl Unescaped {
         Some(Unescaped { bytes, sizes })
     }
 
-    /// The texts.
-    pub fn texts(&self) -> Texts<'_>
-        ensures { texts_of result.items ≡ self.now }
+    /// The bytes of the texts, and their sizes.
+    pub fn parts(&self) -> (&[u8], &[usize])
+        ensures texts { cut result.0.now result.1.now ≡ self.now }
+        ensures whole { sum result.1.now ≡ length result.0.now }
     {
-        let mut texts = Texts::new();
-        let mut rest = self.bytes.as_slice();
-        for size in self.sizes.as_slice() {
-            let (text, after) = rest.split_at(*size);
-            texts.push(text);
-            rest = after;
-        }
-        texts
+        (self.bytes.as_slice(), self.sizes.as_slice())
     }
 }

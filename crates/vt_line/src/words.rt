@@ -8,7 +8,7 @@ ghost use Rattle.vt_request.specs.Requests.{access_of, capabilities_of, type_wor
 ghost use Rattle.vt_line.specs.Versions.{version_of};
 
 use crate::number::{child_number, identity_word};
-use crate::token::Texts;
+use crate::token::{Unescaped, has_no_token, split_first_token};
 use crate::version::Version;
 use arrayvec::ArrayVec;
 use std::alloc::{AllocError, Global};
@@ -21,7 +21,19 @@ use vt_request::{Access, CapsWord, TaskName, TypeWord};
 pub type Groups = ArrayVec<u32, MAX_GROUPS>;
 
 /// Whether a word names a task: `t` and any number of `.k`.
+#[inline(always)]
 pub fn is_task(text: &[u8]) -> bool
+    ensures { result ≡ is_some (task_word text.now) }
+{
+    if text == b"t".as_slice() {
+        return true;
+    }
+    is_task_of_parts(text)
+}
+
+/// The same, whatever the word is.
+#[inline(never)]
+fn is_task_of_parts(text: &[u8]) -> bool
     ensures { result ≡ is_some (task_word text.now) }
 {
     let mut parts = text.split(|byte| *byte == b'.');
@@ -40,7 +52,21 @@ pub fn is_task(text: &[u8]) -> bool
 }
 
 /// The task that a word names. Only a name of many numbers can fail.
+#[inline(always)]
 pub fn task_name(alloc: Global, text: &[u8]) -> Result<TaskName, AllocError>
+    requires { is_some (task_word text.now) ≡ true }
+    ensures value { IfOk result (λ name. task_word text.now ≡ Some name) }
+    ensures memory { OnErr result (IfSome (task_word text.now) (λ name. INLINE_NUMBERS < length name)) }
+{
+    if text == b"t".as_slice() {
+        return Ok(TaskName::new(alloc));
+    }
+    task_name_of_parts(alloc, text)
+}
+
+/// The same, whatever the word is.
+#[inline(never)]
+fn task_name_of_parts(alloc: Global, text: &[u8]) -> Result<TaskName, AllocError>
     requires { is_some (task_word text.now) ≡ true }
     ensures value { IfOk result (λ name. task_word text.now ≡ Some name) }
     ensures memory { OnErr result (IfSome (task_word text.now) (λ name. INLINE_NUMBERS < length name)) }
@@ -210,46 +236,77 @@ pub fn groups_word(text: &[u8]) -> Option<Groups>
     Some(groups)
 }
 
-/// The words of a line behind its call's name, read one after the other.
+/// The words of a line that are left, read one after the other.
 #[derive(Drop)]
 pub struct Words<'a> {
-    texts: Texts<'a>,
-    read: usize,
+    bytes: &'a [u8],
+    /// The sizes of words that stand behind one another; else a word ends at a space.
+    sizes: Option<&'a [usize]>,
 }
 
 impl<'a> Model for Words<'a> {
-    ghost use Rattle.std.specs.Prelude.{ℕ, List, drop};
-    ghost use Rattle.vt_line.specs.Tokens.{texts_of};
+    ghost use Rattle.std.specs.Prelude.{◌≡◌, ℕ, List, length, sum, IfSome};
+    ghost use Rattle.vt_line.specs.Tokens.{words_left};
 
     ghost Value = { List (List ℕ) };
 
-    ghost view = { λ words. drop words.read (texts_of words.texts.items) };
+    ghost view = { λ words. words_left words.bytes.now words.sizes };
+
+    ghost invariant = { λ words. IfSome words.sizes (λ sizes. sum sizes.now ≡ length words.bytes.now) };
 }
 
 impl<'a> Words<'a> {
     ghost use Rattle.std.specs.Prelude.{◌≡◌, ◌↔◌, ◌∷◌, [], IsSome, MatchOption};
-    ghost use Rattle.vt_line.specs.Tokens.{texts_of};
+    ghost use Rattle.vt_spec.specs.Language.Script.{raw_tokens};
 
-    /// The words that these texts are.
-    pub fn new(texts: Texts<'a>) -> Self
-        ensures { result ≡ texts_of texts.entry.items }
+    /// The tokens of a line, as they stand there.
+    pub fn of_tokens(line: &'a [u8]) -> Self
+        ensures { result ≡ raw_tokens line.now }
     {
-        Words { texts, read: 0 }
+        Words {
+            bytes: line,
+            sizes: None,
+        }
+    }
+
+    /// The texts of a line that has escapes.
+    pub fn of_texts(texts: &'a Unescaped) -> Self
+        ensures { result ≡ texts.now }
+    {
+        let (bytes, sizes) = texts.parts();
+        Words {
+            bytes,
+            sizes: Some(sizes),
+        }
     }
 
     /// The next word.
     pub fn next(&mut self) -> Option<&'a [u8]>
         ensures { MatchOption result (self.old ≡ []) (λ text. self.old ≡ text.now ∷ self.new) }
     {
-        let text = *self.texts.as_slice().get(self.read)?;
-        self.read += 1;
-        Some(text)
+        match self.sizes {
+            None => {
+                let (word, rest) = split_first_token(self.bytes)?;
+                self.bytes = rest;
+                Some(word)
+            }
+            Some(sizes) => {
+                let (size, others) = sizes.split_first()?;
+                let (word, rest) = self.bytes.split_at(*size);
+                self.bytes = rest;
+                self.sizes = Some(others);
+                Some(word)
+            }
+        }
     }
 
     /// That there is no more word.
     pub fn end(&self) -> Option<()>
         ensures { IsSome result ↔ (self.now ≡ []) }
     {
-        (self.texts.len() <= self.read).then_some(())
+        match self.sizes {
+            None => has_no_token(self.bytes).then_some(()),
+            Some(sizes) => sizes.is_empty().then_some(()),
+        }
     }
 }

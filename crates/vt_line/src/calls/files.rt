@@ -15,8 +15,8 @@ use vt_request::{Access, Call, Creation, DescriptorCall, LookCall, MakeCall, Wri
 use vt_spec::attributes::Mode;
 
 /// The words of `write PATH BYTES`.
-fn write_words(mut words: Words<'_>) -> Option<(&[u8], &[u8])>
-    ensures { option_map (λ w. Write w.0.now w.1.now) result ≡ call_worded One CallName.Write words.entry }
+fn write_words<'a>(words: &mut Words<'a>) -> Option<(&'a [u8], &'a [u8])>
+    ensures { option_map (λ w. Write w.0.now w.1.now) result ≡ call_worded One CallName.Write words.old }
 {
     let path = path_word(words.next()?)?;
     let bytes = words.next()?;
@@ -25,8 +25,8 @@ fn write_words(mut words: Words<'_>) -> Option<(&[u8], &[u8])>
 }
 
 /// The words of `mkdir PATH [MODE]`.
-fn mkdir_words(mut words: Words<'_>) -> Option<(&[u8], Option<Mode>)>
-    ensures { option_map (λ w. Mkdir w.0.now w.1) result ≡ call_worded One CallName.Mkdir words.entry }
+fn mkdir_words<'a>(words: &mut Words<'a>) -> Option<(&'a [u8], Option<Mode>)>
+    ensures { option_map (λ w. Mkdir w.0.now w.1) result ≡ call_worded One CallName.Mkdir words.old }
 {
     let path = path_word(words.next()?)?;
     let Some(mode) = words.next() else {
@@ -38,8 +38,8 @@ fn mkdir_words(mut words: Words<'_>) -> Option<(&[u8], Option<Mode>)>
 }
 
 /// The words of `chmod PATH MODE`.
-fn chmod_words(mut words: Words<'_>) -> Option<(&[u8], Mode)>
-    ensures { option_map (λ w. Chmod w.0.now w.1) result ≡ call_worded One CallName.Chmod words.entry }
+fn chmod_words<'a>(words: &mut Words<'a>) -> Option<(&'a [u8], Mode)>
+    ensures { option_map (λ w. Chmod w.0.now w.1) result ≡ call_worded One CallName.Chmod words.old }
 {
     let path = path_word(words.next()?)?;
     let mode = mode_word(words.next()?)?;
@@ -48,8 +48,8 @@ fn chmod_words(mut words: Words<'_>) -> Option<(&[u8], Mode)>
 }
 
 /// The words of `chown PATH UID GID`, of which one may stay.
-fn chown_words(mut words: Words<'_>) -> Option<(&[u8], Option<u32>, Option<u32>)>
-    ensures { option_map (λ w. Chown w.0.now w.1 w.2) result ≡ call_worded One CallName.Chown words.entry }
+fn chown_words<'a>(words: &mut Words<'a>) -> Option<(&'a [u8], Option<u32>, Option<u32>)>
+    ensures { option_map (λ w. Chown w.0.now w.1 w.2) result ≡ call_worded One CallName.Chown words.old }
 {
     let path = path_word(words.next()?)?;
     let uid = kept_or_identity(words.next()?)?;
@@ -62,8 +62,8 @@ fn chown_words(mut words: Words<'_>) -> Option<(&[u8], Option<u32>, Option<u32>)
 }
 
 /// The words of `opaque PATH yes` and `opaque PATH no`.
-fn opaque_words(mut words: Words<'_>) -> Option<(&[u8], bool)>
-    ensures { option_map (λ w. Opaque w.0.now w.1) result ≡ call_worded One CallName.Opaque words.entry }
+fn opaque_words<'a>(words: &mut Words<'a>) -> Option<(&'a [u8], bool)>
+    ensures { option_map (λ w. Opaque w.0.now w.1) result ≡ call_worded One CallName.Opaque words.old }
 {
     let path = path_word(words.next()?)?;
     let mark = yes_or_no_word(words.next()?)?;
@@ -72,8 +72,8 @@ fn opaque_words(mut words: Words<'_>) -> Option<(&[u8], bool)>
 }
 
 /// The words that follow the path and the access of `open`: `create MODE`, `excl MODE` or none.
-fn creation_words(mut words: Words<'_>) -> Option<Creation>
-    ensures { option_map creation_of result ≡ creation_words words.entry }
+fn creation_words(words: &mut Words<'_>) -> Option<Creation>
+    ensures { option_map creation_of result ≡ creation_words words.old }
 {
     let Some(word) = words.next() else {
         return Some(Creation::Never);
@@ -92,9 +92,9 @@ fn creation_words(mut words: Words<'_>) -> Option<Creation>
 }
 
 /// The words of `open PATH ACCESS`, with what is done where the name is missing.
-fn open_words(mut words: Words<'_>) -> Option<(&[u8], Access, Creation)>
+fn open_words<'a>(words: &mut Words<'a>) -> Option<(&'a [u8], Access, Creation)>
     ensures { option_map (λ w. OpenFile w.0.now (access_of w.1) (creation_of w.2)) result
-        ≡ call_worded One CallName.Open words.entry }
+        ≡ call_worded One CallName.Open words.old }
 {
     let path = path_word(words.next()?)?;
     let access = access_word(words.next()?)?;
@@ -103,8 +103,8 @@ fn open_words(mut words: Words<'_>) -> Option<(&[u8], Access, Creation)>
 }
 
 /// The words of `pwrite DESCRIPTOR OFFSET BYTES`.
-fn pwrite_words(mut words: Words<'_>) -> Option<(u8, u32, &[u8])>
-    ensures { option_map (λ w. Pwrite w.0 w.1 w.2.now) result ≡ call_worded One CallName.Pwrite words.entry }
+fn pwrite_words<'a>(words: &mut Words<'a>) -> Option<(u8, u32, &'a [u8])>
+    ensures { option_map (λ w. Pwrite w.0 w.1 w.2.now) result ≡ call_worded One CallName.Pwrite words.old }
 {
     let descriptor = descriptor_word(words.next()?)?;
     let offset = offset_word(words.next()?)?;
@@ -113,9 +113,9 @@ fn pwrite_words(mut words: Words<'_>) -> Option<(u8, u32, &[u8])>
     Some((descriptor, offset, bytes))
 }
 
-/// `pread DESCRIPTOR OFFSET SIZE`.
-pub fn pread(mut words: Words<'_>) -> Option<Call>
-    ensures { option_map call_of result ≡ call_named One CallName.Pread words.entry }
+/// The call of `pread DESCRIPTOR OFFSET SIZE`.
+fn pread_call(words: &mut Words<'_>) -> Option<Call>
+    ensures { option_map call_of result ≡ call_named One CallName.Pread words.old }
 {
     let descriptor = descriptor_word(words.next()?)?;
     let offset = offset_word(words.next()?)?;
@@ -128,9 +128,9 @@ pub fn pread(mut words: Words<'_>) -> Option<Call>
     }))
 }
 
-/// `close DESCRIPTOR`.
-pub fn close(mut words: Words<'_>) -> Option<Call>
-    ensures { option_map call_of result ≡ call_named One CallName.Close words.entry }
+/// The call of `close DESCRIPTOR`.
+fn close_call(words: &mut Words<'_>) -> Option<Call>
+    ensures { option_map call_of result ≡ call_named One CallName.Close words.old }
 {
     let descriptor = descriptor_word(words.next()?)?;
     words.end()?;
@@ -138,8 +138,9 @@ pub fn close(mut words: Words<'_>) -> Option<Call>
 }
 
 /// `write PATH BYTES`.
-pub fn write(alloc: Global, words: Words<'_>) -> Result<Call, ReadError>
-    ensures { IsCallRead (call_named One CallName.Write words.entry) result }
+#[inline(never)]
+pub fn write(alloc: Global, words: &mut Words<'_>) -> Result<Call, ReadError>
+    ensures { IsCallRead (call_named One CallName.Write words.old) result }
 {
     let Some((path, bytes)) = write_words(words) else {
         return Err(ReadError::Grammar);
@@ -150,8 +151,9 @@ pub fn write(alloc: Global, words: Words<'_>) -> Result<Call, ReadError>
 }
 
 /// `mkdir PATH [MODE]`.
-pub fn mkdir(alloc: Global, words: Words<'_>) -> Result<Call, ReadError>
-    ensures { IsCallRead (call_named One CallName.Mkdir words.entry) result }
+#[inline(never)]
+pub fn mkdir(alloc: Global, words: &mut Words<'_>) -> Result<Call, ReadError>
+    ensures { IsCallRead (call_named One CallName.Mkdir words.old) result }
 {
     let Some((path, mode)) = mkdir_words(words) else {
         return Err(ReadError::Grammar);
@@ -161,8 +163,9 @@ pub fn mkdir(alloc: Global, words: Words<'_>) -> Result<Call, ReadError>
 }
 
 /// `chmod PATH MODE`.
-pub fn chmod(alloc: Global, words: Words<'_>) -> Result<Call, ReadError>
-    ensures { IsCallRead (call_named One CallName.Chmod words.entry) result }
+#[inline(never)]
+pub fn chmod(alloc: Global, words: &mut Words<'_>) -> Result<Call, ReadError>
+    ensures { IsCallRead (call_named One CallName.Chmod words.old) result }
 {
     let Some((path, mode)) = chmod_words(words) else {
         return Err(ReadError::Grammar);
@@ -172,8 +175,9 @@ pub fn chmod(alloc: Global, words: Words<'_>) -> Result<Call, ReadError>
 }
 
 /// `chown PATH UID GID`.
-pub fn chown(alloc: Global, words: Words<'_>) -> Result<Call, ReadError>
-    ensures { IsCallRead (call_named One CallName.Chown words.entry) result }
+#[inline(never)]
+pub fn chown(alloc: Global, words: &mut Words<'_>) -> Result<Call, ReadError>
+    ensures { IsCallRead (call_named One CallName.Chown words.old) result }
 {
     let Some((path, uid, gid)) = chown_words(words) else {
         return Err(ReadError::Grammar);
@@ -183,8 +187,9 @@ pub fn chown(alloc: Global, words: Words<'_>) -> Result<Call, ReadError>
 }
 
 /// `opaque PATH yes` or `opaque PATH no`.
-pub fn opaque(alloc: Global, words: Words<'_>) -> Result<Call, ReadError>
-    ensures { IsCallRead (call_named One CallName.Opaque words.entry) result }
+#[inline(never)]
+pub fn opaque(alloc: Global, words: &mut Words<'_>) -> Result<Call, ReadError>
+    ensures { IsCallRead (call_named One CallName.Opaque words.old) result }
 {
     let Some((path, mark)) = opaque_words(words) else {
         return Err(ReadError::Grammar);
@@ -194,8 +199,9 @@ pub fn opaque(alloc: Global, words: Words<'_>) -> Result<Call, ReadError>
 }
 
 /// `open PATH ACCESS [create MODE | excl MODE]`.
-pub fn open(alloc: Global, words: Words<'_>) -> Result<Call, ReadError>
-    ensures { IsCallRead (call_named One CallName.Open words.entry) result }
+#[inline(never)]
+pub fn open(alloc: Global, words: &mut Words<'_>) -> Result<Call, ReadError>
+    ensures { IsCallRead (call_named One CallName.Open words.old) result }
 {
     let Some((path, access, creation)) = open_words(words) else {
         return Err(ReadError::Grammar);
@@ -209,8 +215,9 @@ pub fn open(alloc: Global, words: Words<'_>) -> Result<Call, ReadError>
 }
 
 /// `pwrite DESCRIPTOR OFFSET BYTES`.
-pub fn pwrite(alloc: Global, words: Words<'_>) -> Result<Call, ReadError>
-    ensures { IsCallRead (call_named One CallName.Pwrite words.entry) result }
+#[inline(never)]
+pub fn pwrite(alloc: Global, words: &mut Words<'_>) -> Result<Call, ReadError>
+    ensures { IsCallRead (call_named One CallName.Pwrite words.old) result }
 {
     let Some((descriptor, offset, bytes)) = pwrite_words(words) else {
         return Err(ReadError::Grammar);
@@ -221,4 +228,20 @@ pub fn pwrite(alloc: Global, words: Words<'_>) -> Result<Call, ReadError>
         offset,
         bytes,
     }))
+}
+
+/// `pread DESCRIPTOR OFFSET SIZE`.
+#[inline(never)]
+pub fn pread(words: &mut Words<'_>) -> Result<Call, ReadError>
+    ensures { IsCallRead (call_named One CallName.Pread words.old) result }
+{
+    pread_call(words).ok_or(ReadError::Grammar)
+}
+
+/// `close DESCRIPTOR`.
+#[inline(never)]
+pub fn close(words: &mut Words<'_>) -> Result<Call, ReadError>
+    ensures { IsCallRead (call_named One CallName.Close words.old) result }
+{
+    close_call(words).ok_or(ReadError::Grammar)
 }

@@ -13,12 +13,12 @@ use crate::version::Version;
 use crate::words::{Words, flags_word, path_word, type_word};
 use std::alloc::Global;
 use vt_cred::MountFlags;
-use vt_request::{Call, MountCall, TypeWord};
+use vt_request::{Call, LookCall, MountCall, TypeWord};
 
 /// The words of `mount plain PATH [FLAGS]` behind the kind.
-fn plain_words(version: Version, mut words: Words<'_>) -> Option<(&[u8], MountFlags)>
+fn plain_words<'a>(version: Version, words: &mut Words<'a>) -> Option<(&'a [u8], MountFlags)>
     ensures { option_map (λ w. MountPlain w.0.now (flags_of w.1)) result
-        ≡ mount_named (version_of version) (codes "plain") words.entry }
+        ≡ mount_named (version_of version) (codes "plain") words.old }
 {
     let path = path_word(words.next()?)?;
     let Some(flags) = words.next() else {
@@ -30,9 +30,12 @@ fn plain_words(version: Version, mut words: Words<'_>) -> Option<(&[u8], MountFl
 }
 
 /// The words of `mount overlay PATH OPTIONS [FLAGS]` behind the kind.
-fn overlay_words(version: Version, mut words: Words<'_>) -> Option<(&[u8], &[u8], MountFlags)>
+fn overlay_words<'a>(
+    version: Version,
+    words: &mut Words<'a>,
+) -> Option<(&'a [u8], &'a [u8], MountFlags)>
     ensures { option_map (λ w. MountOverlay w.0.now (options_named w.1.now) (flags_of w.2)) result
-        ≡ mount_named (version_of version) (codes "overlay") words.entry }
+        ≡ mount_named (version_of version) (codes "overlay") words.old }
 {
     let path = path_word(words.next()?)?;
     let options = words.next()?;
@@ -45,9 +48,9 @@ fn overlay_words(version: Version, mut words: Words<'_>) -> Option<(&[u8], &[u8]
 }
 
 /// The words of `remount PATH FLAGS`.
-fn remount_words(version: Version, mut words: Words<'_>) -> Option<(&[u8], MountFlags)>
+fn remount_words<'a>(version: Version, words: &mut Words<'a>) -> Option<(&'a [u8], MountFlags)>
     ensures { option_map (λ w. Remount w.0.now (flags_of w.1)) result
-        ≡ call_worded (version_of version) CallName.Remount words.entry }
+        ≡ call_worded (version_of version) CallName.Remount words.old }
 {
     let path = path_word(words.next()?)?;
     let flags = flags_word(version, words.next()?)?;
@@ -56,11 +59,11 @@ fn remount_words(version: Version, mut words: Words<'_>) -> Option<(&[u8], Mount
 }
 
 /// The words of `type PATH TYPE` and `rtype PATH TYPE`.
-fn type_words(mut words: Words<'_>) -> Option<(&[u8], TypeWord)>
+fn type_words<'a>(words: &mut Words<'a>) -> Option<(&'a [u8], TypeWord)>
     ensures one { option_map (λ w. SetType w.0.now (type_word_of w.1) false) result
-        ≡ call_named One CallName.SetType words.entry }
+        ≡ call_named One CallName.SetType words.old }
     ensures recursive { option_map (λ w. SetType w.0.now (type_word_of w.1) true) result
-        ≡ call_named One CallName.SetTypeRecursive words.entry }
+        ≡ call_named One CallName.SetTypeRecursive words.old }
 {
     let path = path_word(words.next()?)?;
     let word = type_word(words.next()?)?;
@@ -69,8 +72,9 @@ fn type_words(mut words: Words<'_>) -> Option<(&[u8], TypeWord)>
 }
 
 /// `mount plain PATH [FLAGS]` behind the kind.
-fn mount_plain(version: Version, alloc: Global, words: Words<'_>) -> Result<Call, ReadError>
-    ensures { IsCallRead (mount_named (version_of version) (codes "plain") words.entry) result }
+#[inline(never)]
+fn mount_plain(version: Version, alloc: Global, words: &mut Words<'_>) -> Result<Call, ReadError>
+    ensures { IsCallRead (mount_named (version_of version) (codes "plain") words.old) result }
 {
     let Some((path, flags)) = plain_words(version, words) else {
         return Err(ReadError::Grammar);
@@ -80,8 +84,9 @@ fn mount_plain(version: Version, alloc: Global, words: Words<'_>) -> Result<Call
 }
 
 /// `mount overlay PATH OPTIONS [FLAGS]` behind the kind.
-fn mount_overlay(version: Version, alloc: Global, words: Words<'_>) -> Result<Call, ReadError>
-    ensures { IsCallRead (mount_named (version_of version) (codes "overlay") words.entry) result }
+#[inline(never)]
+fn mount_overlay(version: Version, alloc: Global, words: &mut Words<'_>) -> Result<Call, ReadError>
+    ensures { IsCallRead (mount_named (version_of version) (codes "overlay") words.old) result }
 {
     let Some((path, options, flags)) = overlay_words(version, words) else {
         return Err(ReadError::Grammar);
@@ -96,8 +101,9 @@ fn mount_overlay(version: Version, alloc: Global, words: Words<'_>) -> Result<Ca
 }
 
 /// `mount plain PATH [FLAGS]`, and `mount overlay PATH OPTIONS [FLAGS]`.
-pub fn mount(version: Version, alloc: Global, mut words: Words<'_>) -> Result<Call, ReadError>
-    ensures { IsCallRead (call_named (version_of version) CallName.Mount words.entry) result }
+#[inline(never)]
+pub fn mount(version: Version, alloc: Global, words: &mut Words<'_>) -> Result<Call, ReadError>
+    ensures { IsCallRead (call_named (version_of version) CallName.Mount words.old) result }
 {
     let Some(kind) = words.next() else {
         return Err(ReadError::Grammar);
@@ -112,8 +118,9 @@ pub fn mount(version: Version, alloc: Global, mut words: Words<'_>) -> Result<Ca
 }
 
 /// `remount PATH FLAGS`.
-pub fn remount(version: Version, alloc: Global, words: Words<'_>) -> Result<Call, ReadError>
-    ensures { IsCallRead (call_named (version_of version) CallName.Remount words.entry) result }
+#[inline(never)]
+pub fn remount(version: Version, alloc: Global, words: &mut Words<'_>) -> Result<Call, ReadError>
+    ensures { IsCallRead (call_named (version_of version) CallName.Remount words.old) result }
 {
     let Some((path, flags)) = remount_words(version, words) else {
         return Err(ReadError::Grammar);
@@ -123,9 +130,10 @@ pub fn remount(version: Version, alloc: Global, words: Words<'_>) -> Result<Call
 }
 
 /// `type PATH TYPE`, and `rtype PATH TYPE`, which is recursive.
-pub fn set_type(alloc: Global, words: Words<'_>, recursive: bool) -> Result<Call, ReadError>
-    ensures one { recursive ≡ false → IsCallRead (call_named One CallName.SetType words.entry) result }
-    ensures recursive { recursive ≡ true → IsCallRead (call_named One CallName.SetTypeRecursive words.entry) result }
+#[inline(never)]
+pub fn set_type(alloc: Global, words: &mut Words<'_>, recursive: bool) -> Result<Call, ReadError>
+    ensures one { recursive ≡ false → IsCallRead (call_named One CallName.SetType words.old) result }
+    ensures recursive { recursive ≡ true → IsCallRead (call_named One CallName.SetTypeRecursive words.old) result }
 {
     let Some((path, word)) = type_words(words) else {
         return Err(ReadError::Grammar);
@@ -139,8 +147,9 @@ pub fn set_type(alloc: Global, words: Words<'_>, recursive: bool) -> Result<Call
 }
 
 /// `pivot_root NEW PUT`, which version 1 does not have.
-pub fn pivot_root(version: Version, alloc: Global, words: Words<'_>) -> Result<Call, ReadError>
-    ensures { IsCallRead (call_named (version_of version) CallName.PivotRoot words.entry) result }
+#[inline(never)]
+pub fn pivot_root(version: Version, alloc: Global, words: &mut Words<'_>) -> Result<Call, ReadError>
+    ensures { IsCallRead (call_named (version_of version) CallName.PivotRoot words.old) result }
 {
     match version {
         Version::One => Err(ReadError::Grammar),
@@ -149,4 +158,15 @@ pub fn pivot_root(version: Version, alloc: Global, words: Words<'_>) -> Result<C
             Ok(Call::Mount(MountCall::Pivot { new, put }))
         }
     }
+}
+
+/// `mounts`, without words.
+#[inline(never)]
+pub fn mounts(words: &mut Words<'_>) -> Result<Call, ReadError>
+    ensures { IsCallRead (call_named One CallName.Mounts words.old) result }
+{
+    if words.end().is_none() {
+        return Err(ReadError::Grammar);
+    }
+    Ok(Call::Look(LookCall::ListMounts))
 }

@@ -24,8 +24,8 @@ pub struct Child {
 }
 
 /// The words of `fork [UID GID GROUPS CAPS]`.
-fn fork_words(mut words: Words<'_>) -> Option<Option<Child>>
-    ensures { option_map (λ child. Fork (option_map child_of child)) result ≡ fork_words words.entry }
+fn fork_words(words: &mut Words<'_>) -> Option<Option<Child>>
+    ensures { option_map (λ child. Fork (option_map child_of child)) result ≡ fork_words words.old }
 {
     let Some(uid) = words.next() else {
         return Some(None);
@@ -44,28 +44,28 @@ fn fork_words(mut words: Words<'_>) -> Option<Option<Child>>
 }
 
 /// The word of `setns TASK`, which names a task.
-fn setns_word(mut words: Words<'_>) -> Option<&[u8]>
+fn setns_word<'a>(words: &mut Words<'a>) -> Option<&'a [u8]>
     ensures task { IfSome result (λ task. is_some (task_word task.now) ≡ true) }
     ensures call { then_some result (λ task. option_map Setns (task_word task.now))
-        ≡ call_worded One CallName.Setns words.entry }
+        ≡ call_worded One CallName.Setns words.old }
 {
     let task = words.next()?;
     words.end()?;
     if is_task(task) { Some(task) } else { None }
 }
 
-/// `umask MODE`.
-pub fn umask(mut words: Words<'_>) -> Option<Call>
-    ensures { option_map call_of result ≡ call_named One CallName.Umask words.entry }
+/// The call of `umask MODE`.
+fn umask_call(words: &mut Words<'_>) -> Option<Call>
+    ensures { option_map call_of result ≡ call_named One CallName.Umask words.old }
 {
     let mode = mode_word(words.next()?)?;
     words.end()?;
     Some(Call::Task(TaskCall::Umask { mode }))
 }
 
-/// `drop CAPS`.
-pub fn drop(mut words: Words<'_>) -> Option<Call>
-    ensures { option_map call_of result ≡ call_named One CallName.Drop words.entry }
+/// The call of `drop CAPS`.
+fn drop_call(words: &mut Words<'_>) -> Option<Call>
+    ensures { option_map call_of result ≡ call_named One CallName.Drop words.old }
 {
     let caps = capabilities_word(words.next()?)?;
     words.end()?;
@@ -73,8 +73,9 @@ pub fn drop(mut words: Words<'_>) -> Option<Call>
 }
 
 /// `fork [UID GID GROUPS CAPS]`.
-pub fn fork(alloc: Global, words: Words<'_>) -> Result<Call, ReadError>
-    ensures { IsCallRead (call_named One CallName.Fork words.entry) result }
+#[inline(never)]
+pub fn fork(alloc: Global, words: &mut Words<'_>) -> Result<Call, ReadError>
+    ensures { IsCallRead (call_named One CallName.Fork words.old) result }
 {
     let Some(child) = fork_words(words) else {
         return Err(ReadError::Grammar);
@@ -93,12 +94,51 @@ pub fn fork(alloc: Global, words: Words<'_>) -> Result<Call, ReadError>
 }
 
 /// `setns TASK`. Only a name of many numbers can fail.
-pub fn setns(alloc: Global, words: Words<'_>) -> Result<Call, ReadError>
-    ensures { IsCallRead (call_named One CallName.Setns words.entry) result }
+#[inline(never)]
+pub fn setns(alloc: Global, words: &mut Words<'_>) -> Result<Call, ReadError>
+    ensures { IsCallRead (call_named One CallName.Setns words.old) result }
 {
     let Some(task) = setns_word(words) else {
         return Err(ReadError::Grammar);
     };
     let task = task_name(alloc, task)?;
     Ok(Call::Task(TaskCall::Setns { task }))
+}
+
+/// `umask MODE`.
+#[inline(never)]
+pub fn umask(words: &mut Words<'_>) -> Result<Call, ReadError>
+    ensures { IsCallRead (call_named One CallName.Umask words.old) result }
+{
+    umask_call(words).ok_or(ReadError::Grammar)
+}
+
+/// `drop CAPS`.
+#[inline(never)]
+pub fn drop(words: &mut Words<'_>) -> Result<Call, ReadError>
+    ensures { IsCallRead (call_named One CallName.Drop words.old) result }
+{
+    drop_call(words).ok_or(ReadError::Grammar)
+}
+
+/// `exit`, without words.
+#[inline(never)]
+pub fn exit(words: &mut Words<'_>) -> Result<Call, ReadError>
+    ensures { IsCallRead (call_named One CallName.Exit words.old) result }
+{
+    if words.end().is_none() {
+        return Err(ReadError::Grammar);
+    }
+    Ok(Call::Task(TaskCall::Exit))
+}
+
+/// `unshare`, without words.
+#[inline(never)]
+pub fn unshare(words: &mut Words<'_>) -> Result<Call, ReadError>
+    ensures { IsCallRead (call_named One CallName.Unshare words.old) result }
+{
+    if words.end().is_none() {
+        return Err(ReadError::Grammar);
+    }
+    Ok(Call::Task(TaskCall::Unshare))
 }

@@ -1,4 +1,4 @@
-use Rattle.std.proofs.Common.{sym, ap, ◌∙◌, subst}
+use Rattle.std.proofs.Common.{inl, sym, ap, ◌∙◌, subst}
 use Rattle.vt_spec.specs.Lists.{then_some}
 use Rattle.vt_spec.specs.Language.Script.{overlays, request_of_texts}
 use Rattle.vt_line.specs.Calls.{IsRequestRead}
@@ -8,12 +8,15 @@ use Rattle.vt_line.proofs.line.escaped_request.Goals as goal
 
 pub returns-in_default : goal.returns-in_default
 returns-in_default c =
-    request-few (version_of c.args.version) c.args.line.now ∙ ap (λ texts. then_some texts (request_of_texts (overlays (version_of c.args.version))))
-    (sym c.from_line.ensures ∙ c.in_default.is)
+    inl (
+      c.denial.ensures,
+      request-few (version_of c.args.version) c.args.line.now ∙ ap (λ texts. then_some texts (request_of_texts (overlays (version_of c.args.version))))
+          (sym c.from_line.ensures ∙ c.in_default.is),
+    )
 
 pub returns : goal.returns
 returns c =
     let texts = sym c.from_line.ensures ∙ c.in-Some.is in
     let asked = request-few (version_of c.args.version) c.args.line.now ∙ ap (λ texts. then_some texts (request_of_texts (overlays (version_of c.args.version)))) texts
-    ∙ ap (request_of_texts (overlays (version_of c.args.version))) (sym c.texts.ensures) in
-    subst (λ asked. IsRequestRead asked c.texts_request.result) (sym asked) c.texts_request.ensures
+    ∙ ap (request_of_texts (overlays (version_of c.args.version))) (sym c.of_texts.ensures) in
+    subst (λ asked. IsRequestRead asked c.words_request.result) (sym asked) c.words_request.ensures

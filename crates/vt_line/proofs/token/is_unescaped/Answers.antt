@@ -1,4 +1,4 @@
-use Rattle.std.proofs.Common.{◌||◌, ◌&&◌, ◌==◌, get_or, take, sym, ap, ◌∙◌}
+use Rattle.std.proofs.Common.{◌||◌, ◌&&◌, ◌==◌, take, sym, ap, ◌∙◌}
 use Rattle.std.specs.List.{list_all}
 use Rattle.std.proofs.lemmas.List.{take_all}
 use Rattle.std.proofs.lemmas.List.Folds.{list_all_more}
@@ -10,10 +10,9 @@ loop-byte-preserved c =
     let line = c.args.line.now in
     let more = list_all_more (λ byte. byte == 32
     || is_plain byte) line c.loop-byte.byte-index 0 c.loop-byte-test.true in
-    let byte = get_or line c.loop-byte.byte-index 0 in
-    ap (λ before. before && (byte == 32 || c.is_plain.result)) c.loop-byte.invariant
-    ∙ ap (λ plain. list_all (λ byte. byte == 32 || is_plain byte) (take c.loop-byte.byte-index line)
-    && (byte == 32 || plain)) c.is_plain.ensures
+    ap (λ before. before && c.is_unescaped_byte-unescaped.result) c.loop-byte.invariant
+    ∙ ap (λ here. list_all (λ byte. byte == 32 || is_plain byte) (take c.loop-byte.byte-index line) && here)
+    c.is_unescaped_byte-unescaped.ensures
     ∙ sym more
 
 pub returns : goal.returns

@@ -2,7 +2,7 @@ use Rattle.std.proofs.Common.{◌≡◌, length, drop}
 use Rattle.vt_spec.specs.PathText.{parts}
 use Rattle.vt_spec.specs.Language.Script.{each_of, child_number}
 use Rattle.vt_line.proofs.TokenLemmas.{read_before}
-use Rattle.vt_line.proofs.words.task_name.Given as goal
+use Rattle.vt_line.proofs.words.task_name_of_parts.Given as goal
 
 abbrev pub invariant-loop-part : goal.invariant-loop-part
 invariant-loop-part l = record {
