@@ -3,11 +3,13 @@
 
 mod copies;
 mod entries;
+mod new_nodes;
 mod nodes;
 mod numbers;
 
 pub use copies::copied_bytes;
 pub(crate) use entries::DirectoryEntries;
+pub use new_nodes::NewNode;
 pub use nodes::{LARGEST_FILE, Node};
 pub use numbers::NodeId;
 pub use vt_spec::attributes::{Attr, Kind, Mode};

@@ -34,6 +34,7 @@ use Rattle.vt_permits.specs.declared.grant.RemoveGrant.TheVariants as remove
 use Rattle.vt_permits.specs.declared.grant.TaskGrant.{TaskGrant}
 use Rattle.vt_permits.specs.declared.grant.TaskGrant.TheVariants as task
 use Rattle.vt_permits.specs.declared.grant.ToMountOverlay.{ToMountOverlay}
+use Rattle.vt_permits.specs.declared.grant.ToRename.{ToRename as ToRenameGranted}
 use Rattle.vt_permits.specs.declared.grant.WriteGrant.{WriteGrant}
 use Rattle.vt_permits.specs.declared.grant.WriteGrant.TheVariants as write
 
@@ -64,15 +65,19 @@ make_permit (make.Node new) =
 make_permit (make.Link new) = ToChange (location_of new.directory)
     (AddName (number_of new.directory.node) new.name.items (number_of new.object))
 
+-- to rename
+abbrev pub rename_permit : ToRenameGranted → Permit ℕ
+rename_permit renamed =
+    ToRename (location_of renamed.from) renamed.old.items (location_of renamed.to) renamed.new.items
+    (location_of renamed.object) (option_map location_of renamed.replaced)
+
 -- to take names away
 abbrev pub remove_permit : RemoveGrant → Permit ℕ
 remove_permit (remove.Unlink gone) = ToChange (location_of gone.directory)
     (Remove (number_of gone.directory.node) gone.name.items (number_of gone.object))
 remove_permit (remove.Directory gone) =
     ToRemoveDirectory (location_of gone.parent) gone.name.items (location_of gone.directory)
-remove_permit (remove.Rename renamed) =
-    ToRename (location_of renamed.from) renamed.old.items (location_of renamed.to) renamed.new.items
-    (location_of renamed.object) (option_map location_of renamed.replaced)
+remove_permit (remove.Rename renamed) = rename_permit renamed.value
 
 -- to change the content, the owner and the mode of objects, and the mark of directories
 abbrev pub write_permit : WriteGrant → Permit ℕ

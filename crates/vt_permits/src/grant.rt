@@ -2,7 +2,7 @@
 
 use vt_cred::{Caps, Cred, Mode, MountFlags};
 use vt_location::{FilesystemId, Location, MountId, NamespaceId, NodeRef};
-use vt_node::{Attr, Node};
+use vt_node::{Attr, NewNode};
 use vt_request::{Access, TypeWord};
 
 /// What a call is granted. It fits the world in which the call was judged, and no other.
@@ -58,7 +58,7 @@ pub enum MakeGrant {
 pub struct ToMake {
     pub directory: Location,
     pub name: Vec<u8>,
-    pub node: Node,
+    pub node: NewNode,
 }
 
 /// A further name of an inode.
@@ -76,8 +76,8 @@ pub enum RemoveGrant {
     Unlink(ToUnlink),
     /// rmdir(2)
     Directory(ToRemoveDirectory),
-    /// rename(2)
-    Rename(ToRename),
+    /// rename(2). In a box, since it is larger than all others, which are handed on by value.
+    Rename(Box<ToRename>),
 }
 
 /// The name of an inode that is no directory.
@@ -144,7 +144,7 @@ pub enum DescriptorGrant {
 pub struct ToOpenNew {
     pub directory: Location,
     pub name: Vec<u8>,
-    pub node: Node,
+    pub node: NewNode,
     pub access: Access,
 }
 

@@ -8,7 +8,7 @@ use crate::paths::{file_place, new_leaf_place, new_place, symlink_at};
 use std::alloc::Global;
 use vt_cred::Mode;
 use vt_looks::Look;
-use vt_node::Node;
+use vt_node::NewNode;
 use vt_permits::{Grant, MakeGrant, ToLink, ToMake};
 use vt_rules::{
     empty_directory, may_link, may_make, may_make_whiteout, name_at, new_attr, new_file_permit,
@@ -42,7 +42,7 @@ pub fn mkdir<L: Look>(
     Ok(Grant::Make(MakeGrant::Node(ToMake {
         directory: place.parent,
         name: name_at(alloc, place.last)?,
-        node: empty_directory(alloc, attr, place.parent),
+        node: empty_directory(attr, place.parent),
     })))
 }
 
@@ -73,7 +73,7 @@ pub fn symlink<L: Look>(
     Ok(Grant::Make(MakeGrant::Node(ToMake {
         directory: place.parent,
         name: name_at(alloc, place.last)?,
-        node: Node::new_link(symlink_attr(who), text),
+        node: NewNode::symlink(symlink_attr(who), text),
     })))
 }
 
@@ -88,7 +88,7 @@ pub fn whiteout<L: Look>(alloc: Global, world: &L, who: &Task, path: &[u8]) -> R
     Ok(Grant::Make(MakeGrant::Node(ToMake {
         directory: place.parent,
         name: name_at(alloc, place.last)?,
-        node: Node::new_whiteout(whiteout_attr(who)),
+        node: NewNode::whiteout(whiteout_attr(who)),
     })))
 }
 

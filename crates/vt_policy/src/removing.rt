@@ -1,5 +1,7 @@
 //! Calls that remove and rename: unlink(2), rmdir(2), rename(2).
-ghost use Rattle.std.specs.Prelude.{nat_eq};
+ghost use Rattle.std.specs.Prelude.{◌≡◌, nat_eq, IfErr, IfOk};
+ghost use Rattle.vt_spec.specs.declared.errors.Rule.TheVariants.{S5};
+ghost use Rattle.vt_spec.specs.Errors.{denial};
 ghost use Rattle.vt_spec.specs.Machine.Judge.{rename_permit, rmdir_permit, unlink_permit};
 ghost use Rattle.vt_permits.specs.Memory.{Judges};
 ghost use Rattle.vt_tasks.specs.TaskValue.{task_of};
@@ -76,12 +78,24 @@ pub fn rename<L: Look>(
         return Ok(Grant::Look(LookGrant::Nothing));
     }
     may_rename(world, who, &from, &to)?;
-    Ok(Grant::Remove(RemoveGrant::Rename(ToRename {
+    let renamed = ToRename {
         from: from.parent,
         old: name_at(alloc, from.last)?,
         to: to.parent,
         new: name_at(alloc, to.last)?,
         object: from.object,
         replaced: to.object,
-    })))
+    };
+    Ok(Grant::Remove(RemoveGrant::Rename(boxed(alloc, renamed)?)))
+}
+
+// What rename(2) is granted, in a box. S5 (ENOMEM): an allocation failed.
+fn boxed(alloc: Global, renamed: ToRename) -> Result<Box<ToRename>, Deny>
+    ensures ok { IfOk result (λ boxed. boxed.value ≡ renamed) }
+    ensures memory { IfErr result (λ deny. deny ≡ denial S5) }
+{
+    match Box::new(alloc, renamed) {
+        Ok(boxed) => Ok(boxed),
+        Err(_refused) => Err(Rule::S5.denial()),
+    }
 }

@@ -19,7 +19,7 @@ use std::alloc::Global;
 use vt_cred::{Flags, Mode, Rights};
 use vt_location::Location;
 use vt_looks::{Asked, Look, Place};
-use vt_node::{Kind, Node};
+use vt_node::{Kind, NewNode, Node};
 use vt_permits::{DescriptorGrant, Grant, ToOpenNew};
 use vt_request::Access;
 use vt_spec::errors::{Deny, Rule};
@@ -114,7 +114,7 @@ pub fn create_file_permit<L: Look>(
     Ok(Grant::Descriptor(DescriptorGrant::OpenNew(ToOpenNew {
         directory: place.parent,
         name: name_at(alloc, place.last)?,
-        node: Node::new_file(new_attr(who, mode), Vec::new(alloc)),
+        node: NewNode::file(new_attr(who, mode), Vec::new(alloc)),
         access,
     })))
 }

@@ -17,7 +17,7 @@ use std::alloc::Global;
 use vt_cred::{Mode, Rights};
 use vt_location::Location;
 use vt_looks::{Asked, Look, Place};
-use vt_node::{Attr, Kind, LARGEST_FILE, Node, NodeId};
+use vt_node::{Attr, Kind, LARGEST_FILE, NewNode, NodeId};
 use vt_permits::{Grant, MakeGrant, ToMake, WriteGrant};
 use vt_spec::errors::{Deny, Rule};
 use vt_tasks::Task;
@@ -118,12 +118,12 @@ pub fn may_link<L: Look>(world: &L, who: &Task, object: Location, place: &Place)
     world.mounter_may_change(place.parent, asked)
 }
 
-/// An empty directory whose parent is the one at a location: mkdir(2). It does not allocate.
-pub fn empty_directory(alloc: Global, attr: Attr, parent: Location) -> Node
+/// An empty directory whose parent is the one at a location: mkdir(2).
+pub fn empty_directory(attr: Attr, parent: Location) -> NewNode
     ensures { node_in parent result
         ≡ record { attr = attr; content = new_directory (number_of parent.node) } }
 {
-    Node::new_directory(alloc, attr, NodeId::new(parent.node.slot))
+    NewNode::directory(attr, NodeId::new(parent.node.slot))
 }
 
 // The whole content of an object that exists may be written: E2, E6, E9, F1, F2, L1, C1, B1, B2.
@@ -198,6 +198,6 @@ pub fn new_file_permit<L: Look>(
     Ok(Grant::Make(MakeGrant::Node(ToMake {
         directory: place.parent,
         name: name_at(alloc, place.last)?,
-        node: Node::new_file(attr, bytes),
+        node: NewNode::file(attr, bytes),
     })))
 }

@@ -73,7 +73,7 @@ returns g c =
     let missing = ap is_some at.2.object ∙ is_some_mapped c.in_ok-place.place.object ∙ sym c.is_some.ensures
     ∙ c.if-is_some.false in
     let name = ap name_of at.2.last ∙ sym c.in_ok-name_at.ensures.ok in
-    let built : node at.0 ≡ node_in c.in_ok-place.place.parent c.new_link.result = search rules in
+    let built : node at.0 ≡ node_in c.in_ok-place.place.parent c.symlink.result = search rules in
     skipped (is_empty c.args.text.items) W1 _ _ (search rules)
     ∙ skipped _ W2 [] _ (le-ltb 4095 (length c.args.text.items) (omega arith))
     ∙ made_asked looks task (walk_end (new_leaf_walk nat_eq looks task c.args.path.now)) at.0 node at.1 special missing

@@ -51,7 +51,7 @@ returns g c =
     let at = c.in_ok-place.ensures.ok in
     let node : Node ℕ = record { attr = exact_attr task 0; content = Whiteout } in
     let name = ap name_of at.2.last ∙ sym c.in_ok-name_at.ensures.ok in
-    let built : node ≡ node_in c.in_ok-place.place.parent c.new_whiteout.result = search rules in
+    let built : node ≡ node_in c.in_ok-place.place.parent c.whiteout.result = search rules in
     went (walk_end (new_leaf_walk nat_eq looks task c.args.path.now)) at.0 _ at.1
     ∙ unless-let_through (whiteout_rules looks task at.0) (Ok (make_permit at.0 node))
     (c.in_ok-may_make_whiteout.ensures at.0 at.2)

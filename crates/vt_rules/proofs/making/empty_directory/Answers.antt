@@ -9,5 +9,5 @@ returns c =
     let directory = c.args.parent.node in
     let number = ap (number_beside directory directory.birth) c.new.ensures
     ∙ own_number_beside directory (omega arith) in
-    ap (node_in c.args.parent) c.new_directory.ensures
+    ap (node_in c.args.parent) c.directory.ensures
     ∙ (λ i. record { attr = c.args.attr; content = new_directory (number i) })
