@@ -60,8 +60,7 @@ on_keeps world location = taken_keeps world
     (map (λ mount. mount.number) (flat_map (mount_tree nat_eq world.mounts) (mounts_on nat_eq world location)))
 
 ended_keeps : (world : World ℕ) → (namespaces_ended nat_eq world).change ≡ world.change
-ended_keeps world =
-    taken_keeps world (map (λ mount. mount.number) (filter (is_in_ended nat_eq world) world.mounts))
+ended_keeps world = taken_keeps world (map (λ mount. mount.number) (filter (is_in_ended nat_eq world) world.mounts))
 
 event_keeps : (world : World ℕ) (number : ℕ) → (unmounted nat_eq world number).change ≡ world.change
 event_keeps world number = taken_keeps world (going nat_eq world (mount_numbered nat_eq world number))
@@ -70,8 +69,7 @@ event_keeps world number = taken_keeps world (going nat_eq world (mount_numbered
 unmounted_keeps : (world : World ℕ) (mounts : List (Mount ℕ))
     → (folded (unmounted_if_there nat_eq) world mounts).change ≡ world.change
 unmounted_keeps world [] = refl
-unmounted_keeps world (mount ∷ rest) =
-    unmounted_keeps (unmounted_if_there nat_eq world mount) rest
+unmounted_keeps world (mount ∷ rest) = unmounted_keeps (unmounted_if_there nat_eq world mount) rest
     ∙ by (is_some (mount_numbered nat_eq world mount.number).namespace)
   where
     by : (there : Bool) → (cond there (unmounted nat_eq world mount.number) world).change ≡ world.change
@@ -80,16 +78,14 @@ unmounted_keeps world (mount ∷ rest) =
 
 -- what is applied
 module _ (fresh : Fresh ℕ) (world : World ℕ) (task : Task ℕ) where
-  copied_keeps : (copied : Bool) (file : Location ℕ)
-      → (with_copy nat_eq copied fresh world file).change ≡ world.change
+  copied_keeps : (copied : Bool) (file : Location ℕ) → (with_copy nat_eq copied fresh world file).change ≡ world.change
   copied_keeps true file = changed_keeps fresh world file (CopyUp file.node)
   copied_keeps false file = refl
 
   written_keeps : (file : Location ℕ) (offset : ℕ) (bytes : List ℕ)
       → (pwritten nat_eq fresh world file offset bytes).change ≡ world.change
   written_keeps file offset [] = refl
-  written_keeps file offset (byte ∷ bytes) =
-      changed_keeps fresh world file
+  written_keeps file offset (byte ∷ bytes) = changed_keeps fresh world file
       (SetBytes file.node (overwritten offset (byte ∷ bytes) (bytes_in (node_at nat_eq world file))))
 
   applied_keeps : (permit : Permit ℕ) → (apply nat_eq fresh world task permit).world.change ≡ world.change
@@ -145,8 +141,7 @@ module _ (world : World ℕ) (name : TaskName) (call : Call) (changed : List ℕ
   abbrev last : Outcome ℕ
   last = finished nat_eq world name call changed outcome
 
-  answer_kept : (looks : Bool)
-      → (finished_by nat_eq looks world name changed outcome).answer ≡ outcome.answer
+  answer_kept : (looks : Bool) → (finished_by nat_eq looks world name changed outcome).answer ≡ outcome.answer
   answer_kept true = refl
   answer_kept false = refl
 
@@ -184,7 +179,6 @@ raises_the_change_number fresh world name call answer = by_task (task_called wor
 
     by_task : (found : Option (Task ℕ)) → (after world (ok_or found (denial S2)) of_task).answer ≡ Ok answer
         → (after world (ok_or found (denial S2)) of_task).world.change ≡ change_after call world.change
-    by_task (Some task) told =
-        by_judgement task (judge_in nat_eq fresh world task call)
+    by_task (Some task) told = by_judgement task (judge_in nat_eq fresh world task call)
         (filesystems_changed_by nat_eq world (judge_in nat_eq fresh world task call)) told
     by_task None told = let impossible : Err (denial S2) ≡ Ok answer = told in cc

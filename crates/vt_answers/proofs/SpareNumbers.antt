@@ -31,8 +31,7 @@ left_lot k =
     let rest : (8 * k + 7) % 8 ≡ 7 = omega arith in
     let place : (8 * k + 7) / 8 ≡ k = omega arith in
     lot_at (8 * k + 7) false true (ne_eqb ((8 * k + 7) % 8) 3 (λ e. absurd (omega arith)))
-    (eq-eqb ((8 * k + 7) % 8) 7 rest)
-    ∙ ap LeftOver place
+    (eq-eqb ((8 * k + 7) % 8) 7 rest) ∙ ap LeftOver place
 
 same_left : (a b : ℕ) → LeftOver a ≡ LeftOver b → a ≡ b
 same_left a b e = cc

@@ -77,11 +77,8 @@ module _ (value : WorldValue) (name : TaskName) (call : Call) (held : IsHeld val
 
   -- of a task that does not exist
   pub nobody : task_called (world_of value) name ≡ None → Ends value name call (Err (denial S2)) value
-  nobody called =
-      refused_by (denial S2)
-      (ap (λ found. (after (world_of value) (ok_or found (denial S2)) (λ one.
-      finished nat_eq (world_of value) name call
-      (filesystems_changed_by nat_eq (world_of value)
+  nobody called = refused_by (denial S2) (ap (λ found. (after (world_of value) (ok_or found (denial S2)) (λ one.
+      finished nat_eq (world_of value) name call (filesystems_changed_by nat_eq (world_of value)
       (judge_in nat_eq (counts_from value.next) (world_of value) one call))
       (call_outcome nat_eq (counts_from value.next) (world_of value) one call))).answer) called)
 
@@ -92,8 +89,7 @@ module _ (value : WorldValue) (name : TaskName) (call : Call) (held : IsHeld val
       → Ends value name call (Err deny) value
   refused task called (Ok permit) e deny short alike =
       let granted = grants (counts_from value.next) (world_of value) task permit in
-      short_by deny short
-      (subst (MayBeRefusedMemory call)
+      short_by deny short (subst (MayBeRefusedMemory call)
       (sym (answers (counts_from value.next) (world_of value) name task call called (Ok permit) e ∙ granted.1)) tt)
       (λ none. let same : Ok permit ≡ Err deny = alike none in cc)
   refused task called (Err refusal) e deny (inl same) alike =
@@ -135,8 +131,7 @@ module _ (old : WorldValue) (name : TaskName) (call : Call) (grant : Grant)
       let meets : Meets call (policy nat_eq fresh (world_of old) name call) (Ok answer) old new = (
         answers fresh (world_of old) name given.task call given.called (Ok granted) judged ∙ told,
         sameness_is_an_equivalence.onward (policy nat_eq fresh (world_of old) name call).world
-            (left_by old given.task granted)
-            (world_of new)
+            (left_by old given.task granted) (world_of new)
             (leaves fresh (world_of old) name given.task call given.called granted judged given.held.in_world.nothing_unused)
             (becomes given.task given.called),
       ) in
@@ -156,13 +151,11 @@ module _ (old : WorldValue) (name : TaskName) (call : Call) (grant : Grant)
   ends_short new deny short same taken =
       let fresh = counts_from old.next in
       let told = grants fresh (world_of old) given.task granted in
-      subst (Ends old name call (Err deny)) (sym same)
-      (short_by old name call given.held deny short
+      subst (Ends old name call (Err deny)) (sym same) (short_by old name call given.held deny short
       (subst (MayBeRefusedMemory call)
       (sym (answers fresh (world_of old) name given.task call given.called (Ok granted) given.judged ∙ told.1)) tt)
       (frees (looks_of nat_eq (world_of old))
-      (overfills nat_eq fresh (world_of old) given.task) given.task call granted given.judged
-      taken))
+      (overfills nat_eq fresh (world_of old) given.task) given.task call granted given.judged taken))
 
 -- what is permitted with a grant: to mount an overlay, or by a call that mounts none
 abbrev pub PermittedFor : Grant → WorldValue → TaskName → Permit ℕ → Type 0
@@ -172,12 +165,11 @@ PermittedFor grant old name meant = Permits old name meant
 permits_for : (old : WorldValue) (name : TaskName) (call : Call) (grant : Grant)
     (given : IsGivenFor old name call grant) → AreVacant old (permit_of given.task grant)
     → PermittedFor grant old name (permit_of given.task grant)
-permits_for old name call (granting.Overlay new) given vacant =
-    record {
-      task = given.task;
-      called = given.called;
-      given = given_any old name call (granting.Overlay new) given vacant;
-    }
+permits_for old name call (granting.Overlay new) given vacant = record {
+  task = given.task;
+  called = given.called;
+  given = given_any old name call (granting.Overlay new) given vacant;
+}
 permits_for old name call grant given vacant = permits old name call grant given refl vacant
 
 -- The grant, and the permit that the definitions see in it
@@ -201,9 +193,7 @@ module _ (old : WorldValue) (name : TaskName) (grant : Grant) (meant : Permit �
       let same = granted_is call given in
       ends_ok old name call grant given new answer (subst (AreVacant old) (sym same) vacant)
       (subst (λ p. (apply nat_eq (supply_of old p) (world_of old) given.task p).answer ≡ Ok (answer_of answer))
-      (sym same)
-      (told given.task given.called))
-      (subst (λ p. Becomes old name p new) (sym same) becomes)
+      (sym same) (told given.task given.called)) (subst (λ p. Becomes old name p new) (sym same) becomes)
 
   pub short : (new : WorldValue) (deny : Deny) → deny ≡ denial S5 → new ≡ old → is_free meant ≡ false
       → EndsGiven old name grant (Err deny) new
@@ -211,21 +201,18 @@ module _ (old : WorldValue) (name : TaskName) (grant : Grant) (meant : Permit �
       ends_short old name call grant given new deny refused same (ap is_free (granted_is call given) ∙ taken)
 
   -- it only looks
-  pub looked : (answer : Answer) → AreVacant old meant
-      → ((task : Task ℕ) → task_called (world_of old) name ≡ Some task
+  pub looked : (answer : Answer) → AreVacant old meant → ((task : Task ℕ) → task_called (world_of old) name ≡ Some task
       → (apply nat_eq (supply_of old meant) (world_of old) task meant).answer ≡ Ok (answer_of answer))
       → ((task : Task ℕ) → (apply nat_eq (supply_of old meant) (world_of old) task meant).world ≡ world_of old)
       → EndsGiven old name grant (Ok answer) old
-  looked answer vacant told kept call given =
-      made old answer vacant told (λ task called.
+  looked answer vacant told kept call given = made old answer vacant told (λ task called.
       subst (λ world. SameWorlds world (world_of old))
       (sym (ap (settled nat_eq) (kept task) ∙ given.held.in_world.nothing_unused))
       (sameness_is_an_equivalence.itself (world_of old))) call given
 
   -- it is a change that answers `ok`
   pub changed : (new : WorldValue) (change : Result ⊤ AllocError) (result : Result Answer Deny) → result ≡ answered change
-      → AreVacant old meant
-      → ((task : Task ℕ) → task_called (world_of old) name ≡ Some task
+      → AreVacant old meant → ((task : Task ℕ) → task_called (world_of old) name ≡ Some task
       → (apply nat_eq (supply_of old meant) (world_of old) task meant).answer ≡ Ok (answer_of Done))
       → is_free meant ≡ false → OnOk change (Becomes old name meant new)
       → OnErr change (new ≡ old) → EndsGiven old name grant result new
@@ -236,8 +223,7 @@ module _ (old : WorldValue) (name : TaskName) (grant : Grant) (meant : Permit �
 
   -- or one that allocates in some cases alone
   pub changed_if : (new : WorldValue) (change : Result ⊤ AllocError) (result : Result Answer Deny) → result ≡ answered change
-      → AreVacant old meant
-      → ((task : Task ℕ) → task_called (world_of old) name ≡ Some task
+      → AreVacant old meant → ((task : Task ℕ) → task_called (world_of old) name ≡ Some task
       → (apply nat_eq (supply_of old meant) (world_of old) task meant).answer ≡ Ok (answer_of Done))
       → (P : Type 0) → (P → is_free meant ≡ false) → OnErr change P → OnOk change (Becomes old name meant new)
       → OnErr change (new ≡ old) → EndsGiven old name grant result new

@@ -68,8 +68,7 @@ module _ (fresh : Fresh ℕ) (world : World ℕ) (name : TaskName) (task : Task 
   -- the policy answers as it is judged
   pub answers : (judged : Judgement ℕ) → judge_in nat_eq fresh world task call ≡ judged
       → (policy nat_eq fresh world name call).answer ≡ (after world judged (apply nat_eq fresh world task)).answer
-  answers judged e =
-      (last_step_raises_numbers_alone fresh world name task call called).0
+  answers judged e = (last_step_raises_numbers_alone fresh world name task call called).0
       ∙ ap (λ (o : Outcome ℕ). o.answer) (outcome_is judged e)
 
   pub refuses : (deny : Deny) → judge_in nat_eq fresh world task call ≡ Err deny
@@ -81,8 +80,7 @@ module _ (fresh : Fresh ℕ) (world : World ℕ) (name : TaskName) (task : Task 
 
   policy_is : policy nat_eq fresh world name call
       ≡ finished nat_eq world name call changed (call_outcome nat_eq fresh world task call)
-  policy_is =
-      ap (λ found. after world (ok_or found (denial S2)) (λ one.
+  policy_is = ap (λ found. after world (ok_or found (denial S2)) (λ one.
       finished nat_eq world name call (filesystems_changed_by nat_eq world (judge_in nat_eq fresh world one call))
       (call_outcome nat_eq fresh world one call))) called
 
@@ -101,8 +99,7 @@ module _ (fresh : Fresh ℕ) (world : World ℕ) (name : TaskName) (task : Task 
       ok : is_ok outcome.answer ≡ true
       ok = ap (λ (o : Outcome ℕ). is_ok o.answer) applied ∙ ap is_ok (grants fresh world task permit).1
 
-      by : (b : Bool) → only_looks call ≡ b
-          → SameWorlds (policy nat_eq fresh world name call).world
+      by : (b : Bool) → only_looks call ≡ b → SameWorlds (policy nat_eq fresh world name call).world
           (settled nat_eq (apply nat_eq fresh world task permit).world)
       by true looks =
           let left : (policy nat_eq fresh world name call).world
@@ -117,8 +114,7 @@ module _ (fresh : Fresh ℕ) (world : World ℕ) (name : TaskName) (task : Task 
           (subst (λ w. SameWorlds world w) (sym ends) (sameness_is_an_equivalence.itself world))
       by false looks =
           let left : (cond (only_looks call || not (is_ok outcome.answer)) outcome.world (settled nat_eq outcome.world))
-          ≡ settled
-          nat_eq outcome.world =
+          ≡ settled nat_eq outcome.world =
           ap (λ b. cond (b || not (is_ok outcome.answer)) outcome.world (settled nat_eq outcome.world)) looks
           ∙ ap (λ b. cond (not b) outcome.world (settled nat_eq outcome.world)) ok in
           let raised : without_changes (policy nat_eq fresh world name call).world

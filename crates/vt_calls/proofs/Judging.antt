@@ -74,29 +74,20 @@ module _ (value : WorldValue) (name : TaskName) (asked : Call) (held : IsHeld va
 
   pub permitted : (change : ℕ) (result : Result PermitValue Deny)
       → JudgesByReceivers (call_of asked) task by_code (grant_in result)
-      → IfOk result (λ permit. kind_of (call_of asked) ≡ permit.call)
-      → IfOk result (λ permit. permit.change ≡ change)
+      → IfOk result (λ permit. kind_of (call_of asked) ≡ permit.call) → IfOk result (λ permit. permit.change ≡ change)
       → IfOk result (λ permit. IsPermitted value change name (call_of asked) permit)
   permitted change (Ok permit) judged named number = record {
-    given = record {
-      held = held;
-      task = task;
-      called = called;
-      few_groups = few asked;
-      judged = sym tied ∙ judged;
-    };
+    given = record { held = held; task = task; called = called; few_groups = few asked; judged = sym tied ∙ judged };
     named = named;
     number = number;
   }
   permitted change (Err deny) judged named number = tt
 
-  pub denied : (result : Result PermitValue Deny)
-      → JudgesByReceivers (call_of asked) task by_code (grant_in result)
+  pub denied : (result : Result PermitValue Deny) → JudgesByReceivers (call_of asked) task by_code (grant_in result)
       → (¬ IsJudgedWithMemory (call_of asked) → JudgesAlike task by_code (grant_in result))
       → IfErr result (λ deny. Ends value name (call_of asked) (Err deny) value)
   denied (Ok permit) judged alike = tt
-  denied (Err deny) judged alike =
-      refused value name (call_of asked) held task called
+  denied (Err deny) judged alike = refused value name (call_of asked) held task called
       (judge_in nat_eq (counts_from value.next) (world_of value) task (call_of asked)) refl deny
       (subst (λ j. JudgesByReceivers (call_of asked) task j (Err deny)) tied judged)
       (λ none. subst (λ j. JudgesAlike task j (Err deny)) tied

@@ -95,5 +95,4 @@ pub directed_numbered : (seen kernel : KernelValue) → seen ≡ kernel → (dir
 directed_numbered seen kernel is Peers lines told =
     subst (λ other. (directed nat_eq (kernel_world other) (directive_of Peers)).answer ≡ Ok (PeerList lines)) is
     (sym (any_same_worlds_are_directed_alike (world_of seen.world) (kernel_world seen) (numbered seen)
-    (directive_of Peers)).answer
-    ∙ ap (λ some. Ok (PeerList some)) (sym told))
+    (directive_of Peers)).answer ∙ ap (λ some. Ok (PeerList some)) (sym told))

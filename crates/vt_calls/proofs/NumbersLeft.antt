@@ -49,7 +49,6 @@ numbers_left old new name call permit held vacant same =
     let serves = (counts old held).2.serves in
     let kept : KeepsTo may_be_given (world_of old) =
     λ renaming leaves. serves.keeps renaming (λ number kept. leaves number (serves.from_hand number kept)) in
-    numbers_kept (world_of new)
-    (any_same_worlds_keep_to_numbers may_be_given left (world_of new) same
+    numbers_kept (world_of new) (any_same_worlds_keep_to_numbers may_be_given left (world_of new) same
     (calls_keep_to_numbers may_be_given (supply_of old permit) (world_of old) name call kept
     (supply_given old permit vacant)))

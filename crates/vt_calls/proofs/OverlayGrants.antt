@@ -52,8 +52,7 @@ module _ (looks : Looks ℕ) (overfills : Permit ℕ → Bool) (who : Task ℕ) 
   by_options : (place : Location ℕ) (options : Option OverlayWords) (flags : MountFlags)
       → Merging (overlay_permit_by nat_eq looks overfills who place options flags)
   by_options place None flags = tt
-  by_options place (Some words) flags =
-      then_merging (layers_walked nat_eq looks who words)
+  by_options place (Some words) flags = then_merging (layers_walked nat_eq looks who words)
       (λ layers. unless (layer_rules nat_eq looks layers (overlay_at looks who layers)) (asked layers))
       (λ layers. unless_merging (layer_rules nat_eq looks layers (overlay_at looks who layers)) (asked layers)
       (unless_merging (new_mount_rules nat_eq looks who place (overfills (permit layers))) (Ok (permit layers)) refl))
@@ -67,8 +66,7 @@ module _ (looks : Looks ℕ) (overfills : Permit ℕ → Bool) (who : Task ℕ) 
   mounting_merges : (path : List ℕ) (options : Option OverlayWords) (flags : MountFlags)
       → Merging (mount_overlay_permit nat_eq looks overfills who path options flags)
   unfolding mount_overlay_permit
-  mounting_merges path options flags =
-      unless_merging (admin_rules who)
+  mounting_merges path options flags = unless_merging (admin_rules who)
       (and_then (walk_end (destination_walk nat_eq looks who path))
       (λ here. overlay_permit_by nat_eq looks overfills who here.location options flags))
       (then_merging (walk_end (destination_walk nat_eq looks who path))

@@ -31,8 +31,7 @@ module _ (looks : Looks ℕ) (task : Task ℕ) (ones others : Permit ℕ → Boo
       ≡ mount_overlay_permit nat_eq looks others task path options flags
   unfolding mount_overlay_permit
   overlay_alike path None flags = refl
-  overlay_alike path (Some words) flags = λ i.
-      unless (admin_rules task)
+  overlay_alike path (Some words) flags = λ i. unless (admin_rules task)
       (and_then (walk_end (destination_walk nat_eq looks task path)) (λ here.
       and_then (layers_walked nat_eq looks task words) (λ layers.
       unless (layer_rules nat_eq looks layers (overlay_at looks task layers))
@@ -53,10 +52,8 @@ judged_as_meant value task call = judged_alike value task call refl
 pub judged_with_any : (world : World ℕ) → IsWorld nat_eq world → (task : Task ℕ) (call : Call) (fresh again : Fresh ℕ)
     → judge_in nat_eq fresh world task call ≡ judge_in nat_eq again world task call
 judged_with_any world is task (MountOverlay path options flags) fresh again =
-    overlay_alike (looks_of nat_eq world) task (overfills nat_eq fresh world task)
-    (overfills nat_eq again world task)
+    overlay_alike (looks_of nat_eq world) task (overfills nat_eq fresh world task) (overfills nat_eq again world task)
     (λ place overlay given.
     overlays_ask_for_room world fresh task place overlay given is
-    ∙ sym (overlays_ask_for_room world again task place overlay given is))
-    path options flags
+    ∙ sym (overlays_ask_for_room world again task place overlay given is)) path options flags
 judged_with_any world is task call fresh again = judgements_do_not_see_supplies world task call fresh again is refl

@@ -42,8 +42,7 @@ module _ (value : WorldValue) (name : TaskName) (new : ToMountOverlay)
       let names = overlay_names value given.1.held (counts_from value.next) given.1.task called given.0
       (location_of new.destination) (overlay_of given.1.task new) (flags_of new.flags) given.1.judged in
       overlay_is_vacant value given.1.held (location_of new.destination) (overlay_of given.1.task new)
-      (flags_of new.flags)
-      (kept_layers value given.1.held (overlay_of given.1.task new) refl names.layers).0
+      (flags_of new.flags) (kept_layers value given.1.held (overlay_of given.1.task new) refl names.layers).0
       (kept_few value given.1.held (overlay_of given.1.task new) refl names.layers names.fit) is_new
 
   pub overlay_permitted : PermitsOverlay value name new

@@ -47,8 +47,7 @@ counts value held = counts_serve value.next (world_of value) held.given
 
 handed : (value : WorldValue) → IsHeld value → (place inode : ℕ) → IsVacant value inode
     → IsAllotted value (handed_from value.next place inode)
-handed value held place inode vacant =
-    allotted_numbers_serve value.next place inode vacant.even (world_of value)
+handed value held place inode vacant = allotted_numbers_serve value.next place inode vacant.even (world_of value)
     (any_worlds_keep_to_named_before value.next inode (world_of value) held.in_world held.given vacant.unused)
 
 pub allotted : (value : WorldValue) → IsHeld value → (permit : Permit ℕ) → AreVacant value permit
@@ -68,18 +67,15 @@ module _ (value : WorldValue) (name : TaskName) (call : Call) (grant : Grant)
   -- whatever is handed in, the call is given that permit
   pub judged_with : (fresh : ℕ → ℕ) → judge_in nat_eq fresh (world_of value) given.task call ≡ Ok granted
   judged_with fresh =
-      judged_with_any (world_of value) given.held.in_world given.task call fresh (counts_from value.next)
-      ∙ given.judged
+      judged_with_any (world_of value) given.held.in_world given.task call fresh (counts_from value.next) ∙ given.judged
 
   -- so it is given to the task,
   pub given_any : AreVacant value granted → IsGivenToTask (supply_of value granted) (world_of value) given.task granted
   given_any vacant =
       let supplied = allotted value given.held granted vacant in record {
-        serves =
-            subst (Serves nat_eq (world_of value)) supplied.1
+        serves = subst (Serves nat_eq (world_of value)) supplied.1
             (room_serves may_be_given (world_of value) supplied.0 supplied.2.serves);
-        called =
-            subst (λ called. task_called (world_of value) called ≡ Some given.task)
+        called = subst (λ called. task_called (world_of value) called ≡ Some given.task)
             (name_found (world_of value) name given.task given.called) given.called;
         call = call;
         few_groups = given.few_groups;

@@ -11,8 +11,7 @@ abbrev opened_as : ℕ → Result Answer Deny
 opened_as number = Ok (Opened number)
 
 pub number_told : (found : Option (Task ℕ)) (task : Task ℕ) (number : ℕ) → found ≡ Some task
-    → Some number ≡ option_map free_number found
-    → opened_as (free_number task) ≡ opened_as number
+    → Some number ≡ option_map free_number found → opened_as (free_number task) ≡ opened_as number
 number_told found task number called told =
     let same : Some number ≡ Some (free_number task) = told ∙ ap (option_map free_number) called in cc
 
@@ -20,7 +19,6 @@ abbrev child_as : List ℕ → Result Answer Deny
 child_as name = Ok (Child name)
 
 pub name_told : (found : Option (Task ℕ)) (task : Task ℕ) (name : List ℕ) → found ≡ Some task
-    → Some name ≡ option_map child_name found
-    → child_as (child_name task) ≡ child_as name
+    → Some name ≡ option_map child_name found → child_as (child_name task) ≡ child_as name
 name_told found task name called told =
     let same : Some name ≡ Some (child_name task) = told ∙ ap (option_map child_name) called in cc

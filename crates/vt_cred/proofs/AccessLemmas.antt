@@ -32,8 +32,7 @@ pub Decides-is_member : (who : Credentials) (gid : ℕ) → Decides (is_member w
 Decides-is_member who gid =
     let is_gid : ℕ → Bool = λ g. g == gid in
     let further = Decides-contains who.groups gid (list_any is_gid who.groups)
-    (Decides-by_or is_gid (λ g. g ≡ gid) (list_any is_gid) (λ g. Decides-eqb g gid) refl
-    (λ _ _. refl) who.groups) in
+    (Decides-by_or is_gid (λ g. g ≡ gid) (list_any is_gid) (λ g. Decides-eqb g gid) refl (λ _ _. refl) who.groups) in
     Decides-or (who.gid == gid) (list_any is_gid who.groups) (Decides-eqb who.gid gid) further
 
 -- the one class that counts, by whether the caller owns the object and whether he is in its group
@@ -56,8 +55,7 @@ Decides-class false false a b c by_owner by_group by_a by_b by_c = (
       (⊎_elim (λ p. absurd (false≢true (by_group.1 p.1))) (λ p. by_c.1 p.2)),
 )
 
-has_all-class : (owner group : Bool) (a b c wanted : ℕ)
-    → has_all (if owner then a else if group then b else c) wanted
+has_all-class : (owner group : Bool) (a b c wanted : ℕ) → has_all (if owner then a else if group then b else c) wanted
     ≡ (if owner then has_all a wanted else if group then has_all b wanted else has_all c wanted)
 has_all-class true group a b c wanted = refl
 has_all-class false true a b c wanted = refl
@@ -108,8 +106,7 @@ Decides-by_kind true kind wanted by_kind =
     let read_of_both = (Decides-has_all 5 4).0 refl in
     let both = Decides-has_all 5 wanted in (
       (λ held. inr (by_kind.0 refl, both.0 held)),
-      ⊎_elim
-          (λ reads. both.1 (λ place is_wanted. read_of_both place (reads place is_wanted))) (λ p. both.1 p.1),
+      ⊎_elim (λ reads. both.1 (λ place is_wanted. read_of_both place (reads place is_wanted))) (λ p. both.1 p.1),
     )
 Decides-by_kind false kind wanted by_kind =
     let read = Decides-has_all 4 wanted in
@@ -125,12 +122,10 @@ Decides-read_search who kind wanted =
 
 pub Decides-allows : (who : Credentials) (attr : Attr) (kind : Kind) (wanted : ℕ)
     → Decides (allows who attr kind wanted) (Allows who attr kind wanted)
-Decides-allows who attr kind wanted =
-    Decides-or_of_three (has_all (class_bits who attr) wanted)
+Decides-allows who attr kind wanted = Decides-or_of_three (has_all (class_bits who attr) wanted)
     (has_all who.capabilities cap_dac_override && override_grants attr kind wanted)
     (has_all who.capabilities cap_dac_read_search && read_search_grants kind wanted)
-    (Decides-class_bits who attr wanted) (Decides-override who attr kind wanted)
-    (Decides-read_search who kind wanted)
+    (Decides-class_bits who attr wanted) (Decides-override who attr kind wanted) (Decides-read_search who kind wanted)
 
 pub Decides-owns : (who : Credentials) (attr : Attr) → Decides (owns who attr) (Owns who attr)
 Decides-owns who attr =

@@ -98,11 +98,10 @@ without-outside set taken mask place none =
 -- a mask of the w ones without some bits takes just those bits away
 pub IsWithout-and : (w set taken : ℕ) → set < 2 ^ w → taken < 2 ^ w
     → IsWithout set taken (bit_and set (2 ^ w - 1 - taken))
-IsWithout-and w set taken set_small taken_small = λ place.
-    elim (cases_lt place w) [
-      | inl within ↦ without-inside set taken (2 ^ w - 1 - taken) place (bit-from_ones w taken place taken_small within)
-      | inr above ↦ without-outside set taken (2 ^ w - 1 - taken) place (bit_at_above set w place set_small above)
-    ]
+IsWithout-and w set taken set_small taken_small = λ place. elim (cases_lt place w) [
+  | inl within ↦ without-inside set taken (2 ^ w - 1 - taken) place (bit-from_ones w taken place taken_small within)
+  | inr above ↦ without-outside set taken (2 ^ w - 1 - taken) place (bit_at_above set w place set_small above)
+]
 
 -- of a mode, the 16 bits without the umask keep what the bits of a mode without the umask do
 pub and-not_umask : (umask asked : ℕ) → umask ≤ 1023 → asked ≤ 1023 → bit_and asked (65535 - umask) ≡ masked umask asked

@@ -44,13 +44,11 @@ same a b e = sym (eqb-true a b e)
 
 -- the first filesystem is found under its count
 pub first_found : (id first : FilesystemId) (x : Held) (es : List (FilesystemId × Held))
-    → Some (first, x) ≡ slice_get es 0 → key_eq first id ≡ true
-    → Some x ≡ lookup (is_key id.count) es
+    → Some (first, x) ≡ slice_get es 0 → key_eq first id ≡ true → Some x ≡ lookup (is_key id.count) es
 first_found id first x [] at is = absurd cc
 first_found id first x (e ∷ es) at is =
     let here : e ≡ (first, x) = cc in
-    sym (ap (λ e. lookup (is_key id.count) (e ∷ es)) here
-    ∙ ap (λ b. cond b (Some x) (lookup (is_key id.count) es))
+    sym (ap (λ e. lookup (is_key id.count) (e ∷ es)) here ∙ ap (λ b. cond b (Some x) (lookup (is_key id.count) es))
     (eq-eqb id.count first.count (sym (eqb-true first.count id.count is))))
 
 module _ (f : ℕ) where
@@ -131,8 +129,7 @@ none_same k (e ∷ es) apart = λ i. apart.0 i || none_same k es apart.1 i
 counts_apart : (kept : List (FilesystemId × Held)) → T (rises count_of kept)
     → any_pair (λ (a b : FilesystemEntry). nat_eq a.count b.count) (entries_in kept) ≡ false
 counts_apart [] rising = refl
-counts_apart (e ∷ kept) rising =
-    λ i. none_same e.0.count kept (apart-below count_of e.0 kept (T_and_left _ _ rising)) i
+counts_apart (e ∷ kept) rising = λ i. none_same e.0.count kept (apart-below count_of e.0 kept (T_and_left _ _ rising)) i
     || counts_apart kept (T_and_right _ _ rising) i
 
 pub held_apart : (es : List (FilesystemId × Held)) (fs : Filesystems) → held es ≡ fs
@@ -144,8 +141,7 @@ held_apart es fs view = ap (any_pair (λ (a b : FilesystemEntry). nat_eq a.count
 pub tree_of-held : (f : ℕ) (es : List (FilesystemId × Held)) (o : Option Held) → o ≡ lookup (is_key f) es
     → option_map (λ (found : Held). found.tree) o
     ≡ option_map (λ (entry : FilesystemEntry). entry.tree) (entry_of (held es) f)
-tree_of-held f es o is =
-    ap (option_map (λ (found : Held). found.tree)) is ∙ both (lookup (is_key f) es)
+tree_of-held f es o is = ap (option_map (λ (found : Held). found.tree)) is ∙ both (lookup (is_key f) es)
     ∙ ap (option_map (λ (entry : FilesystemEntry). entry.tree)) (sym (entry_of-held f es))
   where
     both : (o : Option Held) → option_map (λ (found : Held). found.tree) o
@@ -157,8 +153,7 @@ tree_of-held f es o is =
 
 pub mounts_of-held : (f : ℕ) (es : List (FilesystemId × Held)) (fs : Filesystems) (x : Held) → held es ≡ fs
     → lookup (is_key f) es ≡ Some x → (entry_at fs f).mounts ≡ x.mounts
-mounts_of-held f es fs x view found =
-    ap (λ fs. (entry_at fs f).mounts) (sym view)
+mounts_of-held f es fs x view found = ap (λ fs. (entry_at fs f).mounts) (sym view)
     ∙ ap (λ (o : Option FilesystemEntry). (unwrap_or o (no_entry f)).mounts)
     (entry_of-held f es ∙ ap (option_map (of_count f)) found)
 
@@ -168,8 +163,7 @@ pub writes : {S : Type 0} (f : ℕ) (written : Held → Held) (change : Filesyst
     → get_by (is_key f) m ≡ Some x → w ≡ written x
     → ((k : ℕ) (one : Held) → of_count k (written one) ≡ change (of_count k one))
     → WritesThrough key_eq (is_key f) m w n → held n.entries ≡ with_changed f change fs
-writes f written change m n fs x w view there is so through =
-    held-changed f written change m.entries n.entries so
+writes f written change m n fs x w view there is so through = held-changed f written change m.entries n.entries so
     (changed-by count_of whole (id_of f) written m.entries n.entries x w there is (through.3 some).0)
     ∙ ap (with_changed f change) view
   where
@@ -177,11 +171,8 @@ writes f written change m n fs x w view there is so through =
     some = ap is_some there
 
 pub writes_none : (f : ℕ) (change : FilesystemEntry → FilesystemEntry) (es new : List (FilesystemId × Held))
-    (fs : Filesystems) → held es ≡ fs
-    → lookup (is_key f) es ≡ None → new ≡ es → held new ≡ with_changed f change fs
-writes_none f change es new fs view absent is =
-    ap held is ∙ view
-    ∙ sym (absent_changed f change fs
+    (fs : Filesystems) → held es ≡ fs → lookup (is_key f) es ≡ None → new ≡ es → held new ≡ with_changed f change fs
+writes_none f change es new fs view absent is = ap held is ∙ view ∙ sym (absent_changed f change fs
     (ap (λ fs. entry_of fs f) (sym view) ∙ entry_of-held f es ∙ ap (option_map (of_count f)) absent))
 
 -- A new filesystem
@@ -200,10 +191,8 @@ pub added : (es new : List (FilesystemId × Held)) (fs : Filesystems) (k : Files
     → list_all (λ (entry : FilesystemEntry). nat_lt entry.count k.count) fs ≡ true
     → ((q : FilesystemId) → lookup (key_eq q) new ≡ cond (key_eq k q) (Some x) (lookup (key_eq q) es))
     → held new ≡ fs ++ held_entry (k, x) ∷ []
-added es new fs k x view above comes =
-    ap entries_in (in_order-last count_of whole k x es new last comes)
-    ∙ entries_behind (k, x) (in_order es)
-    ∙ ap (λ l. l ++ held_entry (k, x) ∷ []) view
+added es new fs k x view above comes = ap entries_in (in_order-last count_of whole k x es new last comes)
+    ∙ entries_behind (k, x) (in_order es) ∙ ap (λ l. l ++ held_entry (k, x) ∷ []) view
   where
     last : is_above count_of k (in_order es) ≡ true
     last = sym (above_entries k (in_order es))

@@ -22,8 +22,7 @@ only_one n (a ∷ b ∷ rest) one among = absurd cc
 module _ (root : ℕ) (attr : Attr) where
   node_of_root : (b : Bool)
       → node_in (if b then Some (record { node = record { attr = attr; content = new_directory root }; uses = 1 })
-      else None)
-      ≡ (if b then Some (record { attr = attr; content = new_directory root }) else None)
+      else None) ≡ (if b then Some (record { attr = attr; content = new_directory root }) else None)
   node_of_root true = refl
   node_of_root false = refl
 
@@ -44,8 +43,7 @@ new_seen entry count attr counts inodes =
     (numbers_counted entry ∙ ap (λ (all : Inodes ℕ). all.count) inodes) there in
     let tree = ap tree_of inodes ∙ tree_of_one root attr in
     λ i. record {
-      number = counted
-          (counts i);
+      number = counted (counts i);
       files = record { tree = tree i; numbers = numbers i };
       overlay = None;
       change = 0;

@@ -33,8 +33,7 @@ born_above filesystem slot Here node none = absurd cc
 born_above filesystem slot (Below layer directory rank) node none = omega arith
 
 pub no_inode : (node : NodeRef) → plain_of node ≡ None → is_inode_of node.filesystem.count (number_of node) ≡ false
-no_inode node none =
-    not_below (not (nat_lt (number_of node) (inode_number node.filesystem.count 0))) _ _
+no_inode node none = not_below (not (nat_lt (number_of node) (inode_number node.filesystem.count 0))) _ _
     (le-ltb (number_of node) (inode_number (node.filesystem.count + 1) 0)
     (born_above node.filesystem.count node.slot node.birth node none))
   where
@@ -47,10 +46,8 @@ no_inode node none =
 pub nowhere_there : (fs : Filesystems) (node : NodeRef) (tree : TreeValue)
     → any_pair (λ (a b : FilesystemEntry). nat_eq a.count b.count) fs ≡ false
     → option_map (λ (entry : FilesystemEntry). entry.tree) (entry_of fs node.filesystem.count) ≡ Some tree
-    → plain_of node ≡ None
-    → ((slot : ℕ) → 18446744073709551616 ≤ slot → (inodes_of tree).inode slot ≡ None)
-    → tree.root < 18446744073709551616
-    → IsNowhere fs node.filesystem.count (number_of node)
+    → plain_of node ≡ None → ((slot : ℕ) → 18446744073709551616 ≤ slot → (inodes_of tree).inode slot ≡ None)
+    → tree.root < 18446744073709551616 → IsNowhere fs node.filesystem.count (number_of node)
 nowhere_there fs node tree apart found none fit small =
     let f = node.filesystem.count in
     let large = no_slot f (number_of node) (no_inode node none) in
@@ -75,8 +72,7 @@ nowhere_else fs node apart absent =
       inode = ap (λ entry. (inodes_seen entry).inode (number_of node)) (entry_nowhere fs f absent);
       root = ap (λ entry. nat_eq (number_of node) (inodes_seen entry).root) (entry_nowhere fs f absent)
           ∙ ne_eqb (number_of node) (inodes_seen (no_entry f)).root
-          (λ same. counted_inode f (born_in f node.birth) node.slot
-          (sym (exchanged_back f (counted f)) ∙ sym same));
+          (λ same. counted_inode f (born_in f node.birth) node.slot (sym (exchanged_back f (counted f)) ∙ sym same));
       apart = apart;
     }
 
@@ -88,8 +84,7 @@ module _ (inodes : Inodes ℕ) (number : ℕ) (none : inodes.inode number ≡ No
     where
       at : (other : ℕ) (b : Bool) → nat_eq other number ≡ b
           → (if nat_eq other number then inode else inodes.inode other) ≡ inodes.inode other
-      at other true e =
-          ap (λ b. if b then inode else inodes.inode other) e ∙ is ∙ sym none
+      at other true e = ap (λ b. if b then inode else inodes.inode other) e ∙ is ∙ sym none
           ∙ ap inodes.inode (sym (eqb-true other number e))
       at other false e = ap (λ b. if b then inode else inodes.inode other) e
 
@@ -97,15 +92,13 @@ module _ (inodes : Inodes ℕ) (number : ℕ) (none : inodes.inode number ≡ No
   pinned_none = with_none (used_once_more (inodes.inode number)) (ap used_once_more none)
 
   pub unpinned_none : unpinned nat_eq inodes number ≡ inodes
-  unpinned_none =
-      (λ i. record (with_none (used_once_less (inodes.inode number)) (ap used_once_less none) i) {
-        count = cond (is_some (none i)) (count_after inodes.count (used_once_less (inodes.inode number))) inodes.count;
-      })
+  unpinned_none = (λ i. record (with_none (used_once_less (inodes.inode number)) (ap used_once_less none) i) {
+    count = cond (is_some (none i)) (count_after inodes.count (used_once_less (inodes.inode number))) inodes.count;
+  })
 
   changed_none : (change : Option (Node ℕ) → Option (Node ℕ)) → change None ≡ None
       → with_changed nat_eq inodes number change ≡ inodes
-  changed_none change is =
-      with_none (inode_with_node (change (node_in (inodes.inode number))) (inodes.inode number))
+  changed_none change is = with_none (inode_with_node (change (node_in (inodes.inode number))) (inodes.inode number))
       ((λ i. inode_with_node (change (node_in (none i))) (none i)) ∙ ap (λ node. inode_with_node node None) is)
 
   pub bytes_none : (bytes : List ℕ) → changed nat_eq inodes (SetBytes number bytes) ≡ inodes
@@ -154,8 +147,7 @@ module _ (fs : Filesystems) (f number : ℕ) (o : Option ℕ) (nowhere : o ≡ N
 
   pub parent_has_slot : (name : List ℕ) (object : ℕ) → number_at (files_at fs f).tree number name ≡ Some object
       → IsSome o
-  parent_has_slot name object named =
-      has_slot (λ none. true≢false (ap is_some (sym named)
+  parent_has_slot name object named = has_slot (λ none. true≢false (ap is_some (sym named)
       ∙ ap (λ node. is_some (entry_named name (entries_in node))) none))
 
 -- What lies under what
@@ -178,8 +170,7 @@ begins : (next : ℕ → Option ℕ) (n top directory : ℕ) → nat_eq top dire
 begins next n top directory is = by n
   where
     first : (rest : List ℕ) → before_first (nat_eq top) (directory ∷ rest) ≡ []
-    first rest =
-        take_while-cons (λ a. not (nat_eq top a)) directory rest
+    first rest = take_while-cons (λ a. not (nat_eq top a)) directory rest
         ∙ ap (λ same. cond (not same) (directory ∷ take_while (λ a. not (nat_eq top a)) rest) []) is
 
     on : (n : ℕ) (o : Option ℕ)

@@ -58,8 +58,7 @@ among-filled slot (suc j) (Some inode ∷ rest) =
 
 module _ (f : ℕ) where
   same_test : (a b : ℕ) → nat_eq a (exchanged f b) ≡ nat_eq (exchanged f a) b
-  same_test a b =
-      same_truth _ _
+  same_test a b = same_truth _ _
       (λ e. eq-eqb (exchanged f a) b (ap (exchanged f) (eqb-true a (exchanged f b) e) ∙ exchanged_back f b))
       (λ e. eq-eqb a (exchanged f b) (sym (exchanged_back f a) ∙ ap (exchanged f) (eqb-true (exchanged f a) b e)))
 
@@ -80,8 +79,7 @@ numbers_listed entry number =
     let slot = exchanged entry.count number in
     let from : slot ≡ 0 + slot = omega arith in
     among-numbers entry.count number (filled_from 0 entry.tree.slots)
-    ∙ ap (λ n. is_among nat_eq n (filled_from 0 entry.tree.slots)) from
-    ∙ among-filled 0 slot entry.tree.slots
+    ∙ ap (λ n. is_among nat_eq n (filled_from 0 entry.tree.slots)) from ∙ among-filled 0 slot entry.tree.slots
     ∙ by (slice_index_or entry.tree.slots slot None)
   where
     by : (o : Option (Inode ℕ)) → is_some o
@@ -116,11 +114,7 @@ found_by_number fs count = found fs
     nowhere = λ i. record {
       number = counted count;
       files = record {
-        tree = record {
-          root = sym
-              (exchanged_back count (counted count)) i;
-          node = λ n. None;
-        };
+        tree = record { root = sym (exchanged_back count (counted count)) i; node = λ n. None };
         numbers = [];
       };
       overlay = None;
@@ -132,15 +126,11 @@ found_by_number fs count = found fs
         (filesystems_seen fs)) (no_filesystem (counted count))
         ≡ filesystem_seen (unwrap_or (entry_of fs count) (no_entry count))
     found [] = nowhere
-    found (x ∷ fs) =
-        ap (λ b. unwrap_or (cond b (Some (filesystem_seen x))
+    found (x ∷ fs) = ap (λ b. unwrap_or (cond b (Some (filesystem_seen x))
         (find (λ (filesystem : Filesystem ℕ). nat_eq (counted count) filesystem.number) (filesystems_seen fs)))
-        (no_filesystem (counted count)))
-        (counted_test count x.count)
-        ∙ by (nat_eq count x.count) (found fs)
+        (no_filesystem (counted count))) (counted_test count x.count) ∙ by (nat_eq count x.count) (found fs)
       where
-        by : (b : Bool)
-            → unwrap_or (find (λ (filesystem : Filesystem ℕ). nat_eq (counted count) filesystem.number)
+        by : (b : Bool) → unwrap_or (find (λ (filesystem : Filesystem ℕ). nat_eq (counted count) filesystem.number)
             (filesystems_seen fs)) (no_filesystem (counted count))
             ≡ filesystem_seen (unwrap_or (entry_of fs count) (no_entry count))
             → unwrap_or (cond b (Some (filesystem_seen x))

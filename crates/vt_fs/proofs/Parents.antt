@@ -41,12 +41,10 @@ module _ (tree : Tree ℕ) (conditions : IsTree tree) (own : HasOwnParents tree)
 
   -- and one without a name there has none
   unnamed : IsDirectory tree directory → has_entry_to nat_eq tree parent directory ≡ false → parent ≡ directory
-  unnamed is none =
-      own directory is (λ named.
+  unnamed is none = own directory is (λ named.
       true≢false (sym (entry_to tree parent named.1 directory
       (ap (λ above. entry_at tree above named.1) (conditions.one_parent named.0 named.1 directory named.2 is)
-      ∙ named.2))
-      ∙ none))
+      ∙ named.2)) ∙ none))
 
   of_directory : IsDirectory tree directory → has_entry_to nat_eq tree parent directory ≡ not (nat_eq directory parent)
   of_directory is = by (has_entry_to nat_eq tree parent directory) refl
@@ -145,17 +143,14 @@ module _ (inodes : Inodes ℕ) (named : ParentsAreNamed (tree_of inodes)) where
           (λ b. if b then None else Some (parent_of directory)) e in
           let by_name : up_named directory ≡ when (not own) (parent_of directory) =
           ap (λ b. if b then None else when (has_entry_to nat_eq (tree_of inodes) (parent_of directory) directory)
-          (parent_of directory)) e
-          ∙ ap (λ b. when b (parent_of directory)) (named directory (differs e) ∙ ap not o) in
+          (parent_of directory)) e ∙ ap (λ b. when b (parent_of directory)) (named directory (differs e) ∙ ap not o) in
           ap (meets top up n directory) above ∙ last rest own o above
           ∙ ap (meets top up_named n directory) (sym by_name)
 
-      by : (root : Bool) → nat_eq directory inodes.root ≡ root
-          → is_among nat_eq top (chain n up (parent_of directory))
+      by : (root : Bool) → nat_eq directory inodes.root ≡ root → is_among nat_eq top (chain n up (parent_of directory))
           ≡ is_among nat_eq top (chain n up_named (parent_of directory))
           → meets top up n directory (up directory) ≡ meets top up_named n directory (up_named directory)
-      by true e rest =
-          ap (meets top up n directory) (ap (λ b. if b then None else Some (parent_of directory)) e)
+      by true e rest = ap (meets top up n directory) (ap (λ b. if b then None else Some (parent_of directory)) e)
           ∙ ap (meets top up_named n directory)
           (sym (ap (λ b. if b then None else when (has_entry_to nat_eq (tree_of inodes) (parent_of directory) directory)
           (parent_of directory)) e))
@@ -170,8 +165,7 @@ module _ (inodes : Inodes ℕ) (named : ParentsAreNamed (tree_of inodes)) where
   -- a directory that is removed is its own parent
   pub removed_by_parent : (directory : ℕ) → nat_eq directory inodes.root ≡ false
       → is_removed nat_eq (tree_of inodes) directory ≡ nat_eq directory (parent_of directory)
-  removed_by_parent directory e =
-      (λ i. not (e i || is_some (up_named directory)))
+  removed_by_parent directory e = (λ i. not (e i || is_some (up_named directory)))
       ∙ ap (λ b. not (is_some (if b then None
       else when (has_entry_to nat_eq (tree_of inodes) (parent_of directory) directory) (parent_of directory)))) e
       ∙ ap (λ b. not (is_some (when b (parent_of directory))))

@@ -51,8 +51,7 @@ module _ (inodes : Inodes ℕ) (top : ℕ) where
       → path_from known (chain left up here) ≡ Some (reverse known)
   arrives known left here is =
       let first = begins left here in
-      ap (path_from known) first.is
-      ∙ (λ i. when (is i || is_among nat_eq top first.rest)
+      ap (path_from known) first.is ∙ (λ i. when (is i || is_among nat_eq top first.rest)
       (reverse (known ++ map own ((before here first.rest
       ∙ ap (λ b. cond b [] (here ∷ before_first (nat_eq top) first.rest)) is) i))))
       ∙ ap (λ names. Some (reverse names)) (append-nil known)
@@ -86,10 +85,8 @@ module _ (inodes : Inodes ℕ) (top : ℕ) where
 
   -- with one name more
   pub goes_on : (known new : List (List ℕ)) (name : List ℕ) (left here parent : ℕ) (path : Option (List (List ℕ)))
-      → new ≡ known ++ name ∷ []
-      → name ≡ own here → nat_eq top here ≡ false → Some parent ≡ up here → (left ≡ 0 → ⊥)
-      → path_from known (chain left up here) ≡ path
-      → path_from new (chain (left - 1) up parent) ≡ path
+      → new ≡ known ++ name ∷ [] → name ≡ own here → nat_eq top here ≡ false → Some parent ≡ up here → (left ≡ 0 → ⊥)
+      → path_from known (chain left up here) ≡ path → path_from new (chain (left - 1) up parent) ≡ path
   goes_on known new name zero here parent path is named other above some so_far = absurd (some refl)
   goes_on known new name (suc left) here parent path is named other above some so_far =
       let one_less : suc left - 1 ≡ left = omega arith in
@@ -109,8 +106,7 @@ module _ (tree : Tree ℕ) (once : NamesDirectoriesOnce tree) (directory : ℕ) 
     where
       none_there : (o : Option (Node ℕ)) → tree.node directory ≡ o → entries_in o ≡ []
           → HasOneName directory (entries_in (tree.node directory))
-      none_there o is none name other first second =
-          absurd (true≢false (sym (ap is_some
+      none_there o is none name other first second = absurd (true≢false (sym (ap is_some
           (sym (ap (λ node. entry_named name (entries_in node)) is ∙ ap (entry_named name) none) ∙ first))))
 
       by : (o : Option (Node ℕ)) → tree.node directory ≡ o
@@ -129,8 +125,7 @@ module _ (tree : Tree ℕ) (once : NamesDirectoriesOnce tree) (directory : ℕ) 
   abbrev found : Option (List ℕ × ℕ)
   found = find (λ entry. nat_eq directory entry.1) (entries_in (tree.node parent))
 
-  some_found : (entries : Entries ℕ)
-      → list_any (nat_eq directory) (map (λ entry. entry.1) entries)
+  some_found : (entries : Entries ℕ) → list_any (nat_eq directory) (map (λ entry. entry.1) entries)
       ≡ is_some (find (λ entry. nat_eq directory entry.1) entries)
   some_found [] = refl
   some_found (entry ∷ entries) = by (nat_eq directory entry.1) (some_found entries)
@@ -146,13 +141,11 @@ module _ (tree : Tree ℕ) (once : NamesDirectoriesOnce tree) (directory : ℕ) 
   no_way_from_root is = ap (λ b. if b then None else when (has_entry_to nat_eq tree parent directory) parent) is
 
   above_is : nat_eq directory tree.root ≡ false → named_parent nat_eq tree directory ≡ when (is_some found) parent
-  above_is other =
-      ap (λ b. if b then None else when (has_entry_to nat_eq tree parent directory) parent) other
+  above_is other = ap (λ b. if b then None else when (has_entry_to nat_eq tree parent directory) parent) other
       ∙ ap (λ b. when b parent) (some_found (entries_in (tree.node parent)))
 
   pub no_name : nat_eq directory tree.root ≡ false → (name : Option (List ℕ))
-      → name ≡ option_map (λ entry. entry.0) found → name ≡ None
-      → named_parent nat_eq tree directory ≡ None
+      → name ≡ option_map (λ entry. entry.0) found → name ≡ None → named_parent nat_eq tree directory ≡ None
   no_name other name is none = above_is other ∙ by found (sym is ∙ none)
     where
       by : (o : Option (List ℕ × ℕ)) → option_map (λ entry. entry.0) o ≡ None → when (is_some o) parent ≡ None
@@ -160,8 +153,7 @@ module _ (tree : Tree ℕ) (once : NamesDirectoriesOnce tree) (directory : ℕ) 
       by (Some entry) e = absurd (true≢false (ap is_some e))
 
   pub named_above : nat_eq directory tree.root ≡ false → (name : List ℕ)
-      → Some name ≡ option_map (λ entry. entry.0) found
-      → (named_parent nat_eq tree directory ≡ Some parent)
+      → Some name ≡ option_map (λ entry. entry.0) found → (named_parent nat_eq tree directory ≡ Some parent)
       × (name ≡ own_name nat_eq (record { tree = tree; numbers = [] }) directory)
   named_above other name is = by found refl is
     where
@@ -174,8 +166,7 @@ module _ (tree : Tree ℕ) (once : NamesDirectoriesOnce tree) (directory : ℕ) 
       by None f e = absurd (true≢false (ap is_some e))
       by (Some entry) f e = (
         above_is other ∙ ap (λ o. when (is_some o) parent) f,
-        one_list name entry.0 e
-            ∙ ap (λ (o : Option (List ℕ × ℕ)). unwrap_or
+        one_list name entry.0 e ∙ ap (λ (o : Option (List ℕ × ℕ)). unwrap_or
             (option_map (λ (name : ℕ × List ℕ). name.1) (option_map (λ (entry : List ℕ × ℕ). (parent, entry.0)) o)) [])
             (sym f),
       )
@@ -189,12 +180,9 @@ module _ (tree : Tree ℕ) (once : NamesDirectoriesOnce tree) (directory above :
   pub one_name_in : HasOneName directory (entries_of node.content)
   one_name_in = subst (λ o. HasOneName directory (entries_in o)) at_parent (one_name_there tree once directory)
 
-  pub nothing_in : nat_eq directory tree.root ≡ false
-      → None ≡ option_map (λ (entry : List ℕ × ℕ). entry.0)
-      (find (λ entry. nat_eq directory entry.1) (entries_of node.content))
-      → named_parent nat_eq tree directory ≡ None
-  nothing_in other none =
-      no_name tree once directory other None
+  pub nothing_in : nat_eq directory tree.root ≡ false → None ≡ option_map (λ (entry : List ℕ × ℕ). entry.0)
+      (find (λ entry. nat_eq directory entry.1) (entries_of node.content)) → named_parent nat_eq tree directory ≡ None
+  nothing_in other none = no_name tree once directory other None
       (none ∙ ap (λ o. option_map (λ (entry : List ℕ × ℕ). entry.0)
       (find (λ entry. nat_eq directory entry.1) (entries_in o))) (sym at_parent)) refl
 
@@ -202,15 +190,12 @@ module _ (tree : Tree ℕ) (once : NamesDirectoriesOnce tree) (directory above :
       → Some name ≡ option_map (λ (entry : List ℕ × ℕ). entry.0)
       (find (λ entry. nat_eq directory entry.1) (entries_of node.content))
       → Some above ≡ named_parent nat_eq tree directory
-  parent_in_which other name is =
-      ap Some is_parent ∙ sym (named_above tree once directory other name
+  parent_in_which other name is = ap Some is_parent ∙ sym (named_above tree once directory other name
       (is ∙ ap (λ o. option_map (λ (entry : List ℕ × ℕ). entry.0)
       (find (λ entry. nat_eq directory entry.1) (entries_in o))) (sym at_parent))).0
 
 -- names in the other order
 pub map-reverse : {X Y : Type 0} (f : X → Y) (xs : List X) → map f (reverse xs) ≡ reverse (map f xs)
 map-reverse f [] = refl
-map-reverse f (x ∷ xs) =
-    ap (map f) (reverse-append (x ∷ []) xs) ∙ map-append f (reverse xs) (x ∷ [])
-    ∙ ap (λ rest. rest ++ f x ∷ []) (map-reverse f xs)
-    ∙ sym (reverse-append (f x ∷ []) (map f xs))
+map-reverse f (x ∷ xs) = ap (map f) (reverse-append (x ∷ []) xs) ∙ map-append f (reverse xs) (x ∷ [])
+    ∙ ap (λ rest. rest ++ f x ∷ []) (map-reverse f xs) ∙ sym (reverse-append (f x ∷ []) (map f xs))

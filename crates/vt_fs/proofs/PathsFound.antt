@@ -48,11 +48,9 @@ module _ (fs : Filesystems) (f : ℕ)
   path_at entry = path_down nat_eq (files_seen entry) top directory
 
   nowhere_path : (b : Bool) → nat_eq top directory ≡ b → path_at (no_entry f) ≡ when b []
-  nowhere_path b is =
-      (λ i. when (is i || false) (reverse (map (own_name nat_eq (files_seen (no_entry f)))
+  nowhere_path b is = (λ i. when (is i || false) (reverse (map (own_name nat_eq (files_seen (no_entry f)))
       ((take_while-cons (λ a. not (nat_eq top a)) directory []
-      ∙ ap (λ same. cond (not same) (directory ∷ []) []) is) i))))
-      ∙ by b
+      ∙ ap (λ same. cond (not same) (directory ∷ []) []) is) i)))) ∙ by b
     where
       by : (b : Bool) → when (b || false)
           (reverse (map (own_name nat_eq (files_seen (no_entry f))) (cond (not b) (directory ∷ []) []))) ≡ when b []
@@ -81,8 +79,7 @@ root_nowhere fs directory is =
     let f = directory.filesystem.count in
     let absent = nowhere (entry_of fs f) is in
     ap (λ entry. path_down nat_eq (files_seen entry) (files_seen entry).tree.root (number_of directory))
-    (entry_nowhere fs f absent)
-    ∙ nowhere_path fs f absent (inodes_seen (no_entry f)).root (number_of directory) false
+    (entry_nowhere fs f absent) ∙ nowhere_path fs f absent (inodes_seen (no_entry f)).root (number_of directory) false
     (ne_eqb (inodes_seen (no_entry f)).root (number_of directory)
     (λ same. counted_inode f (born_in f directory.birth) directory.slot (sym (exchanged_back f (counted f)) ∙ same)))
   where

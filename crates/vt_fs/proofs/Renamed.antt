@@ -25,8 +25,7 @@ module _ {N : Type 0} where
   inodes_itself : (inodes : Inodes N) → renamed_inodes (λ n. n) (λ n. n) inodes ≡ inodes
   inodes_itself inodes = λ i. record {
     root = inodes.root;
-    inode = λ number.
-        inode_itself (inodes.inode number) i;
+    inode = λ number. inode_itself (inodes.inode number) i;
     count = inodes.count;
   }
 
@@ -101,8 +100,7 @@ module _ (f : ℕ) (inodes : Inodes ℕ) where
 
 -- Looks
 module _ (f : ℕ) (inodes : Inodes ℕ) where
-  pub node_by_numbers : (number : ℕ)
-      → (tree_of (by_numbers f inodes)).node (exchanged f number)
+  pub node_by_numbers : (number : ℕ) → (tree_of (by_numbers f inodes)).node (exchanged f number)
       ≡ option_map (renamed_node (exchanged f) (exchanged f)) ((tree_of inodes).node number)
   node_by_numbers number = commutes_nat WithOne Nodes named_one named_node (λ A eq s. (tree_of s.0).node s.1)
       (exchange f) (inodes, number)
@@ -130,8 +128,7 @@ module _ (f : ℕ) (inodes : Inodes ℕ) where
   pub under_by_numbers : (top directory : ℕ)
       → is_directory_under nat_eq (by_numbers f inodes) (exchanged f top) (exchanged f directory)
       ≡ is_directory_under nat_eq inodes top directory
-  under_by_numbers top directory =
-      commutes_nat WithTwo (λ (A : Type 0). Bool) named_two (named_nothing Bool)
+  under_by_numbers top directory = commutes_nat WithTwo (λ (A : Type 0). Bool) named_two (named_nothing Bool)
       (λ A eq s. is_directory_under eq s.0 s.1 s.2) (exchange f) (inodes, top, directory)
 
   pub path_by_numbers : (top directory : ℕ)
@@ -163,6 +160,5 @@ module _ (f : ℕ) (inodes : Inodes ℕ) (slot : ℕ) where
   pub own_by_numbers : nat_eq (exchanged f slot)
       (parent_in (exchanged f slot) ((tree_of (by_numbers f inodes)).node (exchanged f slot)))
       ≡ nat_eq slot (parent_in slot ((tree_of inodes).node slot))
-  own_by_numbers =
-      commutes_nat WithOne (λ (A : Type 0). Bool) named_one (named_nothing Bool)
+  own_by_numbers = commutes_nat WithOne (λ (A : Type 0). Bool) named_one (named_nothing Bool)
       (λ A eq s. eq s.1 (parent_in s.1 ((tree_of s.0).node s.1))) (exchange f) (inodes, slot)

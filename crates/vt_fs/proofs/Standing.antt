@@ -27,8 +27,7 @@ pub record Standing (fs : Filesystems) (f : ℕ) (tree : TreeValue) : Type 0 whe
 -- as it is where its tree is lent for a change
 pub standing_of : (fs : Filesystems) (f : ℕ) (lent : Option (MutBor TreeValue)) (tree : MutBor TreeValue)
     → option_copied_mut lent ≡ option_map (λ entry. entry.tree) (entry_of fs f)
-    → any_pair (λ a b. nat_eq a.count b.count) fs ≡ false → lent ≡ Some tree
-    → Standing fs f tree.now
+    → any_pair (λ a b. nat_eq a.count b.count) fs ≡ false → lent ≡ Some tree → Standing fs f tree.now
 standing_of fs f lent tree value apart is = record { apart = apart; found = sym value ∙ ap option_copied_mut is }
 
 -- it has the count that it was found by
@@ -88,8 +87,7 @@ module _ (fs : Filesystems) (f : ℕ) (lent : Option (MutBor TreeValue))
     where
       by : (o : Option (MutBor TreeValue))
           → option_copied_mut o ≡ option_map (λ (entry : FilesystemEntry). entry.tree) (entry_of fs f) → IsSome o
-      by None e =
-          absurd (true≢false (sym is
+      by None e = absurd (true≢false (sym is
           ∙ ap (λ entry. is_directory_node ((files_seen entry).tree.node number)) (entry_nowhere fs f (sym e))))
       by (Some tree) e = refl
 
@@ -99,8 +97,7 @@ module _ (fs : Filesystems) (f : ℕ) (lent : Option (MutBor TreeValue))
     where
       by : (o : Option (MutBor TreeValue))
           → option_copied_mut o ≡ option_map (λ (entry : FilesystemEntry). entry.tree) (entry_of fs f) → IsSome o
-      by None e =
-          absurd (true≢false (ap is_some (sym named)
+      by None e = absurd (true≢false (ap is_some (sym named)
           ∙ ap (λ entry. is_some (number_at (files_seen entry).tree number name)) (entry_nowhere fs f (sym e))))
       by (Some tree) e = refl
 
@@ -126,8 +123,7 @@ module _ (f : ℕ) (change : Inodes ℕ → Inodes ℕ) where
       → option_map (λ entry. entry.tree) (entry_of fs f) ≡ Some old → seen_in f new ≡ change (seen_in f old)
       → shown (with_tree f new fs) ≡ shown_with f change (shown fs)
   shown_changed new old [] apart found is = absurd cc
-  shown_changed new old (x ∷ fs) apart found is =
-      by (nat_eq f x.count) (eqb-true f x.count) found
+  shown_changed new old (x ∷ fs) apart found is = by (nat_eq f x.count) (eqb-true f x.count) found
       (λ there. shown_changed new old fs
       (or_false_right (list_any (λ other. nat_eq x.count other.count) fs) _ apart) there is)
     where
@@ -188,23 +184,18 @@ module _ (fs : Filesystems) (f : ℕ) (new old : TreeValue) (standing : Standing
   pub changes : (by_slot by_number : Change ℕ) → renamed_change (exchanged f) (exchanged f) by_slot ≡ by_number
       → inodes_of new ≡ changed nat_eq (inodes_of old) by_slot
       → ChangesInodes f (λ inodes. changed nat_eq inodes by_number) fs (with_tree f new fs)
-  changes by_slot by_number same is =
-      changes_seen f (λ inodes. changed nat_eq inodes by_number) fs new old standing
+  changes by_slot by_number same is = changes_seen f (λ inodes. changed nat_eq inodes by_number) fs new old standing
       (ap (by_numbers f) is ∙ sym (changed_by_numbers f (inodes_of old) by_slot)
       ∙ ap (changed nat_eq (seen_in f old)) same)
 
-  pub pins : (slot number : ℕ) → exchanged f slot ≡ number
-      → inodes_of new ≡ pinned nat_eq (inodes_of old) slot
+  pub pins : (slot number : ℕ) → exchanged f slot ≡ number → inodes_of new ≡ pinned nat_eq (inodes_of old) slot
       → ChangesInodes f (λ inodes. pinned nat_eq inodes number) fs (with_tree f new fs)
-  pins slot number same is =
-      changes_seen f (λ inodes. pinned nat_eq inodes number) fs new old standing
+  pins slot number same is = changes_seen f (λ inodes. pinned nat_eq inodes number) fs new old standing
       (ap (by_numbers f) is ∙ sym (pinned_by_numbers f (inodes_of old) slot) ∙ ap (pinned nat_eq (seen_in f old)) same)
 
-  pub unpins : (slot number : ℕ) → exchanged f slot ≡ number
-      → inodes_of new ≡ unpinned nat_eq (inodes_of old) slot
+  pub unpins : (slot number : ℕ) → exchanged f slot ≡ number → inodes_of new ≡ unpinned nat_eq (inodes_of old) slot
       → ChangesInodes f (λ inodes. unpinned nat_eq inodes number) fs (with_tree f new fs)
-  unpins slot number same is =
-      changes_seen f (λ inodes. unpinned nat_eq inodes number) fs new old standing
+  unpins slot number same is = changes_seen f (λ inodes. unpinned nat_eq inodes number) fs new old standing
       (ap (by_numbers f) is ∙ sym (unpinned_by_numbers f (inodes_of old) slot)
       ∙ ap (unpinned nat_eq (seen_in f old)) same)
 
@@ -220,8 +211,7 @@ module _ (fs : Filesystems) (f : ℕ) (tree : TreeValue)
       (λ i. (tree_of_inodes (is_seen i)).node (sym same i)) ∙ node_by_numbers f (inodes_of tree) slot
 
   pub plain_there : (X : Type 0) (look : (A : Type 0) → Option (Node A) → X) (slot number : ℕ)
-      → exchanged f slot ≡ number
-      → look ℕ ((files_at fs f).tree.node number) ≡ look ℕ ((tree_of tree).node slot)
+      → exchanged f slot ≡ number → look ℕ ((files_at fs f).tree.node number) ≡ look ℕ ((tree_of tree).node slot)
   plain_there X look slot number same =
       (λ i. look ℕ ((tree_of_inodes (is_seen i)).node (sym same i))) ∙ plain_by_numbers f (inodes_of tree) X look slot
 
@@ -260,11 +250,9 @@ module _ (fs : Filesystems) (f : ℕ) (tree : TreeValue)
   -- a slot without a node has no inode
   pub vacant_there : (slot number : ℕ) → exchanged f slot ≡ number → (tree_of tree).node slot ≡ None
       → (inodes_at fs f).inode number ≡ None
-  vacant_there slot number same vacant =
-      (λ i. (is_seen i).inode (sym same i))
+  vacant_there slot number same vacant = (λ i. (is_seen i).inode (sym same i))
       ∙ ap (λ n. option_map (renamed_inode (exchanged f) (exchanged f)) ((inodes_of tree).inode n))
-      (exchanged_back f slot)
-      ∙ by ((inodes_of tree).inode slot) vacant
+      (exchanged_back f slot) ∙ by ((inodes_of tree).inode slot) vacant
     where
       by : (o : Option (Inode ℕ)) → node_in o ≡ None → option_map (renamed_inode (exchanged f) (exchanged f)) o ≡ None
       by None e = refl
@@ -273,8 +261,7 @@ module _ (fs : Filesystems) (f : ℕ) (tree : TreeValue)
   -- a directory without entries has none by numbers, and the other way round
   pub empty_there : (slot number : ℕ) → exchanged f slot ≡ number → entries_in ((files_at fs f).tree.node number) ≡ []
       → entries_in ((tree_of tree).node slot) ≡ []
-  empty_there slot number same empty =
-      by (entries_in ((tree_of tree).node slot))
+  empty_there slot number same empty = by (entries_in ((tree_of tree).node slot))
       (sym (plain_there Bool (λ A node. is_empty_list (entries_in node)) slot number same) ∙ ap is_empty_list empty)
     where
       by : (entries : Entries ℕ) → is_empty_list entries ≡ true → entries ≡ []
@@ -285,8 +272,7 @@ module _ (fs : Filesystems) (f : ℕ) (tree : TreeValue)
   pub slot_named : (slot number : ℕ) (name : List ℕ) (object_slot object : ℕ) → exchanged f slot ≡ number
       → exchanged f object_slot ≡ object
       → number_at (files_at fs f).tree number name ≡ Some object → number_at (tree_of tree) slot name ≡ Some object_slot
-  slot_named slot number name object_slot object same same_object named =
-      by (number_at (tree_of tree) slot name)
+  slot_named slot number name object_slot object same same_object named = by (number_at (tree_of tree) slot name)
       (sym (entry_there slot number name same) ∙ named ∙ ap Some (sym same_object))
     where
       by : (o : Option ℕ) → option_map (exchanged f) o ≡ Some (exchanged f object_slot) → o ≡ Some object_slot
@@ -314,8 +300,7 @@ module _ (fs : Filesystems) (f : ℕ) (tree : TreeValue)
       → exchanged f object_slot ≡ object
       → MayReplace (files_at fs f).tree object (number_at (files_at fs f).tree number name)
       → MayReplace (tree_of tree) object_slot (number_at (tree_of tree) slot name)
-  replaced_there slot number name object_slot object same same_object may =
-      by (number_at (tree_of tree) slot name)
+  replaced_there slot number name object_slot object same same_object may = by (number_at (tree_of tree) slot name)
       (subst (MayReplace (files_at fs f).tree object) (entry_there slot number name same) may)
     where
       by : (o : Option ℕ) → MayReplace (files_at fs f).tree object (option_map (exchanged f) o)
@@ -338,8 +323,7 @@ module _ (fs : Filesystems) (f : ℕ) (tree : TreeValue)
 written_back : (fs : Filesystems) (f : ℕ) (tree : TreeValue) → any_pair (λ a b. nat_eq a.count b.count) fs ≡ false
     → option_map (λ (entry : FilesystemEntry). entry.tree) (entry_of fs f) ≡ Some tree → with_tree f tree fs ≡ fs
 written_back [] f tree apart found = refl
-written_back (x ∷ fs) f tree apart found =
-    by (nat_eq f x.count) (eqb-true f x.count) found
+written_back (x ∷ fs) f tree apart found = by (nat_eq f x.count) (eqb-true f x.count) found
     (written_back fs f tree (or_false_right (list_any (λ other. nat_eq x.count other.count) fs) _ apart))
   where
     by : (b : Bool) → (b ≡ true → f ≡ x.count)

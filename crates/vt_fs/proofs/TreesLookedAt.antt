@@ -12,8 +12,7 @@ one_number a b e = cc
 module _ (tree : Tree ℕ) where
   -- what is not there has no parent
   pub nowhere_up : (number : ℕ) → tree.node number ≡ None → named_parent nat_eq tree number ≡ None
-  nowhere_up number none =
-      ap (λ o. cond (nat_eq number tree.root) None
+  nowhere_up number none = ap (λ o. cond (nat_eq number tree.root) None
       (when (is_among nat_eq number (targets_in (tree.node (parent_in number o)))) (parent_in number o))) none
       ∙ ap (λ o. cond (nat_eq number tree.root) None (when (is_among nat_eq number (targets_in o)) number)) none
       ∙ by (nat_eq number tree.root)
@@ -34,16 +33,12 @@ module _ (tree : Tree ℕ) where
 
       named : (b : Bool) → has_entry_to nat_eq tree (parent_in number (tree.node number)) number ≡ b
           → when b (parent_in number (tree.node number)) ≡ Some parent → is_some (tree.node parent) ≡ true
-      named true h e =
-          entered (tree.node parent) refl
-          (ap (λ p. is_among nat_eq number (targets_in (tree.node p)))
+      named true h e = entered (tree.node parent) refl (ap (λ p. is_among nat_eq number (targets_in (tree.node p)))
           (sym (one_number (parent_in number (tree.node number)) parent e)) ∙ h)
       named false h e = absurd (true≢false (sym (ap is_some e)))
 
-      by : (b : Bool)
-          → cond b None (when (has_entry_to nat_eq tree (parent_in number (tree.node number)) number)
-          (parent_in number (tree.node number))) ≡ Some parent
-          → is_some (tree.node parent) ≡ true
+      by : (b : Bool) → cond b None (when (has_entry_to nat_eq tree (parent_in number (tree.node number)) number)
+          (parent_in number (tree.node number))) ≡ Some parent → is_some (tree.node parent) ≡ true
       by true e = absurd (true≢false (sym (ap is_some e)))
       by false e = named (has_entry_to nat_eq tree (parent_in number (tree.node number)) number) refl e
 
@@ -55,19 +50,15 @@ module _ (tree : Tree ℕ) where
   nothing_above : (top : ℕ) → tree.node top ≡ None → (n directory : ℕ)
       → is_among nat_eq top (chain n (named_parent nat_eq tree) directory) ≡ nat_eq top directory
   nothing_above top none zero directory = or-false (nat_eq top directory)
-  nothing_above top none (suc n) directory =
-      by (named_parent nat_eq tree directory) refl (nothing_above top none n)
+  nothing_above top none (suc n) directory = by (named_parent nat_eq tree directory) refl (nothing_above top none n)
     where
       by : (o : Option ℕ) → named_parent nat_eq tree directory ≡ o
           → ((parent : ℕ) → is_among nat_eq top (chain n (named_parent nat_eq tree) parent) ≡ nat_eq top parent)
           → is_among nat_eq top (chain (suc n) (named_parent nat_eq tree) directory) ≡ nat_eq top directory
-      by None e rest =
-          ap (is_among nat_eq top) (chain_ends (named_parent nat_eq tree) n directory e)
+      by None e rest = ap (is_among nat_eq top) (chain_ends (named_parent nat_eq tree) n directory e)
           ∙ or-false (nat_eq top directory)
-      by (Some parent) e rest =
-          ap (is_among nat_eq top) (chain_goes_on (named_parent nat_eq tree) n directory parent e)
-          ∙ ap (λ b. nat_eq top directory || b) (rest parent
-          ∙ ne_eqb top parent (λ same. true≢false
+      by (Some parent) e rest = ap (is_among nat_eq top) (chain_goes_on (named_parent nat_eq tree) n directory parent e)
+          ∙ ap (λ b. nat_eq top directory || b) (rest parent ∙ ne_eqb top parent (λ same. true≢false
           (sym (parent_there directory parent e) ∙ ap (λ p. is_some (tree.node p)) (sym same) ∙ ap is_some none)))
           ∙ or-false (nat_eq top directory)
 

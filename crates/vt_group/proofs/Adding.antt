@@ -21,18 +21,15 @@ use Rattle.vt_group.proofs.Regrouping.{keys, lookup-low}
 
 -- a fold over one more of what a list is seen as
 pub folded_more : {X A B : Type 0} (add : B → A → B) (b : B) (see : X → A) (list : List X) (i : ℕ) (default : X)
-    → i < length list
-    → folded add b (map see (take (i + 1) list))
+    → i < length list → folded add b (map see (take (i + 1) list))
     ≡ add (folded add b (map see (take i list))) (see (get_or list i default))
-folded_more add b see list i default less =
-    ap (λ l. folded add b (map see l)) (take_more list i default less)
+folded_more add b see list i default less = ap (λ l. folded add b (map see l)) (take_more list i default less)
     ∙ ap (folded add b) (map-append see (take i list) (get_or list i default ∷ []))
     ∙ folded-snoc add b (map see (take i list)) (see (get_or list i default))
 
 -- where there is a source
 pub put_sourced : (found : Option GroupId) (source : Option ℕ) (peers more : List (ℕ × Propagation ℕ))
-    → option_map group_number found ≡ source
-    → is_some found ≡ true → more ≡ if_sourced source peers more
+    → option_map group_number found ≡ source → is_some found ≡ true → more ≡ if_sourced source peers more
 put_sourced None source peers more e is = absurd (true≢false (sym is))
 put_sourced (Some group) source peers more e is = ap (λ o. if_sourced o peers more) e
 
@@ -77,8 +74,7 @@ lookup-removed other group (e ∷ masters) rising = by (nat_eq group e.0) refl
     parts : (list_all (nat_lt e.0) (keys masters) ≡ true) × (are_rising (keys masters) ≡ true)
     parts = and_parts _ _ rising
 
-    gone : group ≡ e.0 → (t : Bool) → nat_eq other group ≡ t
-        → lookup (nat_eq other) masters
+    gone : group ≡ e.0 → (t : Bool) → nat_eq other group ≡ t → lookup (nat_eq other) masters
         ≡ cond t None (cond (nat_eq other e.0) (Some e.1) (lookup (nat_eq other) masters))
     gone same true is =
         lookup-low other masters (ap (λ g. list_all (nat_lt g) (keys masters)) (eqb-true other group is ∙ same)
@@ -91,13 +87,11 @@ lookup-removed other group (e ∷ masters) rising = by (nat_eq group e.0) refl
         ≡ cond (nat_eq other group) None (lookup (nat_eq other) masters)
         → cond t (Some e.1) (lookup (nat_eq other) (remove_entry (nat_eq group) masters))
         ≡ cond (nat_eq other group) None (cond t (Some e.1) (lookup (nat_eq other) masters))
-    kept apart true is later =
-        ap (λ b. cond b None (Some e.1))
+    kept apart true is later = ap (λ b. cond b None (Some e.1))
         (sym (ne_eqb other group (λ same. eqb-false group e.0 apart (sym same ∙ eqb-true other e.0 is))))
     kept apart false is later = later
 
-    by : (b : Bool) → nat_eq group e.0 ≡ b
-        → lookup (nat_eq other) (remove_entry (nat_eq group) masters)
+    by : (b : Bool) → nat_eq group e.0 ≡ b → lookup (nat_eq other) (remove_entry (nat_eq group) masters)
         ≡ cond (nat_eq other group) None (lookup (nat_eq other) masters)
         → lookup (nat_eq other) (cond b masters (e ∷ remove_entry (nat_eq group) masters))
         ≡ cond (nat_eq other group) None (cond (nat_eq other e.0) (Some e.1) (lookup (nat_eq other) masters))
@@ -145,8 +139,7 @@ module _ (group : ℕ) where
           ≡ masters_with nat_eq other first group
       by true is unnamed =
           ap (λ b. if b then first.1 else one group) is ∙ ap (λ b. if b then first.1 else other group) (sym is)
-      by false is unnamed =
-          ap (λ b. if b then first.1 else one group) is ∙ same (λ i. is i || unnamed i)
+      by false is unnamed = ap (λ b. if b then first.1 else one group) is ∙ same (λ i. is i || unnamed i)
           ∙ ap (λ b. if b then first.1 else other group) (sym is)
 
   -- and are then those of the definitions, with the new groups
@@ -157,8 +150,7 @@ module _ (group : ℕ) where
   lookup-all masters (first ∷ new) rising =
       lookup-all (with_master_of masters first) new (rising-one masters first rising)
       ∙ same_folds (λ other. lookup (nat_eq other) (with_master_of masters first)) (masters_with nat_eq
-      (λ other. lookup (nat_eq other) masters) first) new
-      (λ unnamed. lookup-one group masters first rising)
+      (λ other. lookup (nat_eq other) masters) first) new (λ unnamed. lookup-one group masters first rising)
 
 -- where each entry of a group is without a master, and it starts without one, it has none
 none_folded : (group : ℕ) (new : List (ℕ × Option ℕ)) (master : ℕ → Option ℕ)
@@ -175,14 +167,12 @@ none_folded group (first ∷ rest) master each start =
 
 -- A world that grows by mounts and groups has the groups that were added to those it had.
 pub grown_has : (world after : World ℕ) (groups : Grouping) (types : List (ℕ × Propagation ℕ)) (new : List (ℕ
-    × Option ℕ)) → Has world groups
-    → Grows world after types new → Has after (all_added groups types new)
+    × Option ℕ)) → Has world groups → Grows world after types new → Has after (all_added groups types new)
 grown_has world after groups types new has grows = record {
   order = grows.order;
   peers = ap (λ peers. folded with_type_of peers types) has.peers ∙ sym grows.peers;
   masters_order = rising-all groups.masters new has.masters_order;
-  masters = λ group.
-      lookup-all group groups.masters new has.masters_order
+  masters = λ group. lookup-all group groups.masters new has.masters_order
       ∙ by group (has_members nat_eq after.mounts group) refl;
 }
   where
@@ -195,30 +185,24 @@ grown_has world after groups types new has grows = record {
 
     -- where it has none, it had none, and no entry gives it a master
     not_there : (group : ℕ) (b : Bool) → has_members nat_eq after.mounts group ≡ false
-        → has_members nat_eq world.mounts group ≡ b
-        → master_in groups group ≡ None
+        → has_members nat_eq world.mounts group ≡ b → master_in groups group ≡ None
     not_there group true is was = absurd (true≢false (sym (grows.stay group was) ∙ is))
     not_there group false is was = has.masters group ∙ ap (λ b. cond b (world.master group) None) was
 
     unmastered : (group : ℕ) → has_members nat_eq after.mounts group ≡ false → (entry : ℕ × Option ℕ)
-        → Among entry new → group ≡ entry.0
-        → entry.1 ≡ None
+        → Among entry new → group ≡ entry.0 → entry.1 ≡ None
     unmastered group is entry m same = choose entry.1 refl
       where
         choose : (o : Option ℕ) → entry.1 ≡ o → entry.1 ≡ None
         choose None e = e
-        choose (Some master) e =
-            absurd (true≢false (sym (ap (has_members nat_eq after.mounts) same
+        choose (Some master) e = absurd (true≢false (sym (ap (has_members nat_eq after.mounts) same
             ∙ among_from_all (λ one. is_some one.1 ≡ true
             → HasGroup after one.0) new grows.begin entry m (ap is_some e)) ∙ is))
 
     by : (group : ℕ) (b : Bool) → has_members nat_eq after.mounts group ≡ b
         → folded (masters_with nat_eq) (master_in groups) new group ≡ (without_dead_groups nat_eq after).master group
-    by group true is =
-        same_folds group (master_in groups) world.master new (there group
+    by group true is = same_folds group (master_in groups) world.master new (there group
         (has_members nat_eq world.mounts group) is refl)
         ∙ sym (grows.master group) ∙ ap (λ b. cond b (after.master group) None) (sym is)
-    by group false is =
-        none_folded group new (master_in groups) (unmastered group is) (not_there group
-        (has_members nat_eq world.mounts group) is refl)
-        ∙ ap (λ b. cond b (after.master group) None) (sym is)
+    by group false is = none_folded group new (master_in groups) (unmastered group is) (not_there group
+        (has_members nat_eq world.mounts group) is refl) ∙ ap (λ b. cond b (after.master group) None) (sym is)

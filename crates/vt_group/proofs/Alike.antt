@@ -61,8 +61,7 @@ peer-keys : (world : World ℕ) (mount : Mount ℕ) → peer_of (inheriting nat_
 peer-keys world mount = by mount.propagation
   where
     by : (kind : Propagation ℕ) → option_map (λ s. (mount.number, inherited nat_eq world kind)) (source_of
-        (inherited nat_eq world kind))
-        ≡ inherited_key world (mount.number, shown kind)
+        (inherited nat_eq world kind)) ≡ inherited_key world (mount.number, shown kind)
     by (Shared group) = refl
     by (Slave master) = refl
     by Private = refl
@@ -85,10 +84,8 @@ module _ (one other : World ℕ) (keys : keys_of one.mounts ≡ keys_of other.mo
   same_length : length one.mounts ≡ length other.mounts
   same_length = length-keys one.mounts ∙ ap length keys ∙ sym (length-keys other.mounts)
 
-  same_heir : (group : ℕ) → Lives known one.master group → heir nat_eq one (Some group)
-      ≡ heir nat_eq other (Some group)
-  same_heir group life =
-      (λ i. find (λ g. same_members g i) (chain (same_length i) one.master group))
+  same_heir : (group : ℕ) → Lives known one.master group → heir nat_eq one (Some group) ≡ heir nat_eq other (Some group)
+  same_heir group life = (λ i. find (λ g. same_members g i) (chain (same_length i) one.master group))
       ∙ ap (find (has_members nat_eq other.mounts))
       (sym (chain_alike one.master other.master known masters (length other.mounts) group
       (all_on_way one.master known (length other.mounts) group life)))
@@ -102,8 +99,7 @@ module _ (one other : World ℕ) (keys : keys_of one.mounts ≡ keys_of other.mo
       by (Shared group) e = refl
       by (Slave master) e =
           ap (λ o. option_map {U = ℕ × Propagation ℕ} (λ s. (mount.number, slave_of_heir o)) (source_of
-          (slave_of_heir o)))
-          (same_heir master (lives mount m master (ap source_of e)))
+          (slave_of_heir o))) (same_heir master (lives mount m master (ap source_of e)))
       by Private e = refl
       by Unbindable e = refl
 
@@ -114,8 +110,7 @@ module _ (one other : World ℕ) (keys : keys_of one.mounts ≡ keys_of other.mo
       λ i. cons_option (same_key mount (within mount (inl refl)) i) (same_keys rest (λ x m. within x (inr m)) i)
 
   same_peers : peers_of (regrouped nat_eq one).mounts ≡ peers_of (regrouped nat_eq other).mounts
-  same_peers =
-      ap peers_of (mounts-regrouped one) ∙ peers-keys one one.mounts ∙ same_keys one.mounts (λ mount m. m)
+  same_peers = ap peers_of (mounts-regrouped one) ∙ peers-keys one one.mounts ∙ same_keys one.mounts (λ mount m. m)
       ∙ ap (filter_map (inherited_key other)) keys ∙ sym (peers-keys other other.mounts)
       ∙ ap peers_of (sym (mounts-regrouped other))
 
@@ -126,8 +121,7 @@ module _ (one other : World ℕ) (keys : keys_of one.mounts ≡ keys_of other.mo
 
   same_master : (group : ℕ) → has_members nat_eq one.mounts group ≡ true → (regrouped nat_eq one).master group
       ≡ (regrouped nat_eq other).master group
-  same_master group has =
-      master_inherited one group has
+  same_master group has = master_inherited one group has
       ∙ by (lives member.0 member.1 group (ap source_of (member_shared group member.0 member.2)))
       ∙ sym (master_inherited other group (sym (same_members group) ∙ has))
     where
@@ -141,8 +135,7 @@ module _ (one other : World ℕ) (keys : keys_of one.mounts ≡ keys_of other.mo
 
   same_masters : (group : ℕ) → (without_dead_groups nat_eq (regrouped nat_eq one)).master group
       ≡ (without_dead_groups nat_eq (regrouped nat_eq other)).master group
-  same_masters group =
-      ap (λ b. cond b ((regrouped nat_eq one).master group) None) (members-regrouped one group)
+  same_masters group = ap (λ b. cond b ((regrouped nat_eq one).master group) None) (members-regrouped one group)
       ∙ by (has_members nat_eq one.mounts group) refl
       ∙ ap (λ b. cond b ((regrouped nat_eq other).master group) None) (same_members group)
       ∙ ap (λ b. cond b ((regrouped nat_eq other).master group) None) (sym (members-regrouped other group))
@@ -151,8 +144,7 @@ module _ (one other : World ℕ) (keys : keys_of one.mounts ≡ keys_of other.mo
           → cond (has_members nat_eq one.mounts group) ((regrouped nat_eq one).master group) None
           ≡ cond (has_members nat_eq one.mounts group) ((regrouped nat_eq other).master group) None
       by true e = ap (λ o. cond (has_members nat_eq one.mounts group) o None) (same_master group e)
-      by false e =
-          ap (λ b. cond b ((regrouped nat_eq one).master group) None) e
+      by false e = ap (λ b. cond b ((regrouped nat_eq one).master group) None) e
           ∙ ap (λ b. cond b ((regrouped nat_eq other).master group) None) (sym e)
 
   -- Worlds whose mounts have the same numbers and types have the same groups once they are regrouped.

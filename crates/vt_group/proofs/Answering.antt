@@ -35,10 +35,8 @@ members-valued group (e ∷ es) = ap (λ b. holds_of (nat_eq group) (group_of (p
 
 -- a group that is not the one looked for is above a group just where it is above its master
 pub one_up : (next : ℕ → Option ℕ) (group here above n k : ℕ) → n ≡ suc k → nat_eq here group ≡ false
-    → next here ≡ Some above
-    → is_among nat_eq group (chain k next above) ≡ is_among nat_eq group (chain n next here)
-one_up next group here above n k e apart is =
-    sym (ap (λ m. is_among nat_eq group (chain m next here)) e
+    → next here ≡ Some above → is_among nat_eq group (chain k next above) ≡ is_among nat_eq group (chain n next here)
+one_up next group here above n k e apart is = sym (ap (λ m. is_among nat_eq group (chain m next here)) e
     ∙ ap (is_among nat_eq group) (chain_goes_on next k here above is)
     ∙ ap (λ b. b || is_among nat_eq group (chain k next above))
     (ne_eqb group here (λ same. eqb-false here group apart (sym same))))
@@ -54,8 +52,7 @@ module _ (count : ℕ) (es : List (ℕ × Propagation)) (masters : List (ℕ × 
   -- the type that a map has for a mount is the one that the groups have
   pub shown-type : (old : Option Propagation) → old ≡ lookup (is_at (nat_cmp count)) es
       → type_or_private old ≡ propagation_in groups (counted count)
-  shown-type old e =
-      ap type_or_private e ∙ found-type _
+  shown-type old e = ap type_or_private e ∙ found-type _
       ∙ ap (λ o. unwrap_or o Private) (sym (lookup-numbered propagation_of count es))
       ∙ (λ i. propagation_in (view i) (counted count))
 

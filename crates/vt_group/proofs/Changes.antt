@@ -84,23 +84,19 @@ module _ (world : World ℕ) (groups : Grouping) (has : Has world groups) (live 
           inr ((λ i. group_of (unwrap_or
           (lookup (nat_eq (eqb-true number member.0.number same i)) (has.peers i)) Private))
           ∙ ap (λ o. group_of (unwrap_or o Private))
-          (lookup-peer group member.0 world.mounts has.order member.1 (ap source_of shared))
-          ∙ ap group_of shared)
-      by false differ =
-          inl (any_from_among (is_member_of nat_eq group) after (retyped_if number kind member.0)
+          (lookup-peer group member.0 world.mounts has.order member.1 (ap source_of shared)) ∙ ap group_of shared)
+      by false differ = inl (any_from_among (is_member_of nat_eq group) after (retyped_if number kind member.0)
           (among-map (retyped_if number kind) world.mounts member.0 member.1)
           (ap (is_member_of nat_eq group) (retyped_other number kind member.0 differ) ∙ member.2))
 
   -- where a mount after the change comes from
-  from_before : (mount : Mount ℕ) → Among mount after
-      → (mount.propagation ≡ kind) ⊎ Among mount world.mounts
+  from_before : (mount : Mount ℕ) → Among mount after → (mount.propagation ≡ kind) ⊎ Among mount world.mounts
   from_before mount m =
       let from = among-from_map (retyped_if number kind) world.mounts mount m in
       by from.0 from.1 from.2 (nat_eq number from.0.number) refl
     where
       by : (old : Mount ℕ) → Among old world.mounts → mount ≡ retyped_if number kind old → (b : Bool)
-          → nat_eq number old.number ≡ b
-          → (mount.propagation ≡ kind) ⊎ Among mount world.mounts
+          → nat_eq number old.number ≡ b → (mount.propagation ≡ kind) ⊎ Among mount world.mounts
       by old o e true same = inl (ap (λ x. x.propagation) (e ∙ retyped_same number kind old same))
       by old o e false differ = inr (subst (λ x. Among x world.mounts)
           (sym (e ∙ retyped_other number kind old differ)) o)
@@ -123,8 +119,7 @@ module _ (world : World ℕ) (groups : Grouping) (has : Has world groups) (live 
       source_lives member.0 member.1 group (ap source_of (member_shared group member.0 member.2))
 
   module _ (master : ℕ → Option ℕ) (peers : List (ℕ × Propagation ℕ)) (masters : List (ℕ × ℕ))
-      (same_peers : peers ≡ peers_of after)
-      (rising : are_rising (map (λ entry. entry.0) masters) ≡ true)
+      (same_peers : peers ≡ peers_of after) (rising : are_rising (map (λ entry. entry.0) masters) ≡ true)
       (joined : (group : ℕ) → group_of kind ≡ Some group → are group ≡ true)
       (slave_of : (group : ℕ) → kind ≡ Slave group → were group ≡ true)
       (master_old : (group : ℕ) → were group ≡ true → master group ≡ world.master group)
@@ -154,14 +149,12 @@ module _ (world : World ℕ) (groups : Grouping) (has : Has world groups) (live 
         dead : were group ≡ false → (b : Bool) → are group ≡ b
             → lookup (nat_eq group) masters ≡ cond (b || holds_of (nat_eq group) left) (master group) None
         dead w true a = ⊎_elim (λ h. absurd (true≢false (sym h ∙ w))) (λ e. entry_new group w e) (had group a)
-        dead w false a =
-            entry_none group w (λ e. true≢false (sym (joined group e) ∙ a))
+        dead w false a = entry_none group w (λ e. true≢false (sym (joined group e) ∙ a))
             ∙ ap (λ b. cond b (master group) None) (sym (not_left w left refl))
 
         by : (b : Bool) → were group ≡ b
             → lookup (nat_eq group) masters ≡ cond (are group || holds_of (nat_eq group) left) (master group) None
-        by true w =
-            entry_old group w ∙ sym (master_old group w)
+        by true w = entry_old group w ∙ sym (master_old group w)
             ∙ ap (λ b. cond b (master group) None) (sym (⊎_elim (λ a. ap (λ b. b || holds_of (nat_eq group) left) a)
             (λ e. or_true (are group) _ (ap (holds_of (nat_eq group)) e ∙ eq-eqb group group refl)) (still group w)))
         by false w = dead w (are group) refl
@@ -191,8 +184,7 @@ module _ (world : World ℕ) (groups : Grouping) (has : Has world groups) (live 
       peers = same_peers;
       masters_order = rising;
       masters = entries;
-      slaves = λ mount m master_of e.
-          still master_of (⊎_elim (λ k. slave_of master_of (sym k ∙ e))
+      slaves = λ mount m master_of e. still master_of (⊎_elim (λ k. slave_of master_of (sym k ∙ e))
           (λ old. live_members world.master were master_of (source_lives mount old master_of (ap source_of e)))
           (from_before mount m));
       above = λ group up h e. still up (above_any group up (had_or_joined group h) e);
@@ -218,8 +210,7 @@ module _ (world : World ℕ) (groups : Grouping) (has : Has world groups) (live 
 
   set_peers : (source : ℕ) → source_of kind ≡ Some source → Contains (numbers_of world.mounts) number
       → insert_entry nat_cmp groups.peers number kind ≡ peers_of after
-  set_peers source e there =
-      ap (λ peers. insert_entry nat_cmp peers number kind) has.peers
+  set_peers source e there = ap (λ peers. insert_entry nat_cmp peers number kind) has.peers
       ∙ sym (peers-set number kind source e world.mounts has.order
       (is_among_numbers (numbers_of world.mounts) number (among_from_contains (numbers_of world.mounts) number there)))
 
@@ -228,15 +219,11 @@ pub left_regroups : (world : World ℕ) (groups : Grouping) → Has world groups
     → Has (regrouped nat_eq (with_propagation world number Private))
     (ended_if_lost (group_of (propagation_in groups number))
     (record groups { peers = remove_entry (nat_eq number) groups.peers }))
-left_regroups world groups has live number =
-    changed_regroups world groups has live number Private world.master
+left_regroups world groups has live number = changed_regroups world groups has live number Private world.master
     (remove_entry (nat_eq number) groups.peers) groups.masters
-    (ap (remove_entry (nat_eq number)) has.peers ∙ sym (peers-left number world.mounts has.order))
-    has.masters_order
-    (λ group e. absurd (true≢false (sym (ap is_some e))))
-    (λ group e. absurd (private_no_slave group e))
-    (λ group w. refl)
-    (λ group above e w f. absurd (true≢false (sym (ap is_some e))))
+    (ap (remove_entry (nat_eq number)) has.peers ∙ sym (peers-left number world.mounts has.order)) has.masters_order
+    (λ group e. absurd (true≢false (sym (ap is_some e)))) (λ group e. absurd (private_no_slave group e))
+    (λ group w. refl) (λ group above e w f. absurd (true≢false (sym (ap is_some e))))
     (λ group w. entry_of world groups has live number Private group true w)
     (λ group w e. absurd (true≢false (sym (ap is_some e))))
     (λ group w none. entry_of world groups has live number Private group false w)
@@ -246,17 +233,14 @@ left_regroups world groups has live number =
 
 -- A mount becomes a slave
 pub slave_regroups : (world : World ℕ) (groups : Grouping) → Has world groups → AllGroupsLive world
-    → (number master : ℕ)
-    → Contains (numbers_of world.mounts) number → has_members nat_eq world.mounts master ≡ true
+    → (number master : ℕ) → Contains (numbers_of world.mounts) number → has_members nat_eq world.mounts master ≡ true
     → Has (regrouped nat_eq (with_propagation world number (Slave master))) (retyped number (Slave master) groups)
 slave_regroups world groups has live number master there lives =
     changed_regroups world groups has live number (Slave master) world.master
     (insert_entry nat_cmp groups.peers number (Slave master)) groups.masters
-    (set_peers world groups has live number (Slave master) master refl there)
-    has.masters_order
+    (set_peers world groups has live number (Slave master) master refl there) has.masters_order
     (joined_by world groups has live number (Slave master) there)
-    (λ group e. ap (has_members nat_eq world.mounts) (sym (same_master group e)) ∙ lives)
-    (λ group w. refl)
+    (λ group e. ap (has_members nat_eq world.mounts) (sym (same_master group e)) ∙ lives) (λ group w. refl)
     (λ group above e w f. absurd (true≢false (sym (ap is_some e))))
     (λ group w. entry_of world groups has live number (Slave master) group true w)
     (λ group w e. absurd (true≢false (sym (ap is_some e))))
@@ -273,12 +257,9 @@ pub join_regroups : (world : World ℕ) (groups : Grouping) → Has world groups
 join_regroups world groups has live number group there fresh =
     changed_regroups world groups has live number (Shared group) world.master
     (insert_entry nat_cmp groups.peers number (Shared group)) groups.masters
-    (set_peers world groups has live number (Shared group) group refl there)
-    has.masters_order
-    (joined_by world groups has live number (Shared group) there)
-    (λ other e. absurd (shared_no_slave other e))
-    (λ other w. refl)
-    (λ other above e w f. absurd (true≢false (sym (ap is_some f) ∙ ap is_some (none other e w))))
+    (set_peers world groups has live number (Shared group) group refl there) has.masters_order
+    (joined_by world groups has live number (Shared group) there) (λ other e. absurd (shared_no_slave other e))
+    (λ other w. refl) (λ other above e w f. absurd (true≢false (sym (ap is_some f) ∙ ap is_some (none other e w))))
     (λ other w. entry_of world groups has live number (Shared group) other true w)
     (λ other w e. entry_of world groups has live number (Shared group) other false w ∙ sym (none other e w))
     (λ other w apart. entry_of world groups has live number (Shared group) other false w)
@@ -324,8 +305,7 @@ lookup-inserted {V} other group master (e ∷ masters) =
         twice true b e = refl
         twice false true e = absurd (true≢false (sym e))
         twice false false e = refl
-    by false l false s rest =
-        ap (cond (nat_eq other e.0) (Some e.1)) rest
+    by false l false s rest = ap (cond (nat_eq other e.0) (Some e.1)) rest
         ∙ shadow (nat_eq other e.0) (nat_eq other group) e.1 (lookup (nat_eq other) masters)
         (λ is. ne_eqb other group (λ same. eqb-false group e.0 s (sym same ∙ eqb-true other e.0 is)))
 
@@ -371,14 +351,12 @@ module _ (group master : ℕ) where
           ((e.0, master) ∷ masters) (e ∷ insert_entry nat_cmp masters group master))) ≡ true
       by true l b s rest = and_from _ _ (and_from _ _ l (further_low e.0 masters l parts.0)) rising
       by false l true s rest = rising
-      by false l false s rest =
-          and_from _ _ (low-inserted e.0 masters
+      by false l false s rest = and_from _ _ (low-inserted e.0 masters
           (lt-ltb e.0 group (omega (arith, ltb-false group e.0 l, eqb-false group e.0 s))) parts.0) rest
 
 -- A mount is the first member of a new group
 pub start_regroups : (world : World ℕ) (groups : Grouping) → Has world groups → AllGroupsLive world
-    → (number group : ℕ) (master : Option ℕ) (masters : List (ℕ × ℕ))
-    → are_rising (keys group group masters) ≡ true
+    → (number group : ℕ) (master : Option ℕ) (masters : List (ℕ × ℕ)) → are_rising (keys group group masters) ≡ true
     → ((other : ℕ) → lookup (nat_eq other) masters
     ≡ cond (nat_eq other group) master (lookup (nat_eq other) groups.masters))
     → HasMount world number → LacksGroup world group → IfSome master (HasGroup world)
@@ -387,18 +365,14 @@ pub start_regroups : (world : World ℕ) (groups : Grouping) → Has world group
 start_regroups world groups has live number group master masters rising entry there fresh lives =
     changed_regroups world groups has live number (Shared group) (with_master nat_eq world.master group master)
     (insert_entry nat_cmp groups.peers number (Shared group)) masters
-    (set_peers world groups has live number (Shared group) group refl there)
-    rising
-    (joined_by world groups has live number (Shared group) there)
-    (λ other e. absurd (shared_no_slave other e))
+    (set_peers world groups has live number (Shared group) group refl there) rising
+    (joined_by world groups has live number (Shared group) there) (λ other e. absurd (shared_no_slave other e))
     (λ other w. elsewhere other (apart_old other w))
     (λ other above e w f. above_lives_on master lives above (sym (here other (sym (same_Some group other e))) ∙ f))
     (λ other w. entry other ∙ ap (λ b. cond b master (lookup (nat_eq other) groups.masters)) (apart_old other w)
-    ∙ entry_of world groups has live number (Shared group) other true w)
-    (λ other w e.
+    ∙ entry_of world groups has live number (Shared group) other true w) (λ other w e.
     entry other ∙ ap (λ b. cond b master (lookup (nat_eq other) groups.masters))
-    (eq-eqb other group (sym (same_Some group other e)))
-    ∙ sym (here other (sym (same_Some group other e))))
+    (eq-eqb other group (sym (same_Some group other e))) ∙ sym (here other (sym (same_Some group other e))))
     (λ other w apart.
     entry other ∙ ap (λ b. cond b master (lookup (nat_eq other) groups.masters))
     (ne_eqb other group (λ same. apart (ap Some (sym same))))
@@ -424,8 +398,7 @@ start_regroups world groups has live number group master masters rising entry th
 
 -- A mount that starts a group as a slave gives the world that group, with its master.
 pub start_below : (world : World ℕ) (groups : Grouping) → Has world groups → AllGroupsLive world
-    → (number group master : ℕ)
-    → HasMount world number → LacksGroup world group → HasGroup world master
+    → (number group master : ℕ) → HasMount world number → LacksGroup world group → HasGroup world master
     → Has (regrouped nat_eq (below (with_propagation world number (Shared group)) group (Some master)))
     (retyped number (Shared group) (record groups { masters = insert_entry nat_cmp groups.masters group master }))
 start_below world groups has live number group master there fresh lives =
@@ -444,7 +417,6 @@ start_alone world groups has live number group there fresh =
   where
     by : (other : ℕ) (b : Bool) → nat_eq other group ≡ b
         → lookup (nat_eq other) groups.masters ≡ cond b None (lookup (nat_eq other) groups.masters)
-    by other true is =
-        has.masters other ∙ ap (λ b. cond b (world.master other) None)
+    by other true is = has.masters other ∙ ap (λ b. cond b (world.master other) None)
         (ap (has_members nat_eq world.mounts) (eqb-true other group is) ∙ fresh)
     by other false is = refl

@@ -33,8 +33,7 @@ use Rattle.vt_group.proofs.Regrouping.{keys}
 use Rattle.vt_group.specs.Listing.{EachJoined, EachListed, EachShared, IsJoined, IsListed, IsShared, kind_shared, master_shared}
 use Rattle.vt_location.proofs.NumberLemmas.{counted_same}
 
-module _ (old new : Index)
-    (lower : (low up : GroupId) → is_lower old low up ≡ true → is_lower new low up ≡ true)
+module _ (old new : Index) (lower : (low up : GroupId) → is_lower old low up ≡ true → is_lower new low up ≡ true)
     (kept : (mount : MountId) (kind : Propagation) → is_listed old mount kind ≡ true
     → is_listed new mount kind ≡ true) where
   joined_still : (group : GroupId) (master : Option GroupId) → IsJoined old group master → IsJoined new group master
@@ -65,16 +64,14 @@ module _ (index : Index) where
 
   -- where one more group is joined, one more of the list is
   pub joined_more : (list : List NewGroup) (i : ℕ) (default : NewGroup) → i < length list
-      → EachJoined index (take i list)
-      → IsJoined index (get_or list i default).group (get_or list i default).master
+      → EachJoined index (take i list) → IsJoined index (get_or list i default).group (get_or list i default).master
       → EachJoined index (take (i + 1) list)
   joined_more list i default less each joined =
       subst (EachJoined index) (sym (take_more list i default less)) (joined_push (take i list) (get_or list i default) each joined)
 
   -- where one more mount is listed, one more of the list is
   pub listed_more : (list : List Mount) (i : ℕ) (default : Mount) → i < length list
-      → EachListed index (take i list) → IsListed index (get_or list i default)
-      → EachListed index (take (i + 1) list)
+      → EachListed index (take i list) → IsListed index (get_or list i default) → EachListed index (take (i + 1) list)
   listed_more list i default less each listed =
       subst (EachListed index) (sym (take_more list i default less)) (listed_push (take i list) (get_or list i default) each listed)
 
@@ -109,8 +106,7 @@ kind_same Unbindable Unbindable e = refl
 pub kept_kind : (es : List (ℕ × Propagation)) (count : ℕ) (kind : Propagation)
     → lookup (nat_eq (counted count)) (map numbered_peer es) ≡ Some (propagation_of kind)
     → lookup (is_at (nat_cmp count)) es ≡ Some kind
-kept_kind es count kind is =
-    by (lookup (is_at (nat_cmp count)) es) (sym (lookup-numbered propagation_of count es) ∙ is)
+kept_kind es count kind is = by (lookup (is_at (nat_cmp count)) es) (sym (lookup-numbered propagation_of count es) ∙ is)
   where
     by : (found : Option Propagation) → option_map propagation_of found ≡ Some (propagation_of kind) → found ≡ Some kind
     by None is = absurd (true≢false (sym (ap is_some is)))
@@ -137,11 +133,9 @@ kept_master es count master is =
   where
     by : (found : Option GroupId) → option_map group_number found ≡ Some (group_number master) → found ≡ Some master
     by None is = absurd (true≢false (sym (ap is_some is)))
-    by (Some one) is =
-        ap Some (λ i. record {
-          count = counted_same one.count master.count
-              (same_Some (group_number one) (group_number master) is) i;
-        })
+    by (Some one) is = ap Some (λ i. record {
+      count = counted_same one.count master.count (same_Some (group_number one) (group_number master) is) i;
+    })
 
 -- a type of the map is that of the groups
 pub seen_kind : (es : List (ℕ × Propagation)) (count : ℕ) (kind : Propagation)
@@ -178,15 +172,12 @@ typed_listed index one type peers listed found = by (source_of (propagation_of t
         → is_some (source_of (propagation_of type)) ≡ true
         → cond b (Some (propagation_of type)) (lookup (nat_eq (counted mount)) peers) ≡ Some (propagation_of kind)
         → is_listed index (mount_at mount) kind ≡ true
-    here true mount kind same sourced is =
-        (λ i. is_listed index (mount_at (counted_same mount one.count
+    here true mount kind same sourced is = (λ i. is_listed index (mount_at (counted_same mount one.count
         (eqb-true (counted mount) (counted one.count) same) i))
-        (kind_same kind type (sym (same_Some (propagation_of type) (propagation_of kind) is)) i))
-        ∙ listed sourced
+        (kind_same kind type (sym (same_Some (propagation_of type) (propagation_of kind) is)) i)) ∙ listed sourced
     here false mount kind apart sourced is = found mount kind is
 
-    by : (source : Option ℕ) → source_of (propagation_of type) ≡ source
-        → FoundListed index (if_sourced source peers
+    by : (source : Option ℕ) → source_of (propagation_of type) ≡ source → FoundListed index (if_sourced source peers
         (insert_entry nat_cmp peers (counted one.count) (propagation_of type)))
     by None is mount kind at = found mount kind at
     by (Some source) is mount kind at =
@@ -218,14 +209,11 @@ mastered_lower index group (Some master) masters joined rising found lower upper
     by : (b : Bool) → nat_eq (counted lower) (counted group.count) ≡ b
         → cond b (Some (group_number master)) (lookup (nat_eq (counted lower)) masters) ≡ Some (group_number upper)
         → is_lower index (group_at lower) upper ≡ true
-    by true same is =
-        (λ i. is_lower index (group_at (counted_same lower group.count
-        (eqb-true (counted lower) (counted group.count) same) i))
-        (record {
+    by true same is = (λ i. is_lower index (group_at (counted_same lower group.count
+        (eqb-true (counted lower) (counted group.count) same) i)) (record {
           count = counted_same upper.count master.count
               (sym (same_Some (group_number master) (group_number upper) is)) i;
-        }))
-        ∙ joined
+        })) ∙ joined
     by false apart is = found lower upper is
 
 rising_master : (group : ℕ) (master : Option ℕ) (masters : List (ℕ × ℕ)) → are_rising (keys masters) ≡ true
@@ -245,8 +233,7 @@ all_lower index (one ∷ new) masters each rising found =
 
 -- mounts that become shared
 
-shared_still : (old new : Index)
-    (lower : (low up : GroupId) → is_lower old low up ≡ true → is_lower new low up ≡ true)
+shared_still : (old new : Index) (lower : (low up : GroupId) → is_lower old low up ≡ true → is_lower new low up ≡ true)
     (kept : (mount : MountId) (kind : Propagation) → is_listed old mount kind ≡ true → is_listed new mount kind ≡ true)
     (was : Option Propagation) (mount : MountId) (group : GroupId) → IsShared old was mount group
     → IsShared new was mount group

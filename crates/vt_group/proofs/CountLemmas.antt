@@ -51,8 +51,7 @@ module _ {V W : Type 0} (f : V → W) where
   pub inserted-numbered : (count : ℕ) (v : V) (es : List (ℕ × V))
       → map numbered (insert_entry nat_cmp es count v) ≡ insert_entry nat_cmp (map numbered es) (counted count) (f v)
   inserted-numbered count v [] = refl
-  inserted-numbered count v (e ∷ es) =
-      by (nat_cmp count e.0) (inserted-numbered count v es)
+  inserted-numbered count v (e ∷ es) = by (nat_cmp count e.0) (inserted-numbered count v es)
       ∙ ap (λ o. match_ordering o (numbered (count, v) ∷ map numbered (e ∷ es)) ((counted e.0, f v) ∷ map numbered es)
       (numbered e ∷ insert_entry nat_cmp (map numbered es) (counted count) (f v))) (sym (cmp_count count e.0))
     where
@@ -69,8 +68,7 @@ module _ {V W : Type 0} (f : V → W) where
   pub removed-numbered : (count : ℕ) (es : List (ℕ × V))
       → map numbered (remove_entry (is_at (nat_cmp count)) es) ≡ remove_entry (nat_eq (counted count)) (map numbered es)
   removed-numbered count [] = refl
-  removed-numbered count (e ∷ es) =
-      by (is_at (nat_cmp count) e.0) (removed-numbered count es)
+  removed-numbered count (e ∷ es) = by (is_at (nat_cmp count) e.0) (removed-numbered count es)
       ∙ ap (λ b. cond b (map numbered es) (numbered e ∷ remove_entry (nat_eq (counted count)) (map numbered es)))
       (at_count count e.0)
     where
@@ -91,9 +89,7 @@ module _ {V W : Type 0} (f : V → W) where
   kept-numbered T g test says (e ∷ es) kept r =
       let told = says e.0 e.1 r.0 r.1 r.2 r.4 in
       let rest = kept-numbered T g test says es r.3 (subst (λ u. RetainsPairs T u es r.3) told.1 r.5) in
-      ap (map numbered) r.6
-      ∙ by r.0 rest
-      ∙ ap (λ o. cons_option (option_map (λ x. (counted e.0, x)) o)
+      ap (map numbered) r.6 ∙ by r.0 rest ∙ ap (λ o. cons_option (option_map (λ x. (counted e.0, x)) o)
       (filter_map (λ entry. option_map (λ x. (entry.0, x)) (g entry.0 entry.1)) (map numbered es))) told.0
     where
       by : (b : Bool) → map numbered r.3

@@ -24,10 +24,8 @@ use Rattle.vt_group.proofs.SetsLemmas.{same_id}
 none_below : {X : Type 0} (mount low : ℕ) (es : List (ℕ × X)) → nat_cmp mount low ≡ Less
     → AllByRecursion (λ other. nat_cmp low other ≡ Less) (keys_of es) → lookup (is_at (nat_cmp mount)) es ≡ None
 none_below mount low [] less above = refl
-none_below mount low (e ∷ es) less above =
-    ap (λ o. cond (is_eq o) (Some e.1) (lookup (is_at (nat_cmp mount)) es))
-    (nat_cmp_total.trans mount low e.0 less above.0)
-    ∙ none_below mount low es less above.1
+none_below mount low (e ∷ es) less above = ap (λ o. cond (is_eq o) (Some e.1) (lookup (is_at (nat_cmp mount)) es))
+    (nat_cmp_total.trans mount low e.0 less above.0) ∙ none_below mount low es less above.1
 
 module _ (group : GroupId) where
   -- a mount that gets a type is counted for it, and no more for the one that it had
@@ -37,8 +35,7 @@ module _ (group : GroupId) where
       ≡ count_members group es + one_in group (Some kind)
   unfolding IsStrictlySortedBy
   counted_inserted mount kind [] ordered = omega arith
-  counted_inserted mount kind (e ∷ es) ordered =
-      by (nat_cmp mount e.0) refl (counted_inserted mount kind es ordered.1)
+  counted_inserted mount kind (e ∷ es) ordered = by (nat_cmp mount e.0) refl (counted_inserted mount kind es ordered.1)
     where
       by : (o : Ordering) → nat_cmp mount e.0 ≡ o
           → count_members group (insert_entry nat_cmp es mount kind) + one_in group (lookup (is_at (nat_cmp mount)) es)
@@ -58,8 +55,7 @@ module _ (group : GroupId) where
   counted_removed mount [] = refl
   counted_removed mount (e ∷ es) = by (is_at (nat_cmp mount) e.0) (counted_removed mount es)
     where
-      by : (b : Bool)
-          → count_members group (remove_entry (is_at (nat_cmp mount)) es)
+      by : (b : Bool) → count_members group (remove_entry (is_at (nat_cmp mount)) es)
           + one_in group (lookup (is_at (nat_cmp mount)) es) ≡ count_members group es
           → count_members group (cond b es (e ∷ remove_entry (is_at (nat_cmp mount)) es))
           + one_in group (cond b (Some e.1) (lookup (is_at (nat_cmp mount)) es))
@@ -163,14 +159,13 @@ module _ (counts : List (GroupId × ℕ)) (es : List (ℕ × Propagation)) (coun
   pub member_counted : (was : Option Propagation) → was ≡ lookup (is_at (nat_cmp mount)) es
       → IfSome (then_some was group_of_kind) (λ group. 0 < count_of counts group)
   member_counted None is = tt
-  member_counted (Some (Shared group)) is =
-      omega (
-        arith,
-        counted group,
-        counted_removed group mount es,
-        ap (one_in group) is,
-        counted_once group,
-      )
+  member_counted (Some (Shared group)) is = omega (
+    arith,
+    counted group,
+    counted_removed group mount es,
+    ap (one_in group) is,
+    counted_once group,
+  )
   member_counted (Some (Slave master)) is = tt
   member_counted (Some Private) is = tt
   member_counted (Some Unbindable) is = tt
@@ -181,17 +176,16 @@ module _ (counts : List (GroupId × ℕ)) (es : List (ℕ × Propagation)) (coun
       → ((group : GroupId) → count_of left group + one_in group was ≡ count_of counts group)
       → (most : ℕ) → length (insert_entry nat_cmp es mount kind) ≤ most
       → IfSome (group_of_kind kind) (λ group. count_of left group < most)
-  member_fits (Shared group) was is ordered left taken most fits =
-      omega (
-        arith,
-        counted group,
-        counted_inserted group mount (Shared group) es ordered,
-        ap (one_in group) is,
-        counted_once group,
-        taken group,
-        counted_most group (insert_entry nat_cmp es mount (Shared group)),
-        fits,
-      )
+  member_fits (Shared group) was is ordered left taken most fits = omega (
+    arith,
+    counted group,
+    counted_inserted group mount (Shared group) es ordered,
+    ap (one_in group) is,
+    counted_once group,
+    taken group,
+    counted_most group (insert_entry nat_cmp es mount (Shared group)),
+    fits,
+  )
   member_fits (Slave master) was is ordered left taken most fits = tt
   member_fits Private was is ordered left taken most fits = tt
   member_fits Unbindable was is ordered left taken most fits = tt

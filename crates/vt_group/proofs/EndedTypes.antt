@@ -39,8 +39,7 @@ low_counted f low (e ∷ es) all =
 pub rising_numbers : {V W : Type 0} (f : V → W) (es : List (ℕ × V)) → IsStrictlySortedBy nat_cmp (keys_of es)
     → are_rising (keys (map (λ (e : ℕ × V). (counted e.0, f e.1)) es)) ≡ true
 rising_numbers f [] sorted = refl
-rising_numbers f (e ∷ es) sorted =
-    and_from _ _ (low_counted f e.0 es (sorted_head nat_cmp e.0 (keys_of es) sorted))
+rising_numbers f (e ∷ es) sorted = and_from _ _ (low_counted f e.0 es (sorted_head nat_cmp e.0 (keys_of es) sorted))
     (rising_numbers f es (sorted_tail nat_cmp e.0 (keys_of es) sorted))
 
 -- entries that a function changes or drops
@@ -84,27 +83,21 @@ module _ {V : Type 0} (change : ℕ → V → Option V) where
           → nat_eq key e.0 ≡ true
           → lookup (nat_eq key) (cons_option (option_map (λ value. (e.0, value)) o) (filter_map changed_entry es)) ≡ o
       here None f absent same = absent
-      here (Some v) f absent same =
-          ap (λ b. cond b (Some v) (lookup (nat_eq key) (filter_map changed_entry es))) same
+      here (Some v) f absent same = ap (λ b. cond b (Some v) (lookup (nat_eq key) (filter_map changed_entry es))) same
 
       there : (o : Option V) → nat_eq key e.0 ≡ false
           → lookup (nat_eq key) (cons_option (option_map (λ value. (e.0, value)) o) (filter_map changed_entry es))
           ≡ lookup (nat_eq key) (filter_map changed_entry es)
       there None apart = refl
-      there (Some v) apart =
-          ap (λ b. cond b (Some v) (lookup (nat_eq key) (filter_map changed_entry es))) apart
+      there (Some v) apart = ap (λ b. cond b (Some v) (lookup (nat_eq key) (filter_map changed_entry es))) apart
 
       by : (b : Bool) → nat_eq key e.0 ≡ b
           → lookup (nat_eq key) (filter_map changed_entry es) ≡ then_some (lookup (nat_eq key) es) (change key)
           → lookup (nat_eq key) (cons_option (option_map (λ value. (e.0, value)) (change e.0 e.1))
-          (filter_map changed_entry es))
-          ≡ then_some (cond b (Some e.1) (lookup (nat_eq key) es)) (change key)
-      by true is later =
-          here (change e.0 e.1) refl
-          (lookup-low key (filter_map changed_entry es)
+          (filter_map changed_entry es)) ≡ then_some (cond b (Some e.1) (lookup (nat_eq key) es)) (change key)
+      by true is later = here (change e.0 e.1) refl (lookup-low key (filter_map changed_entry es)
           (ap (λ k. list_all (nat_lt k) (keys (filter_map changed_entry es))) (eqb-true key e.0 is)
-          ∙ low-changed e.0 es (and_parts _ _ rising).0)) is
-          ∙ ap (λ k. change k e.1) (sym (eqb-true key e.0 is))
+          ∙ low-changed e.0 es (and_parts _ _ rising).0)) is ∙ ap (λ k. change k e.1) (sym (eqb-true key e.0 is))
       by false is later = there (change e.0 e.1) is ∙ later
 
 -- what a mount's type is after a group ended
@@ -114,8 +107,7 @@ once_ended lost heir None = refl
 once_ended lost heir (Some (Shared group)) = refl
 once_ended lost heir (Some (Slave master)) = by (nat_eq master lost) heir
   where
-    by : (b : Bool) (o : Option ℕ)
-        → unwrap_or (option_map Slave (if b then o else Some master)) Private
+    by : (b : Bool) (o : Option ℕ) → unwrap_or (option_map Slave (if b then o else Some master)) Private
         ≡ (if b then slave_or_private o else Slave master)
     by true None = refl
     by true (Some above) = refl
@@ -125,8 +117,7 @@ once_ended lost heir (Some Unbindable) = refl
 
 -- once a group has ended each mount has the type that the end of the group leaves it
 pub type-ended : (lost : ℕ) (heir : Option ℕ) (peers : List (ℕ × Propagation ℕ)) → are_rising (keys peers) ≡ true
-    → (mount : ℕ)
-    → unwrap_or (lookup (nat_eq mount) (filter_map (handed_peer lost heir) peers)) Private
+    → (mount : ℕ) → unwrap_or (lookup (nat_eq mount) (filter_map (handed_peer lost heir) peers)) Private
     ≡ type_after_end lost heir (unwrap_or (lookup (nat_eq mount) peers) Private)
 type-ended lost heir peers rising mount =
     ap (λ o. unwrap_or o Private) (lookup-changed (λ number. handed_type lost heir) peers rising mount)

@@ -15,8 +15,7 @@ any-parted test i list =
 module _ {T : Type 0} {eq : T → T → Bool} (laws : IsEquivalence eq) where
   -- one that was put in is there
   pub any-put : (one : T) (list : List T) (i : ℕ) → list_any (eq one) (take i list ++ one ∷ drop i list) ≡ true
-  any-put one list i =
-      list_any-append (eq one) (take i list) (one ∷ drop i list)
+  any-put one list i = list_any-append (eq one) (take i list) (one ∷ drop i list)
       ∙ ap (λ b. list_any (eq one) (take i list) || (b || list_any (eq one) (drop i list))) (laws.refl one)
       ∙ by (list_any (eq one) (take i list))
     where
@@ -27,8 +26,7 @@ module _ {T : Type 0} {eq : T → T → Bool} (laws : IsEquivalence eq) where
   -- and what was there stays
   pub any-beside : (one other : T) (list : List T) (i : ℕ) → list_any (eq other) list ≡ true
       → list_any (eq other) (take i list ++ one ∷ drop i list) ≡ true
-  any-beside one other list i there =
-      list_any-append (eq other) (take i list) (one ∷ drop i list)
+  any-beside one other list i there = list_any-append (eq other) (take i list) (one ∷ drop i list)
       ∙ by (list_any (eq other) (take i list)) (eq other one) (list_any (eq other) (drop i list))
       (sym (any-parted (eq other) i list) ∙ there)
     where
@@ -43,14 +41,11 @@ module _ {T : Type 0} {eq : T → T → Bool} (laws : IsEquivalence eq) where
       → list_any (eq other) list ≡ true → list_any (eq other) now ≡ true
   any-left one other d list now i within same left apart there =
       let next : suc i ≡ i + 1 = omega arith in
-      ap (list_any (eq other)) left
-      ∙ list_any-append (eq other) (take i list) (drop (i + 1) list)
+      ap (list_any (eq other)) left ∙ list_any-append (eq other) (take i list) (drop (i + 1) list)
       ∙ by (list_any (eq other) (take i list)) (eq other (get_or list i d)) (list_any (eq other) (drop (i + 1) list))
       (laws.symm other (get_or list i d) ∙ laws.congr (get_or list i d) one other same ∙ apart)
-      (sym (any-parted (eq other) i list
-      ∙ ap (λ l. list_any (eq other) (take i list) || list_any (eq other) l)
-      (drop-cons list i d within ∙ ap (λ n. get_or list i d ∷ drop n list) next))
-      ∙ there)
+      (sym (any-parted (eq other) i list ∙ ap (λ l. list_any (eq other) (take i list) || list_any (eq other) l)
+      (drop-cons list i d within ∙ ap (λ n. get_or list i d ∷ drop n list) next)) ∙ there)
     where
       by : (a b c : Bool) → b ≡ false → (a || (b || c)) ≡ true → (a || c) ≡ true
       by true b c none any = refl

@@ -40,8 +40,7 @@ group_handed-twice lost heir master = by (same_group master lost) refl heir refl
     by : (b : Bool) → same_group master lost ≡ b → (o : Option GroupId) → heir ≡ o
         → then_some (if b then heir else Some master) (group_handed lost heir) ≡ (if b then heir else Some master)
     by true at None is = ap (λ found. then_some found (group_handed lost heir)) is ∙ sym is
-    by true at (Some above) is =
-        ap (λ found. then_some found (group_handed lost found)) is
+    by true at (Some above) is = ap (λ found. then_some found (group_handed lost found)) is
         ∙ kept above is true ∙ sym is
     by false at o is = ap (λ b. if b then heir else Some master) at
 
@@ -52,8 +51,7 @@ kind_handed-twice lost heir (Shared group) = refl
 kind_handed-twice lost heir (Slave master) =
     slave (group_handed lost heir master) ∙ ap (option_map Slave) (group_handed-twice lost heir master)
   where
-    slave : (found : Option GroupId)
-        → then_some (option_map Slave found) (kind_handed lost heir)
+    slave : (found : Option GroupId) → then_some (option_map Slave found) (kind_handed lost heir)
         ≡ option_map Slave (then_some found (group_handed lost heir))
     slave None = refl
     slave (Some above) = refl
@@ -105,8 +103,7 @@ unhanded_group lost heir master apart = ap (λ b. if b then heir else Some maste
 pub group_seen : (lost : GroupId) (heir : Option GroupId) (master : GroupId)
     → option_map group_number (group_handed lost heir master)
     ≡ handed (counted lost.count) (option_map group_number heir) (group_number master)
-group_seen lost heir master =
-    by (same_group master lost)
+group_seen lost heir master = by (same_group master lost)
     ∙ ap (λ b. if b then option_map group_number heir else Some (group_number master))
     (sym (counted_test master.count lost.count))
   where

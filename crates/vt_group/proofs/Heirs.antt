@@ -31,8 +31,7 @@ module _ (p : ℕ → Bool) (master : ℕ → Option ℕ) where
       by zero ends None e = ap (λ b. cond b (Some group) None) fails
       by zero ends (Some next) e = absurd (true≢false (sym (ap is_some e) ∙ ends))
       by (suc n) ends None e = ap (find p) (chain_ends master n group e) ∙ ap (λ b. cond b (Some group) None) fails
-      by (suc n) ends (Some next) e =
-          ap (find p) (chain_goes_on master n group next e)
+      by (suc n) ends (Some next) e = ap (find p) (chain_goes_on master n group next e)
           ∙ ap (λ b. cond b (Some group) (find p (chain n master next))) fails
           ∙ ap (find p) (sym (chain_same master n (suc n) next (omega arith) (ends_above n group next e ends)))
 

@@ -35,8 +35,7 @@ module _ {A : Type 0} (p q : A → Bool) where
       → ((x : A) → list_any (λ y. same y x) xs ≡ true → p x ≡ true → q x ≡ true)
       → list_any p xs ≡ true → list_any q xs ≡ true
   any_within same itself [] so any = any
-  any_within same itself (x ∷ xs) so any =
-      one_more x xs (so x (ap (λ t. t || list_any (λ y. same y x) xs) (itself x)))
+  any_within same itself (x ∷ xs) so any = one_more x xs (so x (ap (λ t. t || list_any (λ y. same y x) xs) (itself x)))
       (any_within same itself xs (λ y among. so y (ap (λ t. same x y || t) among ∙ or-true (same x y)))) any
 
 -- some of lists put together pass where some of one list do
@@ -52,19 +51,16 @@ itself group = eq-eqb group.count group.count refl
 
 module _ {T : Type 0} (eq : T → T → Bool) (names now : Named) (old new : Sets T) (one : T) where
   -- a member or slave that is listed under a group stays so where the names do
-  pub under_still : KeepsNames names now
-      → ((at : GroupId) → has eq at one old ≡ true → has eq at one new ≡ true)
+  pub under_still : KeepsNames names now → ((at : GroupId) → has eq at one old ≡ true → has eq at one new ≡ true)
       → (group : GroupId) → is_under eq names old one group ≡ true → is_under eq now new one group ≡ true
-  under_still keeps sets group under =
-      keeps group (λ name. has eq name one new)
+  under_still keeps sets group under = keeps group (λ name. has eq name one new)
       (any_still (λ name. has eq name one old) (λ name. has eq name one new) sets (names_of names group) under)
 
 module _ (old new : Index) (mount : MountId) where
   -- a mount that is listed under its type stays so where it stays among relatives
   pub listed_still : (kind : Propagation)
       → ((group : GroupId) → has_source group kind ≡ true → is_relative old mount group ≡ true
-      → is_relative new mount group ≡ true)
-      → is_listed old mount kind ≡ true → is_listed new mount kind ≡ true
+      → is_relative new mount group ≡ true) → is_listed old mount kind ≡ true → is_listed new mount kind ≡ true
   listed_still (Shared group) relatives = relatives group (itself group)
   listed_still (Slave master) relatives = relatives master (itself master)
   listed_still Private relatives = λ listed. refl
@@ -79,11 +75,9 @@ apart_by at a b none some = ne_eqb a b (λ same. true≢false (sym some ∙ ap (
 pub any-kept : {T A : Type 0} (count : T → ℕ) (at : ℕ → Option A) (number : ℕ) (ids left : List T)
     → left ≡ filter (λ id. is_some (at (count id))) ids → is_some (at number) ≡ true
     → list_any (λ id. nat_eq number (count id)) ids ≡ true → list_any (λ id. nat_eq number (count id)) left ≡ true
-any-kept count at number ids left is some there =
-    ap (list_any (λ id. nat_eq number (count id))) is
+any-kept count at number ids left is some there = ap (list_any (λ id. nat_eq number (count id))) is
     ∙ any-filter_same (λ id. nat_eq number (count id)) (λ id. is_some (at (count id))) true
-    (λ id same. ap (λ n. is_some (at n)) (sym (eqb-true number (count id) same)) ∙ some) ids
-    ∙ there
+    (λ id same. ap (λ n. is_some (at n)) (sym (eqb-true number (count id) same)) ∙ some) ids ∙ there
 
 -- a listed mount is a relative of the group that it is a member or a slave of
 pub relative_of_source : (index : Index) (mount : MountId) (kind : Propagation) (group : GroupId)
@@ -101,8 +95,7 @@ pub unlisted_still : (Was Is : MountId → Propagation → Type 0) (types : ℕ 
     → ((other : MountId) (kind : Propagation) → nat_eq mount.count other.count ≡ false → Was other kind → Is other kind)
     → ((kind : Propagation) → found ≡ Some kind → Was mount kind → Is mount kind)
     → (other : MountId) (kind : Propagation) → types other.count ≡ Some kind → Was other kind → Is other kind
-unlisted_still Was Is types mount found is others own other kind at =
-    by (nat_eq mount.count other.count) refl
+unlisted_still Was Is types mount found is others own other kind at = by (nat_eq mount.count other.count) refl
   where
     by : (b : Bool) → nat_eq mount.count other.count ≡ b → Was other kind → Is other kind
     by true same =
@@ -114,8 +107,7 @@ unlisted_still Was Is types mount found is others own other kind at =
 -- a type with one source does not have another
 pub apart_source : (lost group : GroupId) (kind : Propagation) → has_source lost kind ≡ false
     → has_source group kind ≡ true → same_group lost group ≡ false
-apart_source lost group (Shared own) apart source =
-    ap (same_group lost) (sym (same_number group own source)) ∙ apart
+apart_source lost group (Shared own) apart source = ap (same_group lost) (sym (same_number group own source)) ∙ apart
 apart_source lost group (Slave master) apart source =
     ap (same_group lost) (sym (same_number group master source)) ∙ apart
 apart_source lost group Private apart source = absurd (true≢false (sym source))
@@ -125,10 +117,8 @@ apart_source lost group Unbindable apart source = absurd (true≢false (sym sour
 pub stays_under : {T : Type 0} (eq : T → T → Bool) (names : Named) (old new : Sets T) (one : T) (group : GroupId)
     (stays : List GroupId) → stays ≡ names_of names group
     → ((at : GroupId) → list_any (λ name. same_group name at) stays ≡ true → has eq at one old ≡ true
-    → has eq at one new ≡ true)
-    → is_under eq names old one group ≡ true → is_under eq names new one group ≡ true
-stays_under eq names old new one group stays is keeps under =
-    ap (list_any (λ name. has eq name one new)) (sym is)
+    → has eq at one new ≡ true) → is_under eq names old one group ≡ true → is_under eq names new one group ≡ true
+stays_under eq names old new one group stays is keeps under = ap (list_any (λ name. has eq name one new)) (sym is)
     ∙ any_within (λ name. has eq name one old) (λ name. has eq name one new) same_group itself stays keeps
     (ap (list_any (λ name. has eq name one old)) is ∙ under)
 
@@ -139,8 +129,7 @@ pub apart_from_each : (name at : GroupId) (names : List GroupId)
 apart_from_each name at names none among = by (same_group name at) refl
   where
     by : (b : Bool) → same_group name at ≡ b → same_group name at ≡ false
-    by true same =
-        absurd (true≢false (sym among
+    by true same = absurd (true≢false (sym among
         ∙ ap (λ (id : GroupId). list_any (λ other. same_group other id) names) (same_number name at same) ∙ none))
     by false apart = apart
 

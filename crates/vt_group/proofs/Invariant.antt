@@ -13,8 +13,7 @@ at_nat a b = at_count a b ∙ counted_test a b
 
 module _ {V : Type 0} (P : ℕ → V → Type 0) (old new : ℕ → Option V) (key : ℕ) where
   -- what held of each entry holds where one is put in of which it holds
-  pub put_each : (value : V)
-      → ((other : ℕ) → new other ≡ cond (is_at (nat_cmp key) other) (Some value) (old other))
+  pub put_each : (value : V) → ((other : ℕ) → new other ≡ cond (is_at (nat_cmp key) other) (Some value) (old other))
       → P key value → ((other : ℕ) (one : V) → nat_eq key other ≡ false → old other ≡ Some one → P other one)
       → (other : ℕ) (one : V) → new other ≡ Some one → P other one
   put_each value writes here there other one is =

@@ -54,8 +54,7 @@ found_count {V} f number (e ∷ es) found = by (nat_eq number (counted e.0)) ref
 pub listed_among : (count : ℕ) (ids : List MountId) → list_any (λ id. nat_eq count id.count) ids ≡ true
     → is_among nat_eq (counted count) (map (λ id. counted id.count) ids) ≡ true
 listed_among count [] listed = listed
-listed_among count (id ∷ ids) listed =
-    (λ i. counted_test count id.count i || among ids i) ∙ listed
+listed_among count (id ∷ ids) listed = (λ i. counted_test count id.count i || among ids i) ∙ listed
   where
     among : (ids : List MountId) → is_among nat_eq (counted count) (map (λ id. counted id.count) ids)
         ≡ list_any (λ id. nat_eq count id.count) ids
@@ -75,8 +74,7 @@ member_found group None is = absurd (true≢false (sym is))
 member_found group (Some kind) is = refl
 
 -- the type that is kept of a mount
-pub found_kind : (number : ℕ) (es : List (ℕ × Kept))
-    → is_some (lookup (nat_eq number) (map numbered_peer es)) ≡ true
+pub found_kind : (number : ℕ) (es : List (ℕ × Kept)) → is_some (lookup (nat_eq number) (map numbered_peer es)) ≡ true
     → (count : ℕ) × (kind : Kept) × (number ≡ counted count)
     × (unwrap_or (lookup (nat_eq number) (map numbered_peer es)) Private ≡ propagation_of kind)
     × (lookup (is_at (nat_cmp count)) es ≡ Some kind)
@@ -85,8 +83,7 @@ found_kind number es some =
     by at.0 at.1 (lookup (is_at (nat_cmp at.0)) es) refl at.2
   where
     by : (count : ℕ) → number ≡ counted count → (found : Option Kept) → lookup (is_at (nat_cmp count)) es ≡ found
-        → is_some found ≡ true
-        → (count : ℕ) × (kind : Kept) × (number ≡ counted count)
+        → is_some found ≡ true → (count : ℕ) × (kind : Kept) × (number ≡ counted count)
         × (unwrap_or (lookup (nat_eq number) (map numbered_peer es)) Private ≡ propagation_of kind)
         × (lookup (is_at (nat_cmp count)) es ≡ Some kind)
     by count same None is some = absurd (true≢false (sym some))

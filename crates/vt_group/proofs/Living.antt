@@ -36,8 +36,7 @@ module _ (world : World ℕ) (live : AllGroupsLive world) (number : ℕ) (kind :
           → (source : ℕ) → source_of (retyped_if number kind old).propagation ≡ Some source → EndsUp master source
       by old m true is source e = ends source
           (sym (ap (λ x. source_of x.propagation) (retyped_same number kind old is)) ∙ e)
-      by old m false is source e =
-          lives_end (has_members nat_eq world.mounts) world.master master same source
+      by old m false is source e = lives_end (has_members nat_eq world.mounts) world.master master same source
           (among_from_all (HasLivingGroups nat_eq world) world.mounts live old m source
           (sym (ap (λ x. source_of x.propagation) (retyped_other number kind old is)) ∙ e))
 
@@ -77,13 +76,11 @@ joining_keeps_groups world mount group live fresh =
 pub starting_keeps_groups : StartingKeepsGroups
 starting_keeps_groups world mount group master live fresh h =
     changed_live world live mount (Shared group) (with_master nat_eq world.master group master) (agrees master)
-    (λ source e.
-    subst (EndsUp (with_master nat_eq world.master group master)) (same_Some group source e) (by master h))
+    (λ source e. subst (EndsUp (with_master nat_eq world.master group master)) (same_Some group source e) (by master h))
   where
     agrees : (up : Option ℕ) (other : ℕ) → has_members nat_eq world.mounts other ≡ true
         → with_master nat_eq world.master group up other ≡ world.master other
-    agrees up other w =
-        ap (λ b. if b then up else world.master other)
+    agrees up other w = ap (λ b. if b then up else world.master other)
         (ne_eqb other group (λ is. true≢false (sym w ∙ ap (has_members nat_eq world.mounts) is ∙ fresh)))
 
     is_above : (up : Option ℕ) → with_master nat_eq world.master group up group ≡ up
@@ -91,7 +88,6 @@ starting_keeps_groups world mount group master live fresh h =
 
     by : (up : Option ℕ) → IfSome up (HasGroup world) → EndsUp (with_master nat_eq world.master group up) group
     by None h = at_top group (is_above None)
-    by (Some up) h =
-        goes_up group up (is_above (Some up))
+    by (Some up) h = goes_up group up (is_above (Some up))
         (lives_end (has_members nat_eq world.mounts) world.master (with_master nat_eq world.master group (Some up))
         (agrees (Some up)) up (group_lives world live up h))

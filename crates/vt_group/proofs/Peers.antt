@@ -47,8 +47,7 @@ FoundIn mounts number kind = (mount : Mount ℕ) × Among mount mounts × (mount
 
 -- what is found is the type of a mount
 pub lookup-among : (number : ℕ) (kind : Propagation ℕ) (mounts : List (Mount ℕ))
-    → lookup (nat_eq number) (peers_of mounts) ≡ Some kind
-    → FoundIn mounts number kind
+    → lookup (nat_eq number) (peers_of mounts) ≡ Some kind → FoundIn mounts number kind
 lookup-among number kind [] e = absurd (true≢false (sym (ap is_some e)))
 lookup-among number kind (mount ∷ rest) e =
     by (λ f. let t = lookup-among number kind rest f in (t.0, inr t.1, t.2, t.3)) (source_of mount.propagation) e
@@ -60,8 +59,7 @@ lookup-among number kind (mount ∷ rest) e =
     here further true same f = (
       mount,
       inl refl,
-      sym
-          (eqb-true number mount.number same),
+      sym (eqb-true number mount.number same),
       same_Some mount.propagation kind f,
     )
     here further false differ f = further f
@@ -74,8 +72,7 @@ lookup-among number kind (mount ∷ rest) e =
 
 -- the type of a mount that is shared or a slave is found
 pub lookup-peer : (source : ℕ) (mount : Mount ℕ) (mounts : List (Mount ℕ)) → are_rising (numbers_of mounts) ≡ true
-    → Among mount mounts
-    → source_of mount.propagation ≡ Some source
+    → Among mount mounts → source_of mount.propagation ≡ Some source
     → lookup (nat_eq mount.number) (peers_of mounts) ≡ Some mount.propagation
 lookup-peer source mount [] rising m e = absurd m
 lookup-peer source mount (first ∷ rest) rising m e = ⊎_elim head
@@ -85,17 +82,14 @@ lookup-peer source mount (first ∷ rest) rising m e = ⊎_elim head
     parts = and_parts _ _ rising
 
     head : mount ≡ first → lookup (nat_eq mount.number) (peers_of (first ∷ rest)) ≡ Some mount.propagation
-    head same =
-        ap (λ o. lookup (nat_eq mount.number)
+    head same = ap (λ o. lookup (nat_eq mount.number)
         (cons_option (option_map (λ s. (first.number, first.propagation)) o) (peers_of rest)))
         (ap (λ x. source_of x.propagation) (sym same) ∙ e)
         ∙ ap (λ b. cond b (Some first.propagation) (lookup (nat_eq mount.number) (peers_of rest)))
-        (eq-eqb mount.number first.number (ap (λ x. x.number) same))
-        ∙ ap (λ x. Some x.propagation) (sym same)
+        (eq-eqb mount.number first.number (ap (λ x. x.number) same)) ∙ ap (λ x. Some x.propagation) (sym same)
 
     later : (found : Option ℕ) → lookup (nat_eq mount.number) (peers_of rest) ≡ Some mount.propagation
-        → nat_eq mount.number first.number ≡ false
-        → lookup (nat_eq mount.number)
+        → nat_eq mount.number first.number ≡ false → lookup (nat_eq mount.number)
         (cons_option (option_map (λ s. (first.number, first.propagation)) found) (peers_of rest))
         ≡ Some mount.propagation
     later None found differ = found
@@ -104,15 +98,12 @@ lookup-peer source mount (first ∷ rest) rising m e = ⊎_elim head
 
     tail : lookup (nat_eq mount.number) (peers_of rest) ≡ Some mount.propagation → Among mount rest
         → lookup (nat_eq mount.number) (peers_of (first ∷ rest)) ≡ Some mount.propagation
-    tail found n =
-        later (source_of first.propagation) found
-        (ne_eqb mount.number first.number
+    tail found n = later (source_of first.propagation) found (ne_eqb mount.number first.number
         (λ same. eqb-false first.number mount.number (above_first first.number rest parts.0 mount n) (sym same)))
 
 -- and any other is not
 pub lookup-absent : (mount : Mount ℕ) (mounts : List (Mount ℕ)) → are_rising (numbers_of mounts) ≡ true
-    → Among mount mounts
-    → source_of mount.propagation ≡ None → lookup (nat_eq mount.number) (peers_of mounts) ≡ None
+    → Among mount mounts → source_of mount.propagation ≡ None → lookup (nat_eq mount.number) (peers_of mounts) ≡ None
 lookup-absent mount [] rising m e = refl
 lookup-absent mount (first ∷ rest) rising m e = ⊎_elim head (λ n. tail (lookup-absent mount rest parts.1 n e) n) m
   where
@@ -120,16 +111,13 @@ lookup-absent mount (first ∷ rest) rising m e = ⊎_elim head (λ n. tail (loo
     parts = and_parts _ _ rising
 
     head : mount ≡ first → lookup (nat_eq mount.number) (peers_of (first ∷ rest)) ≡ None
-    head same =
-        ap (λ o. lookup (nat_eq mount.number)
+    head same = ap (λ o. lookup (nat_eq mount.number)
         (cons_option (option_map (λ s. (first.number, first.propagation)) o) (peers_of rest)))
-        (ap (λ x. source_of x.propagation) (sym same) ∙ e)
-        ∙ lookup-below mount.number rest
+        (ap (λ x. source_of x.propagation) (sym same) ∙ e) ∙ lookup-below mount.number rest
         (λ x m. ap (λ n. nat_eq n x.number) (ap (λ x. x.number) same) ∙ above_first first.number rest parts.0 x m)
 
     later : (found : Option ℕ) → lookup (nat_eq mount.number) (peers_of rest) ≡ None
-        → nat_eq mount.number first.number ≡ false
-        → lookup (nat_eq mount.number)
+        → nat_eq mount.number first.number ≡ false → lookup (nat_eq mount.number)
         (cons_option (option_map (λ s. (first.number, first.propagation)) found) (peers_of rest)) ≡ None
     later None found differ = found
     later (Some s) found differ = ap
@@ -137,9 +125,7 @@ lookup-absent mount (first ∷ rest) rising m e = ⊎_elim head (λ n. tail (loo
 
     tail : lookup (nat_eq mount.number) (peers_of rest) ≡ None → Among mount rest
         → lookup (nat_eq mount.number) (peers_of (first ∷ rest)) ≡ None
-    tail found n =
-        later (source_of first.propagation) found
-        (ne_eqb mount.number first.number
+    tail found n = later (source_of first.propagation) found (ne_eqb mount.number first.number
         (λ same. eqb-false first.number mount.number (above_first first.number rest parts.0 mount n) (sym same)))
 
 -- members, told by the peers
@@ -171,8 +157,7 @@ pub retyped_same : (number : ℕ) (kind : Propagation ℕ) (mount : Mount ℕ) �
 retyped_same number kind mount same = ap (λ b. if b then record mount { propagation = kind } else mount) same
 
 retyped_above : (number : ℕ) (kind : Propagation ℕ) (mounts : List (Mount ℕ))
-    → list_all (nat_lt number) (numbers_of mounts) ≡ true
-    → map (retyped_if number kind) mounts ≡ mounts
+    → list_all (nat_lt number) (numbers_of mounts) ≡ true → map (retyped_if number kind) mounts ≡ mounts
 retyped_above number kind mounts all = map_same (retyped_if number kind) mounts
     (λ mount m. retyped_other number kind mount (above_first number mounts all mount m))
 
@@ -219,25 +204,21 @@ peers-left number (mount ∷ rest) rising = by (peers-left number rest parts.1) 
 
     kept : nat_eq number mount.number ≡ false → (source : Option ℕ)
         → cons_option (option_map (λ s. (mount.number, mount.propagation)) source)
-        (remove_entry (nat_eq number) (peers_of rest))
-        ≡ remove_entry (nat_eq number)
+        (remove_entry (nat_eq number) (peers_of rest)) ≡ remove_entry (nat_eq number)
         (cons_option (option_map (λ s. (mount.number, mount.propagation)) source) (peers_of rest))
     kept e None = refl
     kept e (Some s) = ap (λ b. cond b (peers_of rest)
         ((mount.number, mount.propagation) ∷ remove_entry (nat_eq number) (peers_of rest))) (sym e)
 
     by : peers_of (map (retyped_if number Private) rest) ≡ remove_entry (nat_eq number) (peers_of rest) → (b : Bool)
-        → nat_eq number mount.number ≡ b
-        → peers_of (map (retyped_if number Private) (mount ∷ rest))
+        → nat_eq number mount.number ≡ b → peers_of (map (retyped_if number Private) (mount ∷ rest))
         ≡ remove_entry (nat_eq number) (peers_of (mount ∷ rest))
     by later true e =
         let all : list_all (nat_lt number) (numbers_of rest)
         ≡ true = ap (λ n. list_all (nat_lt n) (numbers_of rest)) (eqb-true number mount.number e) ∙ parts.0 in
         (λ i. cons_option (peer_of (retyped_same number Private mount e i))
-        (peers_of (retyped_above number Private rest all i)))
-        ∙ gone e (source_of mount.propagation) all
-    by later false e =
-        (λ i. cons_option (peer_of (retyped_other number Private mount e i)) (later i))
+        (peers_of (retyped_above number Private rest all i))) ∙ gone e (source_of mount.propagation) all
+    by later false e = (λ i. cons_option (peer_of (retyped_other number Private mount e i)) (later i))
         ∙ kept e (source_of mount.propagation)
 
 below_peers : (number : ℕ) (kind : Propagation ℕ) (mounts : List (Mount ℕ))
@@ -252,10 +233,8 @@ below_peers number kind (mount ∷ rest) all = by (source_of mount.propagation)
         (peers_of rest)) number kind
         ≡ (number, kind) ∷ cons_option (option_map (λ s. (mount.number, mount.propagation)) source) (peers_of rest)
     by None later = later
-    by (Some s) later =
-        ap (λ b. match_ordering (cond b Less (cond (nat_eq number mount.number) Equal Greater))
-        ((number, kind) ∷ (mount.number, mount.propagation) ∷ peers_of rest)
-        ((mount.number, kind) ∷ peers_of rest)
+    by (Some s) later = ap (λ b. match_ordering (cond b Less (cond (nat_eq number mount.number) Equal Greater))
+        ((number, kind) ∷ (mount.number, mount.propagation) ∷ peers_of rest) ((mount.number, kind) ∷ peers_of rest)
         ((mount.number, mount.propagation) ∷ insert_entry nat_cmp (peers_of rest) number kind)) (and_parts _ _ all).0
 
 -- a number is found equal to itself
@@ -317,7 +296,6 @@ peers-set number kind source peer (mount ∷ rest) rising there = by (peers-set 
         (peers_of (retyped_above number kind rest all i)))
         ∙ ap (λ o. cons_option (option_map (λ s. (mount.number, kind)) o) (peers_of rest)) peer
         ∙ found e all (source_of mount.propagation)
-    by later false e t =
-        (λ i. cons_option (peer_of (retyped_other number kind mount e i)) (later t i))
+    by later false e t = (λ i. cons_option (peer_of (retyped_other number kind mount e i)) (later t i))
         ∙ further (among_from_list_all (nat_lt mount.number) (numbers_of rest) parts.0 number
         (among_numbers (numbers_of rest) number t)) (source_of mount.propagation)

@@ -40,9 +40,7 @@ module _ (master : ℕ → Option ℕ) where
       by : (o : Option ℕ) → master source ≡ o → ((next : ℕ) → Ends n next → chain m master next ≡ chain n master next)
           → chain (suc m) master source ≡ chain (suc n) master source
       by None e later = chain_ends master m source e ∙ sym (chain_ends master n source e)
-      by (Some next) e later =
-          chain_goes_on master m source next e
-          ∙ ap (λ l. source ∷ l) (later next
+      by (Some next) e later = chain_goes_on master m source next e ∙ ap (λ l. source ∷ l) (later next
           (sym (ap (λ g. is_some (master g))
           (ap (last_or source) (chain_goes_on master n source next e) ∙ last_of_chain master n next source)) ∙ ends))
           ∙ sym (chain_goes_on master n source next e)
@@ -76,8 +74,7 @@ fewer_groups : (groups : List ℕ) (peers : List (ℕ × Propagation ℕ)) → a
 fewer_groups [] peers distinct all = omega arith
 fewer_groups (group ∷ groups) peers distinct all =
     let apart_all : (list_any (nat_eq group) groups ≡ false)
-    × (any_pair nat_eq groups ≡ false) = or_parts (list_any (nat_eq group) groups)
-    (any_pair nat_eq groups) distinct in
+    × (any_pair nat_eq groups ≡ false) = or_parts (list_any (nat_eq group) groups) (any_pair nat_eq groups) distinct in
     let each : (list_any (is_member group) peers ≡ true)
     × (list_all (λ other. list_any (is_member other) peers) groups ≡ true) = and_parts _ _ all in
     let member = any_among (is_member group) peers each.0 in
@@ -87,8 +84,7 @@ fewer_groups (group ∷ groups) peers distinct all =
     (filter (is_member group) peers) member.0 inside in
     let both = length-filter_both (is_member group) (λ peer. not (is_member group peer)) (λ peer. refl) peers in
     let rest : length groups ≤ length (filter (λ peer. not (is_member group peer)) peers) =
-    fewer_groups groups (filter (λ peer. not (is_member group peer)) peers) apart_all.1
-    (list_all_from_among (λ other.
+    fewer_groups groups (filter (λ peer. not (is_member group peer)) peers) apart_all.1 (list_all_from_among (λ other.
     list_any (is_member other) (filter (λ peer. not (is_member group peer)) peers)) groups (λ other m.
     still group other peers (none_among (nat_eq group) groups apart_all.0 other m)
     (among_from_list_all (λ other. list_any (is_member other) peers) groups each.1 other m))) in
@@ -180,21 +176,18 @@ longer_chain master group zero (suc m) source le is = by (master source) refl
   where
     by : (o : Option ℕ) → master source ≡ o → is_among nat_eq group (chain (suc m) master source) ≡ true
     by None e = ap (is_among nat_eq group) (chain_ends master m source e) ∙ is
-    by (Some next) e =
-        ap (is_among nat_eq group) (chain_goes_on master m source next e)
+    by (Some next) e = ap (is_among nat_eq group) (chain_goes_on master m source next e)
         ∙ ap (λ b. b || is_among nat_eq group (chain m master next)) (or_false_alone (nat_eq group source) is)
 longer_chain master group (suc n) zero source le is = absurd (omega (arith, le))
 longer_chain master group (suc n) (suc m) source le is =
     by (master source) refl (λ next. longer_chain master group n m next (omega (arith, le)))
   where
-    by : (o : Option ℕ) → master source ≡ o
-        → ((next : ℕ) → is_among nat_eq group (chain n master next) ≡ true
+    by : (o : Option ℕ) → master source ≡ o → ((next : ℕ) → is_among nat_eq group (chain n master next) ≡ true
         → is_among nat_eq group (chain m master next) ≡ true)
         → is_among nat_eq group (chain (suc m) master source) ≡ true
     by None e later =
         ap (is_among nat_eq group) (chain_ends master m source e ∙ sym (chain_ends master n source e)) ∙ is
-    by (Some next) e later =
-        ap (is_among nat_eq group) (chain_goes_on master m source next e)
+    by (Some next) e later = ap (is_among nat_eq group) (chain_goes_on master m source next e)
         ∙ or_weaker (nat_eq group source) (is_among nat_eq group (chain n master next))
         (is_among nat_eq group (chain m master next)) (later next)
         (ap (is_among nat_eq group) (sym (chain_goes_on master n source next e)) ∙ is)
@@ -211,11 +204,9 @@ module _ (groups : Grouping) (group : ℕ) (found : ℕ → Bool) (finds : Finds
       by : (o : Option ℕ) → master_in groups source ≡ o
           → ((next : ℕ) → is_among nat_eq group (chain n (master_in groups) next) ≡ true → found next ≡ true)
           → found source ≡ true
-      by None e later =
-          first_found source (or_false_alone (nat_eq group source)
+      by None e later = first_found source (or_false_alone (nat_eq group source)
           (ap (is_among nat_eq group) (sym (chain_ends (master_in groups) n source e)) ∙ is))
-      by (Some next) e later =
-          ⊎_elim (first_found source) (λ among. finds.lower source next e (later next among))
+      by (Some next) e later = ⊎_elim (first_found source) (λ among. finds.lower source next e (later next among))
           (or_cases (nat_eq group source) (is_among nat_eq group (chain n (master_in groups) next))
           (ap (is_among nat_eq group) (sym (chain_goes_on (master_in groups) n source next e)) ∙ is))
 
@@ -228,8 +219,7 @@ module _ (groups : Grouping) (group : ℕ) (found : ℕ → Bool) (finds : Finds
 
     alike : (n source : ℕ) → Lives members world.master source
         → chain n (master_in groups) source ≡ chain n world.master source
-    alike n source life =
-        chain_alike world.master (master_in groups) members same_masters n source
+    alike n source life = chain_alike world.master (master_in groups) members same_masters n source
         (all_on_way world.master members n source life)
 
     found_alike : (source : ℕ) → Lives members world.master source
@@ -246,8 +236,7 @@ module _ (groups : Grouping) (group : ℕ) (found : ℕ → Bool) (finds : Finds
 
     -- the mounts that are picked are the receivers of the definitions
     pub receivers_found : receivers_from found groups.peers ≡ map (λ mount. mount.number) (receivers nat_eq world group)
-    receivers_found =
-        ap (receivers_from found) has.peers
+    receivers_found = ap (receivers_from found) has.peers
         ∙ receivers_from-mounts found (receives nat_eq world group) world.mounts
         (λ mount m. by mount m (source_of mount.propagation) refl)
       where
@@ -255,7 +244,6 @@ module _ (groups : Grouping) (group : ℕ) (found : ℕ → Bool) (finds : Finds
             → receives nat_eq world group mount ≡ holds_of found (source_of mount.propagation)
         by mount m None e =
             ap (holds_of (λ source. is_among nat_eq group (groups_up world source))) e ∙ sym (ap (holds_of found) e)
-        by mount m (Some source) e =
-            ap (holds_of (λ source. is_among nat_eq group (groups_up world source))) e
+        by mount m (Some source) e = ap (holds_of (λ source. is_among nat_eq group (groups_up world source))) e
             ∙ found_alike source (among_from_all (HasLivingGroups nat_eq world) world.mounts live mount m source e)
             ∙ sym (ap (holds_of found) e)

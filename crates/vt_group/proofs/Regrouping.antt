@@ -93,8 +93,7 @@ lookup-dropped lost left (e ∷ masters) = by (nat_eq e.0 lost) refl (handed los
 
 -- and each other one has its master, or the heir in the place of the lost one
 lookup-handed : (lost : ℕ) (left : Option ℕ) (group : ℕ) → group ≢ lost → (masters : List (ℕ × ℕ))
-    → are_rising (keys masters) ≡ true
-    → lookup (nat_eq group) (filter_map (handed_entry lost left) masters)
+    → are_rising (keys masters) ≡ true → lookup (nat_eq group) (filter_map (handed_entry lost left) masters)
     ≡ then_some (lookup (nat_eq group) masters) (handed lost left)
 lookup-handed lost left group apart [] rising = refl
 lookup-handed lost left group apart (e ∷ masters) rising =
@@ -104,8 +103,7 @@ lookup-handed lost left group apart (e ∷ masters) rising =
     parts = and_parts _ _ rising
 
     absent : group ≡ e.0 → lookup (nat_eq group) (filter_map (handed_entry lost left) masters) ≡ None
-    absent same =
-        lookup-low group (filter_map (handed_entry lost left) masters)
+    absent same = lookup-low group (filter_map (handed_entry lost left) masters)
         (ap (λ g. list_all (nat_lt g) (keys (filter_map (handed_entry lost left) masters))) same
         ∙ below_keys e.0 lost left masters parts.0)
 
@@ -128,8 +126,7 @@ lookup-handed lost left group apart (e ∷ masters) rising =
         → lookup (nat_eq group) (cons_option (option_map (λ master. (e.0, master)) (if b then None else o))
         (filter_map (handed_entry lost left) masters))
         ≡ then_some (cond (nat_eq group e.0) (Some e.1) (lookup (nat_eq group) masters)) (handed lost left)
-    by true is o f rest =
-        rest
+    by true is o f rest = rest
         ∙ ap (λ b. then_some (cond b (Some e.1) (lookup (nat_eq group) masters)) (handed lost left))
         (sym (ne_eqb group e.0 (λ same. apart (same ∙ eqb-true e.0 lost is))))
     by false is o f rest = kept (nat_eq group e.0) refl o f rest
@@ -145,8 +142,7 @@ pub record MayLose (world : World ℕ) (groups : Grouping) (left : Option ℕ) :
   pub slaves : (mount : Mount ℕ) → Among mount world.mounts → (master : ℕ) → mount.propagation ≡ Slave master
       → (has_members nat_eq world.mounts master ≡ true) ⊎ (left ≡ Some master)
   pub above : (group master : ℕ) → (has_members nat_eq world.mounts group ≡ true) ⊎ (left ≡ Some group)
-      → world.master group ≡ Some master
-      → (has_members nat_eq world.mounts master ≡ true) ⊎ (left ≡ Some master)
+      → world.master group ≡ Some master → (has_members nat_eq world.mounts master ≡ true) ⊎ (left ≡ Some master)
   pub apart : (group : ℕ) → left ≡ Some group → world.master group ≡ Some group → ⊥
 
 module _ (world : World ℕ) where
@@ -163,8 +159,7 @@ module _ (world : World ℕ) where
       (λ i. cons_option (each mount (inl refl) i) (peers-inherited change rest (λ x m. each x (inr m)) i))
       ∙ fused (peer_of mount)
     where
-      fused : (o : Option (ℕ × Propagation ℕ))
-          → cons_option (then_some o change) (filter_map change (peers_of rest))
+      fused : (o : Option (ℕ × Propagation ℕ)) → cons_option (then_some o change) (filter_map change (peers_of rest))
           ≡ filter_map change (cons_option o (peers_of rest))
       fused None = refl
       fused (Some peer) = refl
@@ -189,8 +184,7 @@ module _ (world : World ℕ) where
         by : (kind : Propagation ℕ) → mount.propagation ≡ kind
             → peer_of (inheriting nat_eq world mount) ≡ then_some (peer_of mount) Some
         by (Shared group) e = rw e refl
-        by (Slave above) e =
-            ⊎_elim (λ has. (λ i. option_map (λ s. (mount.number, inherited nat_eq world (e i)))
+        by (Slave above) e = ⊎_elim (λ has. (λ i. option_map (λ s. (mount.number, inherited nat_eq world (e i)))
             (source_of (inherited nat_eq world (e i))))
             ∙ (λ i. option_map (λ s. (mount.number, inherited_kept world above has i))
             (source_of (inherited_kept world above has i)))
@@ -210,10 +204,8 @@ module _ (world : World ℕ) where
         found : members group ≡ true → (o : Option ℕ) → world.master group ≡ o
             → world.master group ≡ (regrouped nat_eq world).master group
         found has None e = e ∙ sym (master_none group e)
-        found has (Some above) e =
-            ⊎_elim (λ lives. e ∙ sym (master-regrouped world group above e lives))
-            (λ none. absurd (true≢false (sym (ap is_some none))))
-            (kept.above group above (inl has) e)
+        found has (Some above) e = ⊎_elim (λ lives. e ∙ sym (master-regrouped world group above e lives))
+            (λ none. absurd (true≢false (sym (ap is_some none)))) (kept.above group above (inl has) e)
 
         by : (b : Bool) → members group ≡ b
             → cond (b || false) (world.master group) None ≡ cond b ((regrouped nat_eq world).master group) None
@@ -256,8 +248,7 @@ module _ (world : World ℕ) where
       where
         by : (o : Option ℕ) → world.master lost ≡ o → heir nat_eq world (Some lost) ≡ world.master lost
         by None e = no_heir world lost e gone ∙ sym e
-        by (Some above) e =
-            ⊎_elim (λ has. heir_in above world.mounts e gone has ∙ sym e)
+        by (Some above) e = ⊎_elim (λ has. heir_in above world.mounts e gone has ∙ sym e)
             (λ same. absurd (kept.apart lost refl (e ∙ sym (ap Some same))))
             (lives_or_lost above (kept.above lost above (inr refl) e))
 
@@ -280,20 +271,16 @@ module _ (world : World ℕ) where
         by : (kind : Propagation ℕ) → mount.propagation ≡ kind
             → peer_of (inheriting nat_eq world mount) ≡ then_some (peer_of mount) (handing (world.master lost))
         by (Shared group) e = rw e refl
-        by (Slave above) e =
-            (λ i. option_map (λ s. (mount.number, inherited nat_eq world (e i)))
-            (source_of (inherited nat_eq world (e i))))
-            ∙ ⊎_elim
+        by (Slave above) e = (λ i. option_map (λ s. (mount.number, inherited nat_eq world (e i)))
+            (source_of (inherited nat_eq world (e i)))) ∙ ⊎_elim
             (λ has. (λ i. option_map (λ s. (mount.number, inherited_kept world above has i))
-            (source_of (inherited_kept world above has i)))
-            ∙ ap (λ b. option_map (λ kind. (mount.number, kind))
+            (source_of (inherited_kept world above has i))) ∙ ap (λ b. option_map (λ kind. (mount.number, kind))
             (option_map Slave (if b then world.master lost else Some above)))
             (sym (ne_eqb above lost (other_than_lost above has))))
             (λ same. (λ i. option_map (λ s. (mount.number, slave_of_heir (heir nat_eq world (Some (sym same i)))))
             (source_of (slave_of_heir (heir nat_eq world (Some (sym same i))))))
             ∙ (λ i. option_map (λ s. (mount.number, slave_of_heir (heir_is i))) (source_of (slave_of_heir (heir_is i))))
-            ∙ slave_handed mount.number (world.master lost)
-            ∙ ap (λ b. option_map (λ kind. (mount.number, kind))
+            ∙ slave_handed mount.number (world.master lost) ∙ ap (λ b. option_map (λ kind. (mount.number, kind))
             (option_map Slave (if b then world.master lost else Some above))) (sym (eq-eqb above lost (sym same))))
             (lives_or_lost above (kept.slaves mount m above e))
             ∙ (λ i. then_some (option_map (λ s. (mount.number, sym e i)) (source_of (sym e i)))
@@ -309,9 +296,7 @@ module _ (world : World ℕ) where
         let shared = member_shared group member.0 member.2 in
         let tells : lost_a_group nat_eq world member.0 ≡ true =
         ap (λ o. is_lost_group nat_eq world o || is_lost_group nat_eq world (then_some o world.master))
-        (ap source_of shared)
-        ∙ (λ i. not (has i) || is_lost_group nat_eq world (e i))
-        ∙ ap not gone in
+        (ap source_of shared) ∙ (λ i. not (has i) || is_lost_group nat_eq world (e i)) ∙ ap not gone in
         ap (λ b. (regrouped_by nat_eq b world).master group)
         (any_from_among (lost_a_group nat_eq world) world.mounts member.0 member.1 tells)
         ∙ ap (heir nat_eq world) e ∙ heir_is
@@ -324,9 +309,7 @@ module _ (world : World ℕ) where
         by_above : members group ≡ true → (o : Option ℕ) → world.master group ≡ o
             → then_some o (handed lost (world.master lost)) ≡ (regrouped nat_eq world).master group
         by_above has None e = sym (master_none group e)
-        by_above has (Some above) e =
-            ⊎_elim
-            (λ lives. ap (λ b. if b then world.master lost else Some above)
+        by_above has (Some above) e = ⊎_elim (λ lives. ap (λ b. if b then world.master lost else Some above)
             (ne_eqb above lost (other_than_lost above lives)) ∙ sym (master-regrouped world group above e lives))
             (λ same. ap (λ b. if b then world.master lost else Some above) (eq-eqb above lost (sym same))
             ∙ sym (lost_below group has (e ∙ ap Some (sym same))))
@@ -336,8 +319,7 @@ module _ (world : World ℕ) where
             → lookup (nat_eq group) (filter_map (handed_entry lost (world.master lost)) groups.masters) ≡ None
         apart_none has true is =
             ap (λ g. lookup (nat_eq g) (filter_map (handed_entry lost (world.master lost)) groups.masters))
-            (eqb-true group lost is)
-            ∙ lookup-dropped lost (world.master lost) groups.masters
+            (eqb-true group lost is) ∙ lookup-dropped lost (world.master lost) groups.masters
         apart_none has false is =
             lookup-handed lost (world.master lost) group (eqb-false group lost is) groups.masters kept.masters_order
             ∙ ap (λ o. then_some o (handed lost (world.master lost)))

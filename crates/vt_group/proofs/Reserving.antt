@@ -93,10 +93,8 @@ module _ {X : Type 0} where
   found_put : (number : ℕ) (value : X) (es : List (ℕ × X)) (other : ℕ)
       → lookup (here other) (insert_entry nat_cmp es number value)
       ≡ cond (here number other) (Some value) (lookup (here other) es)
-  found_put number value es other =
-      ap (lookup (here other)) (sym (put_is number value es))
-      ∙ sym (found_here other (put nat_cmp number value es))
-      ∙ find-put nat_cmp nat_cmp_total other number value es
+  found_put number value es other = ap (lookup (here other)) (sym (put_is number value es))
+      ∙ sym (found_here other (put nat_cmp number value es)) ∙ find-put nat_cmp nat_cmp_total other number value es
       ∙ (λ i. cond (here-swapped other number i) (Some value) (found_here other es i))
 
   below_left : (low number : ℕ) (es : List (ℕ × X)) → T (below_all nat_cmp low es)
@@ -119,8 +117,7 @@ module _ {X : Type 0} where
 
   found_left : (number : ℕ) (es : List (ℕ × X)) → Rises es → (other : ℕ)
       → lookup (here other) (remove_entry (here number) es) ≡ cond (here number other) None (lookup (here other) es)
-  found_left number es rising other =
-      lookup-remove_entry (eq_by_cmp_equiv nat_cmp_total) (here number)
+  found_left number es rising other = lookup-remove_entry (eq_by_cmp_equiv nat_cmp_total) (here number)
       (λ x y is. ap (λ n. here n y) (same_number number x is)) other es
       (IsDistinct-from_sorted nat_cmp (keys_of es) (ordered es rising))
 
@@ -175,8 +172,7 @@ module _ {V : Type 0} where
   value_in_turn number (e ∷ es) rising = by (here number e.0) refl e.1 (value_in_turn number es (T_and_right _ _ rising))
     where
       after : here number e.0 ≡ true → lookup (here number) (entries_of es) ≡ None
-      after is =
-          ap (λ n. lookup (here n) (entries_of es)) (same_number number e.0 is)
+      after is = ap (λ n. lookup (here n) (entries_of es)) (same_number number e.0 is)
           ∙ not_found e.0 (entries_of es) (above_all e.0 (entries_of es) (below_values e.0 es (T_and_left _ _ rising)))
 
       by : (b : Bool) → here number e.0 ≡ b → (value : Option V)
@@ -204,8 +200,7 @@ module _ {V : Type 0} where
   -- there is room for the value of a number that has a place
   pub room_found : (number : ℕ) (es : List (ℕ × Option V))
       → has_room (record { entries = values_of es; room = keys_of es }) number ≡ is_some (lookup (nat_eq number) es)
-  room_found number es =
-      (λ i. is_some (value_found number es i)
+  room_found number es = (λ i. is_some (value_found number es i)
       || (among_keys number es ∙ ap is_some (λ j. lookup (λ other. at_nat number other j) es)) i)
       ∙ by (lookup (nat_eq number) es)
     where
@@ -220,8 +215,7 @@ module _ {V : Type 0} where
     -- what the values are once a place is changed
     pub values_updated : (other : ℕ) → lookup (here other) (values_of new)
         ≡ cond (here number other) (option_flatten place) (lookup (here other) (values_of old))
-    values_updated other =
-        value_found other new ∙ ap option_flatten (updates other) ∙ by (nat_eq number other)
+    values_updated other = value_found other new ∙ ap option_flatten (updates other) ∙ by (nat_eq number other)
         ∙ (λ i. cond (sym (at_nat number other) i) (option_flatten place) (sym (value_found other old) i))
       where
         by : (b : Bool) → option_flatten (cond b place (lookup (nat_eq other) old))
@@ -232,24 +226,21 @@ module _ {V : Type 0} where
     -- a place that is filled puts in its value
     pub values_set : (value : V) → option_flatten place ≡ Some value
         → values_of new ≡ insert_entry nat_cmp (values_of old) number value
-    values_set value is =
-        same_found (values_of new) (insert_entry nat_cmp (values_of old) number value) (rises_all new)
+    values_set value is = same_found (values_of new) (insert_entry nat_cmp (values_of old) number value) (rises_all new)
         (rises_put number value (values_of old) (rises_all old))
         (λ other. values_updated other ∙ ap (λ o. cond (here number other) o (lookup (here other) (values_of old))) is
         ∙ sym (found_put number value (values_of old) other))
 
     -- one that is emptied, or goes, takes its value with it
     pub values_removed : option_flatten place ≡ None → values_of new ≡ remove_entry (here number) (values_of old)
-    values_removed is =
-        same_found (values_of new) (remove_entry (here number) (values_of old)) (rises_all new)
+    values_removed is = same_found (values_of new) (remove_entry (here number) (values_of old)) (rises_all new)
         (rises_left number (values_of old) (rises_all old))
         (λ other. values_updated other ∙ ap (λ o. cond (here number other) o (lookup (here other) (values_of old))) is
         ∙ sym (found_left number (values_of old) (rises_all old) other))
 
     -- one that has the value which was there changes none
     pub values_kept : option_flatten place ≡ option_flatten (lookup (nat_eq number) old) → values_of new ≡ values_of old
-    values_kept is =
-        same_found (values_of new) (values_of old) (rises_all new) (rises_all old)
+    values_kept is = same_found (values_of new) (values_of old) (rises_all new) (rises_all old)
         (λ other. values_updated other ∙ by other (here number other) refl)
       where
         by : (other : ℕ) (b : Bool) → here number other ≡ b
@@ -262,8 +253,7 @@ module _ {V : Type 0} where
     pub room_stays : is_some place ≡ true → (other : ℕ)
         → has_room (record { entries = values_of old; room = keys_of old }) other ≡ true
         → has_room (record { entries = values_of new; room = keys_of new }) other ≡ true
-    room_stays is other room =
-        room_found other new ∙ ap is_some (updates other)
+    room_stays is other room = room_found other new ∙ ap is_some (updates other)
         ∙ by (nat_eq number other) (sym (room_found other old) ∙ room)
       where
         by : (b : Bool) → is_some (lookup (nat_eq other) old) ≡ true
@@ -286,7 +276,6 @@ module _ {V : Type 0} where
   -- nothing changes where a number that has no place loses its value
   pub none_removed : (number : ℕ) (es : List (ℕ × Option V)) → option_flatten (lookup (nat_eq number) es) ≡ None
       → values_of es ≡ remove_entry (here number) (values_of es)
-  none_removed number es none =
-      same_found (values_of es) (remove_entry (here number) (values_of es)) (rises_all es)
+  none_removed number es none = same_found (values_of es) (remove_entry (here number) (values_of es)) (rises_all es)
       (rises_left number (values_of es) (rises_all es))
       (λ other. none_updated number es none other ∙ sym (found_left number (values_of es) (rises_all es) other))

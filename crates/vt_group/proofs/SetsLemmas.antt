@@ -15,13 +15,10 @@ same_id a b same = λ i. record { count = sym (eqb-true a.count b.count same) i 
 
 module _ {T : Type 0} (eq : T → T → Bool) (old new : Sets T) (group : GroupId) where
   -- another set under the group
-  pub kept-written : (found : Option (Set T))
-      → ((at : GroupId) → lookup (same_group at) new.sets.entries
-      ≡ cond (same_group group at) found (lookup (same_group at) old.sets.entries))
-      → (at : GroupId) → kept_in at new
+  pub kept-written : (found : Option (Set T)) → ((at : GroupId) → lookup (same_group at) new.sets.entries
+      ≡ cond (same_group group at) found (lookup (same_group at) old.sets.entries)) → (at : GroupId) → kept_in at new
       ≡ (if same_group group at then unwrap_or (option_map elements found) [] else kept_in at old)
-  kept-written found writes at =
-      ap (λ o. unwrap_or (option_map elements o) []) (writes at) ∙ by (same_group group at)
+  kept-written found writes at = ap (λ o. unwrap_or (option_map elements o) []) (writes at) ∙ by (same_group group at)
     where
       by : (b : Bool) → unwrap_or (option_map elements (cond b found (lookup (same_group at) old.sets.entries))) []
           ≡ (if b then unwrap_or (option_map elements found) [] else kept_in at old)
@@ -33,8 +30,7 @@ module _ {T : Type 0} (eq : T → T → Bool) (old new : Sets T) (group : GroupI
       → ((at : GroupId) → kept_in at new ≡ (if same_group group at then now else kept_in at old))
       → kept_in group old ≡ was → (other : T) → (list_any (eq other) was ≡ true → list_any (eq other) now ≡ true)
       → (at : GroupId) → has eq at other old ≡ true → has eq at other new ≡ true
-  has-onto was now keeps is other stays at there =
-      ap (list_any (eq other)) (keeps at) ∙ by (same_group group at) refl
+  has-onto was now keeps is other stays at there = ap (list_any (eq other)) (keeps at) ∙ by (same_group group at) refl
     where
       by : (b : Bool) → same_group group at ≡ b → list_any (eq other) (if b then now else kept_in at old) ≡ true
       by true same = stays (ap (list_any (eq other)) (sym is ∙ ap (λ id. kept_in id old) (sym (same_id group at same))) ∙ there)
@@ -52,8 +48,7 @@ module _ {T : Type 0} (eq : T → T → Bool) (old new : Sets T) (group : GroupI
     where
       by : (b : Bool) → same_group group at ≡ b → (b && eq one other) ≡ false
           → list_any (eq other) (if b then now else kept_in at old) ≡ true
-      by true same apart =
-          stays other apart
+      by true same apart = stays other apart
           (ap (list_any (eq other)) (sym is ∙ ap (λ id. kept_in id old) (sym (same_id group at same))) ∙ there)
       by false differ apart = there
 

@@ -32,8 +32,7 @@ use Rattle.vt_laws_mounts.specs.Mounts.Receivers.{AllGroupsLive}
 
 -- mounts with one number are one
 one_number : (mounts : List (Mount ℕ)) → are_rising (numbers_of mounts) ≡ true → (a b : Mount ℕ) → Among a mounts
-    → Among b mounts
-    → a.number ≡ b.number → a ≡ b
+    → Among b mounts → a.number ≡ b.number → a ≡ b
 one_number [] rising a b m n same = absurd m
 one_number (first ∷ rest) rising a b m n same =
     ⊎_elim (λ e. ⊎_elim (λ f. e ∙ sym f) (λ l. absurd (apart b l (sym same ∙ ap (λ x. x.number) e))) n)
@@ -97,8 +96,7 @@ module _ (world : World ℕ) (live : AllGroupsLive world) (groups : Grouping) (h
       same : (list : List (Mount ℕ)) → list ≡ map (λ mount. mount) list
       same [] = refl
       same (mount ∷ rest) = ap (λ l. mount ∷ l) (same rest)
-  folded-map (one ∷ named) mounts =
-      folded-map named (map (retyped_if one.number (to_shared one)) mounts)
+  folded-map (one ∷ named) mounts = folded-map named (map (retyped_if one.number (to_shared one)) mounts)
       ∙ map_twice (λ mount. folded share_one mount named) (retyped_if one.number (to_shared one)) mounts
 
   -- a mount that is shared stays so
@@ -112,9 +110,7 @@ module _ (world : World ℕ) (live : AllGroupsLive world) (groups : Grouping) (h
       ∙ stays_shared mount m named (λ x l. within x (inr l))
     where
       by : (b : Bool) → nat_eq one.number mount.number ≡ b
-          → (if b then record mount { propagation = to_shared one } else record mount {
-            propagation = to_shared mount;
-          })
+          → (if b then record mount { propagation = to_shared one } else record mount { propagation = to_shared mount })
           ≡ record mount { propagation = to_shared mount }
       by true e =
           let same = one_number world.mounts has.order one mount (within one (inl refl)) m
@@ -134,8 +130,7 @@ module _ (world : World ℕ) (live : AllGroupsLive world) (groups : Grouping) (h
           → folded share_one mount named ≡ retyped_mount nat_eq group ToShared named mount
           → folded share_one (if b then record mount { propagation = to_shared one } else mount) named
           ≡ (if c || list_any (λ other. nat_eq mount.number other.number) named then record mount {
-            propagation =
-                to_shared mount;
+            propagation = to_shared mount;
           } else mount)
       by true e true f later =
           let same = one_number world.mounts has.order one mount (within one (inl refl)) m
@@ -255,20 +250,17 @@ module _ (world : World ℕ) (live : AllGroupsLive world) (groups : Grouping) (h
         by (Slave master) f e = inr (
           refl,
           same_Some (group mount.number) one e,
-          ap (type_after
-              (group mount.number) ToShared) f ∙ ap Shared (same_Some (group mount.number) one e),
+          ap (type_after (group mount.number) ToShared) f ∙ ap Shared (same_Some (group mount.number) one e),
         )
         by Private f e = inr (
           refl,
           same_Some (group mount.number) one e,
-          ap (type_after
-              (group mount.number) ToShared) f ∙ ap Shared (same_Some (group mount.number) one e),
+          ap (type_after (group mount.number) ToShared) f ∙ ap Shared (same_Some (group mount.number) one e),
         )
         by Unbindable f e = inr (
           refl,
           same_Some (group mount.number) one e,
-          ap (type_after
-              (group mount.number) ToShared) f ∙ ap Shared (same_Some (group mount.number) one e),
+          ap (type_after (group mount.number) ToShared) f ∙ ap Shared (same_Some (group mount.number) one e),
         )
 
     named_or_old : (one : ℕ) → LacksGroup world one → HasGroup after one
@@ -284,8 +276,7 @@ module _ (world : World ℕ) (live : AllGroupsLive world) (groups : Grouping) (h
             (shared_member one mount e)) ∙ none)
 
         joined : (mount : Mount ℕ) → Among mount world.mounts → is_named mount ≡ true → (kind : Propagation ℕ)
-            → mount.propagation ≡ kind
-            → type_after (group mount.number) ToShared kind ≡ Shared one
+            → mount.propagation ≡ kind → type_after (group mount.number) ToShared kind ≡ Shared one
             → is_among nat_eq one (map (λ entry. entry.0) (begun named)) ≡ true
         joined mount m h (Shared own) f e = absurd (lacking mount m (f ∙ e))
         joined mount m h (Slave master) f e = subst (λ n. is_among nat_eq n (map (λ entry. entry.0) (begun named))
@@ -296,8 +287,7 @@ module _ (world : World ℕ) (live : AllGroupsLive world) (groups : Grouping) (h
             ≡ true) (same_Some (group mount.number) one (ap group_of e)) (named_number mount h)
 
         by : (mount : Mount ℕ) → Among mount world.mounts → (b : Bool) → is_named mount ≡ b → type_if mount b
-            ≡ Shared one
-            → is_among nat_eq one (map (λ entry. entry.0) (begun named)) ≡ true
+            ≡ Shared one → is_among nat_eq one (map (λ entry. entry.0) (begun named)) ≡ true
         by mount m true h e = joined mount m h mount.propagation refl e
         by mount m false h e = absurd (lacking mount m e)
 
@@ -313,8 +303,7 @@ module _ (world : World ℕ) (live : AllGroupsLive world) (groups : Grouping) (h
             (eq-eqb mount.number mount.number refl)
 
         slave : (mount : Mount ℕ) → Among mount named → (kind : Propagation ℕ) → mount.propagation ≡ kind
-            → is_some (master_after kind) ≡ true
-            → HasGroup after (group mount.number)
+            → is_some (master_after kind) ≡ true → HasGroup after (group mount.number)
         slave mount m (Shared own) f e = absurd (true≢false (sym e))
         slave mount m (Slave master) f e =
             member_after mount (within mount m) (group mount.number) (ap (type_if mount) (itself mount m)
@@ -340,8 +329,7 @@ module _ (world : World ℕ) (live : AllGroupsLive world) (groups : Grouping) (h
       order = ap are_rising numbers-shared ∙ has.order;
       peers = ap peers_of (sym (folded-map named world.mounts
           ∙ map_alike (λ mount. folded share_one mount named) (retyped_mount nat_eq group ToShared named) world.mounts
-          (λ mount m. all_shared mount m named within)))
-          ∙ peers-typed named world.mounts has.order (λ mount m.
+          (λ mount m. all_shared mount m named within))) ∙ peers-typed named world.mounts has.order (λ mount m.
           is_among_numbers (numbers_of world.mounts) mount.number (among-map (λ x. x.number) world.mounts mount
           (within mount m)));
       master = λ one. masters-folded named world.master one;
@@ -375,11 +363,9 @@ module _ (world : World ℕ) (live : AllGroupsLive world) (groups : Grouping) (h
         here = member_after mount m one (ap (type_if mount) h ∙ e)
 
         by : (x : Mount ℕ) → Among x named → (kind : Propagation ℕ) → x.propagation ≡ kind → after.master one
-            ≡ master_after x.propagation
-            → Lives (has_members nat_eq after.mounts) after.master one
+            ≡ master_after x.propagation → Lives (has_members nat_eq after.mounts) after.master one
         by x l (Shared own) f is = has_no_master one here (is ∙ ap master_after f)
-        by x l (Slave master) f is =
-            has_master one master here (is
+        by x l (Slave master) f is = has_master one master here (is
             ∙ ap master_after f) (lives_on master (source_lives x (within x l) master (ap source_of f)))
         by x l Private f is = has_no_master one here (is ∙ ap master_after f)
         by x l Unbindable f is = has_no_master one here (is ∙ ap master_after f)
@@ -390,19 +376,15 @@ module _ (world : World ℕ) (live : AllGroupsLive world) (groups : Grouping) (h
         by from.0 from.1 one (sym (ap (λ y. source_of y.propagation) from.2) ∙ e))
       where
         by : (mount : Mount ℕ) → Among mount world.mounts → (one : ℕ) → source_of (type_if mount (is_named mount))
-            ≡ Some one
-            → Lives (has_members nat_eq after.mounts) after.master one
-        by mount m one e =
-            ⊎_elim (λ old. lives_on one (source_lives mount m one old))
-            (λ new. new_lives mount m new.0 one new.1 new.2)
-            (old_or_new mount one (is_named mount) e)
+            ≡ Some one → Lives (has_members nat_eq after.mounts) after.master one
+        by mount m one e = ⊎_elim (λ old. lives_on one (source_lives mount m one old))
+            (λ new. new_lives mount m new.0 one new.1 new.2) (old_or_new mount one (is_named mount) e)
 
     -- by the types that groups tell
     told_types : map (λ mount. shared_type groups (mount.number, group mount.number)) named ≡ types named
     told_types = map_alike _ (λ mount. (mount.number, to_shared mount)) named (λ mount m i. (
       mount.number,
-      (ap (type_after (group mount.number) ToShared)
-          (among_from_all (λ x. propagation_in groups x.number
+      (ap (type_after (group mount.number) ToShared) (among_from_all (λ x. propagation_in groups x.number
           ≡ shown x.propagation) world.mounts (shows_types world groups has) mount (within mount m))
           ∙ by (group mount.number) mount.propagation) i,
     ))
@@ -416,8 +398,7 @@ module _ (world : World ℕ) (live : AllGroupsLive world) (groups : Grouping) (h
     told_groups : map (λ mount. shared_group groups (mount.number, group mount.number)) named ≡ begun named
     told_groups = map_alike _ (λ mount. (group mount.number, master_after mount.propagation)) named (λ mount m i. (
       group mount.number,
-      (ap master_after
-          (among_from_all (λ x. propagation_in groups x.number
+      (ap master_after (among_from_all (λ x. propagation_in groups x.number
           ≡ shown x.propagation) world.mounts (shows_types world groups has) mount (within mount m))
           ∙ by mount.propagation) i,
     ))
@@ -449,8 +430,7 @@ shared_has world live groups has group lacks named there pairs same =
     (sym (regrouped_living (after world live groups has group lacks named within)
     (after_live world live groups has group lacks named within)))
     (subst (Has (after world live groups has group lacks named within)) (λ i. all_added groups (types_same i)
-    (groups_same i))
-    (grown_has world (after world live groups has group lacks named within) groups
+    (groups_same i)) (grown_has world (after world live groups has group lacks named within) groups
     (types world live groups has group lacks named) (begun world live groups has group lacks named) has
     (grows world live groups has group lacks named within)))
 
@@ -467,8 +447,7 @@ module _ (world : World ℕ) (live : AllGroupsLive world) (groups : Grouping) (h
     mounts = map (retyped_mount nat_eq group ToShared named) world.mounts;
     master = with_new_groups nat_eq group world.master named;
   }
-  sharing_regroups =
-      regrouped_living (after world live groups has group lacks named within_world)
+  sharing_regroups = regrouped_living (after world live groups has group lacks named within_world)
       (after_live world live groups has group lacks named within_world)
 
   -- and all groups live

@@ -24,11 +24,9 @@ keys masters = map (λ entry. entry.0) masters
 pub same_entries : {V : Type 0} (xs ys : List (ℕ × V)) → are_rising (keys xs) ≡ true → are_rising (keys ys) ≡ true
     → ((group : ℕ) → lookup (nat_eq group) xs ≡ lookup (nat_eq group) ys) → xs ≡ ys
 same_entries {V} [] [] r s same = refl
-same_entries {V} [] (y ∷ ys) r s same =
-    absurd (true≢false (sym (ap is_some
+same_entries {V} [] (y ∷ ys) r s same = absurd (true≢false (sym (ap is_some
     (same y.0 ∙ ap (λ b. cond b (Some y.1) (lookup (nat_eq y.0) ys)) (eq-eqb y.0 y.0 refl)))))
-same_entries {V} (x ∷ xs) [] r s same =
-    absurd (true≢false (ap is_some
+same_entries {V} (x ∷ xs) [] r s same = absurd (true≢false (ap is_some
     (sym (ap (λ b. cond b (Some x.1) (lookup (nat_eq x.0) xs)) (eq-eqb x.0 x.0 refl)) ∙ same x.0)))
 same_entries {V} (x ∷ xs) (y ∷ ys) r s same = by (nat_lt x.0 y.0) refl (nat_lt y.0 x.0) refl (same_entries xs ys rx.1 sy.1)
   where
@@ -60,8 +58,7 @@ same_entries {V} (x ∷ xs) (y ∷ ys) r s same = by (nat_lt x.0 y.0) refl (nat_
         (true≢false (sym (ap is_some (first_of y ys)) ∙ ap is_some (sym (same y.0) ∙ lower y.0 x xs e rx.0)))
     by false a false e later =
         let key : x.0 ≡ y.0 = omega (arith, ltb-false x.0 y.0 a, ltb-false y.0 x.0 e) in
-        let value : x.1 ≡ y.1 = same_Some x.1 y.1
-        (sym (first_of x xs) ∙ same x.0
+        let value : x.1 ≡ y.1 = same_Some x.1 y.1 (sym (first_of x xs) ∙ same x.0
         ∙ ap (λ b. cond b (Some y.1) (lookup (nat_eq x.0) ys)) (eq-eqb x.0 y.0 key)) in
         (λ i. (key i, value i) ∷ later (λ group. rest key group (nat_eq group x.0) refl) i)
       where
@@ -71,8 +68,7 @@ same_entries {V} (x ∷ xs) (y ∷ ys) r s same = by (nat_lt x.0 y.0) refl (nat_
             let at : group ≡ x.0 = eqb-true group x.0 is in
             lookup-low group xs (ap (λ g. list_all (nat_lt g) (keys xs)) at ∙ rx.0)
             ∙ sym (lookup-low group ys (ap (λ g. list_all (nat_lt g) (keys ys)) (at ∙ key) ∙ sy.0))
-        rest key group false is =
-            sym (ap (λ b. cond b (Some x.1) (lookup (nat_eq group) xs)) is) ∙ same group
+        rest key group false is = sym (ap (λ b. cond b (Some x.1) (lookup (nat_eq group) xs)) is) ∙ same group
             ∙ ap (λ b. cond b (Some y.1) (lookup (nat_eq group) ys))
             (ne_eqb group y.0 (λ e. eqb-false group x.0 is (e ∙ sym key)))
 

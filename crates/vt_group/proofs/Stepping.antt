@@ -47,8 +47,7 @@ module _ (world : World ℕ) (live : AllGroupsLive world) (change : Mount ℕ
   same_length = length-map world.mounts change
 
   source_lives : (mount : Mount ℕ) → Among mount between.mounts → (source : ℕ) → source_of mount.propagation
-      ≡ Some source
-      → Lives were world.master source
+      ≡ Some source → Lives were world.master source
   source_lives mount m source e =
       let from = among-from_map change world.mounts mount m in
       among_from_all (HasLivingGroups nat_eq world) world.mounts live from.0 from.1 source
@@ -63,8 +62,7 @@ module _ (world : World ℕ) (live : AllGroupsLive world) (change : Mount ℕ
   ends source life = subst (λ n. Ends world.master n source) (sym same_length) (living_ends world source life)
 
   module _ (number : ℕ) (kind : Propagation ℕ) (no_group : group_of kind ≡ None)
-      (has_source : (source : ℕ) → source_of kind ≡ Some source → has_members nat_eq between.mounts source
-      ≡ true) where
+      (has_source : (source : ℕ) → source_of kind ≡ Some source → has_members nat_eq between.mounts source ≡ true) where
     -- the next change, where the groups have ended, and where they have not
     abbrev regrouped_first : World ℕ
     regrouped_first = with_propagation (regrouped nat_eq between) number kind
@@ -79,8 +77,7 @@ module _ (world : World ℕ) (live : AllGroupsLive world) (change : Mount ℕ
     abbrev then_some_left : ℕ → Bool
     then_some_left = has_members nat_eq straight.mounts
 
-    group-retyped : (mount : Mount ℕ)
-        → group_of (retyped_if number kind (inheriting nat_eq between mount)).propagation
+    group-retyped : (mount : Mount ℕ) → group_of (retyped_if number kind (inheriting nat_eq between mount)).propagation
         ≡ group_of (retyped_if number kind mount).propagation
     group-retyped mount = by (nat_eq number mount.number)
       where
@@ -111,12 +108,9 @@ module _ (world : World ℕ) (live : AllGroupsLive world) (change : Mount ℕ
         (ap (holds_of (nat_eq group)) (by from.0 (nat_eq number from.0.number) refl shared) ∙ eq-eqb group group refl)
       where
         by : (mount : Mount ℕ) → (b : Bool) → nat_eq number mount.number ≡ b
-            → group_of (retyped_if number kind mount).propagation ≡ Some group
-            → group_of mount.propagation ≡ Some group
-        by mount true is e =
-            absurd (true≢false (sym (ap is_some e)
-            ∙ ap (λ x. is_some (group_of x.propagation)) (retyped_same number kind mount is)
-            ∙ ap is_some no_group))
+            → group_of (retyped_if number kind mount).propagation ≡ Some group → group_of mount.propagation ≡ Some group
+        by mount true is e = absurd (true≢false (sym (ap is_some e)
+            ∙ ap (λ x. is_some (group_of x.propagation)) (retyped_same number kind mount is) ∙ ap is_some no_group))
         by mount false is e = sym (ap (λ x. group_of x.propagation) (retyped_other number kind mount is)) ∙ e
 
     -- a group that has members now lived before
@@ -131,8 +125,7 @@ module _ (world : World ℕ) (live : AllGroupsLive world) (change : Mount ℕ
 
     ends_regrouped : (group : ℕ) → first group ≡ true
         → Ends (regrouped nat_eq between).master (length regrouped_first.mounts) group
-    ends_regrouped group h =
-        subst (λ n. Ends (regrouped nat_eq between).master n group) (sym (length-map
+    ends_regrouped group h = subst (λ n. Ends (regrouped nat_eq between).master n group) (sym (length-map
         (regrouped nat_eq between).mounts (retyped_if number kind)))
         (living_ends (regrouped nat_eq between) group (group_lives (regrouped nat_eq between) between_live group
         (members-regrouped between group ∙ h)))
@@ -146,19 +139,14 @@ module _ (world : World ℕ) (live : AllGroupsLive world) (change : Mount ℕ
       where
         by : (a : Bool) → first group ≡ a → (b : Bool) → then_some_left group ≡ b
             → heir nat_eq regrouped_first (heir nat_eq between (Some group)) ≡ heir nat_eq straight (Some group)
-        by true f true l =
-            ap (heir nat_eq regrouped_first) (heir_itself between group f)
+        by true f true l = ap (heir nat_eq regrouped_first) (heir_itself between group f)
             ∙ heir_itself regrouped_first group (same_left group ∙ l) ∙ sym (heir_itself straight group l)
-        by true f false l =
-            ap (heir nat_eq regrouped_first) (heir_itself between group f)
+        by true f false l = ap (heir nat_eq regrouped_first) (heir_itself between group f)
             ∙ heir_above regrouped_first group (ends_regrouped group f) (same_left group ∙ l)
-            ∙ ap (heir nat_eq regrouped_first) (master_inherited between group f)
-            ∙ above
+            ∙ ap (heir nat_eq regrouped_first) (master_inherited between group f) ∙ above
             ∙ sym (heir_above straight group (ends_straight group life) l)
         by false f true l = absurd (true≢false (sym (fewer group l) ∙ f))
-        by false f false l =
-            ap (heir nat_eq regrouped_first) (heir_above between group (ends group life) f)
-            ∙ above
+        by false f false l = ap (heir nat_eq regrouped_first) (heir_above between group (ends group life) f) ∙ above
             ∙ sym (heir_above straight group (ends_straight group life) l)
 
     at_the_top : (group : ℕ) → world.master group ≡ None
@@ -222,12 +210,9 @@ module _ (world : World ℕ) (live : AllGroupsLive world) (change : Mount ℕ
         by false = λ i. record mount { propagation = same_type mount.propagation (source_lives mount m) i }
 
     same_mounts : (regrouped nat_eq regrouped_first).mounts ≡ (regrouped nat_eq straight).mounts
-    same_mounts =
-        mounts-regrouped regrouped_first
+    same_mounts = mounts-regrouped regrouped_first
         ∙ ap (λ mounts. map (inheriting nat_eq regrouped_first) (map (retyped_if number kind) mounts))
-        (mounts-regrouped between)
-        ∙ by between.mounts (λ mount m. m)
-        ∙ sym (mounts-regrouped straight)
+        (mounts-regrouped between) ∙ by between.mounts (λ mount m. m) ∙ sym (mounts-regrouped straight)
       where
         by : (mounts : List (Mount ℕ)) → ((mount : Mount ℕ) → Among mount mounts → Among mount between.mounts)
             → map (inheriting nat_eq regrouped_first) (map (retyped_if number kind) (map
@@ -239,27 +224,21 @@ module _ (world : World ℕ) (live : AllGroupsLive world) (change : Mount ℕ
 
     same_master : (group : ℕ) → then_some_left group ≡ true → (regrouped nat_eq regrouped_first).master group
         ≡ (regrouped nat_eq straight).master group
-    same_master group h =
-        master_inherited regrouped_first group (same_left group ∙ h)
+    same_master group h = master_inherited regrouped_first group (same_left group ∙ h)
         ∙ ap (heir nat_eq regrouped_first) (master_inherited between group (fewer group h))
-        ∙ same_above group (first_lives group (fewer group h))
-        ∙ sym (master_inherited straight group h)
+        ∙ same_above group (first_lives group (fewer group h)) ∙ sym (master_inherited straight group h)
 
-    same_masters : (group : ℕ)
-        → (without_dead_groups nat_eq (regrouped nat_eq regrouped_first)).master group
+    same_masters : (group : ℕ) → (without_dead_groups nat_eq (regrouped nat_eq regrouped_first)).master group
         ≡ (without_dead_groups nat_eq (regrouped nat_eq straight)).master group
-    same_masters group =
-        ap (λ b. cond b ((regrouped nat_eq regrouped_first).master group) None)
-        (members-regrouped regrouped_first group ∙ same_left group)
-        ∙ by (then_some_left group) refl
+    same_masters group = ap (λ b. cond b ((regrouped nat_eq regrouped_first).master group) None)
+        (members-regrouped regrouped_first group ∙ same_left group) ∙ by (then_some_left group) refl
         ∙ ap (λ b. cond b ((regrouped nat_eq straight).master group) None) (sym (members-regrouped straight group))
       where
         by : (b : Bool) → then_some_left group ≡ b
             → cond (then_some_left group) ((regrouped nat_eq regrouped_first).master group) None
             ≡ cond (then_some_left group) ((regrouped nat_eq straight).master group) None
         by true e = ap (λ o. cond (then_some_left group) o None) (same_master group e)
-        by false e =
-            ap (λ b. cond b ((regrouped nat_eq regrouped_first).master group) None) e
+        by false e = ap (λ b. cond b ((regrouped nat_eq regrouped_first).master group) None) e
             ∙ ap (λ b. cond b ((regrouped nat_eq straight).master group) None) (sym e)
 
     -- Groups that end one after the other leave what they leave where they end at once.

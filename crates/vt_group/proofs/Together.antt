@@ -50,8 +50,7 @@ module _ (world : World ℕ) (live : AllGroupsLive world) where
       above : (group : ℕ) → Lives members world.master group
           → (not (members group) || is_lost_group nat_eq world (world.master group)) ≡ false
       above group (has_no_master it has e) = (λ i. not (has i) || is_lost_group nat_eq world (e i))
-      above group (has_master it next has e later) =
-          (λ i. not (has i) || is_lost_group nat_eq world (e i))
+      above group (has_master it next has e later) = (λ i. not (has i) || is_lost_group nat_eq world (e i))
           ∙ ap not (live_members world.master members next later)
 
       by : (o : Option ℕ) → source_of mount.propagation ≡ o → lost_a_group nat_eq world mount ≡ false
@@ -81,69 +80,56 @@ is_among-snoc number one numbers = list_any-append (nat_eq number) numbers (one 
 
 module _ (change : Propagation ℕ → Propagation ℕ) (world : World ℕ) (numbers : List ℕ) (number : ℕ) where
   changed_by : (a b : Bool) (mount : Mount ℕ) → is_among nat_eq mount.number numbers ≡ a
-      → nat_eq mount.number number ≡ b
-      → changed_if change (numbers ++ number ∷ []) mount
+      → nat_eq mount.number number ≡ b → changed_if change (numbers ++ number ∷ []) mount
       ≡ (if a || b then record mount { propagation = change mount.propagation } else mount)
-  changed_by a b mount e f =
-      ap (λ c. if c then record mount { propagation = change mount.propagation } else mount)
+  changed_by a b mount e f = ap (λ c. if c then record mount { propagation = change mount.propagation } else mount)
       (is_among-snoc mount.number number numbers ∙ (λ i. e i || f i))
 
   -- one more is changed
   pub next_changed : (kind : Propagation ℕ)
       → ((mount : Mount ℕ) → Among mount world.mounts → nat_eq number mount.number ≡ true → kind
-      ≡ change mount.propagation)
-      → with_propagation (with_changed change world numbers) number kind
+      ≡ change mount.propagation) → with_propagation (with_changed change world numbers) number kind
       ≡ with_changed change world (numbers ++ number ∷ [])
-  next_changed kind same =
-      λ i. record world {
-        mounts = (map_twice (retyped_if number kind) (changed_if change numbers) world.mounts
-            ∙ map_alike _ (changed_if change (numbers ++ number ∷ [])) world.mounts (λ mount m.
-            by mount m (is_among nat_eq mount.number numbers) refl (nat_eq number mount.number) refl)) i;
-      }
+  next_changed kind same = λ i. record world {
+    mounts = (map_twice (retyped_if number kind) (changed_if change numbers) world.mounts
+        ∙ map_alike _ (changed_if change (numbers ++ number ∷ [])) world.mounts (λ mount m.
+        by mount m (is_among nat_eq mount.number numbers) refl (nat_eq number mount.number) refl)) i;
+  }
     where
       by : (mount : Mount ℕ) → Among mount world.mounts → (a : Bool) → is_among nat_eq mount.number numbers ≡ a
           → (b : Bool) → nat_eq number mount.number ≡ b
           → retyped_if number kind (changed_if change numbers mount) ≡ changed_if change (numbers ++ number ∷ []) mount
-      by mount m true e true f =
-          ap (λ c. retyped_if number kind
+      by mount m true e true f = ap (λ c. retyped_if number kind
           (if c then record mount { propagation = change mount.propagation } else mount)) e
           ∙ retyped_same number kind (record mount { propagation = change mount.propagation }) f
           ∙ (λ i. record mount { propagation = same mount m f i })
           ∙ sym (changed_by true true mount e (nat_eq-swapped number mount.number true f))
-      by mount m true e false f =
-          ap (λ c. retyped_if number kind
+      by mount m true e false f = ap (λ c. retyped_if number kind
           (if c then record mount { propagation = change mount.propagation } else mount)) e
           ∙ retyped_other number kind (record mount { propagation = change mount.propagation }) f
           ∙ sym (changed_by true false mount e (nat_eq-swapped number mount.number false f))
-      by mount m false e true f =
-          ap (λ c. retyped_if number kind
+      by mount m false e true f = ap (λ c. retyped_if number kind
           (if c then record mount { propagation = change mount.propagation } else mount)) e
-          ∙ retyped_same number kind mount f
-          ∙ (λ i. record mount { propagation = same mount m f i })
+          ∙ retyped_same number kind mount f ∙ (λ i. record mount { propagation = same mount m f i })
           ∙ sym (changed_by false true mount e (nat_eq-swapped number mount.number true f))
-      by mount m false e false f =
-          ap (λ c. retyped_if number kind
+      by mount m false e false f = ap (λ c. retyped_if number kind
           (if c then record mount { propagation = change mount.propagation } else mount)) e
           ∙ retyped_other number kind mount f
           ∙ sym (changed_by false false mount e (nat_eq-swapped number mount.number false f))
 
   -- one more has the type that it would get, or was changed
-  pub next_same :
-      ((mount : Mount ℕ) → Among mount world.mounts → nat_eq number mount.number ≡ true
+  pub next_same : ((mount : Mount ℕ) → Among mount world.mounts → nat_eq number mount.number ≡ true
       → is_among nat_eq mount.number numbers ≡ false → mount.propagation ≡ change mount.propagation)
       → with_changed change world numbers ≡ with_changed change world (numbers ++ number ∷ [])
-  next_same same =
-      λ i. record world {
-        mounts = map_alike (changed_if change numbers) (changed_if change (numbers ++ number ∷ [])) world.mounts
-            (λ mount m.
-            by mount m (is_among nat_eq mount.number numbers) refl (nat_eq number mount.number) refl) i;
-      }
+  next_same same = λ i. record world {
+    mounts = map_alike (changed_if change numbers) (changed_if change (numbers ++ number ∷ [])) world.mounts
+        (λ mount m. by mount m (is_among nat_eq mount.number numbers) refl (nat_eq number mount.number) refl) i;
+  }
     where
       by : (mount : Mount ℕ) → Among mount world.mounts → (a : Bool) → is_among nat_eq mount.number numbers ≡ a
           → (b : Bool) → nat_eq number mount.number ≡ b → changed_if change numbers mount
           ≡ changed_if change (numbers ++ number ∷ []) mount
-      by mount m true e b f =
-          ap (λ c. if c then record mount { propagation = change mount.propagation } else mount) e
+      by mount m true e b f = ap (λ c. if c then record mount { propagation = change mount.propagation } else mount) e
           ∙ sym (changed_by true b mount e (nat_eq-swapped number mount.number b f))
       by mount m false e true f =
           ap (λ c. if c then record mount { propagation = change mount.propagation } else mount) e
@@ -162,8 +148,7 @@ none_changed change world = λ i. record world { mounts = same world.mounts i }
 
 -- where no mount has changed the world has its groups
 pub none_yet : (change : Propagation ℕ → Propagation ℕ) (world : World ℕ) (groups : Grouping) → AllGroupsLive world
-    → Has world groups
-    → Has (regrouped nat_eq (with_changed change world [])) groups
+    → Has world groups → Has (regrouped nat_eq (with_changed change world [])) groups
 none_yet change world groups live has =
     subst (λ w. Has w groups) (sym (ap (regrouped nat_eq) (none_changed change world)
     ∙ regrouped_living world live)) has
@@ -187,15 +172,13 @@ changed_loses change world numbers sourced grouped = record {
 
     by_source : (mount : Mount ℕ) (source : ℕ) (b : Bool)
         → source_of (if b then record mount { propagation = change mount.propagation } else mount).propagation
-        ≡ Some source
-        → source_of mount.propagation ≡ Some source
+        ≡ Some source → source_of mount.propagation ≡ Some source
     by_source mount source true e = sourced mount.propagation source e
     by_source mount source false e = e
 
     by_group : (mount : Mount ℕ) (group : ℕ) (b : Bool)
         → group_of (if b then record mount { propagation = change mount.propagation } else mount).propagation
-        ≡ Some group
-        → group_of mount.propagation ≡ Some group
+        ≡ Some group → group_of mount.propagation ≡ Some group
     by_group mount group true e = grouped mount.propagation group e
     by_group mount group false e = e
 
@@ -257,8 +240,7 @@ module _ (world : World ℕ) (live : AllGroupsLive world) where
       (loses.sourced from.0 source (sym (ap (λ x. source_of x.propagation) from.2) ∙ e))
 
   keys_alike : (f g : Mount ℕ → Mount ℕ) → ((mount : Mount ℕ) → key_of (f mount) ≡ key_of (g mount))
-      → (mounts : List (Mount ℕ))
-      → keys_of (map f mounts) ≡ keys_of (map g mounts)
+      → (mounts : List (Mount ℕ)) → keys_of (map f mounts) ≡ keys_of (map g mounts)
   keys_alike f g same [] = refl
   keys_alike f g same (mount ∷ rest) = λ i. same mount i ∷ keys_alike f g same rest i
 
@@ -266,18 +248,15 @@ module _ (world : World ℕ) (live : AllGroupsLive world) where
   pub taken_has : (numbers : List ℕ) (groups : Grouping)
       → Has (regrouped nat_eq (with_changed as_private world numbers)) groups
       → Has (taken_away nat_eq world numbers) groups
-  taken_has numbers groups has =
-      has_alike (with_changed as_private world numbers) (with_mounts world (map
+  taken_has numbers groups has = has_alike (with_changed as_private world numbers) (with_mounts world (map
       (after_going nat_eq world numbers) world.mounts))
       (keys_alike (changed_if as_private numbers) (after_going nat_eq world numbers) (λ mount. by mount
       (is_among nat_eq mount.number numbers)) world.mounts)
       were (λ group h. refl) (changed_lives as_private numbers (private_loses world numbers)) groups has
     where
-      by : (mount : Mount ℕ) (b : Bool)
-          → key_of (if b then record mount { propagation = Private } else mount)
+      by : (mount : Mount ℕ) (b : Bool) → key_of (if b then record mount { propagation = Private } else mount)
           ≡ key_of (if b then detached mount else record mount {
-            mount_point = option_map
-                (mount_point_left nat_eq world numbers) mount.mount_point;
+            mount_point = option_map (mount_point_left nat_eq world numbers) mount.mount_point;
           })
       by mount true = refl
       by mount false = refl
@@ -289,8 +268,7 @@ module _ (world : World ℕ) (live : AllGroupsLive world) where
   old_masters group lacks [] master one has = refl
   old_masters group lacks (mount ∷ rest) master one has =
       old_masters group lacks rest (with_master nat_eq master (group mount.number)
-      (master_after mount.propagation)) one has
-      ∙ ap (λ b. if b then master_after mount.propagation else master one)
+      (master_after mount.propagation)) one has ∙ ap (λ b. if b then master_after mount.propagation else master one)
       (ne_eqb one (group mount.number) (λ same. true≢false (sym has ∙ ap were same ∙ lacks mount.number)))
 
   -- a number is that of a named mount where it is among their numbers
@@ -308,13 +286,10 @@ module _ (world : World ℕ) (live : AllGroupsLive world) where
       → (groups : Grouping) → Has (regrouped nat_eq (with_changed change world numbers)) groups
       → Has (retyped nat_eq world group word named) groups
   retyped_has word change numbers loses same group named are lacks groups has =
-      has_alike (with_changed change world numbers)
-      (record world {
+      has_alike (with_changed change world numbers) (record world {
         mounts = map (retyped_mount nat_eq group word named) world.mounts;
-        master = with_new_groups
-            nat_eq group world.master named;
-      })
-      (keys_alike (changed_if change numbers) (retyped_mount nat_eq group word named)
+        master = with_new_groups nat_eq group world.master named;
+      }) (keys_alike (changed_if change numbers) (retyped_mount nat_eq group word named)
       (λ mount. ap (λ b. key_of (if b then record mount { propagation = change mount.propagation } else mount))
       (ap (is_among nat_eq mount.number) (sym are) ∙ sym (named_numbers mount.number named))
       ∙ by mount (list_any (λ other. nat_eq mount.number other.number) named)) world.mounts)
@@ -323,8 +298,7 @@ module _ (world : World ℕ) (live : AllGroupsLive world) where
       by : (mount : Mount ℕ) (b : Bool)
           → key_of (if b then record mount { propagation = change mount.propagation } else mount)
           ≡ key_of (if b then record mount {
-            propagation = type_after
-                (group mount.number) word mount.propagation;
+            propagation = type_after (group mount.number) word mount.propagation;
           } else mount)
       by mount true = λ i. (mount.number, same (group mount.number) mount.propagation i)
       by mount false = refl
@@ -412,8 +386,7 @@ module _ (world : World ℕ) (live : AllGroupsLive world) (numbers : List ℕ) (
         × (mount.propagation ≡ Shared group)
     member_found = by (lookup (nat_eq number) groups.peers) refl is
       where
-        by : (o : Option (Propagation ℕ)) → lookup (nat_eq number) groups.peers ≡ o → unwrap_or o Private
-            ≡ Shared group
+        by : (o : Option (Propagation ℕ)) → lookup (nat_eq number) groups.peers ≡ o → unwrap_or o Private ≡ Shared group
             → (mount : Mount ℕ) × Among mount (regrouped nat_eq now).mounts × (mount.number ≡ number)
             × (mount.propagation ≡ Shared group)
         by None f e = absurd (true≢false (sym (ap (λ o. is_some (group_of o)) e)))
@@ -424,8 +397,7 @@ module _ (world : World ℕ) (live : AllGroupsLive world) (numbers : List ℕ) (
 
     -- the mount is one of the world so far
     pub is_mount : HasMount (regrouped nat_eq now) number
-    is_mount =
-        subst (Contains (numbers_of (regrouped nat_eq now).mounts)) member_found.2
+    is_mount = subst (Contains (numbers_of (regrouped nat_eq now).mounts)) member_found.2
         (contains_from_among (numbers_of (regrouped nat_eq now).mounts) member_found.0.number (among-map
         (λ mount. mount.number) (regrouped nat_eq now).mounts member_found.0 member_found.1))
 
@@ -452,8 +424,7 @@ module _ (world : World ℕ) (live : AllGroupsLive world) (numbers : List ℕ) (
       → Has (regrouped nat_eq (with_changed as_slave world (numbers ++ number ∷ []))) groups
   no_more_slaves apart =
       subst (λ w. Has (regrouped nat_eq w) groups) (next_same as_slave world numbers number (λ mount m e unvisited.
-      same mount.propagation (λ group f. apart group (told mount m e
-      ∙ ap (λ c. shown (inherited nat_eq now
+      same mount.propagation (λ group f. apart group (told mount m e ∙ ap (λ c. shown (inherited nat_eq now
       (if c then record mount { propagation = as_slave mount.propagation } else mount).propagation)) unvisited
       ∙ ap (λ k. shown (inherited nat_eq now k)) f)))) has
     where
@@ -481,8 +452,7 @@ slave_or_same world live numbers number groups new has member other = by (group_
   where
     by : (o : Option ℕ) → group_of (propagation_in groups number) ≡ o
         → Has (regrouped nat_eq (with_changed as_slave world (numbers ++ number ∷ []))) new
-    by None e =
-        subst (Has (regrouped nat_eq (with_changed as_slave world (numbers ++ number ∷ [])))) (sym (other e))
+    by None e = subst (Has (regrouped nat_eq (with_changed as_slave world (numbers ++ number ∷ [])))) (sym (other e))
         (no_more_slaves world live numbers number groups has (λ group f. true≢false (sym (ap (λ k. is_some
         (group_of k)) f) ∙ ap is_some e)))
     by (Some group) e =
@@ -491,6 +461,5 @@ slave_or_same world live numbers number groups new has member other = by (group_
         (subst (Has (regrouped nat_eq (with_propagation (regrouped nat_eq
         (with_changed as_slave world numbers)) number (Slave group)))) (sym (member group shared))
         (slave_regroups (regrouped nat_eq (with_changed as_slave world numbers)) groups has
-        (slaves_live world live numbers) number group
-        (is_mount world live numbers number groups has group shared)
+        (slaves_live world live numbers) number group (is_mount world live numbers number groups has group shared)
         (is_group world live numbers number groups has group shared)))

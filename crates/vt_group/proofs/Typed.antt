@@ -18,8 +18,7 @@ module _ (world : World ℕ) (groups : Grouping) (has : Has (regrouped nat_eq wo
   typed mount m = λ i. record mount { propagation = by mount.propagation told i }
     where
       told : propagation_in groups mount.number ≡ shown (inherited nat_eq world mount.propagation)
-      told =
-          among_from_all (λ x. propagation_in groups x.number ≡ shown x.propagation) (regrouped nat_eq world).mounts
+      told = among_from_all (λ x. propagation_in groups x.number ≡ shown x.propagation) (regrouped nat_eq world).mounts
           (shows_types (regrouped nat_eq world) groups has) (inheriting nat_eq world mount)
           (subst (Among (inheriting nat_eq world mount)) (sym (mounts-regrouped world)) (among-map
           (inheriting nat_eq world) world.mounts mount m))
@@ -44,15 +43,12 @@ module _ (world : World ℕ) (groups : Grouping) (has : Has (regrouped nat_eq wo
   -- a regrouped world has the types and masters of its groups
   pub is_typed : without_dead_groups nat_eq (regrouped nat_eq world)
       ≡ record world { mounts = map (typed_by groups) world.mounts; master = master_in groups }
-  is_typed =
-      (λ i. record (all_else (list_any (lost_a_group nat_eq world) world.mounts) i) {
-        master = λ group. sym
-            (has.masters group) i;
-      })
-      ∙ (λ i. record world {
-        mounts = (mounts-regrouped world ∙ map_alike (inheriting nat_eq world) (typed_by groups) world.mounts typed) i;
-        master = master_in groups;
-      })
+  is_typed = (λ i. record (all_else (list_any (lost_a_group nat_eq world) world.mounts) i) {
+    master = λ group. sym (has.masters group) i;
+  }) ∙ (λ i. record world {
+    mounts = (mounts-regrouped world ∙ map_alike (inheriting nat_eq world) (typed_by groups) world.mounts typed) i;
+    master = master_in groups;
+  })
 
 -- so has each regrouped world
 pub regrouped_is_typed : RegroupedIsTyped

@@ -7,15 +7,13 @@ use Rattle.vt_io.specs.LineBuffer.{LineSoFar, Holds}
 
 -- a front as long as there is room for
 pub front-extended : (limit : ℕ) (old bytes : List ℕ) (size : ℕ) → length old ≤ limit
-    → size ≡ min (length bytes) (limit - length old)
-    → old ++ take size bytes ≡ take limit (old ++ bytes)
+    → size ≡ min (length bytes) (limit - length old) → old ++ take size bytes ≡ take limit (old ++ bytes)
 front-extended limit old bytes size within is =
     let room = limit - length old in
     let all : length old + room ≡ limit = omega arith in
     let same : size ≡ min room (length bytes) = omega (arith, is) in
     ap (λ n. old ++ take n bytes) same ∙ ap (λ xs. old ++ xs) (take_min room bytes)
-    ∙ sym (take-append-add old bytes room)
-    ∙ ap (λ n. take n (old ++ bytes)) all
+    ∙ sym (take-append-add old bytes room) ∙ ap (λ n. take n (old ++ bytes)) all
 
 -- what is cut off a line is not needed
 front-of_front : (limit : ℕ) (line bytes : List ℕ) → take limit (take limit line ++ bytes) ≡ take limit (line ++ bytes)
@@ -37,14 +35,12 @@ over-extended limit line bytes kept size is same = grind (arith, nat_tests)
 
 -- more bytes of a line
 pub Holds-extended : (line bytes : List ℕ) (old new : LineSoFar) (size over : ℕ) → Holds line old
-    → length old.bytes ≤ 8192 →
-    size ≡ min (length bytes) (8192 - length old.bytes) → over ≡ length bytes - size
+    → length old.bytes ≤ 8192 → size ≡ min (length bytes) (8192 - length old.bytes) → over ≡ length bytes - size
     → new.bytes ≡ old.bytes ++ take size bytes →
     new.overlong ≡ (old.overlong || not (eqb over 0)) → Holds (line ++ bytes) new
 Holds-extended line bytes old new size over held within is rest kept long = record {
   bytes = kept ∙ front-extended 8192 old.bytes bytes size within is
-      ∙ ap (λ front. take 8192 (front ++ bytes)) held.bytes
-      ∙ front-of_front 8192 line bytes;
+      ∙ ap (λ front. take 8192 (front ++ bytes)) held.bytes ∙ front-of_front 8192 line bytes;
   overlong =
       let kept_size : length old.bytes ≡ min 8192 (length line) = ap length held.bytes ∙ length-take 8192 line in
       long ∙ ap (λ overlong. overlong || not (eqb over 0)) held.overlong

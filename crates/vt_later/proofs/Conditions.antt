@@ -70,19 +70,17 @@ module _ (passed : Passed) (looks : Looks ℕ) (task : Task ℕ) where
       allowed : (node : Option (Node ℕ))
           → node_allows caller.credentials wanted node ≡ node_allows task.credentials wanted node
       allowed None = refl
-      allowed (Some node) =
-          cc (
-            held_apart task.credentials.capabilities (added passed) cap_dac_override
-                (added-override passed.rights passed.privileges stays),
-            held_apart task.credentials.capabilities (added passed) cap_dac_read_search
-                (added-search passed.rights passed.privileges),
-          )
+      allowed (Some node) = cc (
+        held_apart task.credentials.capabilities (added passed) cap_dac_override
+            (added-override passed.rights passed.privileges stays),
+        held_apart task.credentials.capabilities (added passed) cap_dac_read_search
+            (added-search passed.rights passed.privileges),
+      )
 
   -- C3, which is never let pass
   pub sticky_kept : (directory object : Location ℕ)
       → is_kept shown caller directory object ≡ is_kept looks task directory object
-  sticky_kept directory object =
-      cc (held_apart task.credentials.capabilities (added passed) cap_fowner
+  sticky_kept directory object = cc (held_apart task.credentials.capabilities (added passed) cap_fowner
       (added-fowner passed.rights passed.privileges))
 
   pub replaced_kept : (directory : Location ℕ) (object : Option (Location ℕ))
@@ -98,8 +96,7 @@ module _ (passed : Passed) (looks : Looks ℕ) (task : Task ℕ) where
 
   pub point_in_kept : (at : Location ℕ) → passed.mount_points ≡ false
       → is_mount_point_in nat_eq shown task.namespace at ≡ is_mount_point_in nat_eq looks task.namespace at
-  point_in_kept at stays =
-      ap (λ b. list_any (λ mount. holds_of (nat_eq task.namespace) mount.namespace)
+  point_in_kept at stays = ap (λ b. list_any (λ mount. holds_of (nat_eq task.namespace) mount.namespace)
       (lenient_mounts_on b (looks.mounts_on at))) stays
 
   pub replaced_point_kept : (at : Option (Location ℕ)) → passed.mount_points ≡ false
@@ -110,6 +107,5 @@ module _ (passed : Passed) (looks : Looks ℕ) (task : Task ℕ) where
 
   -- K1 of mount calls
   pub admin_kept : passed.privileges ≡ false → lacks caller cap_sys_admin ≡ lacks task cap_sys_admin
-  admin_kept stays =
-      ap not (held_apart task.credentials.capabilities (added passed) cap_sys_admin
+  admin_kept stays = ap not (held_apart task.credentials.capabilities (added passed) cap_sys_admin
       (added-admin passed.rights passed.privileges stays))

@@ -11,8 +11,7 @@ use Rattle.vt_later.specs.Lenience.{refused_by}
 
 -- the rule of a denial refuses, unless an allocation failed
 pub refused_by-denied : (call : Call) (task : Task ℕ) (judged : Judgement ℕ) (deny : Deny)
-    → JudgesByReceivers call task judged (Err deny) → (deny ≡ denial S5 → ⊥)
-    → Some deny.rule ≡ refused_by judged
+    → JudgesByReceivers call task judged (Err deny) → (deny ≡ denial S5 → ⊥) → Some deny.rule ≡ refused_by judged
 refused_by-denied call task (Ok permit) deny judges unless = absurd (unless judges)
 refused_by-denied call task (Err refusal) deny (inl same) unless = ap (λ d. Some d.rule) same
 refused_by-denied call task (Err refusal) deny (inr late) unless = absurd (unless late.0)

@@ -39,28 +39,21 @@ copied passed looks task at true = same_rows passed (looks.mounter_rules at (Cop
 copied passed looks task at false = tt
 
 pub admin_rules-kept : (passed : Passed) (looks : Looks ℕ) (task : Task ℕ)
-    → SameBut passed (admin_rules (caller passed looks task))
-    (admin_rules task)
-admin_rules-kept passed looks task =
-    row (admin_kept passed looks task) tt
+    → SameBut passed (admin_rules (caller passed looks task)) (admin_rules task)
+admin_rules-kept passed looks task = row (admin_kept passed looks task) tt
 
 pub list_rules-kept : (passed : Passed) (looks : Looks ℕ) (task : Task ℕ) (at : Location ℕ)
-    → SameBut passed (list_rules (shown passed looks task) (caller passed looks task) at)
-    (list_rules looks task at)
-list_rules-kept passed looks task at =
-    row (right_kept passed looks task at read_right) (row (λ _. refl) tt)
+    → SameBut passed (list_rules (shown passed looks task) (caller passed looks task) at) (list_rules looks task at)
+list_rules-kept passed looks task at = row (right_kept passed looks task at read_right) (row (λ _. refl) tt)
 
 pub read_rules-kept : (passed : Passed) (looks : Looks ℕ) (task : Task ℕ) (at : Location ℕ)
-    → SameBut passed (read_rules (shown passed looks task) (caller passed looks task) at)
-    (read_rules looks task at)
+    → SameBut passed (read_rules (shown passed looks task) (caller passed looks task) at) (read_rules looks task at)
 read_rules-kept passed looks task at =
     row (λ _. refl) (row (λ _. refl) (row (right_kept passed looks task at read_right) (row (λ _. refl) tt)))
 
 pub exec_rules-kept : (passed : Passed) (looks : Looks ℕ) (task : Task ℕ) (at : Location ℕ)
-    → SameBut passed (exec_rules (shown passed looks task) (caller passed looks task) at)
-    (exec_rules looks task at)
-exec_rules-kept passed looks task at =
-    row (λ _. refl) (row (noexec_kept passed looks task at)
+    → SameBut passed (exec_rules (shown passed looks task) (caller passed looks task) at) (exec_rules looks task at)
+exec_rules-kept passed looks task at = row (λ _. refl) (row (noexec_kept passed looks task at)
     (row (right_kept passed looks task at execute_right) (row (λ _. refl) tt)))
 
 pub make_rules-kept : (passed : Passed) (looks : Looks ℕ) (task : Task ℕ) (place : Place ℕ) (change : Change ℕ)
@@ -117,66 +110,51 @@ rmdir_rules-kept passed looks task place object =
 pub same_object_rules-kept : (passed : Passed) (looks : Looks ℕ) (task : Task ℕ) (from to : Place ℕ)
     → SameBut passed (same_object_rules nat_eq (shown passed looks task) from to)
     (same_object_rules nat_eq looks from to)
-same_object_rules-kept passed looks task from to =
-    row (λ stays. cc (
-      read_only_kept passed looks task from.parent stays,
-      read_only_kept passed looks task to.parent stays,
-    ))
-    (row (λ _. refl) (row (λ _. refl) tt))
+same_object_rules-kept passed looks task from to = row (λ stays. cc (
+  read_only_kept passed looks task from.parent stays,
+  read_only_kept passed looks task to.parent stays,
+)) (row (λ _. refl) (row (λ _. refl) tt))
 
 pub rename_rules-kept : (passed : Passed) (looks : Looks ℕ) (task : Task ℕ) (from to : Place ℕ) (old : Location ℕ)
     → SameBut passed (rename_rules nat_eq (shown passed looks task) (caller passed looks task) from to old)
     (rename_rules nat_eq looks task from to old)
-rename_rules-kept passed looks task from to old =
-    row (λ _. refl) (row (λ _. refl) (row (λ _. refl) (row (λ _. refl)
+rename_rules-kept passed looks task from to old = row (λ _. refl) (row (λ _. refl) (row (λ _. refl) (row (λ _. refl)
     (row (λ stays. cc (
       read_only_kept passed looks task from.parent stays,
       read_only_kept passed looks task to.parent stays,
-    ))
-    (row (λ _. refl) (row (λ _. refl)
-    (row (λ stays. cc (
+    )) (row (λ _. refl) (row (λ _. refl) (row (λ stays. cc (
       point_kept passed looks task old stays,
       replaced_point_kept passed looks task to.object stays,
-    ))
-    (row (λ _. refl)
-    (row (λ stays. cc (
+    )) (row (λ _. refl) (row (λ stays. cc (
       right_kept passed looks task from.parent write_right stays,
       right_kept passed looks task to.parent write_right stays,
-    ))
-    (row (λ stays. ap (λ b. changes_parent nat_eq looks from to old && b)
-    (right_kept passed looks task old write_right stays))
-    (row (λ stays. cc (
+    )) (row (λ stays. ap (λ b. changes_parent nat_eq looks from to old && b)
+    (right_kept passed looks task old write_right stays)) (row (λ stays. cc (
       sticky_kept passed looks task from.parent old,
       replaced_kept passed looks task to.parent to.object,
-    ))
-    (row (λ _. refl) (row (λ _. refl) (row (λ _. refl)
+    )) (row (λ _. refl) (row (λ _. refl) (row (λ _. refl)
     (same_rows passed (looks.mounter_rules from.parent (moving from to old)))))))))))))))))
 
 pub attr_rules-kept : (passed : Passed) (looks : Looks ℕ) (task : Task ℕ)
     (at : Location ℕ) (allowed : Bool) (attr : Attr)
-    → SameBut passed (attr_rules (shown passed looks task) at allowed attr)
-    (attr_rules looks at allowed attr)
+    → SameBut passed (attr_rules (shown passed looks task) at allowed attr) (attr_rules looks at allowed attr)
 attr_rules-kept passed looks task at allowed attr =
     row (read_only_kept passed looks task at) (row (λ _. refl) (row (λ _. refl) (row (λ _. refl)
     (same_rows passed (looks.mounter_rules at (SetAttr at.node attr))))))
 
 pub opaque_rules-kept : (passed : Passed) (looks : Looks ℕ) (task : Task ℕ) (at : Location ℕ)
-    → SameBut passed (opaque_rules (shown passed looks task) at)
-    (opaque_rules looks at)
+    → SameBut passed (opaque_rules (shown passed looks task) at) (opaque_rules looks at)
 opaque_rules-kept passed looks task at =
     row (read_only_kept passed looks task at) (row (λ _. refl) (row (λ _. refl) (row (λ _. refl) tt)))
 
 pub enter_rules-kept : (passed : Passed) (looks : Looks ℕ) (task : Task ℕ) (at : Location ℕ)
-    → SameBut passed (enter_rules (shown passed looks task) (caller passed looks task) at)
-    (enter_rules looks task at)
-enter_rules-kept passed looks task at =
-    row (right_kept passed looks task at execute_right) (row (λ _. refl) tt)
+    → SameBut passed (enter_rules (shown passed looks task) (caller passed looks task) at) (enter_rules looks task at)
+enter_rules-kept passed looks task at = row (right_kept passed looks task at execute_right) (row (λ _. refl) tt)
 
 pub open_rules-kept : (passed : Passed) (looks : Looks ℕ) (task : Task ℕ) (at : Location ℕ) (access : Access)
     → SameBut passed (open_rules (shown passed looks task) (caller passed looks task) at access)
     (open_rules looks task at access)
-open_rules-kept passed looks task at access =
-    row (λ _. refl) (row (λ _. refl)
+open_rules-kept passed looks task at access = row (λ _. refl) (row (λ _. refl)
     (row (λ stays. ap (λ b. opens_for_writing access && b) (read_only_kept passed looks task at stays))
     (row (λ _. refl) (row (λ _. refl) (row (right_kept passed looks task at (access_rights access))
     (row (λ _. refl) (copied passed looks task at (is_copied_up looks at access))))))))
@@ -192,29 +170,25 @@ pub bind_rules-kept : (passed : Passed) (looks : Looks ℕ) (task : Task ℕ) (s
     → SameBut passed
     (bind_rules nat_eq (shown passed looks task) (caller passed looks task) source at (not passed.numbers && overfull))
     (bind_rules nat_eq looks task source at overfull)
-bind_rules-kept passed looks task source at overfull =
-    row (λ _. refl)
+bind_rules-kept passed looks task source at overfull = row (λ _. refl)
     (row (λ _. refl) (row (λ stays. ap (λ b. not b && overfull) stays) tt))
 
 pub move_rules-kept : (passed : Passed) (looks : Looks ℕ) (task : Task ℕ) (source at : Location ℕ) (overfull : Bool)
     → SameBut passed
     (move_rules nat_eq (shown passed looks task) (caller passed looks task) source at (not passed.numbers && overfull))
     (move_rules nat_eq looks task source at overfull)
-move_rules-kept passed looks task source at overfull =
-    row (λ _. refl)
+move_rules-kept passed looks task source at overfull = row (λ _. refl)
     (row (λ _. refl) (row (λ _. refl) (row (λ _. refl) (row (λ _. refl)
     (row (λ stays. ap (λ b. not b && overfull) stays) (row (λ _. refl) tt))))))
 
 pub umount_rules-kept : (passed : Passed) (looks : Looks ℕ) (task : Task ℕ) (at : Location ℕ)
     → SameBut passed (umount_rules nat_eq (shown passed looks task) (caller passed looks task) at)
     (umount_rules nat_eq looks task at)
-umount_rules-kept passed looks task at =
-    row (λ _. refl) (row (λ _. refl)
+umount_rules-kept passed looks task at = row (λ _. refl) (row (λ _. refl)
     (row (λ stays. ap (λ b. not b && looks.is_busy at.mount) stays) (row (λ _. refl) tt)))
 
 pub remount_rules-kept : (passed : Passed) (looks : Looks ℕ) (task : Task ℕ) (at : Location ℕ) (flags : MountFlags)
     → SameBut passed (remount_rules nat_eq (shown passed looks task) (caller passed looks task) at flags)
     (remount_rules nat_eq looks task at flags)
-remount_rules-kept passed looks task at flags =
-    row (λ _. refl) (row (λ _. refl)
+remount_rules-kept passed looks task at flags = row (λ _. refl) (row (λ _. refl)
     (row (λ stays. ap (λ b. flags.read_only && (not b && looks.is_written_through at.mount)) stays) tt))

@@ -86,11 +86,10 @@ module _ (looks : Looks ℕ) (task : Task ℕ) where
       → granted ≡ map (λ lower. layer_at looks (location_of lower.at)) lowers
       → overlay_at looks task (lowers_alone (lowers_of lowers))
       ≡ record { upper = None; work = None; lowers = granted; mounter = task.credentials; real = λ number. None }
-  granted_overlay lowers granted e =
-      ap (λ lowers. record {
-        upper = None;
-        work = None;
-        lowers = lowers;
-        mounter = task.credentials;
-        real = λ number. None;
-      }) (sym (e ∙ layers_of_lowers lowers))
+  granted_overlay lowers granted e = ap (λ lowers. record {
+    upper = None;
+    work = None;
+    lowers = lowers;
+    mounter = task.credentials;
+    real = λ number. None;
+  }) (sym (e ∙ layers_of_lowers lowers))

@@ -55,8 +55,7 @@ module _ (looks : Looks ℕ) (task : Task ℕ) where
   too_many layers answer e =
       fourth_row (is_empty_list layers.lowers) (has_single_lower layers.lowers && not (is_some layers.upper))
       (is_some layers.upper && not (is_some layers.work)) (nat_lt most_lowers (length layers.lowers))
-      (rest_of (rest_of (rest_of (rest_of (layer_rules nat_eq looks layers (overlay_at looks task layers))))))
-      answer e
+      (rest_of (rest_of (rest_of (rest_of (layer_rules nat_eq looks layers (overlay_at looks task layers)))))) answer e
 
   -- the first lower layers are ruled as all are
   ruled-first : (layers : Layers) {A : Type 0} (answer : Result A Deny)
@@ -69,8 +68,7 @@ module _ (looks : Looks ℕ) (task : Task ℕ) where
         (too_long (length layers.lowers) e) in
         let long : nat_lt most_lowers (length (take KEPT_LOWERS layers.lowers)) ≡ true = rw size refl in
         too_many (with_first_lowers layers) answer long ∙ sym (too_many layers answer e)
-    by_length false e =
-        ap (λ lowers. ruled (record layers { lowers = lowers }) answer)
+    by_length false e = ap (λ lowers. ruled (record layers { lowers = lowers }) answer)
         (take_all KEPT_LOWERS layers.lowers (short_enough (length layers.lowers) e))
 
   -- and those that pass are all
@@ -79,8 +77,7 @@ module _ (looks : Looks ℕ) (task : Task ℕ) where
     by_length : (long : Bool) → nat_lt most_lowers (length layers.lowers) ≡ long → with_first_lowers layers ≡ layers
     by_length true h =
         let refused : ruled {A = Unit {0}} layers (Ok tt) ≡ Err (denial O2) = too_many layers (Ok tt) h in absurd cc
-    by_length false h =
-        ap (λ lowers. record layers { lowers = lowers })
+    by_length false h = ap (λ lowers. record layers { lowers = lowers })
         (take_all KEPT_LOWERS layers.lowers (short_enough (length layers.lowers) h))
 
   -- what is answered of options
@@ -94,8 +91,7 @@ module _ (looks : Looks ℕ) (task : Task ℕ) where
     by_walk (Err other) e = cc
 
   pub named-ruled_out : (words : OverlayWords) (first : Layers) (deny : Deny)
-      → Ok first ≡ first_layers (layers_walked nat_eq looks task words)
-      → Err deny ≡ ruled {A = Unit {0}} first (Ok tt)
+      → Ok first ≡ first_layers (layers_walked nat_eq looks task words) → Err deny ≡ ruled {A = Unit {0}} first (Ok tt)
       → Err deny ≡ layers_named looks task (Some words)
   named-ruled_out words first deny e refused = by_walk (layers_walked nat_eq looks task words) e where
     by_walk : (walked : Result Layers Deny) → Ok first ≡ first_layers walked
@@ -107,8 +103,7 @@ module _ (looks : Looks ℕ) (task : Task ℕ) where
     by_walk (Err other) e = absurd cc
 
   pub named-passed : (words : OverlayWords) (first : Layers)
-      → Ok first ≡ first_layers (layers_walked nat_eq looks task words)
-      → Ok tt ≡ ruled {A = Unit {0}} first (Ok tt)
+      → Ok first ≡ first_layers (layers_walked nat_eq looks task words) → Ok tt ≡ ruled {A = Unit {0}} first (Ok tt)
       → Ok first ≡ layers_named looks task (Some words)
   named-passed words first e passes = by_walk (layers_walked nat_eq looks task words) e where
     by_walk : (walked : Result Layers Deny) → Ok first ≡ first_layers walked
@@ -142,8 +137,7 @@ module _ (looks : Looks ℕ) (task : Task ℕ) where
       by_rules ((true, rule) ∷ rows) a next = refl
       by_rules ((false, rule) ∷ rows) a next = by_rules rows a next
 
-      by_walk : (walked : Result Layers Deny)
-          → and_then walked (λ layers. ruled layers (asked place layers))
+      by_walk : (walked : Result Layers Deny) → and_then walked (λ layers. ruled layers (asked place layers))
           ≡ and_then (and_then walked (λ layers. ruled layers (Ok layers))) (asked place)
       by_walk (Ok layers) =
           by_rules (layer_rules nat_eq looks layers (overlay_at looks task layers)) layers (asked place)
@@ -183,10 +177,8 @@ module _ (looks : Looks ℕ) (task : Task ℕ) where
         placed place e there ∙ ap (λ named. and_then named (asked place)) (sym refused)
 
     pub left : (place : Location ℕ) (layers : Layers) → lacks task cap_sys_admin ≡ false
-        → Ok place ≡ location_end destined → Ok layers ≡ layers_named looks task options
-        → judged ≡ asked place layers
-    left place layers e there named =
-        placed place e there ∙ ap (λ named. and_then named (asked place)) (sym named)
+        → Ok place ≡ location_end destined → Ok layers ≡ layers_named looks task options → judged ≡ asked place layers
+    left place layers e there named = placed place e there ∙ ap (λ named. and_then named (asked place)) (sym named)
 
 -- want of memory for the list of layers
 pub no_list : (call : Call) (task : Task ℕ) (judged : Judgement ℕ) (permit : Permit ℕ) (deny : Deny)

@@ -11,8 +11,7 @@ use Rattle.vt_spec.specs.PathText.{parts, with_byte}
 use Rattle.vt_text.proofs.PathWords.{parts_some}
 
 -- the first part ends at the first separator
-parts-cut : (s : ℕ) (xs : List ℕ) (k : ℕ) → k < length xs → get_or xs k 0 ≡ s
-    → ((j : ℕ) → j < k → get_or xs j 0 ≢ s)
+parts-cut : (s : ℕ) (xs : List ℕ) (k : ℕ) → k < length xs → get_or xs k 0 ≡ s → ((j : ℕ) → j < k → get_or xs j 0 ≢ s)
     → parts s xs ≡ take k xs ∷ parts s (drop (suc k) xs)
 parts-cut s [] k inside here before = absurd (omega arith)
 parts-cut s (x ∷ xs) zero inside here before = ap (λ b. with_byte b x (parts s xs)) (eq-eqb x s here)
@@ -21,16 +20,14 @@ parts-cut s (x ∷ xs) (suc k) inside here before =
     ∙ ap (with_byte false x) (parts-cut s xs k (omega arith) here (λ j below. before (suc j) (omega arith)))
 
 pub parts_first : (s : ℕ) (xs : List ℕ) (k : ℕ) → k < length xs → get_or xs k 0 ≡ s
-    → ((j : ℕ) → j < k → get_or xs j 0 ≢ s)
-    → parts s xs ≡ take k xs ∷ parts s (drop (k + 1) xs)
+    → ((j : ℕ) → j < k → get_or xs j 0 ≢ s) → parts s xs ≡ take k xs ∷ parts s (drop (k + 1) xs)
 parts_first s xs k inside here before =
     let next : suc k ≡ k + 1 = omega arith in
     parts-cut s xs k inside here before ∙ ap (λ n. take k xs ∷ parts s (drop n xs)) next
 
 -- all parts are paths, if there is no byte 0 in the text
 first-longer : (zeroed within any : Bool) (byte : ℕ) (p : List ℕ) (others : Option (List (List ℕ)))
-    (rest : List (List ℕ))
-    → with_first (cond within None (Some p)) others ≡ cond any None (Some (p ∷ rest))
+    (rest : List (List ℕ)) → with_first (cond within None (Some p)) others ≡ cond any None (Some (p ∷ rest))
     → with_first (cond (zeroed || within) None (Some (byte ∷ p))) others
     ≡ cond (zeroed || any) None (Some ((byte ∷ p) ∷ rest))
 first-longer true within any byte p others rest e = refl
@@ -47,8 +44,7 @@ first-empty true ps e = ap (with_first (Some [])) e
 first-empty false ps e = ap (with_first (Some [])) e
 
 with_byte-paths : (cut : Bool) (byte : ℕ) (any : Bool) (ps : List (List ℕ))
-    → (cut ≡ true → eqb byte 0 ≡ false) → ps ≢ []
-    → each_of path_word ps ≡ cond any None (Some ps)
+    → (cut ≡ true → eqb byte 0 ≡ false) → ps ≢ [] → each_of path_word ps ≡ cond any None (Some ps)
     → each_of path_word (with_byte cut byte ps) ≡ cond (eqb byte 0 || any) None (Some (with_byte cut byte ps))
 with_byte-paths true byte any ps other some e =
     first-empty any ps e ∙ ap (λ b. cond (b || any) None (Some ([] ∷ ps))) (sym (other refl))
@@ -67,8 +63,7 @@ each_of-parts (byte ∷ bytes) =
     (parts_some 58 bytes) (each_of-parts bytes)
 
 -- so lower directories are the parts of a path
-paths-lowers : (any : Bool) (text : List ℕ)
-    → option_map LowerItem (cond any None (Some (parts 58 text)))
+paths-lowers : (any : Bool) (text : List ℕ) → option_map LowerItem (cond any None (Some (parts 58 text)))
     ≡ option_map (λ path. LowerItem (parts 58 path)) (cond any None (Some text))
 paths-lowers true text = refl
 paths-lowers false text = refl
@@ -77,8 +72,7 @@ pub lower_item-there : (text paths : List ℕ) → behind (codes "lowerdir=") te
     → lower_item text ≡ option_map (λ path. LowerItem (parts 58 path)) (path_word paths)
 lower_item-there text paths there =
     ap (λ found. then_some found (λ paths. option_map LowerItem (each_of path_word (parts 58 paths)))) there
-    ∙ ap (option_map LowerItem) (each_of-parts paths)
-    ∙ paths-lowers (list_any (λ b. eqb b 0) paths) paths
+    ∙ ap (option_map LowerItem) (each_of-parts paths) ∙ paths-lowers (list_any (λ b. eqb b 0) paths) paths
 
 -- items are read one after another
 abbrev pub left_of : OverlayWords → List (List ℕ) → Option OverlayWords
@@ -99,8 +93,7 @@ first-folded words item (Some rest) = refl
 pub items-more : (words : OverlayWords) (items : List (List ℕ)) (item : List ℕ) (rest : List (List ℕ))
     (read : OptionItem)
     → items ≡ item ∷ rest → Some read ≡ option_item item → left_of (with_item words read) rest ≡ left_of words items
-items-more words items item rest read cut some =
-    first-folded words read (each_of option_item rest)
+items-more words items item rest read cut some = first-folded words read (each_of option_item rest)
     ∙ ap (λ first. option_map (folded with_item words) (with_first first (each_of option_item rest))) some
     ∙ ap (left_of words) (sym cut)
 

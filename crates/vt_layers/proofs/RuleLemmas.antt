@@ -43,8 +43,7 @@ joined_rows false false false false false false false false false true rows answ
 joined_rows false false false false false false false false false false rows answer = refl
 
 joined_ends : {A : Type 0} (e9 e10 f1 f2 : Bool) (answer : Result A Deny)
-    → unless ((e9, O3) ∷ (e10 || f1 || f2, O5) ∷ []) answer
-    ≡ unless ((e9, O3) ∷ (e10, O5) ∷ (f1 || f2, O5) ∷ []) answer
+    → unless ((e9, O3) ∷ (e10 || f1 || f2, O5) ∷ []) answer ≡ unless ((e9, O3) ∷ (e10, O5) ∷ (f1 || f2, O5) ∷ []) answer
 joined_ends true e10 f1 f2 answer = refl
 joined_ends false true f1 f2 answer = refl
 joined_ends false false true f2 answer = refl
@@ -142,8 +141,7 @@ layers_at looks lowers = map (layer_at looks) (lowers_of lowers)
 
 pub any_lower : (looks : Looks ℕ) (test : Layer ℕ → Bool) (lowers : List Lower)
     → list_any (λ lower. test (layer_at looks (location_of lower.at))) lowers ≡ list_any test (layers_at looks lowers)
-any_lower looks test lowers =
-    list_any-map (λ at. test (layer_at looks at)) (λ lower. location_of lower.at) lowers
+any_lower looks test lowers = list_any-map (λ at. test (layer_at looks at)) (λ lower. location_of lower.at) lowers
     ∙ list_any-map test (layer_at looks) (lowers_of lowers)
 
 module _ (looks : Looks ℕ) (lowers : List Lower) (i : ℕ) (d : Lower) (inside : i < length lowers) where
@@ -163,20 +161,16 @@ module _ (looks : Looks ℕ) (lowers : List Lower) (i : ℕ) (d : Lower) (inside
   pub pair-here : list_any (under_one here)
       (layers_at looks (take (length lowers - (i + 1)) (drop (i + 1) lowers))) ≡ true
       → pairs_from (drop i lowers) ≡ true
-  pair-here e =
-      cut_here
+  pair-here e = cut_here
       ∙ ap (λ left. list_any (under_one here) (layers_at looks left) || pairs_from (drop (i + 1) lowers))
-      (sym (take_rest lowers (i + 1)))
-      ∙ ap (λ first. first || pairs_from (drop (i + 1) lowers)) e
+      (sym (take_rest lowers (i + 1))) ∙ ap (λ first. first || pairs_from (drop (i + 1) lowers)) e
 
   pub pair-later : list_any (under_one here)
       (layers_at looks (take (length lowers - (i + 1)) (drop (i + 1) lowers))) ≡ false
       → pairs_from (drop (i + 1) lowers) ≡ pairs_from (drop i lowers)
-  pair-later e =
-      sym (cut_here
+  pair-later e = sym (cut_here
       ∙ ap (λ left. list_any (under_one here) (layers_at looks left) || pairs_from (drop (i + 1) lowers))
-      (sym (take_rest lowers (i + 1)))
-      ∙ ap (λ first. first || pairs_from (drop (i + 1) lowers)) e)
+      (sym (take_rest lowers (i + 1))) ∙ ap (λ first. first || pairs_from (drop (i + 1) lowers)) e)
 
 pub pairs-ended : (looks : Looks ℕ) (lowers : List Lower) (i : ℕ) → length lowers ≤ i
     → false ≡ any_pair (one_under_another nat_eq looks) (layers_at looks (drop i lowers))

@@ -38,8 +38,7 @@ module _ (looks : Looks ℕ) (task : Task ℕ) where
   refused_first before others (Err other) deny e = cc
 
   pub walk-refused : (before : Locations) (paths rest : List (List ℕ)) (path : List ℕ) (deny : Deny)
-      → paths ≡ path ∷ rest
-      → Err deny ≡ location_end (walk_end (source_walk nat_eq looks task path))
+      → paths ≡ path ∷ rest → Err deny ≡ location_end (walk_end (source_walk nat_eq looks task path))
       → Err deny ≡ kept_before before (each_walked nat_eq looks task paths)
   walk-refused before paths rest path deny cut e =
       refused_first before (each_walked nat_eq looks task rest) (walk_end (source_walk nat_eq looks task path)) deny e
@@ -55,8 +54,7 @@ module _ (looks : Looks ℕ) (task : Task ℕ) where
   reached_first before others (Err deny) at e = absurd cc
 
   pub walk-kept : (before : Locations) (paths rest : List (List ℕ)) (path : List ℕ) (at : meant.Location ℕ)
-      → paths ≡ path ∷ rest
-      → Ok at ≡ location_end (walk_end (source_walk nat_eq looks task path))
+      → paths ≡ path ∷ rest → Ok at ≡ location_end (walk_end (source_walk nat_eq looks task path))
       → kept_before (before ++ at ∷ []) (each_walked nat_eq looks task rest)
       ≡ kept_before before (each_walked nat_eq looks task paths)
   walk-kept before paths rest path at cut e =
@@ -114,8 +112,7 @@ abbrev Given : Type 0
 Given = Result (Option (meant.Location ℕ)) Deny
 
 abbrev together : Result Locations Deny → Given → Given → Result (LayerLocations ℕ) Deny
-together lowers upper work =
-    and_then lowers (λ lowers. and_then upper (λ upper. and_then work (λ work.
+together lowers upper work = and_then lowers (λ lowers. and_then upper (λ upper. and_then work (λ work.
     Ok (record { lowers = lowers; upper = upper; work = work }))))
 
 pub lowers-denied : (lowers : Result Locations Deny) (upper work : Given) (deny : Deny)
@@ -139,8 +136,7 @@ work-denied (Ok lowers) (Err other) work first given deny e f h = absurd cc
 work-denied (Err other) upper work first given deny e f h = absurd cc
 
 pub all-walked : (lowers : Result Locations Deny) (upper work : Given) (first : Locations)
-    (given scratch : Option (meant.Location ℕ))
-    → Ok first ≡ first_lowers lowers → Ok given ≡ upper → Ok scratch ≡ work
+    (given scratch : Option (meant.Location ℕ)) → Ok first ≡ first_lowers lowers → Ok given ≡ upper → Ok scratch ≡ work
     → Ok (record { lowers = first; upper = given; work = scratch }) ≡ first_layers (together lowers upper work)
 all-walked (Ok lowers) (Ok upper) (Ok work) first given scratch e f h =
     let one : first ≡ take KEPT_LOWERS lowers = cc in

@@ -60,10 +60,8 @@ module _ (front line : List ℕ) (whole : whole_lines front ≡ front) (one : Ha
       lines_of-whole front (line ++ 10 ∷ []) whole ∙ ap (λ last. lines_of front ++ last) (lines_of-newline line [] one)
 
   pub split-next : (text rest after : List ℕ) → lines_of text ≡ lines_of front ++ lines_of rest
-      → lines_of rest ≡ line ∷ lines_of after
-      → lines_of text ≡ lines_of (front ++ (line ++ 10 ∷ [])) ++ lines_of after
-  split-next text rest after split first =
-      split ∙ ap (λ lines. lines_of front ++ lines) first
+      → lines_of rest ≡ line ∷ lines_of after → lines_of text ≡ lines_of (front ++ (line ++ 10 ∷ [])) ++ lines_of after
+  split-next text rest after split first = split ∙ ap (λ lines. lines_of front ++ lines) first
       ∙ sym (append_assoc (lines_of front) (line ∷ []) (lines_of after))
       ∙ ap (λ lines. lines ++ lines_of after) (sym lines-next)
 

@@ -28,8 +28,7 @@ use Rattle.vt_listing.specs.declared.peer_lines.Placed.{Placed}
 counted_more : {A : Type 0} (k : ℕ) (xs : List A) (x : A)
     → counted_from k (xs ++ x ∷ []) ≡ counted_from k xs ++ (k + length xs, x) ∷ []
 counted_more k [] x = ap (λ n. (n, x) ∷ []) (let same : k ≡ k + 0 = omega arith in same)
-counted_more k (first ∷ xs) x =
-    ap (λ rest. (k, first) ∷ rest) (counted_more (k + 1) xs x
+counted_more k (first ∷ xs) x = ap (λ rest. (k, first) ∷ rest) (counted_more (k + 1) xs x
     ∙ ap (λ n. counted_from (k + 1) xs ++ (n, x) ∷ [])
     (let same : k + 1 + length xs ≡ k + suc (length xs) = omega arith in same))
 
@@ -49,20 +48,16 @@ filter_map_map h f (x ∷ xs) = ap (cons_option (h (f x))) (filter_map_map h f x
 pub pushed_next : {A B : Type 0} (h : A → Option B) (i : ℕ) (d : A) (xs : List A) → i < length xs
     → (before after : List B) → before ≡ filter_map h (take i xs)
     → after ≡ before ++ cons_option (h (get_or xs i d)) [] → after ≡ filter_map h (take (i + 1) xs)
-pushed_next h i d xs within before after so_far adds =
-    adds
-    ∙ ap (λ list. list ++ cons_option (h (get_or xs i d)) []) so_far
-    ∙ sym (picked_next h i d xs within)
+pushed_next h i d xs within before after so_far adds = adds
+    ∙ ap (λ list. list ++ cons_option (h (get_or xs i d)) []) so_far ∙ sym (picked_next h i d xs within)
 
 -- Places under groups
 
 -- a place that is added under one group
 pub added_under : (own group : GroupId) (at : MountPlace) (old new : List MountPlace)
-    → new ≡ (if same_group group own then old ++ at ∷ [] else old)
-    → map mount_place_of new
+    → new ≡ (if same_group group own then old ++ at ∷ [] else old) → map mount_place_of new
     ≡ map mount_place_of old ++ cons_option (when (nat_eq (counted group.count) (counted own.count)) (mount_place_of at)) []
-added_under own group at old new is =
-    ap (map mount_place_of) is ∙ by (same_group group own)
+added_under own group at old new is = ap (map mount_place_of) is ∙ by (same_group group own)
     ∙ ap (λ b. map mount_place_of old ++ cons_option (when b (mount_place_of at)) [])
     (sym (same_count group.count own.count))
   where
@@ -73,26 +68,22 @@ added_under own group at old new is =
 
 -- the lines of groups by the places that are kept under them
 pub lines_kept : (world : World ℕ) (seen : List ℕ) (members slaves : PlacesBy GroupId)
-    (placed : List (ℕ × ℕ × Propagation ℕ))
-    → ((group : GroupId) → map mount_place_of (under same_group group members)
+    (placed : List (ℕ × ℕ × Propagation ℕ)) → ((group : GroupId) → map mount_place_of (under same_group group members)
     ≡ filter_map (member_place (counted group.count)) placed)
     → ((group : GroupId) → map mount_place_of (under same_group group slaves)
-    ≡ filter_map (slave_place (counted group.count)) placed)
-    → (groups : List GroupId)
+    ≡ filter_map (slave_place (counted group.count)) placed) → (groups : List GroupId)
     → map (line_by world seen members slaves) groups ≡ map (line_from world seen placed) (group_numbers groups)
 lines_kept world seen members slaves placed peers slave_ones [] = refl
-lines_kept world seen members slaves placed peers slave_ones (group ∷ groups) =
-    λ i. record {
-      group = number_among nat_eq seen (counted group.count);
-      master = option_map (number_among nat_eq seen) (world.master (counted group.count));
-      peers = peers group i;
-      slaves = slave_ones group i;
-    } ∷ lines_kept world seen members slaves placed peers slave_ones groups i
+lines_kept world seen members slaves placed peers slave_ones (group ∷ groups) = λ i. record {
+  group = number_among nat_eq seen (counted group.count);
+  master = option_map (number_among nat_eq seen) (world.master (counted group.count));
+  peers = peers group i;
+  slaves = slave_ones group i;
+} ∷ lines_kept world seen members slaves placed peers slave_ones groups i
 
 -- the namespaces so far
 pub next_placed : (world : World ℕ) (i number : ℕ) (d : NamespaceId) (ids : List NamespaceId) → i < length ids
-    → number ≡ i
-    → (so_far new : List (ℕ × ℕ × Propagation ℕ))
+    → number ≡ i → (so_far new : List (ℕ × ℕ × Propagation ℕ))
     → new ≡ so_far ++ placed_in world (number + 1) (counted (get_or ids i d).count)
     → so_far ≡ placed_from world 1 (map (λ (id : NamespaceId). counted id.count) (take i ids))
     → new ≡ placed_from world 1 (map (λ (id : NamespaceId). counted id.count) (take (i + 1) ids))
@@ -132,8 +123,7 @@ next_mount k place mounts later mount before so_far same is next =
 pub next_kind : (f : ℕ × ℕ × Propagation ℕ → List ℕ) (i : ℕ) (d : Placed) (placed : List Placed) → i < length placed
     → flat_map f (all_seen (take i placed))
     ++ f (placed_seen (get_or placed i d)) ≡ flat_map f (all_seen (take (i + 1) placed))
-next_kind f i d placed within =
-    sym (flat_last f (all_seen (take i placed)) (placed_seen (get_or placed i d)))
+next_kind f i d placed within = sym (flat_last f (all_seen (take i placed)) (placed_seen (get_or placed i d)))
     ∙ ap (flat_map f) (sym (map-append placed_seen (take i placed) (get_or placed i d ∷ []))
     ∙ ap all_seen (sym (take_more placed i d within)))
 
@@ -145,16 +135,14 @@ module _ (world : World ℕ) where
 
   one_namespace : (k : ℕ) (namespace : Namespace ℕ)
       → placed_in world k namespace.number ≡ map kinded (attached_in nat_eq world (k, namespace))
-  one_namespace k namespace = sym
-      (map-map kinded (λ (mount : ℕ × Mount ℕ). (k, mount.0, mount.1))
+  one_namespace k namespace = sym (map-map kinded (λ (mount : ℕ × Mount ℕ). (k, mount.0, mount.1))
       (counted_from 1 (mounts_of nat_eq world namespace.number)))
 
   pub all_namespaces : (k : ℕ) (namespaces : List (Namespace ℕ))
       → placed_from world k (map (λ (namespace : Namespace ℕ). namespace.number) namespaces)
       ≡ map kinded (flat_map (attached_in nat_eq world) (counted_from k namespaces))
   all_namespaces k [] = refl
-  all_namespaces k (namespace ∷ rest) =
-      (λ i. one_namespace k namespace i ++ all_namespaces (k + 1) rest i)
+  all_namespaces k (namespace ∷ rest) = (λ i. one_namespace k namespace i ++ all_namespaces (k + 1) rest i)
       ∙ sym (map-append kinded (attached_in nat_eq world (k, namespace))
       (flat_map (attached_in nat_eq world) (counted_from (k + 1) rest)))
 
@@ -184,23 +172,20 @@ module _ (world : World ℕ) where
       → placed ≡ map kinded (all_attached nat_eq world)
       → seen ≡ each_once nat_eq (flat_map (λ (one : ℕ × ℕ × Propagation ℕ). groups_in_type world one.2) placed)
       → map (line_from world seen placed) seen ≡ peer_lines nat_eq world
-  lines_so placed seen is told =
-      (λ i. map (line_from world (seen_is i) (is i)) (seen_is i))
+  lines_so placed seen is told = (λ i. map (line_from world (seen_is i) (is i)) (seen_is i))
       ∙ ap (λ line. map line groups) (λ i group. each group i)
     where
       groups : List ℕ
       groups = groups_seen nat_eq world (map (λ (mount : ℕ × ℕ × Mount ℕ). mount.2) (all_attached nat_eq world))
 
       seen_is : seen ≡ groups_seen nat_eq world (map (λ (mount : ℕ × ℕ × Mount ℕ). mount.2) (all_attached nat_eq world))
-      seen_is =
-          told ∙ ap (λ list. each_once nat_eq
+      seen_is = told ∙ ap (λ list. each_once nat_eq
           (flat_map (λ (one : ℕ × ℕ × Propagation ℕ). groups_in_type world one.2) list)) is
           ∙ ap (each_once nat_eq) (groups_so (all_attached nat_eq world))
 
       each : (group : ℕ) → line_from world
           (groups_seen nat_eq world (map (λ (mount : ℕ × ℕ × Mount ℕ). mount.2) (all_attached nat_eq world)))
-          (map kinded (all_attached nat_eq world)) group
-          ≡ peer_line nat_eq world (groups_seen nat_eq world
+          (map kinded (all_attached nat_eq world)) group ≡ peer_line nat_eq world (groups_seen nat_eq world
           (map (λ (mount : ℕ × ℕ × Mount ℕ). mount.2) (all_attached nat_eq world))) group
       each group = λ i. record {
         group = number_among nat_eq groups group;
@@ -216,14 +201,12 @@ module _ (h : MountId → Option (Mount ℕ)) (i : ℕ) (d : MountId) (ids : Lis
     (before so_far : List (ℕ × ℕ × Propagation ℕ)) (low : place ≤ i) (size : place ≡ length (filter_map h (take i ids)))
     (is : so_far ≡ before ++ each_placed k (filter_map h (take i ids))) where
   abbrev Now : ℕ → List (ℕ × ℕ × Propagation ℕ) → Type 0
-  Now number list =
-      (number ≤ i + 1) × (number ≡ length (filter_map h (take (i + 1) ids)))
+  Now number list = (number ≤ i + 1) × (number ≡ length (filter_map h (take (i + 1) ids)))
       × (list ≡ before ++ each_placed k (filter_map h (take (i + 1) ids)))
 
   grown : (o : Option (Mount ℕ)) → h (get_or ids i d) ≡ o
       → filter_map h (take i ids) ++ cons_option o [] ≡ filter_map h (take (i + 1) ids)
-  grown o found =
-      (λ j. filter_map h (take i ids) ++ cons_option (sym found j) []) ∙ sym (picked_next h i d ids within)
+  grown o found = (λ j. filter_map h (take i ids) ++ cons_option (sym found j) []) ∙ sym (picked_next h i d ids within)
 
   pub mounts_next : (mount : Mount ℕ) → h (get_or ids i d) ≡ Some mount
       → Now (place + 1) (so_far ++ (k, place + 1, mount.propagation) ∷ [])

@@ -34,8 +34,7 @@ any_other a x (k ∷ ks) apart = by (nat_eq a k) refl (any_other a x ks apart)
     by true e rest = rest ∙ ap (λ t. t || list_any (nat_eq x) ks) (sym apart ∙ ap (nat_eq x) (eqb-true a k e))
     by false e rest = ap (λ t. nat_eq x k || t) rest
 
-inserted_after : (a x : ℕ) (ks : List ℕ)
-    → a ∷ filter (λ b. not (nat_eq a b)) (insert_key nat_eq ks x)
+inserted_after : (a x : ℕ) (ks : List ℕ) → a ∷ filter (λ b. not (nat_eq a b)) (insert_key nat_eq ks x)
     ≡ insert_key nat_eq (a ∷ filter (λ b. not (nat_eq a b)) ks) x
 inserted_after a x ks = by (nat_eq x a) refl (list_any (nat_eq x) ks) refl
   where
@@ -49,13 +48,10 @@ inserted_after a x ks = by (nat_eq x a) refl (list_any (nat_eq x) ks) refl
         → a ∷ filter (λ b. not (nat_eq a b)) (cond t ks (ks ++ (x ∷ [])))
         ≡ cond (s || list_any (nat_eq x) kept) (a ∷ kept) (a ∷ kept ++ (x ∷ []))
     by true e true f = refl
-    by true e false f =
-        ap (λ rest. a ∷ rest) (filter-append (λ b. not (nat_eq a b)) ks (x ∷ [])
-        ∙ ap (λ t. kept ++ cond (not t) (x ∷ []) []) (eq-eqb a x (sym (eqb-true x a e)))
-        ∙ append-nil kept)
+    by true e false f = ap (λ rest. a ∷ rest) (filter-append (λ b. not (nat_eq a b)) ks (x ∷ [])
+        ∙ ap (λ t. kept ++ cond (not t) (x ∷ []) []) (eq-eqb a x (sym (eqb-true x a e))) ∙ append-nil kept)
     by false e true f = ap (λ t. cond t (a ∷ kept) (a ∷ kept ++ (x ∷ []))) (sym (any_other a x ks e ∙ f))
-    by false e false f =
-        ap (λ rest. a ∷ rest) (filter-append (λ b. not (nat_eq a b)) ks (x ∷ [])
+    by false e false f = ap (λ rest. a ∷ rest) (filter-append (λ b. not (nat_eq a b)) ks (x ∷ [])
         ∙ ap (λ t. kept ++ cond (not t) (x ∷ []) []) (ne_eqb a x (λ same. absurd (apart e (sym same)))))
         ∙ ap (λ t. cond t (a ∷ kept) (a ∷ kept ++ (x ∷ []))) (sym (any_other a x ks e ∙ f))
 
@@ -74,8 +70,7 @@ module _ {A : Type 0} (number : A → ℕ) (same : A → A → Bool)
 
   inserted_numbers : (k : A) (ids : List A)
       → map number (insert_key same ids k) ≡ insert_key nat_eq (map number ids) (number k)
-  inserted_numbers k ids =
-      by (list_any (same k) ids)
+  inserted_numbers k ids = by (list_any (same k) ids)
       ∙ ap (λ t. cond t (map number ids) (map number ids ++ (number k ∷ []))) (sym (any_numbered k ids))
     where
       by : (t : Bool) → map number (cond t ids (ids ++ (k ∷ [])))
@@ -97,18 +92,15 @@ module _ (h : MountId → Option ℕ) (i : ℕ) (d : MountId) (ids : List MountI
     (seen : List FilesystemId) (so_far : numbers_of seen ≡ each_once nat_eq (filter_map h (take i ids))) where
   pub next_seen : (shown : FilesystemId) → h (get_or ids i d) ≡ Some (counted shown.count)
       → numbers_of (insert_key key_eq seen shown) ≡ each_once nat_eq (filter_map h (take (i + 1) ids))
-  next_seen shown is =
-      inserted_numbers (λ (id : FilesystemId). counted id.count) key_eq filesystems_tested shown seen
+  next_seen shown is = inserted_numbers (λ (id : FilesystemId). counted id.count) key_eq filesystems_tested shown seen
       ∙ ap (λ ks. insert_key nat_eq ks (counted shown.count)) so_far
       ∙ sym (once_more (counted shown.count) (filter_map h (take i ids)))
       ∙ ap (each_once nat_eq) ((λ j. filter_map h (take i ids) ++ cons_option (sym is j) [])
       ∙ sym (picked_next h i d ids within))
 
   pub none_seen : h (get_or ids i d) ≡ None → numbers_of seen ≡ each_once nat_eq (filter_map h (take (i + 1) ids))
-  none_seen is =
-      so_far ∙ ap (each_once nat_eq) (sym (append-nil (filter_map h (take i ids)))
-      ∙ (λ j. filter_map h (take i ids) ++ cons_option (sym is j) [])
-      ∙ sym (picked_next h i d ids within))
+  none_seen is = so_far ∙ ap (each_once nat_eq) (sym (append-nil (filter_map h (take i ids)))
+      ∙ (λ j. filter_map h (take i ids) ++ cons_option (sym is j) []) ∙ sym (picked_next h i d ids within))
 
 -- Groups: one more, several one after the other, and none
 
@@ -116,19 +108,15 @@ pub one_more : (seen : List GroupId) (group : GroupId)
     → SeesMore seen (insert_key same_group seen group) (counted group.count ∷ [])
 one_more seen group before is =
     inserted_numbers (λ (id : GroupId). counted id.count) same_group groups_tested group seen
-    ∙ ap (λ ks. insert_key nat_eq ks (counted group.count)) is
-    ∙ sym (once_more (counted group.count) before)
+    ∙ ap (λ ks. insert_key nat_eq ks (counted group.count)) is ∙ sym (once_more (counted group.count) before)
 
 -- the groups of mounts so far, with those of the next one
 module _ (h : MountId → Option (List ℕ)) (i : ℕ) (d : MountId) (ids : List MountId) (within : i < length ids)
     (seen : List GroupId) (so_far : group_numbers seen
     ≡ each_once nat_eq (flat_map (λ more. more) (filter_map h (take i ids)))) where
-  taken_next : (o : Option (List ℕ)) → h (get_or ids i d) ≡ o
-      → flat_map (λ more. more) (filter_map h (take i ids))
+  taken_next : (o : Option (List ℕ)) → h (get_or ids i d) ≡ o → flat_map (λ more. more) (filter_map h (take i ids))
       ++ unwrap_or o [] ≡ flat_map (λ more. more) (filter_map h (take (i + 1) ids))
-  taken_next o is =
-      by o
-      ∙ sym (flat_map-append (λ more. more) (filter_map h (take i ids)) (cons_option o []))
+  taken_next o is = by o ∙ sym (flat_map-append (λ more. more) (filter_map h (take i ids)) (cons_option o []))
       ∙ ap (flat_map (λ more. more)) ((λ j. filter_map h (take i ids) ++ cons_option (sym is j) [])
       ∙ sym (picked_next h i d ids within))
     where
@@ -177,11 +165,9 @@ place_by_position {A} test k (x ∷ xs) = by (test x) (place_by_position test (k
     by : (b : Bool) → index_from test (k + 1) xs ≡ option_map (λ i. k + 1 + i) (position test xs)
         → cond b (Some k) (index_from test (k + 1) xs)
         ≡ option_map (λ i. k + i) (cond (nat_lt (place b) (length (x ∷ xs))) (Some (place b)) None)
-    by true rest =
-        ap Some (let same : k ≡ k + 0 = omega arith in same)
+    by true rest = ap Some (let same : k ≡ k + 0 = omega arith in same)
         ∙ ap (λ b. option_map (λ i. k + i) (cond b (Some 0) None)) (sym (lt-ltb 0 (length (x ∷ xs)) (omega arith)))
-    by false rest =
-        rest ∙ later (nat_lt first (length xs))
+    by false rest = rest ∙ later (nat_lt first (length xs))
         ∙ ap (λ b. option_map (λ i. k + i) (cond b (Some (1 + first)) None))
         (sym (next_to first (length xs) (1 + first) (length (x ∷ xs)) refl (omega arith)))
 
@@ -194,8 +180,7 @@ module _ {A : Type 0} (number : A → ℕ) (same : A → A → Bool)
 
   index_by_number : (id : A) (ids : List A) (o : Option ℕ) → position (same id) ids ≡ o
       → number_among nat_eq (map number ids) (number id) ≡ unwrap_or (option_map (λ i. 1 + i) o) 0
-  index_by_number id ids o is =
-      ap (λ place. unwrap_or place 0)
+  index_by_number id ids o is = ap (λ place. unwrap_or place 0)
       (place_by_number id 1 ids ∙ place_by_position (same id) 1 ids ∙ ap (option_map (λ i. 1 + i)) is)
 
 pub numbered_index : (id : FilesystemId) (ids : List FilesystemId) (o : Option ℕ) → position (key_eq id) ids ≡ o
@@ -207,8 +192,7 @@ pub grouped_index : (id : GroupId) (ids : List GroupId) (o : Option ℕ) → pos
     → number_among nat_eq (group_numbers ids) (counted id.count) ≡ unwrap_or (option_map (λ i. 1 + i) o) 0
 grouped_index id ids o is = index_by_number (λ (one : GroupId). counted one.count) same_group groups_tested id ids o is
 
-mapped_places : (n k : ℕ) (all : List (Mount ℕ))
-    → index_from (λ (mount : Mount ℕ). nat_eq n mount.number) k all
+mapped_places : (n k : ℕ) (all : List (Mount ℕ)) → index_from (λ (mount : Mount ℕ). nat_eq n mount.number) k all
     ≡ index_from (nat_eq n) k (map (λ (mount : Mount ℕ). mount.number) all)
 mapped_places n k [] = refl
 mapped_places n k (mount ∷ all) = λ i. cond (nat_eq n mount.number) (Some k) (mapped_places n (k + 1) all i)

@@ -32,8 +32,7 @@ use Rattle.vt_listing.proofs.ShownWorlds.{path_shown}
 -- what does not lie under a directory has no path from there
 no_path : (files : FileTree ℕ) (top directory : ℕ) → is_directory_under nat_eq files top directory ≡ false
     → spot_of (path_down nat_eq files top directory) ≡ Gone
-no_path files top directory apart =
-    ap (λ b. spot_of (when b (reverse
+no_path files top directory apart = ap (λ b. spot_of (when b (reverse
     (map (own_name nat_eq files) (before_first (nat_eq top) (ancestors nat_eq files directory)))))) apart
 
 -- from a directory of one filesystem nothing leads to a node of another
@@ -43,15 +42,13 @@ pub spot_apart : (store : StoreValue) (top directory : NodeRef)
     → Gone ≡ spot_of (path_down nat_eq (files_in store top.filesystem.count) (number_of top) (number_of directory))
 spot_apart store top directory top_small small other own =
     let files = files_in store top.filesystem.count in
-    sym (no_path files (number_of top) (number_of directory)
-    (nowhere_under files (number_of top) (number_of directory)
+    sym (no_path files (number_of top) (number_of directory) (nowhere_under files (number_of top) (number_of directory)
     (no_other_node store top.filesystem.count own directory (small_parts directory small) other)
     ∙ nodes_test top directory top_small small
     ∙ ap (λ b. b && (nat_eq top.slot directory.slot && same_birth top.birth directory.birth)) other))
 
 module _ (table : MountTable) (world : World ℕ) (shows : IsShown world table) where
-  module _ (at : Location) (got : Option Mount)
-      (is_found : option_map mount_of got
+  module _ (at : Location) (got : Option Mount) (is_found : option_map mount_of got
       ≡ find (λ (mount : meant.Mount ℕ). nat_eq (counted at.mount.count) mount.number) (mounts_in table.mounts.now)) where
     -- where a mount point is, by the mount that is there
     abbrev spot_by : meant.Mount ℕ → Spot
@@ -60,16 +57,14 @@ module _ (table : MountTable) (world : World ℕ) (shows : IsShown world table) 
 
     found_spot : spot_by (unwrap_or (option_map mount_of got) (no_mount (counted at.mount.count)))
         ≡ mount_point_spot nat_eq world (location_of at)
-    found_spot =
-        ap (λ o. spot_by (unwrap_or o (no_mount (counted at.mount.count)))) is_found
+    found_spot = ap (λ o. spot_by (unwrap_or o (no_mount (counted at.mount.count)))) is_found
         ∙ ap (λ (mounts : List (meant.Mount ℕ)). spot_by (unwrap_or
         (find (λ (mount : meant.Mount ℕ). nat_eq (counted at.mount.count) mount.number) mounts)
         (no_mount (counted at.mount.count)))) shows.mounts
 
     pub place_there : (mount : Mount) → got ≡ Some mount
         → spot_of (path_down nat_eq (files_in table.store.now mount.root.filesystem.count) (number_of mount.root)
-        (number_of at.node))
-        ≡ mount_point_spot nat_eq world (location_of at)
+        (number_of at.node)) ≡ mount_point_spot nat_eq world (location_of at)
     place_there mount some =
         ap spot_of (path_shown table world shows mount.root.filesystem.count (number_of mount.root) (number_of at.node))
         ∙ ap (λ o. spot_by (unwrap_or (option_map mount_of o) (no_mount (counted at.mount.count)))) (sym some)
@@ -80,18 +75,15 @@ module _ (table : MountTable) (world : World ℕ) (shows : IsShown world table) 
     place_missing none own =
         let number : ℕ = counted at.mount.count in
         let files = files_in table.store.now at.mount.count in
-        sym (no_path files number (number_of at.node)
-        (under_nowhere files number (number_of at.node)
-        (no_counted_node table.store.now at.mount.count own at.mount.count)
-        ∙ ne_eqb number (number_of at.node)
+        sym (no_path files number (number_of at.node) (under_nowhere files number (number_of at.node)
+        (no_counted_node table.store.now at.mount.count own at.mount.count) ∙ ne_eqb number (number_of at.node)
         (counted_inode at.mount.count (born_in at.node.filesystem.count at.node.birth) at.node.slot)))
         ∙ ap spot_of (path_shown table world shows at.mount.count number (number_of at.node))
         ∙ ap (λ o. spot_by (unwrap_or (option_map mount_of o) (no_mount (counted at.mount.count)))) (sym none)
         ∙ found_spot
 
   -- the root of a mount, from the root of its filesystem
-  pub root_there : (mount : Mount)
-      → spot_of (path_down nat_eq (files_in table.store.now mount.root.filesystem.count)
+  pub root_there : (mount : Mount) → spot_of (path_down nat_eq (files_in table.store.now mount.root.filesystem.count)
       (files_in table.store.now mount.root.filesystem.count).tree.root (number_of mount.root))
       ≡ root_spot nat_eq world (mount_of mount)
   root_there mount =

@@ -46,8 +46,7 @@ over_own plain overlay small are few number there = by (path_at plain overlay nu
   where
     by : (o : Option (List (List ℕ))) → path_at plain overlay number ≡ o
         → is_some (node_by (real_number plain overlay) (λ number. None) (longest plain overlay.lowers)
-        (plain_world plain) (overlay_seen overlay) number o) ≡ true
-        → IsNodeOf overlay.number.count number
+        (plain_world plain) (overlay_seen overlay) number o) ≡ true → IsNodeOf overlay.number.count number
     by None e there = absurd (true≢false (sym there))
     by (Some path) e there =
         let at = found_is_at plain overlay are number path e in
@@ -68,8 +67,7 @@ over_own plain overlay small are few number there = by (path_at plain overlay nu
 pub own_plain : (store : StoreValue) (count : ℕ) → count < 18446744073709551616 → overlay_in store count ≡ None
     → ((number : ℕ) → is_inode_of count number ≡ false → (inodes_at store.plain count).inode number ≡ None)
     → HasOwnNodes store count
-own_plain store count small none own number there =
-    plain_own store.plain count small own number
+own_plain store count small none own number there = plain_own store.plain count small own number
     (ap (λ files. is_some (files.tree.node number)) (files_plain store count none) ∙ there)
 
 pub own_over : (store : StoreValue) (count : ℕ) → count < 18446744073709551616 → StandOnLayers store

@@ -13,8 +13,7 @@ use Rattle.vt_listing.specs.declared.table.MountTable.{MountTable}
 
 -- the names that lead down to a directory, by the directories above it
 abbrev names_down : Tree ℕ → ℕ → List ℕ → Option (List (List ℕ))
-names_down tree top above =
-    when (is_among nat_eq top above)
+names_down tree top above = when (is_among nat_eq top above)
     (reverse (map (own_name nat_eq (record { tree = tree; numbers = [] })) (before_first (nat_eq top) above)))
 
 pub same_path : (one other : FileTree ℕ) → one.tree ≡ other.tree → (top directory : ℕ)
@@ -31,8 +30,7 @@ module _ (table : MountTable) (world : World ℕ) (is : IsShown world table) whe
   same_world = λ i. record world { mounts = is.mounts i; master = λ group. is.masters group i }
 
   -- it has the same ways down
-  pub path_shown : (count top directory : ℕ)
-      → path_down nat_eq (files_in table.store.now count) top directory
+  pub path_shown : (count top directory : ℕ) → path_down nat_eq (files_in table.store.now count) top directory
       ≡ path_down nat_eq (filesystem_numbered nat_eq world (counted count)).files top directory
   path_shown count top directory =
       same_path (files_in table.store.now count) (filesystem_numbered nat_eq world (counted count)).files

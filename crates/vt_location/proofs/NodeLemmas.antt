@@ -58,10 +58,8 @@ code_parts l d r m e s d_small l_small e_small m_small same =
 pub births_apart : (filesystem : ℕ) (a b : Birth) → IsSmallBirth a → IsSmallBirth b
     → born_in filesystem a ≡ born_in filesystem b → a ≡ b
 births_apart filesystem Here Here small other e = refl
-births_apart filesystem Here (Below layer directory rank) small other e =
-    absurd (let no : ⊥ = omega (arith, e) in no)
-births_apart filesystem (Below layer directory rank) Here small other e =
-    absurd (let no : ⊥ = omega (arith, e) in no)
+births_apart filesystem Here (Below layer directory rank) small other e = absurd (let no : ⊥ = omega (arith, e) in no)
+births_apart filesystem (Below layer directory rank) Here small other e = absurd (let no : ⊥ = omega (arith, e) in no)
 births_apart filesystem (Below l d r) (Below m f s) small other e =
     code_parts l d r m f s small.0 small.1 other.0 other.1 (omega (arith, e))
 
@@ -102,8 +100,7 @@ inode_is node filesystem slot small f_small s_small e =
     (born.0, parts.1, born.1)
 
 pub no_inodes : BirthsAreNoInodes
-no_inodes node filesystem slot small f_small s_small e =
-    (inode_is node filesystem slot small.slot f_small s_small e).2
+no_inodes node filesystem slot small f_small s_small e = (inode_is node filesystem slot small.slot f_small s_small e).2
 
 -- so is one with a number of a filesystem's own
 own_node : (count : ℕ) (node : NodeRef) → node.slot < 18446744073709551616
@@ -122,22 +119,19 @@ pub own_birth : (count : ℕ) (node : NodeRef) → node.slot < 18446744073709551
 own_birth count node small e = (own_node count node small e).1
 
 -- what was born here has the number of an inode
-pub here_number : (node : NodeRef) → node.birth ≡ Here
-    → number_of node ≡ inode_number node.filesystem.count node.slot
+pub here_number : (node : NodeRef) → node.birth ≡ Here → number_of node ≡ inode_number node.filesystem.count node.slot
 here_number node here = λ i. inode_number (born_in node.filesystem.count (here i)) node.slot
 
 pub here_is_own : (node : NodeRef) → node.filesystem.count < 18446744073709551616 → node.slot < 18446744073709551616
     → node.birth ≡ Here → is_own_number node.filesystem.count (number_of node) ≡ true
-here_is_own node small slot_small here =
-    ap (is_own_number node.filesystem.count) (here_number node here)
+here_is_own node small slot_small here = ap (is_own_number node.filesystem.count) (here_number node here)
     ∙ is_own node.filesystem.count node.slot small slot_small
 
 -- The tests of code, and those of the definitions
 
 same_births : (a : Birth) → same_birth a a ≡ true
 same_births Here = refl
-same_births (Below l d r) =
-    (λ i. eq-eqb l l refl i && (eq-eqb d d refl i && eq-eqb r r refl i))
+same_births (Below l d r) = (λ i. eq-eqb l l refl i && (eq-eqb d d refl i && eq-eqb r r refl i))
 
 one_birth : (a b : Birth) → same_birth a b ≡ true → a ≡ b
 one_birth Here Here e = refl
@@ -159,17 +153,14 @@ one_node a b e =
     (λ i. record { filesystem = record { count = count i }; slot = slot i; birth = birth i })
 
 pub same_node-itself : (a : NodeRef) → same_node a a ≡ true
-same_node-itself a =
-    (λ i. eq-eqb a.filesystem.count a.filesystem.count refl i
+same_node-itself a = (λ i. eq-eqb a.filesystem.count a.filesystem.count refl i
     && (eq-eqb a.slot a.slot refl i && same_births a.birth i))
 
 pub nodes_test : (a b : NodeRef) → is_small_node a ≡ true → is_small_node b ≡ true
     → nat_eq (number_of a) (number_of b) ≡ same_node a b
-nodes_test a b a_small b_small =
-    same_truth _ _
+nodes_test a b a_small b_small = same_truth _ _
     (λ e. ap (same_node a) (sym (one_to_one a b (small_parts a a_small) (small_parts b b_small) (eqb-true (number_of a) (number_of b) e)))
-    ∙ same_node-itself a)
-    (λ e. eq-eqb (number_of a) (number_of b) (ap number_of (one_node a b e)))
+    ∙ same_node-itself a) (λ e. eq-eqb (number_of a) (number_of b) (ap number_of (one_node a b e)))
 
 pub same_locations : (a b : Location) → is_small_node a.node ≡ true → is_small_node b.node ≡ true
     → same_location nat_eq (location_of a) (location_of b)

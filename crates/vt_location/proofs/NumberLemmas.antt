@@ -20,16 +20,13 @@ counted_inode c f slot e = omega arith
 pub exchanged_slot : (f slot : ℕ) → slot < 18446744073709551616 → exchanged f slot ≡ inode_number f slot
 exchanged_slot f slot small =
     ap (λ b. if b then inode_number f slot else if is_inode_of f slot then slot / 2 - 18446744073709551616 * (f + 1)
-    else slot)
-    (lt-ltb slot 18446744073709551616 small)
+    else slot) (lt-ltb slot 18446744073709551616 small)
 
 negated : (b : Bool) → b ≡ false → not b ≡ true
 negated b e = ap not e
 
 pub is_inode : (f slot : ℕ) → slot < 18446744073709551616 → is_inode_of f (inode_number f slot) ≡ true
-is_inode f slot small =
-    and_from_three _ _ _
-    (negated _ (le-ltb (inode_number f slot) (inode_number f 0) (omega arith)))
+is_inode f slot small = and_from_three _ _ _ (negated _ (le-ltb (inode_number f slot) (inode_number f 0) (omega arith)))
     (lt-ltb (inode_number f slot) (inode_number (f + 1) 0) (omega arith))
     (eq-eqb (2 * (inode_number f slot / 2)) (inode_number f slot) (omega arith))
 
@@ -47,9 +44,7 @@ at_number : (f n slot : ℕ) → nat_lt n 18446744073709551616 ≡ false → is_
     → exchanged f n ≡ slot
 at_number f n slot large inode is =
     ap (λ b. if b then inode_number f n else if is_inode_of f n then n / 2 - 18446744073709551616 * (f + 1)
-    else n) large
-    ∙ ap (λ b. if b then n / 2 - 18446744073709551616 * (f + 1) else n) inode
-    ∙ last
+    else n) large ∙ ap (λ b. if b then n / 2 - 18446744073709551616 * (f + 1) else n) inode ∙ last
   where
     last : n / 2 - 18446744073709551616 * (f + 1) ≡ slot
     last = omega arith
@@ -63,8 +58,7 @@ exchanged_number f slot small =
 stays : (f n : ℕ) → nat_lt n 18446744073709551616 ≡ false → is_inode_of f n ≡ false → exchanged f n ≡ n
 stays f n large other =
     ap (λ b. if b then inode_number f n else if is_inode_of f n then n / 2 - 18446744073709551616 * (f + 1)
-    else n) large
-    ∙ ap (λ b. if b then n / 2 - 18446744073709551616 * (f + 1) else n) other
+    else n) large ∙ ap (λ b. if b then n / 2 - 18446744073709551616 * (f + 1) else n) other
 
 second_of : (a b c : Bool) → (a && b && c) ≡ true → b ≡ true
 second_of true true c e = refl
@@ -116,8 +110,7 @@ exchanged_same f a b e = sym (exchanged_back f a) ∙ ap (exchanged f) e ∙ exc
 
 -- the tests of code, and those of the definitions
 pub counted_test : (a b : ℕ) → nat_eq (counted a) (counted b) ≡ nat_eq a b
-counted_test a b =
-    same_truth _ _ (λ e. eq-eqb a b (counted_same a b (eqb-true (counted a) (counted b) e)))
+counted_test a b = same_truth _ _ (λ e. eq-eqb a b (counted_same a b (eqb-true (counted a) (counted b) e)))
     (λ e. eq-eqb (counted a) (counted b) (ap counted (eqb-true a b e)))
 
 -- which of two counted numbers is less
@@ -130,8 +123,7 @@ counted_less a b = by (nat_lt a b) (ltb-true a b) (ltb-false a b)
 
 pub inode_test : (f g a b : ℕ) → a < 18446744073709551616 → b < 18446744073709551616
     → nat_eq (inode_number f a) (inode_number g b) ≡ (nat_eq f g && nat_eq a b)
-inode_test f g a b a_small b_small =
-    same_truth _ _
+inode_test f g a b a_small b_small = same_truth _ _
     (λ e. let same = inode_same f g a b a_small b_small (eqb-true (inode_number f a) (inode_number g b) e) in
     (λ i. eq-eqb f g same.0 i && eq-eqb a b same.1 i))
     (λ e. let same = two e in eq-eqb (inode_number f a) (inode_number g b) (λ i. inode_number (same.0 i) (same.1 i)))
@@ -139,6 +131,5 @@ inode_test f g a b a_small b_small =
     two : (nat_eq f g && nat_eq a b) ≡ true → (f ≡ g) × (a ≡ b)
     two e = (
       eqb-true f g (and_true_left (nat_eq f g) (nat_eq a b) e),
-      eqb-true a b
-          (and_true_right (nat_eq f g) (nat_eq a b) e),
+      eqb-true a b (and_true_right (nat_eq f g) (nat_eq a b) e),
     )

@@ -47,11 +47,9 @@ module _ {K V : Type 0} (count : K → ℕ) where
   rises-in_order (e ∷ es) =
       is_sorted-put (cmp_by count) (cmp_total count) e.0 e.1 (in_order_by count es) (rises-in_order es)
 
-  pub found-in_order : (q : K) (es : List (K × V))
-      → found q (in_order_by count es) ≡ lookup (same_by count q) es
+  pub found-in_order : (q : K) (es : List (K × V)) → found q (in_order_by count es) ≡ lookup (same_by count q) es
   found-in_order q [] = refl
-  found-in_order q (e ∷ es) =
-      find-put (cmp_by count) (cmp_total count) q e.0 e.1 (in_order_by count es)
+  found-in_order q (e ∷ es) = find-put (cmp_by count) (cmp_total count) q e.0 e.1 (in_order_by count es)
       ∙ (λ i. cond (tied count q e.0 i) (Some e.1) (found-in_order q es i))
 
   pub found-looked : (q : K) (kept : List (K × V)) → found q kept ≡ lookup (same_by count q) kept
@@ -80,8 +78,7 @@ module _ {K V : Type 0} (count : K → ℕ) where
 
   -- what is kept, in which the one of a number is changed by a function, if it is there
   abbrev pub IsChanged : K → (V → V) → List (K × V) → List (K × V) → Type 0
-  IsChanged number change es new =
-      (q : K) → lookup (same_by count q) new
+  IsChanged number change es new = (q : K) → lookup (same_by count q) new
       ≡ cond (same_by count number q) (option_map change (lookup (same_by count q) es)) (lookup (same_by count q) es)
 
   below-changed : (number : K) (change : V → V) (x : K) (kept : List (K × V))
@@ -112,8 +109,7 @@ module _ {K V : Type 0} (count : K → ℕ) where
       here true = refl
       here false = refl
 
-      by : (b : Bool) → (b ≡ true → count q ≡ count one.0)
-          → found count q (map (change_kept number change) kept)
+      by : (b : Bool) → (b ≡ true → count q ≡ count one.0) → found count q (map (change_kept number change) kept)
           ≡ cond (same_by count number q) (option_map change (found count q kept)) (found count q kept)
           → cond b (Some (cond (same_by count number one.0) (change one.1) one.1))
           (found count q (map (change_kept number change) kept))
@@ -144,16 +140,13 @@ module _ {K V : Type 0} (count : K → ℕ) where
   rises-last : (number : K) (new : V) (kept : List (K × V)) → is_above number kept ≡ true → T (rises count kept)
       → T (rises count (kept ++ (number, new) ∷ []))
   rises-last number new [] above rising = tt
-  rises-last number new (one ∷ kept) above rising =
-      T_and _ _
+  rises-last number new (one ∷ kept) above rising = T_and _ _
       (below-last number new one.0 kept (ltb-true (count one.0) (count number) (and_true_left _ _ above))
-      (T_and_left _ _ rising))
-      (rises-last number new kept (and_true_right _ _ above) (T_and_right _ _ rising))
+      (T_and_left _ _ rising)) (rises-last number new kept (and_true_right _ _ above) (T_and_right _ _ rising))
 
   none-above : (number : K) (kept : List (K × V)) → is_above number kept ≡ true → found count number kept ≡ None
   none-above number [] above = refl
-  none-above number (one ∷ kept) above =
-      ap (λ b. cond b (Some one.1) (found count number kept))
+  none-above number (one ∷ kept) above = ap (λ b. cond b (Some one.1) (found count number kept))
       (tied count number one.0 ∙ ne_eqb (count number) (count one.0)
       (λ same. omega (arith, same, ltb-true (count one.0) (count number) (and_true_left _ _ above))))
       ∙ none-above number kept (and_true_right _ _ above)
@@ -163,30 +156,23 @@ module _ {K V : Type 0} (count : K → ℕ) where
 module _ {K V : Type 0} (count : K → ℕ) (whole : (x y : K) → count x ≡ count y → x ≡ y) where
   ordered : (es kept : List (K × V)) → T (rises count kept)
       → ((q : K) → lookup (same_by count q) es ≡ found count q kept) → in_order_by count es ≡ kept
-  ordered es kept rising is =
-      same_entries (cmp_by count) (cmp_total count)
+  ordered es kept rising is = same_entries (cmp_by count) (cmp_total count)
       (λ x y tie. whole x y (nat_cmp-IsAntisymmetric (count x) (count y) tie))
       (in_order_by count es) kept (rises-in_order count es) rising (λ q. found-in_order count q es ∙ is q)
 
   -- one that is changed
   pub in_order-changed : (number : K) (change : V → V) (es new : List (K × V)) → IsChanged count number change es new
       → in_order_by count new ≡ map (change_kept count number change) (in_order_by count es)
-  in_order-changed number change es new is =
-      ordered new (map (change_kept count number change) (in_order_by count es))
-      (subst T (sym (rises-changed count number change (in_order_by count es))) (rises-in_order count es))
-      (λ q. is q
+  in_order-changed number change es new is = ordered new (map (change_kept count number change) (in_order_by count es))
+      (subst T (sym (rises-changed count number change (in_order_by count es))) (rises-in_order count es)) (λ q. is q
       ∙ (λ i. cond (same_by count number q) (option_map change (sym (found-in_order count q es) i))
-      (sym (found-in_order count q es) i))
-      ∙ sym (found-changed count number change q (in_order_by count es)))
+      (sym (found-in_order count q es) i)) ∙ sym (found-changed count number change q (in_order_by count es)))
 
   -- one that is given another value
   pub changed-by : (number : K) (change : V → V) (es new : List (K × V)) (x w : V)
-      → lookup (same_by count number) es ≡ Some x → w ≡ change x
-      → ((q : K) → lookup (same_by count q) new
-      ≡ cond (same_by count number q) (Some w) (lookup (same_by count q) es))
-      → IsChanged count number change es new
-  changed-by number change es new x w there is writes q =
-      writes q
+      → lookup (same_by count number) es ≡ Some x → w ≡ change x → ((q : K) → lookup (same_by count q) new
+      ≡ cond (same_by count number q) (Some w) (lookup (same_by count q) es)) → IsChanged count number change es new
+  changed-by number change es new x w there is writes q = writes q
       ∙ by (same_by count number q) (λ e. whole number q (eqb-true (count number) (count q) e))
     where
       by : (b : Bool) → (b ≡ true → number ≡ q) → cond b (Some w) (lookup (same_by count q) es)
@@ -198,8 +184,7 @@ module _ {K V : Type 0} (count : K → ℕ) (whole : (x y : K) → count x ≡ c
   -- one that is not there is not changed
   pub changed-none : (number : K) (change : V → V) (es new : List (K × V))
       → lookup (same_by count number) es ≡ None → new ≡ es → IsChanged count number change es new
-  changed-none number change es new none is q =
-      ap (lookup (same_by count q)) is
+  changed-none number change es new none is q = ap (lookup (same_by count q)) is
       ∙ by (same_by count number q) (λ e. whole number q (eqb-true (count number) (count q) e))
     where
       by : (b : Bool) → (b ≡ true → number ≡ q) → lookup (same_by count q) es
@@ -211,33 +196,25 @@ module _ {K V : Type 0} (count : K → ℕ) (whole : (x y : K) → count x ≡ c
       by false here = refl
 
   -- one that is taken out
-  pub in_order-removed : (number : K) (es new : List (K × V))
-      → ((q : K) → lookup (same_by count q) new
+  pub in_order-removed : (number : K) (es new : List (K × V)) → ((q : K) → lookup (same_by count q) new
       ≡ cond (same_by count number q) None (lookup (same_by count q) es))
       → in_order_by count new ≡ filter (λ one. not (same_by count number one.0)) (in_order_by count es)
-  in_order-removed number es new is =
-      ordered new (filter (λ one. other one.0) (in_order_by count es))
-      (is_sorted-where_key (cmp_by count) other (in_order_by count es) (rises-in_order count es))
-      (λ q. is q
+  in_order-removed number es new is = ordered new (filter (λ one. other one.0) (in_order_by count es))
+      (is_sorted-where_key (cmp_by count) other (in_order_by count es) (rises-in_order count es)) (λ q. is q
       ∙ cond-not (same_by count number q) None (lookup (same_by count q) es)
-      ∙ ap (λ r. cond (other q) r None) (sym (found-in_order count q es))
-      ∙ sym (find-where_key (cmp_by count) other q
-      (λ x tie. ap other (sym (whole q x (nat_cmp-IsAntisymmetric (count q) (count x) tie))))
-      (in_order_by count es)))
+      ∙ ap (λ r. cond (other q) r None) (sym (found-in_order count q es)) ∙ sym (find-where_key (cmp_by count) other q
+      (λ x tie. ap other (sym (whole q x (nat_cmp-IsAntisymmetric (count q) (count x) tie)))) (in_order_by count es)))
     where
       other : K → Bool
       other x = not (same_by count number x)
 
   -- one behind all others
   pub in_order-last : (number : K) (new : V) (es fs : List (K × V))
-      → is_above count number (in_order_by count es) ≡ true
-      → ((q : K) → lookup (same_by count q) fs
+      → is_above count number (in_order_by count es) ≡ true → ((q : K) → lookup (same_by count q) fs
       ≡ cond (same_by count number q) (Some new) (lookup (same_by count q) es))
       → in_order_by count fs ≡ in_order_by count es ++ (number, new) ∷ []
-  in_order-last number new es fs above is =
-      ordered fs (in_order_by count es ++ (number, new) ∷ [])
-      (rises-last count number new (in_order_by count es) above (rises-in_order count es))
-      (λ q. is q
+  in_order-last number new es fs above is = ordered fs (in_order_by count es ++ (number, new) ∷ [])
+      (rises-last count number new (in_order_by count es) above (rises-in_order count es)) (λ q. is q
       ∙ (λ i. cond (turned q i) (Some new) (sym (found-in_order count q es) i))
       ∙ sym (find-append (cmp_by count) (cmp_total count) (in_order_by count es) number new q
       (none-above count number (in_order_by count es) above)))

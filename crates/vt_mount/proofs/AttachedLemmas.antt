@@ -24,8 +24,7 @@ use Rattle.vt_mount.specs.MountsValue.{MountEntry, are_ascending, mounts_in}
 -- Places in a rising list
 
 above : (a j : ℕ) (d : MountId) (ids : List MountId) → list_all (λ later. nat_lt a later.count) ids ≡ true
-    → j < length ids
-    → a < (get_or ids j d).count
+    → j < length ids → a < (get_or ids j d).count
 above a j d [] all within = absurd (omega (arith, within))
 above a zero d (id ∷ ids) all within = ltb-true a id.count (and_parts _ _ all).0
 above a (suc j) d (id ∷ ids) all within = above a j d ids (and_parts (nat_lt a id.count) _ all).1
@@ -47,8 +46,7 @@ abbrev pub place_of : ℕ → ℕ → List MountId → Option ℕ
 place_of count k ids = index_from (λ (other : MountId). nat_eq count other.count) k ids
 
 placed : (count k i : ℕ) (d : MountId) (ids : List MountId) → are_rising ids ≡ true → i < length ids
-    → (get_or ids i d).count ≡ count
-    → place_of count k ids ≡ Some (k + i)
+    → (get_or ids i d).count ≡ count → place_of count k ids ≡ Some (k + i)
 placed count k i d [] rising within same = absurd (omega (arith, within))
 placed count k zero d (id ∷ ids) rising within same =
     ap (λ b. cond b (Some k) (place_of count (k + 1) ids)) (eq-eqb count id.count (sym same))
@@ -65,8 +63,7 @@ missing : (count k : ℕ) (ids : List MountId)
     → ((j : ℕ) (d : MountId) → j < length ids → nat_eq count (get_or ids j d).count ≡ false)
     → place_of count k ids ≡ None
 missing count k [] none = refl
-missing count k (id ∷ ids) none =
-    ap (λ b. cond b (Some k) (place_of count (k + 1) ids)) (none 0 id (omega arith))
+missing count k (id ∷ ids) none = ap (λ b. cond b (Some k) (place_of count (k + 1) ids)) (none 0 id (omega arith))
     ∙ missing count (k + 1) ids (λ j d within. none (suc j) d (omega (arith, within)))
 
 -- what a binary search by counts finds
@@ -130,10 +127,8 @@ ascending_filter p (mount ∷ all) rising =
     by (p mount) parts.0 (ascending_filter p all parts.1)
   where
     by : (b : Bool) → list_all (λ (later : Mount ℕ). nat_lt mount.number later.number) all ≡ true
-        → are_ascending (filter p all) ≡ true
-        → are_ascending (cond b (mount ∷ filter p all) (filter p all)) ≡ true
-    by true less rest = λ i.
-        all_pass (λ (later : Mount ℕ). nat_lt mount.number later.number) (filter p all)
+        → are_ascending (filter p all) ≡ true → are_ascending (cond b (mount ∷ filter p all) (filter p all)) ≡ true
+    by true less rest = λ i. all_pass (λ (later : Mount ℕ). nat_lt mount.number later.number) (filter p all)
         (λ x m. passes (λ (later : Mount ℕ). nat_lt mount.number later.number) all less x
         (among-from_filter p all x m).0) i && rest i
     by false less rest = rest
@@ -193,10 +188,8 @@ ascending_found [] rising mount m = absurd m
 ascending_found (first ∷ rest) rising mount m =
     let parts = and_parts (list_all (λ (later : Mount ℕ). nat_lt first.number later.number) rest)
     (are_ascending rest) rising in
-    ⊎_elim
-    (λ same. ap (λ b. cond b (Some first) (find (λ x. nat_eq mount.number x.number) rest))
-    (eq-eqb mount.number first.number (ap (λ (x : Mount ℕ). x.number) same)) ∙ ap Some (sym same))
-    (λ later.
+    ⊎_elim (λ same. ap (λ b. cond b (Some first) (find (λ x. nat_eq mount.number x.number) rest))
+    (eq-eqb mount.number first.number (ap (λ (x : Mount ℕ). x.number) same)) ∙ ap Some (sym same)) (λ later.
     let less = ltb-true first.number mount.number
     (passes (λ (later : Mount ℕ). nat_lt first.number later.number) rest parts.0 mount later) in
     ap (λ b. cond b (Some first) (find (λ x. nat_eq mount.number x.number) rest))
@@ -214,8 +207,7 @@ found_among n p (mount ∷ mounts) rising =
     by parts.0 (p mount) refl (nat_eq n mount.number) refl (found_among n p mounts parts.1)
   where
     others : list_all (λ (later : Mount ℕ). nat_lt mount.number later.number) mounts ≡ true
-        → nat_eq n mount.number ≡ true
-        → list_any (λ (x : Mount ℕ). nat_eq n x.number) (filter p mounts) ≡ false
+        → nat_eq n mount.number ≡ true → list_any (λ (x : Mount ℕ). nat_eq n x.number) (filter p mounts) ≡ false
     others all e = none_passes (λ (x : Mount ℕ). nat_eq n x.number) (filter p mounts) (λ x m.
         let less = ltb-true mount.number x.number
         (passes (λ (later : Mount ℕ). nat_lt mount.number later.number) mounts all x
@@ -224,8 +216,7 @@ found_among n p (mount ∷ mounts) rising =
         ne_eqb n x.number (λ is. absurd (omega (arith, less, same, is))))
 
     by : list_all (λ (later : Mount ℕ). nat_lt mount.number later.number) mounts ≡ true → (c : Bool) → p mount ≡ c
-        → (b : Bool) → nat_eq n mount.number ≡ b
-        → list_any (λ (x : Mount ℕ). nat_eq n x.number) (filter p mounts)
+        → (b : Bool) → nat_eq n mount.number ≡ b → list_any (λ (x : Mount ℕ). nat_eq n x.number) (filter p mounts)
         ≡ holds_of p (find (λ (x : Mount ℕ). nat_eq n x.number) mounts)
         → list_any (λ (x : Mount ℕ). nat_eq n x.number) (cond c (mount ∷ filter p mounts) (filter p mounts))
         ≡ holds_of p (cond b (Some mount) (find (λ (x : Mount ℕ). nat_eq n x.number) mounts))
@@ -249,16 +240,12 @@ module _ {A B C : Type 0} (view : C → B) (h : A → Option B) (i : ℕ) (d : A
     (items : List C) (so_far : map view items ≡ filter_map h (take i xs)) where
   pub next_made : (made : C) → h (get_or xs i d) ≡ Some (view made)
       → map view (items ++ (made ∷ [])) ≡ filter_map h (take (i + 1) xs)
-  next_made made is =
-      map-append view items (made ∷ [])
-      ∙ (λ j. so_far j ++ cons_option (sym is j) [])
+  next_made made is = map-append view items (made ∷ []) ∙ (λ j. so_far j ++ cons_option (sym is j) [])
       ∙ sym (picked_next h i d xs within)
 
   pub none_made : h (get_or xs i d) ≡ None → map view items ≡ filter_map h (take (i + 1) xs)
-  none_made is =
-      so_far ∙ sym (append-nil (filter_map h (take i xs)))
-      ∙ (λ j. filter_map h (take i xs) ++ cons_option (sym is j) [])
-      ∙ sym (picked_next h i d xs within)
+  none_made is = so_far ∙ sym (append-nil (filter_map h (take i xs)))
+      ∙ (λ j. filter_map h (take i xs) ++ cons_option (sym is j) []) ∙ sym (picked_next h i d xs within)
 
 -- The mounts that are attached in a namespace
 module _ (namespace : ℕ) (entries : List MountEntry) (ascending : are_ascending (mounts_in entries) ≡ true)
@@ -272,9 +259,7 @@ module _ (namespace : ℕ) (entries : List MountEntry) (ascending : are_ascendin
 
   pub attached_picked : {B : Type 0} (change : Mount ℕ → B)
       → filter_map (λ (id : MountId). option_map change (find (λ x. nat_eq (counted id.count) x.number)
-      (mounts_in entries))) ids
-      ≡ map change (attached_in namespace entries)
-  attached_picked change =
-      picked change (mounts_in entries) (attached_in namespace entries) ids are
+      (mounts_in entries))) ids ≡ map change (attached_in namespace entries)
+  attached_picked change = picked change (mounts_in entries) (attached_in namespace entries) ids are
       (λ mount m. ascending_found (mounts_in entries) ascending mount
       (among-from_filter is_attached (mounts_in entries) mount m).0)

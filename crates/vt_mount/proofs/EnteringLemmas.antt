@@ -22,10 +22,8 @@ mounts_entered [] (mount ∷ new) = ap (λ rest. mount_of mount ∷ rest) (mount
 mounts_entered (entry ∷ old) new = ap (λ rest. entry.mount ∷ rest) (mounts_entered old new)
 
 numbers_around : (old : List MountEntry) (before after : List Mount)
-    → mounts_in (old ++ map unused_entry before) ++ map mount_of after
-    ≡ mounts_in old ++ map mount_of (before ++ after)
-numbers_around old before after =
-    ap (λ first. first ++ map mount_of after) (mounts_entered old before)
+    → mounts_in (old ++ map unused_entry before) ++ map mount_of after ≡ mounts_in old ++ map mount_of (before ++ after)
+numbers_around old before after = ap (λ first. first ++ map mount_of after) (mounts_entered old before)
     ∙ append_assoc (mounts_in old) (map mount_of before) (map mount_of after)
     ∙ ap (λ rest. mounts_in old ++ rest) (sym (map-append mount_of before after))
 
@@ -49,8 +47,7 @@ at_index new i d less =
     sym (take-append-drop (i + 1) new) ∙ ap (λ front. front ++ drop (i + 1) new) (take_more new i d less)
     ∙ append_assoc (take i new) (get_or new i d ∷ []) (drop (i + 1) new)
 
-pub drop_more : (new : List Mount) (i : ℕ) (d : Mount) → i < length new
-    → drop i new ≡ get_or new i d ∷ drop (i + 1) new
+pub drop_more : (new : List Mount) (i : ℕ) (d : Mount) → i < length new → drop i new ≡ get_or new i d ∷ drop (i + 1) new
 drop_more new i d less = drop-cons new i d less ∙ ap (λ n. get_or new i d ∷ drop n new) (next i)
   where
     next : (n : ℕ) → suc n ≡ n + 1
@@ -91,20 +88,17 @@ ascending-front (mount ∷ front) rest is =
 pub ascending-taken : (old : List MountEntry) (new : List Mount) (i : ℕ)
     → are_ascending (mounts_in old ++ map mount_of new) ≡ true
     → are_ascending (mounts_in old ++ map mount_of (take i new)) ≡ true
-ascending-taken old new i is =
-    ascending-front (mounts_in old ++ map mount_of (take i new)) (map mount_of (drop i new))
+ascending-taken old new i is = ascending-front (mounts_in old ++ map mount_of (take i new)) (map mount_of (drop i new))
     (ap are_ascending (append_assoc (mounts_in old) (map mount_of (take i new)) (map mount_of (drop i new))
     ∙ ap (λ all. mounts_in old ++ all)
-    (sym (map-append mount_of (take i new) (drop i new)) ∙ ap (map mount_of) (take-append-drop i new)))
-    ∙ is)
+    (sym (map-append mount_of (take i new) (drop i new)) ∙ ap (map mount_of) (take-append-drop i new))) ∙ is)
 
 -- the last of those that came goes again
 pub withdrawn : (old entries : List MountEntry) (rest back : List Mount) (mount : Mount)
     → are_ascending (mounts_in old ++ map mount_of (rest ++ mount ∷ back)) ≡ true
     → entries ≡ old ++ map unused_entry (rest ++ mount ∷ [])
     → without (counted mount.number.count) entries ≡ old ++ map unused_entry rest
-withdrawn old entries rest back mount is so_far =
-    ap (without (counted mount.number.count))
+withdrawn old entries rest back mount is so_far = ap (without (counted mount.number.count))
     (so_far ∙ ap (λ come. old ++ come) (map-append unused_entry rest (mount ∷ []))
     ∙ sym (append_assoc old (map unused_entry rest) (unused_entry mount ∷ [])))
     ∙ without-last (counted mount.number.count) (unused_entry mount) (old ++ map unused_entry rest)
@@ -129,11 +123,9 @@ module _ (number : ℕ) (change : MountEntry → MountEntry)
   ascending-changed : (entries : List MountEntry)
       → are_ascending (mounts_in (changed number change entries) ++ rest) ≡ are_ascending (mounts_in entries ++ rest)
   ascending-changed [] = refl
-  ascending-changed (entry ∷ entries) =
-      (λ i. list_all (λ (later : meant.Mount ℕ).
+  ascending-changed (entry ∷ entries) = (λ i. list_all (λ (later : meant.Mount ℕ).
       nat_lt (number-changed entry (nat_eq number entry.mount.number) i) later.number)
-      (mounts_in (changed number change entries) ++ rest)
-      && ascending-changed entries i)
+      (mounts_in (changed number change entries) ++ rest) && ascending-changed entries i)
       ∙ ap (λ b. b && are_ascending (mounts_in entries ++ rest)) (all-changed (nat_lt entry.mount.number) entries)
 
 pub ascending-moved : (points : List NewPoint) (entries : List MountEntry) (rest : List (meant.Mount ℕ))
@@ -141,5 +133,4 @@ pub ascending-moved : (points : List NewPoint) (entries : List MountEntry) (rest
 ascending-moved [] entries rest = refl
 ascending-moved (point ∷ points) entries rest =
     ascending-changed (counted point.mount.count) (placed_entry point.place) (λ entry. refl) rest
-    (with_points points entries)
-    ∙ ascending-moved points entries rest
+    (with_points points entries) ∙ ascending-moved points entries rest

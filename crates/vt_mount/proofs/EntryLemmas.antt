@@ -30,13 +30,11 @@ length-kept es distinct = length-entries (in_order es) ∙ length-in_order es di
 
 -- the first mount is found under its number
 pub first-found : (id first : MountId) (one : Mounted) (es : List (MountId × Mounted))
-    → Some (first, one) ≡ slice_get es 0 → same_id first id ≡ true
-    → Some one ≡ lookup (same_id id) es
+    → Some (first, one) ≡ slice_get es 0 → same_id first id ≡ true → Some one ≡ lookup (same_id id) es
 first-found id first one [] at is = absurd cc
 first-found id first one (e ∷ es) at is =
     let here : e ≡ (first, one) = cc in
-    sym (ap (λ e. lookup (same_id id) (e ∷ es)) here
-    ∙ ap (λ b. cond b (Some one) (lookup (same_id id) es))
+    sym (ap (λ e. lookup (same_id id) (e ∷ es)) here ∙ ap (λ b. cond b (Some one) (lookup (same_id id) es))
     (eq-eqb id.count first.count (sym (eqb-true first.count id.count is))))
 
 -- a number finds its mount
@@ -89,18 +87,15 @@ kept-entry number es = found-entry number (in_order es)
 
 -- the same, of what contracts see
 pub mount-found : (id : MountId) (es : List (MountId × Mounted)) (now : List MountEntry) (r : Option Mounted)
-    → entries_of es ≡ now
-    → lookup (same_id id) es ≡ r → option_map (mount_under id) r
+    → entries_of es ≡ now → lookup (same_id id) es ≡ r → option_map (mount_under id) r
     ≡ seek (λ mount. nat_eq (counted id.count) mount.number) (mounts_in now)
-mount-found id es now r view is =
-    ap (option_map (mount_under id)) (sym is) ∙ sym (kept-mount id es)
+mount-found id es now r view is = ap (option_map (mount_under id)) (sym is) ∙ sym (kept-mount id es)
     ∙ ap (λ now. seek (λ mount. nat_eq (counted id.count) mount.number) (mounts_in now)) view
 
 pub entry-found : (id : MountId) (es : List (MountId × Mounted)) (now : List MountEntry) (r : Option Mounted)
     → entries_of es ≡ now
     → lookup (same_id id) es ≡ r → option_map (λ one. entry_of (id, one)) r ≡ entry_numbered now (counted id.count)
-entry-found id es now r view is =
-    ap (option_map (λ one. entry_of (id, one))) (sym is) ∙ sym (kept-entry id es)
+entry-found id es now r view is = ap (option_map (λ one. entry_of (id, one))) (sym is) ∙ sym (kept-entry id es)
     ∙ ap (λ now. entry_numbered now (counted id.count)) view
 
 -- One that is changed
@@ -110,8 +105,7 @@ module _ (number : MountId) (change : MountEntry → MountEntry) (change_it : Mo
   entries-changed : (kept : List (MountId × Mounted))
       → entries (map (change_kept number change_it) kept) ≡ changed (counted number.count) change (entries kept)
   entries-changed [] = refl
-  entries-changed (one ∷ kept) =
-      (λ i. by (same_id number one.0) i ∷ entries-changed kept i)
+  entries-changed (one ∷ kept) = (λ i. by (same_id number one.0) i ∷ entries-changed kept i)
       ∙ ap (λ b. cond b (change (entry_of one)) (entry_of one) ∷ changed (counted number.count) change (entries kept))
       (sym (counted_test number.count one.0.count))
     where
@@ -119,8 +113,7 @@ module _ (number : MountId) (change : MountEntry → MountEntry) (change_it : Mo
       by true = so one.0 one.1
       by false = refl
 
-  pub kept-changed : (es new : List (MountId × Mounted))
-      → ((q : MountId) → lookup (same_id q) new
+  pub kept-changed : (es new : List (MountId × Mounted)) → ((q : MountId) → lookup (same_id q) new
       ≡ cond (same_id number q) (option_map change_it (lookup (same_id q) es)) (lookup (same_id q) es))
       → entries_of new ≡ changed (counted number.count) change (entries_of es)
   kept-changed es new is = ap entries (in_order-changed number change_it es new is) ∙ entries-changed (in_order es)
@@ -130,8 +123,7 @@ module _ (number : MountId) (change : MountEntry → MountEntry) (change_it : Mo
 entries-without : (number : MountId) (kept : List (MountId × Mounted))
     → entries (without_kept number kept) ≡ without (counted number.count) (entries kept)
 entries-without number [] = refl
-entries-without number (one ∷ kept) =
-    by (same_id number one.0) (entries-without number kept)
+entries-without number (one ∷ kept) = by (same_id number one.0) (entries-without number kept)
     ∙ ap (λ b. cond (not b) (entry_of one ∷ without (counted number.count) (entries kept))
     (without (counted number.count) (entries kept))) (sym (counted_test number.count one.0.count))
   where

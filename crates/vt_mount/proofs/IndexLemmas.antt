@@ -50,8 +50,7 @@ module _ (test : Mount → Bool) where
       by : (b : Bool) → map (λ one. one.0) (cond b (one ∷ []) []) ≡ pushed b one.0 []
       by true = refl
       by false = refl
-  numbers-last one (other ∷ kept) =
-      cons-numbers test other (kept ++ one ∷ [])
+  numbers-last one (other ∷ kept) = cons-numbers test other (kept ++ one ∷ [])
       ∙ ap (λ rest. cond (passes test other) (other.0 ∷ rest) rest) (numbers-last one kept)
       ∙ by (passes test other) (passes test one)
       ∙ ap (pushed (passes test one) one.0) (sym (cons-numbers test other kept))
@@ -75,13 +74,10 @@ module _ (test : Mount → Bool) where
           → numbers_where test (without_kept id kept) ≡ others id (numbers_where test kept)
           → numbers_where test (cond (not s) (one ∷ without_kept id kept) (without_kept id kept))
           ≡ others id (cond b (one.0 ∷ numbers_where test kept) (numbers_where test kept))
-      by true true is passed rest =
-          rest
-          ∙ sym (ap (λ s. cond (not s) (one.0 ∷ others id (numbers_where test kept))
+      by true true is passed rest = rest ∙ sym (ap (λ s. cond (not s) (one.0 ∷ others id (numbers_where test kept))
           (others id (numbers_where test kept))) is)
       by true false is passed rest = rest
-      by false true is passed rest =
-          cons-numbers test one (without_kept id kept)
+      by false true is passed rest = cons-numbers test one (without_kept id kept)
           ∙ (λ i. cond (passed i) (one.0 ∷ rest i) (rest i))
           ∙ sym (ap (λ s. cond (not s) (one.0 ∷ others id (numbers_where test kept))
           (others id (numbers_where test kept))) is)
@@ -91,8 +87,7 @@ module _ (test : Mount → Bool) where
   pub absent-others : (id : MountId) (kept : List (MountId × Mounted)) → found id kept ≡ None
       → others id (numbers_where test kept) ≡ numbers_where test kept
   absent-others id [] none = refl
-  absent-others id (one ∷ kept) none =
-      ap (others id) (cons-numbers test one kept)
+  absent-others id (one ∷ kept) none = ap (others id) (cons-numbers test one kept)
       ∙ by (eq_by_cmp id_cmp id one.0) (tied id one.0 ∙ turned id one.0) none (absent-others id kept) (passes test one)
       ∙ sym (cons-numbers test one kept)
     where
@@ -103,8 +98,7 @@ module _ (test : Mount → Bool) where
       by true is none rest b = absurd cc
       by false is none rest true =
           ap (λ s. cond (not s) (one.0 ∷ others id (numbers_where test kept)) (others id (numbers_where test kept)))
-          (sym is)
-          ∙ ap (λ l. one.0 ∷ l) (rest none)
+          (sym is) ∙ ap (λ l. one.0 ∷ l) (rest none)
       by false is none rest false = rest none
 
   pub below-none : (id : MountId) (kept : List (MountId × Mounted)) → T (below_all id_cmp id kept)
@@ -113,8 +107,7 @@ module _ (test : Mount → Bool) where
   below-none id (one ∷ kept) below = by (id_cmp id one.0) refl below (below-none id kept)
     where
       by : (o : Ordering) → id_cmp id one.0 ≡ o → T (is_lt o && below_all id_cmp id kept)
-          → (T (below_all id_cmp id kept) → found id kept ≡ None)
-          → found id (one ∷ kept) ≡ None
+          → (T (below_all id_cmp id kept) → found id kept ≡ None) → found id (one ∷ kept) ≡ None
       by Less is below rest = ap (λ o. cond (is_eq o) (Some one.1) (found id kept)) is ∙ rest below
       by Equal is below rest = absurd below
       by Greater is below rest = absurd below
@@ -123,11 +116,9 @@ module _ (test : Mount → Bool) where
       → found id kept ≡ Some x
       → test (mount_kept id x) ≡ false → others id (numbers_where test kept) ≡ numbers_where test kept
   failing-others id x [] rising there fails = absurd cc
-  failing-others id x (one ∷ kept) rising there fails =
-      ap (others id) (cons-numbers test one kept)
+  failing-others id x (one ∷ kept) rising there fails = ap (others id) (cons-numbers test one kept)
       ∙ by (eq_by_cmp id_cmp id one.0) (tied id one.0) there
-      (λ there. failing-others id x kept (T_and_right _ _ rising) there fails)
-      ∙ sym (cons-numbers test one kept)
+      (λ there. failing-others id x kept (T_and_right _ _ rising) there fails) ∙ sym (cons-numbers test one kept)
     where
       by : (s : Bool) → s ≡ same_id id one.0 → cond s (Some one.1) (found id kept) ≡ Some x
           → (found id kept ≡ Some x → others id (numbers_where test kept) ≡ numbers_where test kept)
@@ -139,8 +130,7 @@ module _ (test : Mount → Bool) where
           let wrong : passes test one ≡ false = (λ i. test (mount_kept (sym here i) (held i))) ∙ fails in
           let rest = absent-others id kept (ap (λ n. found n kept) here
           ∙ below-none one.0 kept (T_and_left _ _ rising)) in
-          ap (λ b. others id (cond b (one.0 ∷ numbers_where test kept) (numbers_where test kept))) wrong
-          ∙ rest
+          ap (λ b. others id (cond b (one.0 ∷ numbers_where test kept) (numbers_where test kept))) wrong ∙ rest
           ∙ sym (ap (λ b. cond b (one.0 ∷ numbers_where test kept) (numbers_where test kept)) wrong)
       by false is there step = with-head (passes test one)
         where
@@ -148,8 +138,7 @@ module _ (test : Mount → Bool) where
               ≡ cond b (one.0 ∷ numbers_where test kept) (numbers_where test kept)
           with-head true =
               ap (λ s. cond (not s) (one.0 ∷ others id (numbers_where test kept)) (others id (numbers_where test kept)))
-              (turned one.0 id ∙ sym is)
-              ∙ ap (λ l. one.0 ∷ l) (step there)
+              (turned one.0 id ∙ sym is) ∙ ap (λ l. one.0 ∷ l) (step there)
           with-head false = step there
 
   -- a mount is taken from the lists that it is in
@@ -167,14 +156,12 @@ module _ (test : Mount → Bool) where
   pub last-above : (id : MountId) (kept : List (MountId × Mounted)) → is_above id kept ≡ true
       → comes_last id (numbers_where test kept) ≡ true
   last-above id [] above = refl
-  last-above id (one ∷ kept) above =
-      ap (comes_last id) (cons-numbers test one kept)
+  last-above id (one ∷ kept) above = ap (comes_last id) (cons-numbers test one kept)
       ∙ by (passes test one) (last-above id kept (and_true_right _ _ above))
     where
       by : (b : Bool) → comes_last id (numbers_where test kept) ≡ true
           → comes_last id (cond b (one.0 ∷ numbers_where test kept) (numbers_where test kept)) ≡ true
-      by true rest =
-          (λ i. and_true_left (nat_lt one.0.count id.count) (is_above id kept) above i
+      by true rest = (λ i. and_true_left (nat_lt one.0.count id.count) (is_above id kept) above i
           && comes_last id (numbers_where test kept)) ∙ rest
       by false rest = rest
 
@@ -198,13 +185,11 @@ module _ (test : Mount → Bool) where
         → (kept : List (MountId × Mounted))
         → numbers_where test (map (change_kept id change) kept) ≡ others id (numbers_where test kept)
     numbers-left fails [] = refl
-    numbers-left fails (one ∷ kept) =
-        cons-numbers test (change_kept id change one) (map (change_kept id change) kept)
+    numbers-left fails (one ∷ kept) = cons-numbers test (change_kept id change one) (map (change_kept id change) kept)
         ∙ by (same_id id one.0) (turned one.0 id) (numbers-left fails kept)
         ∙ ap (others id) (sym (cons-numbers test one kept))
       where
-        gone : same_id one.0 id ≡ true → (b : Bool)
-            → others id (numbers_where test kept)
+        gone : same_id one.0 id ≡ true → (b : Bool) → others id (numbers_where test kept)
             ≡ others id (cond b (one.0 ∷ numbers_where test kept) (numbers_where test kept))
         gone is true = sym (ap (λ s. cond (not s) (one.0 ∷ others id (numbers_where test kept))
             (others id (numbers_where test kept))) is)
@@ -223,8 +208,7 @@ module _ (test : Mount → Bool) where
             (one.0 ∷ numbers_where test (map (change_kept id change) kept))
             (numbers_where test (map (change_kept id change) kept))
             ≡ others id (cond (passes test one) (one.0 ∷ numbers_where test kept) (numbers_where test kept))
-        by true is rest =
-            ap (λ b. cond b (one.0 ∷ numbers_where test (map (change_kept id change) kept))
+        by true is rest = ap (λ b. cond b (one.0 ∷ numbers_where test (map (change_kept id change) kept))
             (numbers_where test (map (change_kept id change) kept))) (fails one.0 one.1)
             ∙ rest ∙ gone is (passes test one)
         by false is rest = ap (λ l. cond (passes test one) (one.0 ∷ l) l) rest ∙ stays is (passes test one)

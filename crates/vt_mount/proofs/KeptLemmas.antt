@@ -64,8 +64,7 @@ slots-without id (one ∷ kept) slots = by (same_id id one.0) (slots-without id 
     by false rest = ap (λ b. b && list_all is_kept_small (without_kept id kept)) (and_true_left _ _ slots) ∙ rest
 
 slots-last : (one : MountId × Mounted) (kept : List (MountId × Mounted)) → is_kept_small one ≡ true
-    → list_all is_kept_small kept ≡ true
-    → list_all is_kept_small (kept ++ one ∷ []) ≡ true
+    → list_all is_kept_small kept ≡ true → list_all is_kept_small (kept ++ one ∷ []) ≡ true
 slots-last one [] slot slots = ap (λ b. b && true) slot
 slots-last one (other ∷ kept) slot slots =
     ap (λ b. b && list_all is_kept_small (kept ++ one ∷ [])) (and_true_left _ _ slots)
@@ -74,16 +73,11 @@ slots-last one (other ∷ kept) slot slots =
 -- Lists that one mount left
 
 module _ (id : MountId) (x : Mounted) (mount : Mount) (kept left : List (MountId × Mounted)) (rising : T (rises kept))
-    (there : found id kept ≡ Some x)
-    (is : mount ≡ mount_kept id x) (loses : LosesOne id kept left) where
+    (there : found id kept ≡ Some x) (is : mount ≡ mount_kept id x) (loses : LosesOne id kept left) where
   left_one : (test : Mount → Bool) (old new : List MountId) → IsOfPlaces test → old ≡ numbers_where test kept
-      → new ≡ taken (test mount) mount.number old
-      → new ≡ numbers_where test left
-  left_one test old new fails was taken_out =
-      taken_out
-      ∙ (λ i. taken (test (is i)) (is i).number (was i))
-      ∙ others-taken test id x kept rising there
-      ∙ sym (loses test fails)
+      → new ≡ taken (test mount) mount.number old → new ≡ numbers_where test left
+  left_one test old new fails was taken_out = taken_out ∙ (λ i. taken (test (is i)) (is i).number (was i))
+      ∙ others-taken test id x kept rising there ∙ sym (loses test fails)
 
   pub indexed-left : (old new : Indexes) → list_all is_kept_small left ≡ true
       → ((q : NamespaceId) → listed_in new q ≡ taken (is_in q mount) mount.number (listed_in old q))
@@ -104,11 +98,8 @@ module _ (id : MountId) (x : Mounted) (mount : Mount) (kept left : List (MountId
 module _ (mount : Mount) (one : Mounted) (kept : List (MountId × Mounted))
     (is : mount_kept mount.number one ≡ mount) where
   put_one : (test : Mount → Bool) (old new : List MountId) → old ≡ numbers_where test kept
-      → new ≡ pushed (test mount) mount.number old
-      → new ≡ numbers_where test (kept ++ (mount.number, one) ∷ [])
-  put_one test old new was put_in =
-      put_in
-      ∙ (λ i. pushed (test (sym is i)) mount.number (was i))
+      → new ≡ pushed (test mount) mount.number old → new ≡ numbers_where test (kept ++ (mount.number, one) ∷ [])
+  put_one test old new was put_in = put_in ∙ (λ i. pushed (test (sym is i)) mount.number (was i))
       ∙ sym (numbers-last test (mount.number, one) kept)
 
   pub indexed-entered : (old new : Indexes) → is_kept_small (mount.number, one) ≡ true
@@ -131,19 +122,14 @@ module _ (mount : Mount) (kept : List (MountId × Mounted)) (above : is_above mo
   -- in the lists it comes last
   pub put_behind : (test : Mount → Bool) (here : Bool) (list : List MountId) → list ≡ numbers_where test kept
       → put_in_place here mount.number list ≡ pushed here mount.number list
-  put_behind test here list is =
-      put_in_place-last here mount.number list
+  put_behind test here list is = put_in_place-last here mount.number list
       (ap (comes_last mount.number) is ∙ last-above test mount.number kept above)
 
   restored_one : (test : Mount → Bool) (old now left : List MountId) → old ≡ numbers_where test kept
       → taken (test mount) mount.number now ≡ taken (test mount) mount.number old
-      → left ≡ taken (test mount) mount.number now
-      → left ≡ numbers_where test kept
-  restored_one test old now left was rest taken_out =
-      taken_out ∙ rest
-      ∙ taken-last (test mount) mount.number old
-      (ap (comes_last mount.number) was ∙ last-above test mount.number kept above)
-      ∙ was
+      → left ≡ taken (test mount) mount.number now → left ≡ numbers_where test kept
+  restored_one test old now left was rest taken_out = taken_out ∙ rest ∙ taken-last (test mount) mount.number old
+      (ap (comes_last mount.number) was ∙ last-above test mount.number kept above) ∙ was
 
   pub indexed-restored : (old now left : Indexes)
       → ((q : NamespaceId) → taken (is_in q mount) mount.number (listed_in now q)
@@ -170,12 +156,10 @@ module _ (mount : Mount) (kept : List (MountId × Mounted)) (above : is_above mo
 -- What is attached and taken out again
 
 without-above : (number : ℕ) (entries : List MountEntry)
-    → list_all (λ entry. nat_lt entry.mount.number number) entries ≡ true
-    → without number entries ≡ entries
+    → list_all (λ entry. nat_lt entry.mount.number number) entries ≡ true → without number entries ≡ entries
 without-above number [] above = refl
 without-above number (entry ∷ entries) above =
-    ap (λ b. cond (not b) (entry ∷ without number entries) (without number entries))
-    (ne_eqb number entry.mount.number
+    ap (λ b. cond (not b) (entry ∷ without number entries) (without number entries)) (ne_eqb number entry.mount.number
     (λ is. omega (arith, is, ltb-true entry.mount.number number (and_true_left _ _ above))))
     ∙ ap (λ rest. entry ∷ rest) (without-above number entries (and_true_right _ _ above))
 

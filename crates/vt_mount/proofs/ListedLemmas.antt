@@ -42,14 +42,12 @@ module _ {K : Type 0} {eq : K → K → Bool} (laws : IsEquivalence eq) (es new 
   pub listed_changed : (change : List MountId → List MountId) → list_under now ≡ change was
       → (q : K) → list_under (lookup (eq q) new)
       ≡ (if eq q key then change (list_under (lookup (eq q) es)) else list_under (lookup (eq q) es))
-  listed_changed change is q =
-      ap list_under (writes q) ∙ by (eq key q) refl
+  listed_changed change is q = ap list_under (writes q) ∙ by (eq key q) refl
       ∙ ap (λ b. if b then change (list_under (lookup (eq q) es)) else list_under (lookup (eq q) es)) (laws.symm key q)
     where
       by : (b : Bool) → eq key q ≡ b → list_under (cond b now (lookup (eq q) es))
           ≡ (if b then change (list_under (lookup (eq q) es)) else list_under (lookup (eq q) es))
-      by true same =
-          is ∙ ap change (sym found ∙ (λ i. list_under (lookup (λ z. laws.congr key q z same i) es)))
+      by true same = is ∙ ap change (sym found ∙ (λ i. list_under (lookup (λ z. laws.congr key q z same i) es)))
       by false apart = refl
 
   -- nor does it, where what is listed stays
@@ -81,17 +79,14 @@ module _ {K : Type 0} {eq : K → K → Bool} (laws : IsEquivalence eq) (key : K
       → ((k : ℕ) (d : K) → k < i → eq key (get_or (keys_of es) k d) ≡ false)
       → (q : K) → lookup (eq q) (set_value_at es i now) ≡ cond (eq key q) (Some now) (lookup (eq q) es)
   found-set [] i now within at before q = absurd (omega (arith, within))
-  found-set (e ∷ es) zero now within at before q =
-      by (eq q e.0)
+  found-set (e ∷ es) zero now within at before q = by (eq q e.0)
       ∙ ap (λ b. cond b (Some now) (cond (eq q e.0) (Some e.1) (lookup (eq q) es)))
       (sym (laws.congr key e.0 q (at e.0) ∙ laws.symm e.0 q))
     where
-      by : (b : Bool) → cond b (Some now) (lookup (eq q) es)
-          ≡ cond b (Some now) (cond b (Some e.1) (lookup (eq q) es))
+      by : (b : Bool) → cond b (Some now) (lookup (eq q) es) ≡ cond b (Some now) (cond b (Some e.1) (lookup (eq q) es))
       by true = refl
       by false = refl
-  found-set (e ∷ es) (suc i) now within at before q =
-      ap (cond (eq q e.0) (Some e.1))
+  found-set (e ∷ es) (suc i) now within at before q = ap (cond (eq q e.0) (Some e.1))
       (found-set es i now (omega (arith, within)) at (λ k d less. before (suc k) d (omega (arith, less))) q)
       ∙ by (eq key q) refl
     where
@@ -139,9 +134,7 @@ module _ {K : Type 0} {eq : K → K → Bool} (laws : IsEquivalence eq) (key : K
   found-dropped es left i now there (Some one) is drops q =
       let its : get_or (keys_of es) i q ≡ one.0 =
       ap (λ keys. get_or keys i q) (sym (keys-set es i now)) ∙ key-there (set_value_at es i now) i one q (sym is) in
-      let same : eq key one.0 ≡ true =
-      ap (eq key) (sym its) ∙ (position-Some (eq key) (keys_of es) i q there).1 in
-      drops q
-      ∙ ap (λ b. cond b None (lookup (eq q) (set_value_at es i now))) (sym (laws.congr key one.0 q same))
+      let same : eq key one.0 ≡ true = ap (eq key) (sym its) ∙ (position-Some (eq key) (keys_of es) i q there).1 in
+      drops q ∙ ap (λ b. cond b None (lookup (eq q) (set_value_at es i now))) (sym (laws.congr key one.0 q same))
       ∙ ap (cond (eq key q) None) (found-set_there es i now there q)
       ∙ dropped_list (eq key q) (Some now) (lookup (eq q) es)

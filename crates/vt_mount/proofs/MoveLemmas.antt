@@ -52,16 +52,12 @@ module _ (id : MountId) where
       (found-above n x kept (T_and_right _ _ below))
     where
       by : (s : Bool) → s ≡ same_id id one.0 → cond s (Some one.1) (found id kept) ≡ Some x
-          → (found id kept ≡ Some x → nat_lt id.count n.count ≡ false)
-          → nat_lt id.count n.count ≡ false
-      by true is there rest =
-          le-ltb id.count n.count
-          (omega (
-            arith,
-            ltb-true n.count one.0.count
-                (less-than n.count one.0.count (T_and_left _ _ below)),
-            eqb-true id.count one.0.count (sym is),
-          ))
+          → (found id kept ≡ Some x → nat_lt id.count n.count ≡ false) → nat_lt id.count n.count ≡ false
+      by true is there rest = le-ltb id.count n.count (omega (
+        arith,
+        ltb-true n.count one.0.count (less-than n.count one.0.count (T_and_left _ _ below)),
+        eqb-true id.count one.0.count (sym is),
+      ))
       by false is there rest = rest there
 
   module _ (change : Mounted → Mounted) where
@@ -79,8 +75,7 @@ module _ (id : MountId) where
     inserted-below : (kept : List (MountId × Mounted)) → T (below_all id_cmp id kept)
         → inserted id (numbers_where test kept) ≡ id ∷ numbers_where test kept
     inserted-below [] below = refl
-    inserted-below (one ∷ kept) below =
-        ap (inserted id) (cons-numbers test one kept)
+    inserted-below (one ∷ kept) below = ap (inserted id) (cons-numbers test one kept)
         ∙ by (passes test one) (inserted-below kept (T_and_right _ _ below))
         ∙ ap (λ l. id ∷ l) (sym (cons-numbers test one kept))
       where
@@ -97,8 +92,7 @@ module _ (id : MountId) where
       numbers-moved : (x : Mounted) (kept : List (MountId × Mounted)) → T (rises kept) → found id kept ≡ Some x
           → inserted id (others id (numbers_where test kept)) ≡ numbers_where test (map (change_kept id change) kept)
       numbers-moved x [] rising there = absurd cc
-      numbers-moved x (one ∷ kept) rising there =
-          ap (λ l. inserted id (others id l)) (cons-numbers test one kept)
+      numbers-moved x (one ∷ kept) rising there = ap (λ l. inserted id (others id l)) (cons-numbers test one kept)
           ∙ by (eq_by_cmp id_cmp id one.0) (tied id one.0) there (numbers-moved x kept (T_and_right _ _ rising))
           ∙ sym (cons-numbers test (change_kept id change one) (map (change_kept id change) kept))
         where
@@ -112,8 +106,7 @@ module _ (id : MountId) where
           stays : same_id one.0 id ≡ false → nat_lt id.count one.0.count ≡ false → (b : Bool)
               → inserted id (others id (cond b (one.0 ∷ N) N))
               ≡ cond b (one.0 ∷ inserted id (others id N)) (inserted id (others id N))
-          stays is after true =
-              ap (λ s. inserted id (cond (not s) (one.0 ∷ others id N) (others id N))) is
+          stays is after true = ap (λ s. inserted id (cond (not s) (one.0 ∷ others id N) (others id N))) is
               ∙ ap (λ s. cond s (id ∷ one.0 ∷ others id N) (one.0 ∷ inserted id (others id N))) after
           stays is after false = refl
 
@@ -133,13 +126,11 @@ module _ (id : MountId) where
               let same_rest : N ≡ numbers_where test (map (change_kept id change) kept) = ap (numbers_where test)
               (sym (absent-same change kept none)) in
               ap (inserted id) (gone (turned one.0 id ∙ sym is) (passes test one) ∙ absent-others test id kept none)
-              ∙ inserted-below kept below
-              ∙ (λ i. here i ∷ same_rest i)
+              ∙ inserted-below kept below ∙ (λ i. here i ∷ same_rest i)
               ∙ sym (ap (λ b. cond b (one.0 ∷ numbers_where test (map (change_kept id change) kept))
               (numbers_where test (map (change_kept id change) kept)))
               (ap (λ s. test (mount_kept one.0 (cond s (change one.1) one.1))) (sym is) ∙ always one.0 one.1))
-          by false is there rest =
-              stays (turned one.0 id
+          by false is there rest = stays (turned one.0 id
               ∙ sym is) (found-above one.0 x kept (T_and_left _ _ rising) there) (passes test one)
               ∙ ap (λ l. cond (passes test one) (one.0 ∷ l) l) (rest there)
               ∙ sym (ap (λ s. cond (test (mount_kept one.0 (cond s (change one.1) one.1)))
@@ -190,10 +181,8 @@ module _ (id : MountId) (point : Option Location) (x : Mounted) (kept : List (Mo
       relisted-numbers id (is_over q) (stood_over q point) (placed_kept point) (λ n one. refl) x kept rising there
 
   pub indexed-placed : (old new : Indexes) → is_small_point point ≡ true
-      → ((q : NamespaceId) → listed_in new q ≡ listed_in old q)
-      → ((q : MountId) → listed_on new q
-      ≡ relisted (stood_on q x.mount_point) (stood_on q point) id (listed_on old q))
-      → ((q : Location) → listed_at new q
+      → ((q : NamespaceId) → listed_in new q ≡ listed_in old q) → ((q : MountId) → listed_on new q
+      ≡ relisted (stood_on q x.mount_point) (stood_on q point) id (listed_on old q)) → ((q : Location) → listed_at new q
       ≡ relisted (stood_at q x.mount_point) (stood_at q point) id (listed_at old q))
       → ((q : NodeRef) → listed_over new q
       ≡ relisted (stood_over q x.mount_point) (stood_over q point) id (listed_over old q))

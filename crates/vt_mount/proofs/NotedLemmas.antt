@@ -40,8 +40,7 @@ module _ (moves new : List Moved) (point : NewPoint) (x : Mounted) (es : List (M
     (is : new ≡ moves ++ record { mount = point.mount; from = x.mount_point; to = point.place } ∷ [])
     (there : lookup (same_id point.mount) es ≡ Some x) where
   pub moves-noted : map move_of new ≡ map move_of moves ++ moves_by point (entries_of es)
-  moves-noted =
-      ap (map move_of) is
+  moves-noted = ap (map move_of) is
       ∙ map-append move_of moves (record { mount = point.mount; from = x.mount_point; to = point.place } ∷ [])
       ∙ ap (λ (found : Option MountEntry). map move_of moves ++ option_to_list (option_map (entry_move point) found))
       (sym (kept-entry point.mount es ∙ ap (option_map (λ one. entry_of (point.mount, one))) there))
@@ -55,9 +54,7 @@ module _ (moves new : List Moved) (point : NewPoint) (x : Mounted) (es : List (M
       ∙ (λ i. small i && ((from i && to i) && true))
 
 pub moves-absent : (moves : List Moved) (point : NewPoint) (es : List (MountId × Mounted))
-    → lookup (same_id point.mount) es ≡ None
-    → map move_of moves ≡ map move_of moves ++ moves_by point (entries_of es)
-moves-absent moves point es none =
-    sym (append-nil (map move_of moves))
+    → lookup (same_id point.mount) es ≡ None → map move_of moves ≡ map move_of moves ++ moves_by point (entries_of es)
+moves-absent moves point es none = sym (append-nil (map move_of moves))
     ∙ ap (λ (found : Option MountEntry). map move_of moves ++ option_to_list (option_map (entry_move point) found))
     (sym (kept-entry point.mount es ∙ ap (option_map (λ one. entry_of (point.mount, one))) none))

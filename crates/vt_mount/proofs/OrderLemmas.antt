@@ -59,8 +59,7 @@ without_kept number kept = filter (λ one. not (same_id number one.0)) kept
 pub in_order-removed : (number : MountId) (es new : List (MountId × Mounted))
     → ((q : MountId) → lookup (same_id q) new ≡ cond (same_id number q) None (lookup (same_id q) es))
     → in_order new ≡ without_kept number (in_order es)
-in_order-removed number es new is =
-    in_order-is new ∙ sorted.in_order-removed count_of whole number es new is
+in_order-removed number es new is = in_order-is new ∙ sorted.in_order-removed count_of whole number es new is
     ∙ ap (without_kept number) (sym (in_order-is es))
 
 -- One behind all others
@@ -72,8 +71,7 @@ pub in_order-last : (number : MountId) (new : Mounted) (es fs : List (MountId ×
     → is_above number (in_order es) ≡ true
     → ((q : MountId) → lookup (same_id q) fs ≡ cond (same_id number q) (Some new) (lookup (same_id q) es))
     → in_order fs ≡ in_order es ++ (number, new) ∷ []
-in_order-last number new es fs above is =
-    in_order-is fs
+in_order-last number new es fs above is = in_order-is fs
     ∙ sorted.in_order-last count_of whole number new es fs (ap (is_above number) (sym (in_order-is es)) ∙ above) is
     ∙ ap (λ kept. kept ++ (number, new) ∷ []) (sym (in_order-is es))
 

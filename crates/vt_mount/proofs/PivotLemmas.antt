@@ -22,11 +22,9 @@ module _ (root new : Mount ℕ) (put : Location ℕ) where
       → (let inner = cond (nat_eq root.number entry.mount.number) (pointed (Some put) entry) entry in
       cond (nat_eq new.number inner.mount.number) (pointed root.mount_point inner) inner)
       ≡ pivoted_entry root new put entry
-  one_pivoted entry =
-      by (nat_eq root.number entry.mount.number) (nat_eq new.number entry.mount.number) refl
+  one_pivoted entry = by (nat_eq root.number entry.mount.number) (nat_eq new.number entry.mount.number) refl
       ∙ (λ i. record entry {
-        mount = cond (eq_turned new.number entry.mount.number i)
-            (record entry.mount { mount_point = root.mount_point })
+        mount = cond (eq_turned new.number entry.mount.number i) (record entry.mount { mount_point = root.mount_point })
             (cond (eq_turned root.number entry.mount.number i) (record entry.mount { mount_point = Some put }) entry.mount);
       })
     where

@@ -38,12 +38,10 @@ module _ (test : Mount → Bool) (seen : meant.Mount ℕ → Bool)
   pub numbers-seen : (kept : List (MountId × Mounted)) → list_all is_kept_small kept ≡ true
       → counts (numbers_where test kept) ≡ numbers (filter seen (mounts_in (entries kept)))
   numbers-seen [] slots = refl
-  numbers-seen (one ∷ kept) slots =
-      ap counts (cons-numbers test one kept)
+  numbers-seen (one ∷ kept) slots = ap counts (cons-numbers test one kept)
       ∙ by (test (mount_kept one.0 one.1)) (numbers-seen kept (and_true_right _ _ slots))
       ∙ ap (λ b. numbers (cond b (mount_under one.0 one.1 ∷ filter seen (mounts_in (entries kept)))
-      (filter seen (mounts_in (entries kept)))))
-      (sym (agree one (and_true_left _ _ slots)))
+      (filter seen (mounts_in (entries kept))))) (sym (agree one (and_true_left _ _ slots)))
     where
       by : (b : Bool) → counts (numbers_where test kept) ≡ numbers (filter seen (mounts_in (entries kept)))
           → counts (cond b (one.0 ∷ numbers_where test kept) (numbers_where test kept))
@@ -118,22 +116,19 @@ pub at-agrees : (location : Location) → is_small_node location.node ≡ true �
     → stands_at nat_eq (location_of location) (mount_under one.0 one.1) ≡ is_at location (mount_kept one.0 one.1)
 at-agrees location less one slot = by one.1.mount_point slot
   where
-    by : (point : Option Location)
-        → unwrap_or (option_map (λ place. is_small_node place.node) point) true ≡ true
+    by : (point : Option Location) → unwrap_or (option_map (λ place. is_small_node place.node) point) true ≡ true
         → holds_of (λ place. nat_eq (counted location.mount.count) place.mount
         && nat_eq (number_of location.node) place.node) (option_map location_of point)
         ≡ holds_of (same_place location) point
     by None slot = refl
-    by (Some place) slot =
-        λ i. counted_test location.mount.count place.mount.count i
+    by (Some place) slot = λ i. counted_test location.mount.count place.mount.count i
         && nodes_test location.node place.node less slot i
 
 pub over-agrees : (inode : NodeRef) → is_small_node inode ≡ true → (one : MountId × Mounted) → is_kept_small one ≡ true
     → stands_over (number_of inode) (mount_under one.0 one.1) ≡ is_over inode (mount_kept one.0 one.1)
 over-agrees inode less one slot = by one.1.mount_point slot
   where
-    by : (point : Option Location)
-        → unwrap_or (option_map (λ place. is_small_node place.node) point) true ≡ true
+    by : (point : Option Location) → unwrap_or (option_map (λ place. is_small_node place.node) point) true ≡ true
         → holds_of (λ place. nat_eq place.node (number_of inode)) (option_map location_of point)
         ≡ holds_of (λ place. same_node inode place.node) point
     by None slot = refl

@@ -30,8 +30,7 @@ owns-more : (one : MountId × Mounted) (whole part : List (MountId × Mounted)) 
     → Owns whole part → Owns (one ∷ whole) part
 owns-more one whole [] below owns = tt
 owns-more one whole (other ∷ part) below owns = (
-  ap (λ b. cond b (Some one.1) (found other.0 whole)) apart
-      ∙ owns.0,
+  ap (λ b. cond b (Some one.1) (found other.0 whole)) apart ∙ owns.0,
   owns-more one whole part (T_and_right _ _ below) owns.1,
 )
   where
@@ -50,10 +49,8 @@ owns-more one whole (other ∷ part) below owns = (
 pub owns-all : (kept : List (MountId × Mounted)) → T (rises kept) → Owns kept kept
 owns-all [] rising = tt
 owns-all (one ∷ kept) rising = (
-  ap (λ b. cond b (Some one.1) (found one.0 kept))
-      (tied one.0 one.0 ∙ eq-eqb one.0.count one.0.count refl),
-  owns-more one kept kept (T_and_left _ _ rising)
-      (owns-all kept (T_and_right _ _ rising)),
+  ap (λ b. cond b (Some one.1) (found one.0 kept)) (tied one.0 one.0 ∙ eq-eqb one.0.count one.0.count refl),
+  owns-more one kept kept (T_and_left _ _ rising) (owns-all kept (T_and_right _ _ rising)),
 )
 
 module _ (whole : List (MountId × Mounted)) where
@@ -101,14 +98,12 @@ any-counts q (id ∷ ids) = ap (λ b. q (counted id.count) || b) (any-counts q i
 
 -- what stands on an inode, and is of some kind
 pub any-over : (over p : meant.Mount ℕ → Bool) (es : List (MountId × Mounted)) (now : List MountEntry)
-    (ids : List MountId) → entries_of es ≡ now
-    → counts ids ≡ numbers (filter over (mounts_in (entries_of es)))
+    (ids : List MountId) → entries_of es ≡ now → counts ids ≡ numbers (filter over (mounts_in (entries_of es)))
     → list_any (λ id. holds_of p (seek (λ mount. nat_eq (counted id.count) mount.number) (mounts_in now))) ids
     ≡ list_any (λ mount. over mount && p mount) (mounts_in now)
 any-over over p es now ids view is =
     ap (λ now. list_any (λ id. holds_of p (seek (λ mount. nat_eq (counted id.count) mount.number) (mounts_in now))) ids)
-    (sym view)
-    ∙ any-counts (λ number. holds_of p (under (in_order es) number)) ids
+    (sym view) ∙ any-counts (λ number. holds_of p (under (in_order es) number)) ids
     ∙ ap (list_any (λ number. holds_of p (under (in_order es) number))) is
     ∙ any-own (in_order es) over p (in_order es) (owns-all (in_order es) (rises-in_order es))
     ∙ ap (λ now. list_any (λ mount. over mount && p mount) (mounts_in now)) view
@@ -130,8 +125,7 @@ found-child p kept child owns is = by (seek p (mounts_in (entries kept))) refl i
 pub child-found : (place : meant.Location ℕ) (es : List (MountId × Mounted)) (now : List MountEntry) (child : MountId)
     (r : Option Mounted) → entries_of es ≡ now
     → Some (counted child.count) ≡ option_map (λ child. child.number) (child_at nat_eq (mounts_in now) place)
-    → lookup (same_id child) es ≡ r
-    → option_map (mount_under child) r ≡ child_at nat_eq (mounts_in now) place
+    → lookup (same_id child) es ≡ r → option_map (mount_under child) r ≡ child_at nat_eq (mounts_in now) place
 child-found place es now child r view is there =
     ap (option_map (mount_under child)) (sym there ∙ sym (found-in_order child es))
     ∙ found-child (stands_at nat_eq place) (in_order es) child (owns-all (in_order es) (rises-in_order es))

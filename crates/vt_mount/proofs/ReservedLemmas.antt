@@ -17,8 +17,7 @@ count-first : {X : Type 0} (test : X → Bool) (xs ys : List X) → count_of tes
 count-first test [] ys = omega arith
 count-first test (x ∷ xs) ys = by (test x) (count-first test xs ys)
   where
-    by : (b : Bool) → count_of test xs ≤ count_of test (xs ++ ys)
-        → cond b (count_of test xs + 1) (count_of test xs)
+    by : (b : Bool) → count_of test xs ≤ count_of test (xs ++ ys) → cond b (count_of test xs + 1) (count_of test xs)
         ≤ cond b (count_of test (xs ++ ys) + 1) (count_of test (xs ++ ys))
     by true rest = omega (arith, rest)
     by false rest = rest
@@ -56,8 +55,7 @@ module _ {K X : Type 0} (eq : K → K → Bool) (key_of : X → K) (x : X) (xs :
       by true was = omega (arith, was)
       by false was = was
 
-  pub is-reserved : eq (key_of x) (key_of x) ≡ true → ReservesBy eq key_of (x ∷ xs) old
-      → 0 < reserved eq (key_of x) old
+  pub is-reserved : eq (key_of x) (key_of x) ≡ true → ReservesBy eq key_of (x ∷ xs) old → 0 < reserved eq (key_of x) old
   is-reserved itself has =
       let there = subst (λ (b : Bool). cond b (count_of (λ x'. eq (key_of x) (key_of x')) xs + 1)
       (count_of (λ x'. eq (key_of x) (key_of x')) xs) ≤ reserved eq (key_of x) old) itself (has (key_of x)) in
@@ -65,8 +63,7 @@ module _ {K X : Type 0} (eq : K → K → Bool) (key_of : X → K) (x : X) (xs :
 
 -- as much room as before
 pub reserves-same : {K X : Type 0} (eq : K → K → Bool) (key_of : X → K) (xs : List X) (old new : MountsBy K)
-    → ((q : K) → reserved eq q new ≡ reserved eq q old)
-    → ReservesBy eq key_of xs old → ReservesBy eq key_of xs new
+    → ((q : K) → reserved eq q new ≡ reserved eq q old) → ReservesBy eq key_of xs old → ReservesBy eq key_of xs new
 reserves-same eq key_of xs old new same has q = let is = same q in let was = has q in omega (arith, is, was)
 
 -- where there is room for more, there is room for the first of them

@@ -37,8 +37,7 @@ counts_rise (x ∷ list) rising (suc i) (suc j) d le within =
 pub rises-push : (id : MountId) (list : List MountId) → comes_last id list ≡ true → rises list ≡ true
     → rises (list ++ id ∷ []) ≡ true
 rises-push id [] last rising = refl
-rises-push id (x ∷ list) last rising =
-    both _ _ (kept x list (and_true_left _ _ last) (and_true_left _ _ rising))
+rises-push id (x ∷ list) last rising = both _ _ (kept x list (and_true_left _ _ last) (and_true_left _ _ rising))
     (rises-push id list (and_true_right _ _ last) (and_true_right _ _ rising))
   where
     turned : (m n : ℕ) → nat_lt m n ≡ true → not (nat_lt n m) ≡ true
@@ -47,8 +46,7 @@ rises-push id (x ∷ list) last rising =
     kept : (x : MountId) (list : List MountId) → nat_lt x.count id.count ≡ true → none_below x list ≡ true
         → none_below x (list ++ id ∷ []) ≡ true
     kept x [] less below = both _ _ (turned x.count id.count less) refl
-    kept x (y ∷ list) less below =
-        both _ _ (and_true_left _ _ below) (kept x list less (and_true_right _ _ below))
+    kept x (y ∷ list) less below = both _ _ (and_true_left _ _ below) (kept x list less (and_true_right _ _ below))
 
 -- one that is inserted
 
@@ -80,10 +78,8 @@ inserted-greatest id (x ∷ list) least =
     apart le = grind (arith, nat_tests)
 
 pub inserted-behind : (id last : MountId) (list : List MountId) → rises list ≡ true
-    → slice_get list (length list - 1) ≡ Some last → leb last.count id.count ≡ true
-    → inserted id list ≡ list ++ id ∷ []
-inserted-behind id last list rising is least =
-    inserted-greatest id list (λ k d within.
+    → slice_get list (length list - 1) ≡ Some last → leb last.count id.count ≡ true → inserted id list ≡ list ++ id ∷ []
+inserted-behind id last list rising is least = inserted-greatest id list (λ k d within.
     let le = counts_rise list rising k (length list - 1) d (omega (arith, within)) (omega (arith, within)) in
     let at : (get_or list (length list - 1) d).count ≡ last.count =
     ap (λ one. one.count) (get_or_from_slice_get list (length list - 1) last d is) in
@@ -145,8 +141,7 @@ inserted-there id (x ∷ list) (suc place) within front rest =
     ap (λ l. x ∷ l) (inserted-there id list place (omega (arith, within))
     (λ k d low high. front (suc k) d (omega arith) (omega (arith, high)))
     (λ k d low high. rest (suc k) d (omega (arith, low)) (omega (arith, high))))
-    ∙ ap (λ b. cond b (id ∷ x ∷ list) (x ∷ inserted id list))
-    (sym (not-true _ (front 0 x (omega arith) (omega arith))))
+    ∙ ap (λ b. cond b (id ∷ x ∷ list) (x ∷ inserted id list)) (sym (not-true _ (front 0 x (omega arith) (omega arith))))
 
 -- one that is put in, and taken out again
 
@@ -192,8 +187,7 @@ pub rises-remove : (list : List MountId) (place : ℕ) → rises list ≡ true �
 rises-remove [] zero rising = refl
 rises-remove [] (suc place) rising = refl
 rises-remove (x ∷ list) zero rising = and_true_right _ _ rising
-rises-remove (x ∷ list) (suc place) rising =
-    both _ _ (none_below-remove x list place (and_true_left _ _ rising))
+rises-remove (x ∷ list) (suc place) rising = both _ _ (none_below-remove x list place (and_true_left _ _ rising))
     (rises-remove list place (and_true_right _ _ rising))
 
 -- it is no other, so that the others are those that are left
@@ -208,8 +202,7 @@ others-remove id (x ∷ list) (suc place) within is =
 others-all : (id : MountId) (list : List MountId)
     → ((k : ℕ) (d : MountId) → k < length list → same_id (get_or list k d) id ≡ false) → others id list ≡ list
 others-all id [] apart = refl
-others-all id (x ∷ list) apart =
-    ap (λ b. cond (not b) (x ∷ others id list) (others id list)) (apart 0 x (omega arith))
+others-all id (x ∷ list) apart = ap (λ b. cond (not b) (x ∷ others id list) (others id list)) (apart 0 x (omega arith))
     ∙ ap (λ rest. x ∷ rest) (others-all id list (λ k d within. apart (suc k) d (omega (arith, within))))
 
 -- where those before a place have smaller numbers, and none from there on has
@@ -222,20 +215,16 @@ parted id (suc place) (x ∷ list) = nat_lt x.count id.count && parted id place 
 none_below-all : (id : MountId) (list : List MountId)
     → AllWithin (λ other. nat_lt other.count id.count ≡ false) list 0 (length list) → none_below id list ≡ true
 none_below-all id [] rest = refl
-none_below-all id (x ∷ list) rest =
-    both _ _ (ap not (rest 0 x (omega arith) (omega arith)))
+none_below-all id (x ∷ list) rest = both _ _ (ap not (rest 0 x (omega arith) (omega arith)))
     (none_below-all id list (λ k d low high. rest (suc k) d (omega arith) (omega (arith, high))))
 
 parted-there : (id : MountId) (list : List MountId) (place : ℕ)
     → AllWithin (λ other. nat_lt other.count id.count ≡ true) list 0 place
-    → AllWithin (λ other. nat_lt other.count id.count ≡ false) list place (length list)
-    → parted id place list ≡ true
+    → AllWithin (λ other. nat_lt other.count id.count ≡ false) list place (length list) → parted id place list ≡ true
 parted-there id list zero front rest = none_below-all id list rest
 parted-there id [] (suc place) front rest = refl
-parted-there id (x ∷ list) (suc place) front rest =
-    both _ _ (front 0 x (omega arith) (omega arith))
-    (parted-there id list place
-    (λ k d low high. front (suc k) d (omega arith) (omega (arith, high)))
+parted-there id (x ∷ list) (suc place) front rest = both _ _ (front 0 x (omega arith) (omega arith))
+    (parted-there id list place (λ k d low high. front (suc k) d (omega arith) (omega (arith, high)))
     (λ k d low high. rest (suc k) d (omega (arith, low)) (omega (arith, high))))
 
 pub parted-remove : (id : MountId) (list : List MountId) (place : ℕ) → parted id place list ≡ true
@@ -247,20 +236,17 @@ parted-remove id (x ∷ list) (suc place) parted =
 
 others-above : (id x : MountId) (list : List MountId) → id.count < x.count → none_below x list ≡ true
     → others id list ≡ list
-others-above id x list above below =
-    others-all id list (λ k d within. apart _ (not-below x list k d below within))
+others-above id x list above below = others-all id list (λ k d within. apart _ (not-below x list k d below within))
   where
     apart : (n : ℕ) → x.count ≤ n → nat_eq n id.count ≡ false
     apart n le = grind (arith, nat_tests, above)
 
 -- a mount that is not at the place is not in the list
-pub others-parted : (id : MountId) (list : List MountId) (place : ℕ) → rises list ≡ true
-    → parted id place list ≡ true
+pub others-parted : (id : MountId) (list : List MountId) (place : ℕ) → rises list ≡ true → parted id place list ≡ true
     → ((d : MountId) → place < length list → same_id (get_or list place d) id ≡ false) → others id list ≡ list
 others-parted id [] place rising parted apart = refl
 others-parted id (x ∷ list) zero rising parted apart =
-    ap (λ b. cond (not b) (x ∷ others id list) (others id list)) (apart x (omega arith))
-    ∙ ap (λ rest. x ∷ rest)
+    ap (λ b. cond (not b) (x ∷ others id list) (others id list)) (apart x (omega arith)) ∙ ap (λ rest. x ∷ rest)
     (others-above id x list (above (not-true _ (and_true_left _ _ parted)) (apart x (omega arith)))
     (and_true_left _ _ rising))
   where
@@ -268,8 +254,7 @@ others-parted id (x ∷ list) zero rising parted apart =
     above least other = let least = ltb-false x.count id.count least in grind (arith, nat_tests, least)
 others-parted id (x ∷ list) (suc place) rising parted apart =
     ap (λ b. cond (not b) (x ∷ others id list) (others id list)) (less x.count (and_true_left _ _ parted))
-    ∙ ap (λ rest. x ∷ rest)
-    (others-parted id list place (and_true_right _ _ rising) (and_true_right _ _ parted)
+    ∙ ap (λ rest. x ∷ rest) (others-parted id list place (and_true_right _ _ rising) (and_true_right _ _ parted)
     (λ d within. apart d (omega (arith, within))))
   where
     less : (n : ℕ) → nat_lt n id.count ≡ true → nat_eq n id.count ≡ false
@@ -304,8 +289,7 @@ is_parted id slice list is rising i j d le within passes =
 
 pub placed : (id : MountId) (slice list : List MountId) → slice ≡ list → (place : ℕ) → place ≤ length slice
     → IsPartitionPoint (λ other. not (nat_lt id.count other.count) ≡ true)
-    (λ other. not (nat_lt id.count other.count) ≡ false) slice place
-    → insert list place id ≡ inserted id list
+    (λ other. not (nat_lt id.count other.count) ≡ false) slice place → insert list place id ≡ inserted id list
 placed id slice list is place within point =
     subst (λ list. insert list place id ≡ inserted id list) is (inserted-there id slice place within point.0 point.1)
 

@@ -22,16 +22,14 @@ module _ (mounts : List (Mount ℕ)) where
   numbers-tree : (depth : ℕ) (mount : Mount ℕ)
       → numbers (tree_from nat_eq depth mounts mount) ≡ tree_numbers mounts depth mount.number
   numbers-tree zero mount = refl
-  numbers-tree (suc depth) mount =
-      ap (λ l. mount.number ∷ l)
+  numbers-tree (suc depth) mount = ap (λ l. mount.number ∷ l)
       (flat-numbers (tree_from nat_eq depth mounts) (tree_numbers mounts depth) (numbers-tree depth)
       (children nat_eq mounts mount.number))
 
   -- the tree of the mount with a number
   pub numbers-whole : (number : ℕ)
       → tree_numbers mounts (length mounts) number ≡ numbers (mount_tree nat_eq mounts (mount_in nat_eq mounts number))
-  numbers-whole number =
-      ap (tree_numbers mounts (length mounts)) (sym (number-mount_in mounts number))
+  numbers-whole number = ap (tree_numbers mounts (length mounts)) (sym (number-mount_in mounts number))
       ∙ sym (numbers-tree (length mounts) (mount_in nat_eq mounts number))
 
   come-last : (waiting : List Branch) (branch : Branch)
@@ -66,11 +64,9 @@ module _ (mounts : List (Mount ℕ)) where
       ∙ ap (λ depth. tree_numbers mounts depth (counted next.mount.count) ++ to_come mounts waiting) flat
 
   pub next-deep : (waiting : List Branch) (next : Branch) (depth : ℕ) (ids : List MountId) → next.depth ≡ suc depth
-      → counts ids ≡ numbers (children nat_eq mounts (counted next.mount.count))
-      → to_come mounts (waiting ++ next ∷ [])
+      → counts ids ≡ numbers (children nat_eq mounts (counted next.mount.count)) → to_come mounts (waiting ++ next ∷ [])
       ≡ counted next.mount.count ∷ to_come mounts (waiting ++ map (branch_of depth) (reverse ids))
-  next-deep waiting next depth ids deep kids =
-      come-last waiting next
+  next-deep waiting next depth ids deep kids = come-last waiting next
       ∙ ap (λ depth. tree_numbers mounts depth (counted next.mount.count) ++ to_come mounts waiting) deep
       ∙ ap (λ l. counted next.mount.count ∷ flat_map (tree_numbers mounts depth) l ++ to_come mounts waiting) (sym kids)
       ∙ ap (λ l. counted next.mount.count ∷ l) (sym (come-reversed depth waiting ids))
@@ -82,8 +78,7 @@ module _ (mounts : List (Mount ℕ)) where
   told-more tree id before after whole next is =
       ap (λ l. l ++ to_come mounts after) (map-append (λ id. counted id.count) tree (id ∷ []))
       ∙ append_assoc (counts tree) (counted id.count ∷ []) (to_come mounts after)
-      ∙ ap (λ l. counts tree ++ l) (sym next)
-      ∙ is
+      ∙ ap (λ l. counts tree ++ l) (sym next) ∙ is
 
   pub told-all : (tree : List MountId) (whole : List ℕ) → counts tree ++ to_come mounts [] ≡ whole → counts tree ≡ whole
   told-all tree whole is = sym (append-nil (counts tree)) ∙ is

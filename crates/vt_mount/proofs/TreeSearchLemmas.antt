@@ -40,13 +40,10 @@ module _ (test : Mount ℕ → Bool) (mounts : List (Mount ℕ)) where
     pub any-children : (depth next number : ℕ) (ids : List MountId) → depth ≡ suc next
         → test (mount_in nat_eq mounts number) ≡ false → counts ids ≡ numbers (children nat_eq mounts number)
         → any_within depth number ≡ list_any (λ id. any_within next (counted id.count)) ids
-    any-children depth next number ids deep e kids =
-        ap (λ n. any_within n number) deep
+    any-children depth next number ids deep e kids = ap (λ n. any_within n number) deep
         ∙ ap (λ b. b || list_any test (flat_map (tree_from nat_eq next mounts)
         (children nat_eq mounts (mount_in nat_eq mounts number).number))) e
         ∙ ap (λ n. list_any test (flat_map (tree_from nat_eq next mounts) (children nat_eq mounts n)))
-        (number-mount_in mounts number)
-        ∙ any-trees next (children nat_eq mounts number)
+        (number-mount_in mounts number) ∙ any-trees next (children nat_eq mounts number)
         (λ mount m. (among-from_filter (stands_on nat_eq number) mounts mount m).0)
-        ∙ ap (list_any (any_within next)) (sym kids)
-        ∙ any-counts next ids
+        ∙ ap (list_any (any_within next)) (sym kids) ∙ any-counts next ids

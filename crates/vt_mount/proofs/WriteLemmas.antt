@@ -22,14 +22,12 @@ use Rattle.vt_mount.proofs.OrderLemmas.{change_kept, count_of, in_order-changed,
 
 -- a map in which one mount is changed by a function, if it is there
 abbrev pub IsWritten : MountId → (Mounted → Mounted) → List (MountId × Mounted) → List (MountId × Mounted) → Type 0
-IsWritten id change es new =
-    (q : MountId) → lookup (same_id q) new
+IsWritten id change es new = (q : MountId) → lookup (same_id q) new
     ≡ cond (same_id id q) (option_map change (lookup (same_id q) es)) (lookup (same_id q) es)
 
 module _ {S : Type 0} (id : MountId) (change : Mounted → Mounted) (m n : IndexMap MountId Mounted S) where
   pub is-written : (x w : Mounted) → get_by (same_id id) m ≡ Some x → w ≡ change x
-      → WritesThrough same_id (same_id id) m w n
-      → IsWritten id change m.entries n.entries
+      → WritesThrough same_id (same_id id) m w n → IsWritten id change m.entries n.entries
   is-written x w there is writes =
       changed-by count_of whole id change m.entries n.entries x w there is (writes.3 some).0
     where
@@ -51,30 +49,23 @@ module _ (id : MountId) (change : Mounted → Mounted)
   slots-changed (one ∷ kept) = λ i. by (same_id id one.0) i && slots-changed kept i
     where
       by : (b : Bool) → is_kept_small (one.0, cond b (change one.1) one.1) ≡ is_kept_small one
-      by true = ap (λ point. unwrap_or (option_map (λ place. is_small_node place.node) point) true)
-          (places one.1)
+      by true = ap (λ point. unwrap_or (option_map (λ place. is_small_node place.node) point) true) (places one.1)
       by false = refl
 
   pub indexed-written : (indexes : Indexes) (es new : List (MountId × Mounted)) → IsWritten id change es new
-      → IsIndexed indexes (in_order es)
-      → IsIndexed indexes (in_order new)
+      → IsIndexed indexes (in_order es) → IsIndexed indexes (in_order new)
   indexed-written indexes es new writes old =
       let order = in_order-changed id change es new writes in
       record {
-        namespace = λ q. old.namespace q
-            ∙ sym (ap (numbers_where (is_in q)) order
+        namespace = λ q. old.namespace q ∙ sym (ap (numbers_where (is_in q)) order
             ∙ numbers-changed (is_in q) id change (λ n one. ap (holds_of (same_namespace q)) (namespaces one))
             (in_order es));
-        parent = λ q. old.parent q
-            ∙ sym (ap (numbers_where (is_on q)) order
+        parent = λ q. old.parent q ∙ sym (ap (numbers_where (is_on q)) order
             ∙ numbers-changed (is_on q) id change (λ n one. ap (holds_of (λ place. same_id q place.mount)) (places one))
             (in_order es));
-        place = λ q. old.place q
-            ∙ sym (ap (numbers_where (is_at q)) order
+        place = λ q. old.place q ∙ sym (ap (numbers_where (is_at q)) order
             ∙ numbers-changed (is_at q) id change (λ n one. ap (holds_of (same_place q)) (places one)) (in_order es));
-        inode = λ q. old.inode q
-            ∙ sym (ap (numbers_where (is_over q)) order
-            ∙ numbers-changed (is_over q) id change
+        inode = λ q. old.inode q ∙ sym (ap (numbers_where (is_over q)) order ∙ numbers-changed (is_over q) id change
             (λ n one. ap (holds_of (λ place. same_node q place.node)) (places one)) (in_order es));
         slots = ap (list_all is_kept_small) order ∙ slots-changed (in_order es) ∙ old.slots;
       }
@@ -83,8 +74,7 @@ module _ (id : MountId) (change : Mounted → Mounted)
 pub entries-written : (id : MountId) (change : Mounted → Mounted) (seen : MountEntry → MountEntry)
     (es new : List (MountId × Mounted)) (old : List MountEntry)
     → ((n : MountId) (one : Mounted) → entry_of (n, change one) ≡ seen (entry_of (n, one))) → IsWritten id change es new
-    → entries_of es ≡ old
-    → entries_of new ≡ changed (counted id.count) seen old
+    → entries_of es ≡ old → entries_of new ≡ changed (counted id.count) seen old
 entries-written id change seen es new old so writes is =
     kept-changed id seen change so es new writes ∙ ap (changed (counted id.count) seen) is
 
@@ -102,8 +92,7 @@ pub order-unwritten : (id : MountId) (es new : List (MountId × Mounted)) → Is
 order-unwritten id es new writes = in_order-changed id (λ one. one) es new writes ∙ unchanged id (in_order es)
 
 pub entries-unwritten : (id : MountId) (es new : List (MountId × Mounted)) (old : List MountEntry)
-    → IsWritten id (λ one. one) es new → entries_of es ≡ old
-    → entries_of new ≡ old
+    → IsWritten id (λ one. one) es new → entries_of es ≡ old → entries_of new ≡ old
 entries-unwritten id es new old writes is = ap (map entry_of) (order-unwritten id es new writes) ∙ is
 
 -- Counted and counted no more

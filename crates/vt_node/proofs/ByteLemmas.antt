@@ -10,8 +10,7 @@ length-padded : (n : ℕ) (old : List ℕ) → length (padded n old) ≡ max (le
 length-padded n old = omega (
   arith,
   length-append old (replicate (n - length old) 0),
-  length-replicate {A = ℕ}
-      (n - length old) 0,
+  length-replicate {A = ℕ} (n - length old) 0,
 )
 
 take_all : (n : ℕ) (list : List ℕ) → length list ≤ n → take n list ≡ list
@@ -26,39 +25,30 @@ take_all n list few =
 
 -- zeros up to a later place are those up to an earlier one, and more
 front-padded : (offset n : ℕ) (old : List ℕ) → offset ≤ n → take offset (padded n old) ≡ take offset (padded offset old)
-front-padded offset n old within =
-    ⊎_elim
-    (λ short.
+front-padded offset n old within = ⊎_elim (λ short.
     let there : offset ≤ length old = omega arith in
     take-append-le offset old (replicate (n - length old) 0) there
     ∙ sym (take-append-le offset old (replicate (offset - length old) 0) there))
-    (λ long. beyond n within long ∙ sym (beyond offset (omega arith) long))
-    (cases_lt offset (length old))
+    (λ long. beyond n within long ∙ sym (beyond offset (omega arith) long)) (cases_lt offset (length old))
   where
     beyond : (m : ℕ) → offset ≤ m → length old ≤ offset
         → take offset (padded m old) ≡ old ++ replicate (offset - length old) 0
     beyond m most long =
         let sum : offset ≡ length old + (offset - length old) = omega arith in
-        ap (λ k. take k (padded m old)) sum
-        ∙ take-append-add old (replicate (m - length old) 0) (offset - length old)
+        ap (λ k. take k (padded m old)) sum ∙ take-append-add old (replicate (m - length old) 0) (offset - length old)
         ∙ ap (λ zeros. old ++ zeros) (take-replicate (offset - length old) (m - length old) 0 (omega arith))
 
 -- zeros up to a place add nothing from there on
 back-padded : (n : ℕ) (old : List ℕ) → drop n (padded n old) ≡ drop n old
-back-padded n old =
-    ⊎_elim
-    (λ short.
+back-padded n old = ⊎_elim (λ short.
     let none : n - length old ≡ 0 = omega arith in
-    ap (λ k. drop n (old ++ replicate k 0)) none ∙ ap (drop n) (append-nil old))
-    (λ long.
+    ap (λ k. drop n (old ++ replicate k 0)) none ∙ ap (drop n) (append-nil old)) (λ long.
     drop_of_length-le (padded n old) (let size = length-padded n old in omega (arith, size, long))
-    ∙ sym (drop_of_length-le old long))
-    (cases_lt n (length old))
+    ∙ sym (drop_of_length-le old long)) (cases_lt n (length old))
 
 -- What is kept of a file that gets longer, with the bytes in their place
 pub overwritten-grown : (old bytes grown : List ℕ) (offset longer : ℕ)
-    → longer ≡ max (length old) (offset + length bytes)
-    → grown ≡ take longer old ++ replicate (longer - length old) 0
+    → longer ≡ max (length old) (offset + length bytes) → grown ≡ take longer old ++ replicate (longer - length old) 0
     → take offset grown ++ (bytes ++ drop (offset + length bytes) grown) ≡ overwritten offset bytes old
 overwritten-grown old bytes grown offset longer most is =
     let end : ℕ = offset + length bytes in
@@ -99,5 +89,4 @@ module _ (old bytes grown copy rest : List ℕ) (offset longer count : ℕ)
   pub overwritten-in_place : take count (all ++ drop (length all) rest) ≡ overwritten offset bytes old
   overwritten-in_place =
       ap (λ n. take n (all ++ drop (length all) rest)) (sym length-all) ∙ take-append_seam all (drop (length all) rest)
-      ∙ (λ i. take offset grown ++ (copied i ++ after i))
-      ∙ overwritten-grown old bytes grown offset longer most is
+      ∙ (λ i. take offset grown ++ (copied i ++ after i)) ∙ overwritten-grown old bytes grown offset longer most is

@@ -30,8 +30,7 @@ names-with_entry name id (entry ∷ entries) none = by (name_cmp name entry.0) n
         (entry ∷ with_entry name id entries)))
     by Less none rest = IsPermutation-refl (name ∷ names_of (entry ∷ entries))
     by Equal none rest = cc
-    by Greater none rest =
-        IsPermutation-trans (name ∷ names_of (entry ∷ entries)) (entry.0 ∷ name ∷ names_of entries) _
+    by Greater none rest = IsPermutation-trans (name ∷ names_of (entry ∷ entries)) (entry.0 ∷ name ∷ names_of entries) _
         (IsPermutation-middle (name ∷ []) entry.0 (names_of entries))
         (IsPermutation-cons entry.0 (name ∷ names_of entries) (names_of (with_entry name id entries)) (rest none))
 

@@ -24,8 +24,7 @@ leads id entry = nat_eq id entry.1
 pub found_is_named : (id : ℕ) (entries : Entries ℕ) (entry : List ℕ × ℕ) → is_sorted name_cmp entries ≡ true
     → find (leads id) entries ≡ Some entry → entry_named entry.0 entries ≡ Some id
 found_is_named id [] entry sorted e = absurd (true≢false (sym (ap is_some e)))
-found_is_named id (first ∷ entries) entry sorted e =
-    by (nat_eq id first.1) refl e (λ rest.
+found_is_named id (first ∷ entries) entry sorted e = by (nat_eq id first.1) refl e (λ rest.
     found_is_named id entries entry (and_true_right (below_all name_cmp first.0 entries) _ sorted) rest)
   where
     later : (is : Bool) → eq_by_cmp name_cmp entry.0 first.0 ≡ is → entry_named entry.0 entries ≡ Some id
@@ -76,8 +75,7 @@ first_name id name entries sorted one named = by (find (leads id) entries) refl 
 -- entries that lead elsewhere
 
 unlisted_with : (id : ℕ) (name : List ℕ) (other : ℕ) (entries : Entries ℕ) → nat_eq id other ≡ false
-    → find (leads id) entries ≡ None
-    → find (leads id) (with_entry name other entries) ≡ None
+    → find (leads id) entries ≡ None → find (leads id) (with_entry name other entries) ≡ None
 unlisted_with id name other [] apart none = ap (λ b. cond b (Some (name, other)) None) apart
 unlisted_with id name other (first ∷ entries) apart none =
     by (nat_eq id first.1) refl none (unlisted_with id name other entries apart)
@@ -86,12 +84,10 @@ unlisted_with id name other (first ∷ entries) apart none =
         → (find (leads id) entries ≡ None → find (leads id) (with_entry name other entries) ≡ None)
         → find (leads id) (with_entry name other (first ∷ entries)) ≡ None
     by true e some rest = absurd (true≢false (ap is_some some))
-    by false e none rest =
-        elim (name_cmp name first.0)
+    by false e none rest = elim (name_cmp name first.0)
         as (λ o. find (leads id) (by_order o ((name, other) ∷ first ∷ entries) ((first.0, other) ∷ entries)
         (first ∷ with_entry name other entries)) ≡ None) [
-          | Less ↦
-              ap (λ b. cond b (Some (name, other))
+          | Less ↦ ap (λ b. cond b (Some (name, other))
               (cond (nat_eq id first.1) (Some first) (find (leads id) entries))) apart
               ∙ ap (λ b. cond b (Some first) (find (leads id) entries)) e ∙ none
           | Equal ↦ ap (λ b. cond b (Some (first.0, other)) (find (leads id) entries)) apart ∙ none
@@ -114,8 +110,7 @@ no_place : {X : Type 0} (test : X → Bool) (xs : List X) → position test xs �
 no_place test xs none = find_at test xs ∙ by (nat_lt (position_or_len test xs) (length xs)) refl none
   where
     by : (b : Bool) → nat_lt (position_or_len test xs) (length xs) ≡ b
-        → cond b (Some (position_or_len test xs)) None ≡ None
-        → slice_get xs (position_or_len test xs) ≡ None
+        → cond b (Some (position_or_len test xs)) None ≡ None → slice_get xs (position_or_len test xs) ≡ None
     by true e none = absurd (true≢false (ap is_some none))
     by false e none = past xs (position_or_len test xs) (ltb-false (position_or_len test xs) (length xs) e)
 

@@ -42,8 +42,7 @@ count_with p name id (entry ∷ entries) none = by (name_cmp name entry.0) none 
         → (entry_named name entries ≡ None → length (filter p (with_entry name id entries))
         ≡ length (filter p entries) + cond (p (name, id)) 1 0)
         → length (filter p (by_order o ((name, id) ∷ entry ∷ entries) ((entry.0, id) ∷ entries)
-        (entry ∷ with_entry name id entries)))
-        ≡ length (filter p (entry ∷ entries)) + cond (p (name, id)) 1 0
+        (entry ∷ with_entry name id entries))) ≡ length (filter p (entry ∷ entries)) + cond (p (name, id)) 1 0
     by Less none rest = one_more (p (name, id)) (name, id) (filter p (entry ∷ entries))
     by Equal none rest = absurd (true≢false (ap is_some none))
     by Greater none rest =
@@ -53,8 +52,7 @@ count_with p name id (entry ∷ entries) none = by (name_cmp name entry.0) none 
 -- bytes that are less come before
 pub is_smaller : (a b : List ℕ)
     → is_some_and is_lt (slice_partial_cmp (λ x y. Some (nat_cmp x y)) a b) ≡ is_lt (name_cmp a b)
-is_smaller a b =
-    ap (is_some_and is_lt) (lists_agrees {R = nat_cmp} {C = λ x y. Some (nat_cmp x y)} (λ x y. refl) a b)
+is_smaller a b = ap (is_some_and is_lt) (lists_agrees {R = nat_cmp} {C = λ x y. Some (nat_cmp x y)} (λ x y. refl) a b)
 
 -- whether an entry leads to a node by a smaller name
 abbrev pub before : ℕ → List ℕ → List ℕ × ℕ → Bool
@@ -68,8 +66,7 @@ module _ (a b : List ℕ) (id : ℕ) (less : name_cmp a b ≡ Less) where
   Less_from Greater e = absurd (true≢false (sym e))
 
   also_before : (entry : List ℕ × ℕ) → before id a entry ≡ true → before id b entry ≡ true
-  also_before entry e =
-      (λ i. and_true_left (nat_eq id entry.1) (is_lt (name_cmp entry.0 a)) e i
+  also_before entry e = (λ i. and_true_left (nat_eq id entry.1) (is_lt (name_cmp entry.0 a)) e i
       && is_lt (nat_list_cmp_total.trans entry.0 a b
       (Less_from (name_cmp entry.0 a) (and_true_right (nat_eq id entry.1) (is_lt (name_cmp entry.0 a)) e)) less i))
 
@@ -103,8 +100,7 @@ module _ (a b : List ℕ) (id : ℕ) (less : name_cmp a b ≡ Less) where
   rank_less [] named = absurd (true≢false (sym (ap is_some named)))
   rank_less (entry ∷ entries) named = by (eq_by_cmp name_cmp a entry.0) refl named (rank_less entries)
     where
-      by : (c : Bool) → eq_by_cmp name_cmp a entry.0 ≡ c
-          → cond c (Some entry.1) (entry_named a entries) ≡ Some id
+      by : (c : Bool) → eq_by_cmp name_cmp a entry.0 ≡ c → cond c (Some entry.1) (entry_named a entries) ≡ Some id
           → (entry_named a entries ≡ Some id → 1 + rank_among entries a id ≤ rank_among entries b id)
           → 1 + rank_among (entry ∷ entries) a id ≤ rank_among (entry ∷ entries) b id
       by true e named rest =
@@ -113,8 +109,7 @@ module _ (a b : List ℕ) (id : ℕ) (less : name_cmp a b ≡ Less) where
           it_counts (before id a entry) (before id b entry) entry (filter (before id a) entries) (filter (before id b) entries)
           (not_itself (nat_eq id entry.1) (name_cmp entry.0 a)
           (ap (λ n. is_eq (name_cmp entry.0 n)) is ∙ ap is_eq (tied_itself nat_list_cmp_total entry.0)))
-          ((λ i. leads i && is_lt (name_cmp (sym is i) b)) ∙ ap is_lt less)
-          (all_before entries)
+          ((λ i. leads i && is_lt (name_cmp (sym is i) b)) ∙ ap is_lt less) (all_before entries)
       by false e named rest =
           no_fewer (before id a entry) (before id b entry) entry 1 (filter (before id a) entries) (filter (before id b) entries)
           (also_before entry) (rest named)
@@ -133,11 +128,9 @@ same_rank a b id entries named other same = by (name_cmp a b) refl
 
 -- what is found has its name and passes
 pub found_is_there : (p : List ℕ × ℕ → Bool) (entries : Entries ℕ) (entry : List ℕ × ℕ)
-    → is_sorted name_cmp entries ≡ true
-    → find p entries ≡ Some entry → entry_named entry.0 entries ≡ Some entry.1
+    → is_sorted name_cmp entries ≡ true → find p entries ≡ Some entry → entry_named entry.0 entries ≡ Some entry.1
 found_is_there p [] entry sorted e = absurd (true≢false (sym (ap is_some e)))
-found_is_there p (first ∷ entries) entry sorted e =
-    by (p first) e (λ rest.
+found_is_there p (first ∷ entries) entry sorted e = by (p first) e (λ rest.
     found_is_there p entries entry (and_true_right (below_all name_cmp first.0 entries) _ sorted) rest)
   where
     later : (is : Bool) → eq_by_cmp name_cmp entry.0 first.0 ≡ is → entry_named entry.0 entries ≡ Some entry.1
@@ -166,8 +159,7 @@ some_is_found p name id (entry ∷ entries) named passes =
     right true e = refl
     right false e = e
 
-    by : (b : Bool) → eq_by_cmp name_cmp name entry.0 ≡ b
-        → cond b (Some entry.1) (entry_named name entries) ≡ Some id
+    by : (b : Bool) → eq_by_cmp name_cmp name entry.0 ≡ b → cond b (Some entry.1) (entry_named name entries) ≡ Some id
         → (entry_named name entries ≡ Some id → is_some (find p entries) ≡ true)
         → is_some (cond (p entry) (Some entry) (find p entries)) ≡ true
     by true e named rest =
@@ -178,8 +170,7 @@ some_is_found p name id (entry ∷ entries) named passes =
 -- by its rank a name is found
 pub ranked_is_found : (name : List ℕ) (id : ℕ) (entries : Entries ℕ) → is_sorted name_cmp entries ≡ true
     → entry_named name entries ≡ Some id → name_ranked entries id (rank_among entries name id) ≡ Some name
-ranked_is_found name id entries sorted named =
-    by (find (has_rank entries id rank) entries) refl
+ranked_is_found name id entries sorted named = by (find (has_rank entries id rank) entries) refl
     (some_is_found (has_rank entries id rank) name id entries named
     (λ i. eq-eqb id id refl i && eq-eqb rank rank refl i))
   where
@@ -240,8 +231,7 @@ another_is_found p q (first ∷ xs) x found is = by (p first) found (λ rest. an
     right true e = refl
     right false e = e
 
-    by : (b : Bool) → cond b (Some first) (find p xs) ≡ Some x
-        → (find p xs ≡ Some x → is_some (find q xs) ≡ true)
+    by : (b : Bool) → cond b (Some first) (find p xs) ≡ Some x → (find p xs ≡ Some x → is_some (find q xs) ≡ true)
         → is_some (cond (q first) (Some first) (find q xs)) ≡ true
     by true found rest = ap (λ b. is_some (cond b (Some first) (find q xs))) (ap q (same_Some first x found) ∙ is)
     by false found rest = right (q first) (rest found)
@@ -254,8 +244,7 @@ module _ {A : Type 0} where
   pub absent : (name : List ℕ) (es : List (Vec ℕ A × ℕ)) → AllByRecursion (λ key. is_name name key ≡ false) (keys_of es)
       → lookup (is_name name) es ≡ None
   absent name [] apart = refl
-  absent name (e ∷ es) apart =
-      ap (λ b. cond b (Some e.1) (lookup (is_name name) es)) apart.0 ∙ absent name es apart.1
+  absent name (e ∷ es) apart = ap (λ b. cond b (Some e.1) (lookup (is_name name) es)) apart.0 ∙ absent name es apart.1
 
   -- as many of the kept entries pass as of those that contracts see
   pub count-listed : (p : List ℕ × ℕ → Bool) (es : List (Vec ℕ A × ℕ)) → IsDistinct key_eq (keys_of es)
@@ -272,8 +261,7 @@ module _ {A : Type 0} where
   -- what is found among kept entries has the same name among those that contracts see
   kept_is_listed : (p : List ℕ × ℕ → Bool) (es : List (Vec ℕ A × ℕ)) → IsDistinct key_eq (keys_of es)
       → is_some (find p (listed es)) ≡ is_some (find (λ e. p (entry_seen e)) es)
-  kept_is_listed p es distinct =
-      some_counts p (listed es) ∙ ap nonzero (count-listed p es distinct)
+  kept_is_listed p es distinct = some_counts p (listed es) ∙ ap nonzero (count-listed p es distinct)
       ∙ sym (some_counts (λ e. p (entry_seen e)) es)
 
   pub ranked-listed : (id rank : ℕ) (es : List (Vec ℕ A × ℕ)) → IsDistinct key_eq (keys_of es)
@@ -301,11 +289,9 @@ module _ {A : Type 0} where
           let leads : id ≡ entry.1 = eqb-true id entry.1 (and_true_left (nat_eq id entry.1) _ has_it) in
           let its : rank ≡ rank_among (listed es) entry.0 id =
           eqb-true rank (rank_among (listed es) entry.0 id) (and_true_right (nat_eq id entry.1) _ has_it) in
-          ap (name_ranked (listed es) id) its
-          ∙ ranked_is_found entry.0 id (listed es) sorted
+          ap (name_ranked (listed es) id) its ∙ ranked_is_found entry.0 id (listed es) sorted
           (found_is_there (λ entry. has entry && eq_by_cmp name_cmp name entry.0) (listed es) entry sorted found
-          ∙ ap Some (sym leads))
-          ∙ ap Some (sym (same_name name entry.0 (and_true_right (has entry) _ both)))
+          ∙ ap Some (sym leads)) ∙ ap Some (sym (same_name name entry.0 (and_true_right (has entry) _ both)))
 
       by : (o : Option (Vec ℕ A × ℕ)) → find (λ e. has (entry_seen e)) es ≡ o
           → name_ranked (listed es) id rank ≡ option_map (λ e. e.0.items) o
@@ -314,8 +300,7 @@ module _ {A : Type 0} where
           let passes_too : (has (entry_seen kept) && eq_by_cmp name_cmp kept.0.items kept.0.items) ≡ true =
           (λ i. found_passes (λ e. has (entry_seen e)) es kept e i
           && is_eq (tied_itself nat_list_cmp_total kept.0.items i)) in
-          named kept.0.items
-          (find (λ entry. has entry && eq_by_cmp name_cmp kept.0.items entry.0) (listed es)) refl
+          named kept.0.items (find (λ entry. has entry && eq_by_cmp name_cmp kept.0.items entry.0) (listed es)) refl
           (kept_is_listed (λ entry. has entry && eq_by_cmp name_cmp kept.0.items entry.0) es distinct
           ∙ another_is_found (λ e. has (entry_seen e))
           (λ e. has (entry_seen e) && eq_by_cmp name_cmp kept.0.items e.0.items) es kept e passes_too)
@@ -356,8 +341,7 @@ module _ {A : Type 0} where
         (take_all place es (let long = ap length columns.numbers_are ∙ length-map es (λ (e : Vec ℕ A × ℕ). e.1) in
         omega (arith, far, long)))
 
-    pub found_all : found_from p 0 names numbers
-        ≡ option_map (λ e. e.0.items) (find (λ e. p (entry_seen e)) es)
+    pub found_all : found_from p 0 names numbers ≡ option_map (λ e. e.0.items) (find (λ e. p (entry_seen e)) es)
     found_all = ap (λ (l : List (Vec ℕ A × ℕ)). option_map (λ e. e.0.items) (find (λ e. p (entry_seen e)) l)) together
 
     pub found_none : (place : ℕ) → length numbers ≤ place → found_from p place names numbers ≡ None
@@ -402,8 +386,7 @@ module _ {A : Type 0} where
 
       pub counts_none : p (key.items, number) ≡ false
           → counted_to p (place + 1) names numbers ≡ counted_to p place names numbers
-      counts_none e =
-          counted_more ∙ ap (λ b. counted_to p place names numbers + cond b 1 0) e
+      counts_none e = counted_more ∙ ap (λ b. counted_to p place names numbers + cond b 1 0) e
           ∙ (let nothing : counted_to p place names numbers + 0 ≡ counted_to p place names numbers = omega arith in
           nothing)
 
@@ -412,8 +395,7 @@ module _ {A : Type 0} where
       found_or_later =
           ap (λ (l : List (Vec ℕ A × ℕ)). option_map (λ e. e.0.items) (find (λ e. p (entry_seen e)) (drop place l))) together
           ∙ ap (λ (l : List (Vec ℕ A × ℕ)). option_map (λ e. e.0.items) (find (λ e. p (entry_seen e)) l))
-          (drop_more es place (key, number) near)
-          ∙ here (p (key.items, number)) refl
+          (drop_more es place (key, number) near) ∙ here (p (key.items, number)) refl
         where
           here : (b : Bool) → p (key.items, number) ≡ b
               → option_map (λ e. e.0.items) (find (λ e. p (entry_seen e)) (get_or es place (key, number) ∷ drop (place + 1) es))

@@ -44,12 +44,9 @@ names-marked (name ∷ names) = ap (λ rest. name ∷ rest) (names-marked names)
 -- two lists in order with the same names are one
 same_names : (xs ys : List (List ℕ)) → T (is_sorted name_cmp (marked xs)) → T (is_sorted name_cmp (marked ys))
     → ((q : List ℕ) → list_any (eq_by_cmp name_cmp q) xs ≡ list_any (eq_by_cmp name_cmp q) ys) → xs ≡ ys
-same_names xs ys p q alike =
-    sym (names-marked xs)
-    ∙ ap (map (λ e. e.0))
+same_names xs ys p q alike = sym (names-marked xs) ∙ ap (map (λ e. e.0))
     (same_entries name_cmp nat_list_cmp_total same_name-Equal (marked xs) (marked ys) p q
-    (λ name. same_presence _ _ (found name)))
-    ∙ names-marked ys
+    (λ name. same_presence _ _ (found name))) ∙ names-marked ys
   where
     among : (name : List ℕ) (names : List (List ℕ))
         → is_some (find name_cmp name (marked names)) ≡ list_any (eq_by_cmp name_cmp name) names
@@ -100,8 +97,7 @@ module _ {A : Type 0} where
       → IsStrictlySortedBy key_cmp keys
   unfolding IsStrictlySortedBy
   strictly_sorted [] sorted distinct = tt
-  strictly_sorted (key ∷ keys) sorted distinct =
-      sorted_from_all_adjacent key_cmp_total (key ∷ keys) key (λ k within.
+  strictly_sorted (key ∷ keys) sorted distinct = sorted_from_all_adjacent key_cmp_total (key ∷ keys) key (λ k within.
       let here = get_or (key ∷ keys) k key in
       let next = get_or (key ∷ keys) (k + 1) key in
       is_less _ _ (key_cmp_total.antisymm here next) (sorted k key (omega arith) within)
@@ -117,16 +113,14 @@ module _ {A : Type 0} where
   is_sorted-bytes_of : (keys : List (Vec ℕ A)) → IsStrictlySortedBy key_cmp keys
       → T (is_sorted name_cmp (marked (bytes_of keys)))
   is_sorted-bytes_of [] h = tt
-  is_sorted-bytes_of (key ∷ keys) h =
-      T_and _ _ (below_all-bytes_of key keys (sorted_head key_cmp key keys h))
+  is_sorted-bytes_of (key ∷ keys) h = T_and _ _ (below_all-bytes_of key keys (sorted_head key_cmp key keys h))
       (is_sorted-bytes_of keys (sorted_tail key_cmp key keys h))
 
   -- a look-up finds the names of the keys
   list_any-bytes_of : (q : List ℕ) (es : List (Vec ℕ A × ℕ))
       → list_any (eq_by_cmp name_cmp q) (bytes_of (keys_of es)) ≡ is_some (lookup (is_name q) es)
   list_any-bytes_of q [] = refl
-  list_any-bytes_of q (e ∷ es) =
-      (λ i. sym (texts_ties q e.0.items) i || list_any-bytes_of q es i)
+  list_any-bytes_of q (e ∷ es) = (λ i. sym (texts_ties q e.0.items) i || list_any-bytes_of q es i)
       ∙ found (is_name q e.0) e.1 (lookup (is_name q) es)
     where
       found : (b : Bool) (id : ℕ) (rest : Option ℕ) → (b || is_some rest) ≡ is_some (cond b (Some id) rest)
@@ -143,18 +137,14 @@ module _ {A : Type 0} where
       (is_sorted-bytes_of sorted (strictly_sorted sorted in_order apart))
       (subst T (sym (is_sorted-marked (listed es))) (is_sorted-listed es))
       (λ q. sym (list_any-IsPermutation (eq_by_cmp name_cmp q) (bytes_of (keys_of es)) (bytes_of sorted) moved)
-      ∙ list_any-bytes_of q es
-      ∙ ap is_some (sym (find-listed q es))
-      ∙ is_some-find name_cmp q (listed es))
+      ∙ list_any-bytes_of q es ∙ ap is_some (sym (find-listed q es)) ∙ is_some-find name_cmp q (listed es))
     where
       moved : IsPermutation (bytes_of (keys_of es)) (bytes_of sorted)
-      moved =
-          subst (λ names. IsPermutation names (bytes_of sorted)) copied
+      moved = subst (λ names. IsPermutation names (bytes_of sorted)) copied
           (IsPermutation-map (λ key. key.items) copies sorted permuted)
 
       apart : IsDistinct key_eq sorted
-      apart =
-          subst (λ (X : Type 0). X) (IsDistinct-bytes_of sorted)
+      apart = subst (λ (X : Type 0). X) (IsDistinct-bytes_of sorted)
           (IsDistinct-IsPermutation (pointwise nat_eq) nat_list_eq_equiv.symm
           (bytes_of (keys_of es)) (bytes_of sorted) moved
           (subst (λ (X : Type 0). X) (sym (IsDistinct-bytes_of (keys_of es))) distinct))

@@ -22,8 +22,7 @@ use Rattle.vt_mounting.proofs.attach.RoomLemmas.{pinned_if_more}
 -- Uses
 
 -- with one use more somewhere no mount has more than one use more
-uses_grow : (m n : ℕ) (entries : List MountEntry)
-    → (uses_of (changed m (held false) entries) n ≤ uses_of entries n + 1)
+uses_grow : (m n : ℕ) (entries : List MountEntry) → (uses_of (changed m (held false) entries) n ≤ uses_of entries n + 1)
     × (writers_of (changed m (held false) entries) n ≡ writers_of entries n)
 uses_grow m n [] = (omega arith, refl)
 uses_grow m n (entry ∷ entries) = by (nat_eq m entry.mount.number) (uses_grow m n entries)
@@ -35,9 +34,7 @@ uses_grow m n (entry ∷ entries) = by (nat_eq m entry.mount.number) (uses_grow 
         → (uses_of later n ≤ uses_of entries n + 1) × (writers_of later n ≡ writers_of entries n)
         → (uses_of (one ∷ later) n ≤ uses_of (was ∷ entries) n + 1)
         × (writers_of (one ∷ later) n ≡ writers_of (was ∷ entries) n)
-    at one was mount uses writers rest =
-        subst (λ (x : ℕ).
-        (unwrap_or (option_map (λ (e : MountEntry). e.uses)
+    at one was mount uses writers rest = subst (λ (x : ℕ). (unwrap_or (option_map (λ (e : MountEntry). e.uses)
         (cond (nat_eq n x) (Some one) (entry_numbered later n))) 0 ≤ uses_of (was ∷ entries) n + 1)
         × (unwrap_or (option_map (λ (e : MountEntry). e.writers)
         (cond (nat_eq n x) (Some one) (entry_numbered later n))) 0 ≡ writers_of (was ∷ entries) n))
@@ -68,8 +65,7 @@ inodes_grow inode count number (old ∷ olds) (new ∷ news) is =
     let tail : shown news ≡ pinned_in inode (shown olds) = cc in
     subst (λ k. uses_in ((inodes_seen
     (unwrap_or (cond (nat_eq count k) (Some new) (find (λ e. nat_eq count e.count) news))
-    (no_entry count))).inode number)
-    ≤ uses_in ((inodes_at (old ∷ olds) count).inode number) + 1)
+    (no_entry count))).inode number) ≤ uses_in ((inodes_at (old ∷ olds) count).inode number) + 1)
     (ap (λ one. one.count) (sym head))
     (by (nat_eq count old.count) (ap (λ one. one.inodes) head) (inodes_grow inode count number olds news tail))
   where
@@ -81,21 +77,17 @@ inodes_grow inode count number (old ∷ olds) (new ∷ news) is =
         (no_entry count))).inode number) + 1
     by true here later =
         subst (λ (inodes : Inodes ℕ). uses_in (inodes.inode number) ≤ uses_in ((inodes_seen old).inode number) + 1)
-        (sym here)
-        (pinned_if_more (counted old.count) (inodes_seen old) inode number)
+        (sym here) (pinned_if_more (counted old.count) (inodes_seen old) inode number)
     by false here later = later
 
 -- where there was room for one use more there is room for so many after one
-pub room_still : (more : ℕ) (other at : Location) (mounts news : List MountEntry)
-    (store new_store : StoreValue)
-    → HasRoom (more + 1) at mounts store.plain
-    → kept news new_store ≡ with_location other false (kept mounts store)
+pub room_still : (more : ℕ) (other at : Location) (mounts news : List MountEntry) (store new_store : StoreValue)
+    → HasRoom (more + 1) at mounts store.plain → kept news new_store ≡ with_location other false (kept mounts store)
     → HasRoom more at news new_store.plain
 room_still more other at mounts news store new_store room is =
     let grown = uses_grow (counted other.mount.count) (counted at.mount.count) mounts in
     let inode = inodes_grow (counted other.node.filesystem.count, number_of other.node) at.node.filesystem.count
-    (number_of at.node) store.plain new_store.plain
-    (ap (λ k. k.filesystems) is) in
+    (number_of at.node) store.plain new_store.plain (ap (λ k. k.filesystems) is) in
     subst (λ all. HasRoom more at all new_store.plain) (sym (ap (λ k. k.mounts) is)) (record {
       uses = (let most = room.uses in let more_uses = grown.0 in omega (arith, most, more_uses));
       writers = (let most = room.writers in let more_uses = grown.1 in omega (arith, most, more_uses));
@@ -109,12 +101,10 @@ room_left = room_still 1
 
 -- and after one more use of an inode, where mounts keep their counts
 pub room_pinned : (more : ℕ) (inode : Inode) (at : Location) (mounts news : List MountEntry)
-    (filesystems new_filesystems : Filesystems)
-    → HasRoom (more + 1) at mounts filesystems
+    (filesystems new_filesystems : Filesystems) → HasRoom (more + 1) at mounts filesystems
     → uses_of news (counted at.mount.count) ≡ uses_of mounts (counted at.mount.count)
     → writers_of news (counted at.mount.count) ≡ writers_of mounts (counted at.mount.count)
-    → shown new_filesystems ≡ pinned_in inode (shown filesystems)
-    → HasRoom more at news new_filesystems
+    → shown new_filesystems ≡ pinned_in inode (shown filesystems) → HasRoom more at news new_filesystems
 room_pinned more inode at mounts news filesystems new_filesystems room uses writers is =
     let grown = inodes_grow inode at.node.filesystem.count (number_of at.node) filesystems new_filesystems is in
     record {
@@ -136,8 +126,7 @@ room_less more less at mounts filesystems few room = record {
 pub counts_kept : (change : MountEntry → MountEntry)
     → ((entry : MountEntry) → (change entry).mount.number ≡ entry.mount.number)
     → ((entry : MountEntry) → (change entry).uses ≡ entry.uses)
-    → ((entry : MountEntry) → (change entry).writers ≡ entry.writers)
-    → (entries : List MountEntry) (n : ℕ)
+    → ((entry : MountEntry) → (change entry).writers ≡ entry.writers) → (entries : List MountEntry) (n : ℕ)
     → (uses_of (map change entries) n ≡ uses_of entries n) × (writers_of (map change entries) n ≡ writers_of entries n)
 counts_kept change number uses writers [] n = (refl, refl)
 counts_kept change number uses writers (entry ∷ entries) n =

@@ -40,8 +40,7 @@ last false b c e = absurd cc
 
 no_work : (overlay : Overlay ℕ) → is_some overlay.upper ≡ false → has_fit_layers overlay ≡ true
     → upper_and_work overlay ≡ []
-no_work overlay none fit =
-    by overlay.upper overlay.work none
+no_work overlay none fit = by overlay.upper overlay.work none
     (last (not (is_empty_list overlay.lowers)) (nat_le (length overlay.lowers) most_lowers)
     (same_bool (is_some overlay.upper) (is_some overlay.work)) fit)
   where
@@ -66,22 +65,19 @@ HasNoUpper filesystem = of_overlay false (λ (overlay : Overlay ℕ). is_some ov
 nothing_written : (all : List (Filesystem ℕ)) → All HasNoUpper all → list_all (of_overlay true has_fit_layers) all ≡ true
     → flat_map (of_overlay [] upper_and_work) (filter is_overlay all) ≡ []
 nothing_written [] none fit = refl
-nothing_written (filesystem ∷ rest) none fit =
-    by (nothing_written rest (All-tail HasNoUpper filesystem rest none)
+nothing_written (filesystem ∷ rest) none fit = by (nothing_written rest (All-tail HasNoUpper filesystem rest none)
     (second_true (of_overlay true has_fit_layers filesystem) (list_all (of_overlay true has_fit_layers) rest) fit))
     filesystem.overlay (All-head HasNoUpper filesystem rest none)
     (first_true (of_overlay true has_fit_layers filesystem) (list_all (of_overlay true has_fit_layers) rest) fit)
   where
-    by : flat_map (of_overlay [] upper_and_work) (filter is_overlay rest) ≡ []
-        → (overlay : Option (Overlay ℕ))
+    by : flat_map (of_overlay [] upper_and_work) (filter is_overlay rest) ≡ [] → (overlay : Option (Overlay ℕ))
         → overlay_or false (λ (overlay : Overlay ℕ). is_some overlay.upper) overlay ≡ false
         → overlay_or true has_fit_layers overlay ≡ true
         → flat_map (of_overlay [] upper_and_work) (filter is_overlay (record filesystem { overlay = overlay } ∷ rest)) ≡ []
     by later None no_upper fits = later
     by later (Some overlay) no_upper fits =
         ap (λ first. first ++ flat_map (of_overlay [] upper_and_work) (filter is_overlay rest))
-        (no_work overlay no_upper fits)
-        ∙ later
+        (no_work overlay no_upper fits) ∙ later
 
 pub none_in_use : (world : World ℕ) (looks : Looks ℕ) (task : Task ℕ) (lowers : List (Location ℕ))
     → OverlaysHaveNoUpper world → list_all (of_overlay true has_fit_layers) world.filesystems ≡ true
@@ -89,5 +85,4 @@ pub none_in_use : (world : World ℕ) (looks : Looks ℕ) (task : Task ℕ) (low
 none_in_use world looks task lowers none fit =
     let overlay = overlay_at looks task (lowers_alone lowers) in
     sym (ap (λ written. list_any (overlaps_one_of nat_eq world written) overlay.lowers)
-    (nothing_written world.filesystems none fit)
-    ∙ none_overlap world overlay.lowers)
+    (nothing_written world.filesystems none fit) ∙ none_overlap world overlay.lowers)

@@ -26,8 +26,7 @@ either_counted (suc a) b = grind (arith, nat_tests)
 any_written : (mount : ℕ) (tasks : List (Task ℕ))
     → list_any (λ task. list_any (writes_on mount) task.descriptors) tasks ≡ nat_lt 0 (writes_of mount tasks)
 any_written mount [] = refl
-any_written mount (task ∷ rest) =
-    (λ i. any_counted (writes_on mount) task.descriptors i || any_written mount rest i)
+any_written mount (task ∷ rest) = (λ i. any_counted (writes_on mount) task.descriptors i || any_written mount rest i)
     ∙ either_counted (times (writes_on mount) task.descriptors) (writes_of mount rest)
 
 -- where no entry is found by a number, none has it
@@ -36,8 +35,7 @@ entry_missing : (entries : List MountEntry) (number : ℕ) → entry_numbered en
 entry_missing [] number e = refl
 entry_missing (x ∷ entries) number e = by (nat_eq number x.mount.number) e (entry_missing entries number)
   where
-    by : (b : Bool) → cond b (Some x) (entry_numbered entries number) ≡ None
-        → (entry_numbered entries number ≡ None
+    by : (b : Bool) → cond b (Some x) (entry_numbered entries number) ≡ None → (entry_numbered entries number ≡ None
         → is_among nat_eq number (map (λ mount. mount.number) (mounts_in entries)) ≡ false)
         → (b || is_among nat_eq number (map (λ mount. mount.number) (mounts_in entries))) ≡ false
     by true e rest = absurd cc
@@ -46,8 +44,7 @@ entry_missing (x ∷ entries) number e = by (nat_eq number x.mount.number) e (en
 module _ (value : WorldValue) (held : IsHeld value) (number : ℕ) where
   -- no location is on a mount that is not there
   none_located : entry_numbered value.mounts number ≡ None → is_located nat_eq (world_of value) number ≡ false
-  none_located missing =
-      none_from_among (λ location. nat_eq number location.mount) (all_locations (world_of value))
+  none_located missing = none_from_among (λ location. nat_eq number location.mount) (all_locations (world_of value))
       (λ location m. by location m (nat_eq number location.mount) refl)
     where
       by : (location : meant.Location ℕ) → Among location (all_locations (world_of value)) → (b : Bool)
@@ -61,8 +58,7 @@ module _ (value : WorldValue) (held : IsHeld value) (number : ℕ) where
           (all_locations (world_of value)) held.in_world.tasks.locations_live location m) in
           sym well.0
           ∙ ap (λ n. is_among nat_eq n (map (λ (mount : meant.Mount ℕ). mount.number) (mounts_in value.mounts)))
-          (sym (eqb-true number location.mount e))
-          ∙ entry_missing value.mounts number missing
+          (sym (eqb-true number location.mount e)) ∙ entry_missing value.mounts number missing
 
   -- a mount has uses just where a location is on it
   pub uses_tested : nat_lt 0 (uses_of value.mounts number) ≡ is_located nat_eq (world_of value) number
@@ -90,8 +86,7 @@ module _ (value : WorldValue) (held : IsHeld value) (number : ℕ) where
           none_from_among (writes_on number) task.descriptors (λ descriptor d.
           ap (λ b. descriptor.writes && b)
           (none_among (λ location. nat_eq number location.mount) (all_locations (world_of value))
-          (none_located missing) descriptor.location
-          (among-flat_map locations_of value.tasks task descriptor.location t
+          (none_located missing) descriptor.location (among-flat_map locations_of value.tasks task descriptor.location t
           (inr (inr (among-map (λ (one : Descriptor ℕ). one.location) task.descriptors descriptor d)))))
           ∙ and-false descriptor.writes))
 

@@ -37,28 +37,23 @@ module _ (mounts : List (Mount ℕ)) (place : Location ℕ)
   missing_at : (world : World ℕ) → mounts ≡ world.mounts → mount_at nat_eq world place ≡ no_mount place.mount
   missing_at world same =
       ap (λ list. unwrap_or (find (λ (mount : Mount ℕ). nat_eq place.mount mount.number) list) (no_mount place.mount))
-      (sym same)
-      ∙ ap (λ o. unwrap_or o (no_mount place.mount)) none
+      (sym same) ∙ ap (λ o. unwrap_or o (no_mount place.mount)) none
 
   no_parts : (world : World ℕ) → mounts ≡ world.mounts → (size namespace : ℕ)
       → mount_count (parts_of nat_eq world place) namespace * size ≡ 0
-  no_parts world same size namespace =
-      ap (λ mount. mount_count (mount
+  no_parts world same size namespace = ap (λ mount. mount_count (mount
       ∷ filter (takes_part nat_eq world place) (receivers_of nat_eq world mount)) namespace * size)
-      (missing_at world same)
-      ∙ (let zero : 0 * size ≡ 0 = omega arith in zero)
+      (missing_at world same) ∙ (let zero : 0 * size ≡ 0 = omega arith in zero)
 
   -- no namespace overfills where nothing is added
   pub nothing_added : (world : World ℕ) (new : Copies ℕ) (tree : List (Mount ℕ)) → mounts ≡ world.mounts
-      → NamespaceInvariants nat_eq world
-      → false ≡ has_too_many nat_eq (attached_by nat_eq world new place false tree)
+      → NamespaceInvariants nat_eq world → false ≡ has_too_many nat_eq (attached_by nat_eq world new place false tree)
   nothing_added world new tree same invariants =
       sym (shrinks_few world (attached_by nat_eq world new place false tree) (
         λ namespace. let all = added_counted world place new tree namespace in let zero = no_parts world same
             (length tree) namespace in omega (arith, all, zero),
         refl,
-      )
-      invariants.few_mounts)
+      ) invariants.few_mounts)
 
 module _ (value : WorldValue) (held : IsHeld value) (number : ℕ) (place : Location ℕ) where
   abbrev world : World ℕ
@@ -92,20 +87,15 @@ module _ (value : WorldValue) (held : IsHeld value) (number : ℕ) (place : Loca
     in_it : (o : Option ℕ) → top.namespace ≡ o → (x : Mount ℕ) → Among x tree
         → Among x (mounts_in value.mounts) × (x.namespace ≡ top.namespace)
     in_it (Some namespace) is x m = let own = in_tree value held number namespace is x m in (own.0, own.2 ∙ sym is)
-    in_it None is x m =
-        ⊎_elim
-        (λ same. (
-          subst (λ y. Among y (mounts_in value.mounts)) (sym same) top_there,
-          ap
-              (λ (y : Mount ℕ). y.namespace) same,
-        ))
-        (λ none. absurd none)
+    in_it None is x m = ⊎_elim (λ same. (
+      subst (λ y. Among y (mounts_in value.mounts)) (sym same) top_there,
+      ap (λ (y : Mount ℕ). y.namespace) same,
+    )) (λ none. absurd none)
         (subst (Among x) (alone_in_tree value held number is (length (mounts_in value.mounts))) m)
 
     -- the tree moves out of the namespace of its mount
     pub moves_from : (namespace : Option NamespaceId)
-        → mount.namespace ≡ option_map (λ one. counted one.count) namespace
-        → MovesFrom (world_of value) namespace tree
+        → mount.namespace ≡ option_map (λ one. counted one.count) namespace → MovesFrom (world_of value) namespace tree
     moves_from namespace is = record {
       there = all_from_among (Contains (mounts_in value.mounts)) tree
           (λ x m. contains_from_among (mounts_in value.mounts) x (in_it top.namespace refl x m).0);
@@ -119,33 +109,28 @@ module _ (value : WorldValue) (held : IsHeld value) (number : ℕ) (place : Loca
     -- onto a mount that is not there
     leaves_alone : find (λ (one : Mount ℕ). nat_eq place.mount one.number) (mounts_in value.mounts) ≡ None
         → false ≡ overfills_of value (ToMove number place)
-    leaves_alone none =
-        sym (shrinks_few world moved (
-          λ namespace.
-              let all = moved_all world place new tree held.in_world.mounts.one_number
-              (trees_have_each_once world number held.in_world.mounts.one_number held.in_world.mounts.standing)
-              (λ x m. (in_it top.namespace refl x m).0) namespace in
-              let zero = no_parts (mounts_in value.mounts) place none world refl (length tree) namespace in
-              omega (arith, all, zero),
-          refl,
-        )
-        held.in_world.namespaces.few_mounts)
+    leaves_alone none = sym (shrinks_few world moved (
+      λ namespace.
+          let all = moved_all world place new tree held.in_world.mounts.one_number
+          (trees_have_each_once world number held.in_world.mounts.one_number held.in_world.mounts.standing)
+          (λ x m. (in_it top.namespace refl x m).0) namespace in
+          let zero = no_parts (mounts_in value.mounts) place none world refl (length tree) namespace in
+          omega (arith, all, zero),
+      refl,
+    ) held.in_world.namespaces.few_mounts)
 
   -- A mount that is not there comes to the receivers alone.
   module _ (missing : find (λ (one : Mount ℕ). nat_eq number one.number) (mounts_in value.mounts) ≡ None) where
     alone : tree ≡ no_mount number ∷ []
-    alone =
-        alone_in_tree value held number (ap (λ o. (unwrap_or o (no_mount number)).namespace) missing)
-        (length (mounts_in value.mounts))
-        ∙ ap (λ o. unwrap_or o (no_mount number) ∷ []) missing
+    alone = alone_in_tree value held number (ap (λ o. (unwrap_or o (no_mount number)).namespace) missing)
+        (length (mounts_in value.mounts)) ∙ ap (λ o. unwrap_or o (no_mount number) ∷ []) missing
 
     abbrev others : List (Mount ℕ)
     others = rest_of (parts_of nat_eq (world_of value) place)
 
     counted_so : (namespace : ℕ) → mount_count moved.mounts namespace
         ≡ mount_count (mounts_in value.mounts) namespace + mount_count others namespace * 1
-    counted_so namespace =
-        absent_counted world place new tree (no_mount number) alone
+    counted_so namespace = absent_counted world place new tree (no_mount number) alone
         (none_among number (mounts_in value.mounts) missing) namespace
         ∙ ap (λ list. mount_count (mounts_in value.mounts) namespace + mount_count others namespace * length list) alone
 
@@ -163,18 +148,16 @@ module _ (value : WorldValue) (held : IsHeld value) (number : ℕ) (place : Loca
 
     adds_nothing : find (λ (one : Mount ℕ). nat_eq place.mount one.number) (mounts_in value.mounts) ≡ None
         → false ≡ overfills_of value (ToMove number place)
-    adds_nothing none =
-        sym (shrinks_few world moved (
-          λ namespace.
-              let all = counted_so namespace in
-              let zero : mount_count others namespace * 1 ≡ 0 =
-              ap (λ one. mount_count (filter (takes_part nat_eq world place)
-              (receivers_of nat_eq world one)) namespace * 1)
-              (missing_at (mounts_in value.mounts) place none world refl) in
-              omega (arith, all, zero),
-          refl,
-        )
-        held.in_world.namespaces.few_mounts)
+    adds_nothing none = sym (shrinks_few world moved (
+      λ namespace.
+          let all = counted_so namespace in
+          let zero : mount_count others namespace * 1 ≡ 0 =
+          ap (λ one. mount_count (filter (takes_part nat_eq world place)
+          (receivers_of nat_eq world one)) namespace * 1)
+          (missing_at (mounts_in value.mounts) place none world refl) in
+          omega (arith, all, zero),
+      refl,
+    ) held.in_world.namespaces.few_mounts)
 
   -- a move onto a mount that is not there overfills no namespace
   pub nowhere_moved : find (λ (one : Mount ℕ). nat_eq place.mount one.number) (mounts_in value.mounts) ≡ None
@@ -204,16 +187,14 @@ module _ (value : WorldValue) (held : IsHeld value) (place : Location ℕ) (too_
       let larger = with_new_filesystem (world_of value) filesystem in
       let added = new_mount filesystem.number filesystem.files.tree.root flags ∷ [] in
       let is = held.in_world.namespaces in
-      tells larger (copies_from nat_eq (odds fresh) (parts_of nat_eq larger place) added) added refl
-      (record {
+      tells larger (copies_from nat_eq (odds fresh) (parts_of nat_eq larger place) added) added refl (record {
         one_namespace = is.one_namespace;
         mounts_listed = is.mounts_listed;
         tasks_listed = is.tasks_listed;
         root_mounts = is.root_mounts;
         namespaces_live = is.namespaces_live;
         few_mounts = is.few_mounts;
-      })
-      (same_parts (world_of value) held.in_world filesystem place) refl
+      }) (same_parts (world_of value) held.in_world filesystem place) refl
 
   -- whether a new overlay does
   pub overlay_overfills : (overlay : Overlay ℕ) (flags : MountFlags) → TellsAdded value place 1 too_many
@@ -224,16 +205,14 @@ module _ (value : WorldValue) (held : IsHeld value) (place : Location ℕ) (too_
       let larger = with_new_filesystem (world_of value) filesystem in
       let added = new_mount filesystem.number filesystem.files.tree.root flags ∷ [] in
       let is = held.in_world.namespaces in
-      tells larger (copies_from nat_eq (odds fresh) (parts_of nat_eq larger place) added) added refl
-      (record {
+      tells larger (copies_from nat_eq (odds fresh) (parts_of nat_eq larger place) added) added refl (record {
         one_namespace = is.one_namespace;
         mounts_listed = is.mounts_listed;
         tasks_listed = is.tasks_listed;
         root_mounts = is.root_mounts;
         namespaces_live = is.namespaces_live;
         few_mounts = is.few_mounts;
-      })
-      (same_parts (world_of value) held.in_world filesystem place) refl
+      }) (same_parts (world_of value) held.in_world filesystem place) refl
 
   -- and whether a bind does
   pub bind_overfills : (source : Location ℕ) (recursive : Bool)
@@ -242,8 +221,7 @@ module _ (value : WorldValue) (held : IsHeld value) (place : Location ℕ) (too_
   bind_overfills source recursive tells =
       let added = bind_tree nat_eq (world_of value) source recursive in
       tells (world_of value) (copies_from nat_eq (counts_from value.next)
-      (parts_of nat_eq (world_of value) place) added) added refl
-      held.in_world.namespaces refl refl
+      (parts_of nat_eq (world_of value) place) added) added refl held.in_world.namespaces refl refl
 
 -- what is found as it is kept
 pub none_found : (got : Option Kept) (found : Option (Mount ℕ)) → option_map mount_of got ≡ found → is_some got ≡ false
@@ -264,6 +242,5 @@ rest_kept kept mounts is = ap rest_of (sym is) ∙ by kept
 pub tree_sized : (ids : List MountId) (mounts : List (Mount ℕ))
     → map (λ (id : MountId). counted id.count) ids ≡ map (λ (mount : Mount ℕ). mount.number) mounts
     → length mounts ≡ length ids
-tree_sized ids mounts same =
-    sym (length-map mounts (λ (mount : Mount ℕ). mount.number)) ∙ ap length (sym same)
+tree_sized ids mounts same = sym (length-map mounts (λ (mount : Mount ℕ). mount.number)) ∙ ap length (sym same)
     ∙ length-map ids (λ (id : MountId). counted id.count)

@@ -36,10 +36,8 @@ use Rattle.vt_laws_mounts.specs.Mounts.Receivers.{AllGroupsLive}
 module _ (numbers : List ℕ) (kind : Propagation ℕ) (number : ℕ) where
   one_more : (entry : MountEntry)
       → (if nat_eq number entry.mount.number then with_kind kind (retyped (set_if numbers kind) entry)
-      else retyped (set_if numbers kind) entry)
-      ≡ retyped (set_if (numbers ++ number ∷ []) kind) entry
-  one_more entry =
-      by (is_among nat_eq entry.mount.number numbers) (nat_eq number entry.mount.number) refl
+      else retyped (set_if numbers kind) entry) ≡ retyped (set_if (numbers ++ number ∷ []) kind) entry
+  one_more entry = by (is_among nat_eq entry.mount.number numbers) (nat_eq number entry.mount.number) refl
       ∙ sym (ap (λ b. with_kind (if b then kind else entry.mount.propagation) entry)
       (is_among-snoc entry.mount.number number numbers))
     where
@@ -54,20 +52,17 @@ module _ (numbers : List ℕ) (kind : Propagation ℕ) (number : ℕ) where
       by false false is = sym (ap (λ b. with_kind (if b then kind else entry.mount.propagation) entry)
           (nat_eq-swapped number entry.mount.number false is))
 
-  all_more : (entries : List MountEntry)
-      → changed number (with_kind kind) (map (retyped (set_if numbers kind)) entries)
+  all_more : (entries : List MountEntry) → changed number (with_kind kind) (map (retyped (set_if numbers kind)) entries)
       ≡ map (retyped (set_if (numbers ++ number ∷ []) kind)) entries
   all_more [] = refl
   all_more (entry ∷ entries) = λ i. one_more entry i ∷ all_more entries i
 
 -- one mount more of a list gets the type
 pub set_next : (old now new : List MountEntry) (kind : Propagation ℕ) (ids : List MountId) (i : ℕ) (d : MountId)
-    → i < length ids
-    → new ≡ changed (counted (get_or ids i d).count) (with_kind kind) now
+    → i < length ids → new ≡ changed (counted (get_or ids i d).count) (with_kind kind) now
     → now ≡ map (retyped (set_if (map (λ (id : MountId). counted id.count) (take i ids)) kind)) old
     → new ≡ map (retyped (set_if (map (λ (id : MountId). counted id.count) (take (i + 1) ids)) kind)) old
-set_next old now new kind ids i d less next so_far =
-    next
+set_next old now new kind ids i d less next so_far = next
     ∙ ap (changed (counted (get_or ids i d).count) (with_kind kind)) so_far
     ∙ all_more (map (λ (id : MountId). counted id.count) (take i ids)) kind (counted (get_or ids i d).count) old
     ∙ ap (λ numbers. map (retyped (set_if numbers kind)) old)
@@ -92,8 +87,7 @@ slaves_retyped next numbers before now old new retypes follows = record {
   counts = refl;
   seen = λ world group named seen there same lacks counted.
       slaves_are_seen world group named old new before now seen there lacks
-      (subst (Retypes before now ToSlave) (sym same) retypes)
-      follows;
+      (subst (Retypes before now ToSlave) (sym same) retypes) follows;
   kinds = λ world seen. (
     told now,
     follows (are_typed world old before seen [] old (λ mount. mount) (seen.mounts ∙ unchanged world.mounts)
@@ -117,24 +111,19 @@ set_retyped word kind sets next numbers none before now old left new alone is re
   seen = λ world group named seen there same lacks counted.
       retyping_is_seen world group word named old left new before now seen there lacks
       (all_set world seen ∙ ap (λ some. map (set_mount some) world.mounts) (sym same)
-      ∙ named_set world seen.living group named world.mounts)
-      (subst (Retypes before now word) (sym same) retypes)
+      ∙ named_set world seen.living group named world.mounts) (subst (Retypes before now word) (sym same) retypes)
       (subst (λ some. FollowsTypes before now some left new) (sym same) (follows world seen));
   kinds = λ world seen. (
     (λ number own. told now number (set_if numbers kind number own)),
     follows world seen (are_typed world old before seen numbers left (set_mount numbers) (all_set world seen) kept)
-        ∙ ap (map (typed_entry now)) is
-        ∙ map_twice (typed_entry now) (retyped (set_if numbers kind)) old,
+        ∙ ap (map (typed_entry now)) is ∙ map_twice (typed_entry now) (retyped (set_if numbers kind)) old,
   );
 }
   where
     follows : (world : World ℕ) → IsSeen world old before → FollowsTypes before now numbers left new
-    follows world seen =
-        follows_left (has_ordered world before seen.groups)
-        (subst (HaveNoSource numbers) (sym is)
+    follows world seen = follows_left (has_ordered world before seen.groups) (subst (HaveNoSource numbers) (sym is)
         (all_from_among (λ (entry : MountEntry). is_among nat_eq entry.mount.number numbers ≡ true
-        → source_of entry.mount.propagation ≡ None)
-        (map (retyped (set_if numbers kind)) old) (λ entry m.
+        → source_of entry.mount.propagation ≡ None) (map (retyped (set_if numbers kind)) old) (λ entry m.
         let from = among-from_map (retyped (set_if numbers kind)) old entry m in
         subst (λ (one : MountEntry). is_among nat_eq one.mount.number numbers ≡ true
         → source_of one.mount.propagation ≡ None) (sym from.2)
@@ -144,8 +133,7 @@ set_retyped word kind sets next numbers none before now old left new alone is re
     set_mount some mount = record mount { propagation = set_if some kind mount.number mount.propagation }
 
     all_set : (world : World ℕ) → IsSeen world old before → mounts_in left ≡ map (set_mount numbers) world.mounts
-    all_set world seen =
-        ap mounts_in is
+    all_set world seen = ap mounts_in is
         ∙ map_twice (λ (entry : MountEntry). entry.mount) (retyped (set_if numbers kind)) old
         ∙ sym (map_twice (set_mount numbers) (λ (entry : MountEntry). entry.mount) old)
         ∙ ap (map (set_mount numbers)) seen.mounts
@@ -173,8 +161,7 @@ set_retyped word kind sets next numbers none before now old left new alone is re
 -- each shared mount has the type that the groups tell
 pub shared_retyped : (next later : ℕ) (numbers : List ℕ) (before now : Grouping) (old new : List MountEntry)
     → later ≡ next + length numbers → Shares before now (with_counts next numbers)
-    → new ≡ map (shared_by now numbers) old
-    → IsRetyped ToShared next later numbers before now old new
+    → new ≡ map (shared_by now numbers) old → IsRetyped ToShared next later numbers before now old new
 shared_retyped next later numbers before now old new counts shares is = record {
   counts = counts;
   seen = λ world group named seen there same lacks counted.
@@ -228,8 +215,7 @@ pub places_are_counted : (next k : ℕ) (mounts : List (Mount ℕ)) → OneNumbe
     → map {B = ℕ × ℕ} (λ (mount : Mount ℕ). (mount.number, counts_from next (place_in k mounts mount.number))) mounts
     ≡ with_counts (next + k) (numbers_of mounts)
 places_are_counted next k [] once = refl
-places_are_counted next k (first ∷ rest) once =
-    λ i. (first.number, counts_from next (place_first k first rest i))
+places_are_counted next k (first ∷ rest) once = λ i. (first.number, counts_from next (place_first k first rest i))
     ∷ others (places_are_counted next (k + 1) rest
     (or_parts (list_any (λ (other : Mount ℕ). nat_eq first.number other.number) rest) _ once).1) i
   where
@@ -244,7 +230,6 @@ places_are_counted next k (first ∷ rest) once =
 
     others : map (at (k + 1) rest) rest ≡ with_counts (next + (k + 1)) (numbers_of rest)
         → map (at k (first ∷ rest)) rest ≡ with_counts (next + k + 1) (numbers_of rest)
-    others later =
-        map_alike (at k (first ∷ rest)) (at (k + 1) rest) rest
+    others later = map_alike (at k (first ∷ rest)) (at (k + 1) rest) rest
         (λ mount m. ap (pair mount) (place_later k first rest once mount m))
         ∙ later ∙ ap (λ n. with_counts n (numbers_of rest)) sum

@@ -75,8 +75,7 @@ module _ (trees : Filesystems) (lower : LayerRef) (is : IsLayer trees lower) whe
                 (sym (at ∙ ap (exchanged f) slot.2 ∙ exchanged_number f slot.0 slot.1)) slot.1,
             at,
           )
-      by false e =
-          absurd (true≢false (sym (led_is_there (layer_of trees lower) is.tree is.directory path object leads)
+      by false e = absurd (true≢false (sym (led_is_there (layer_of trees lower) is.tree is.directory path object leads)
           ∙ ap (λ o. is_some (node_in o)) (is.own_numbers object e)))
 
   -- a path with a last name
@@ -107,16 +106,14 @@ module _ (trees : Filesystems) (lower : LayerRef) (is : IsLayer trees lower) whe
   -- the slot of its directory
   pub directory_slot : (path : List (List ℕ)) (object : ℕ) (last : HasLast path object) → IsDirectory tree object
       → slot_at trees lower (without_last path) ≡ exchanged f (parent_in object (tree.node object))
-  directory_slot path object last directory =
-      ap (λ o. exchanged f (unwrap_or o 0)) last.leads
+  directory_slot path object last directory = ap (λ o. exchanged f (unwrap_or o 0)) last.leads
       ∙ ap (exchanged f) (sym (is.tree.one_parent last.directory last.name object last.entry directory))
 
   pub small_birth : (place : ℕ) (path : List (List ℕ)) (object : ℕ) → place < 18446744073709551616
       → led tree top path ≡ Some object → IsSmallBirth (birth_at trees place lower path)
   small_birth place path object small leads = by (is_root_path path) refl
     where
-      by : (b : Bool) → is_root_path path ≡ b
-          → IsSmallBirth (if b then Here
+      by : (b : Bool) → is_root_path path ≡ b → IsSmallBirth (if b then Here
           else Below place (slot_at trees lower (without_last path)) (rank_at trees lower path))
       by true e = tt
       by false e =
@@ -182,8 +179,7 @@ module _ (trees : Filesystems) (overlay : OverlayValue) (b : Birthplace trees ov
       sym (exchanged_back f at.object) ∙ ap (exchanged f) (sym at_slot.1 ∙ parts.1) in
       by (is_root_path path) refl object at birth
     where
-      by : (b : Bool) → is_root_path path ≡ b
-          → at.object ≡ exchanged at.lower.directory.filesystem.count slot
+      by : (b : Bool) → is_root_path path ≡ b → at.object ≡ exchanged at.lower.directory.filesystem.count slot
           → (is : IsAt trees overlay are path node_number)
           → (if b then Here else Below at.place (slot_at trees at.lower (without_last path)) (rank_at trees at.lower path))
           ≡ Below place directory rank → IsBorn path at.lower
@@ -202,8 +198,7 @@ module _ (trees : Filesystems) (overlay : OverlayValue) (b : Birthplace trees ov
   -- where it is at no path of a directory, it is no directory
   pub no_directory : ((path : List (List ℕ)) (lower : LayerRef) → IsBorn path lower
       → IsDirectory (files_at trees lower.directory.filesystem.count).tree
-      (exchanged lower.directory.filesystem.count slot) → ⊥)
-      → None ≡ directory_path trees overlay node_number
+      (exchanged lower.directory.filesystem.count slot) → ⊥) → None ≡ directory_path trees overlay node_number
   no_directory none = by (found_at trees overlay are node_number) refl
     where
       by : (o : Option (List (List ℕ))) → found_at trees overlay are node_number ≡ o
@@ -213,8 +208,7 @@ module _ (trees : Filesystems) (overlay : OverlayValue) (b : Birthplace trees ov
           let at = found_is_at trees overlay are node_number path e in
           let born = is_born path at in
           let tree = (files_at trees at.lower.directory.filesystem.count).tree in
-          sym (ap (only_of_directory trees overlay) e
-          ∙ no_directory_shown trees overlay are node_number path at
+          sym (ap (only_of_directory trees overlay) e ∙ no_directory_shown trees overlay are node_number path at
           (λ directory. none path at.lower born (sym (ap (λ o. is_directory_node (then_some o tree.node))
           born.leads) ∙ directory)))
 
@@ -243,25 +237,21 @@ module _ (trees : Filesystems) (overlay : OverlayValue) (b : Birthplace trees ov
     -- where it is at no path of this layer, it is no directory
     none_here : ((path : List (List ℕ)) → IsBorn path lower → IsDirectory files object → ⊥)
         → None ≡ directory_path trees overlay node_number
-    none_here none =
-        no_directory (λ path other born.
+    none_here none = no_directory (λ path other born.
         subst (λ (l : LayerRef). IsDirectory (files_at trees l.directory.filesystem.count).tree
         (exchanged l.directory.filesystem.count slot) → ⊥) (sym (same_lower other born.layer))
         (none path (subst (IsBorn path) (same_lower other born.layer) born)))
 
     pub other_rank : (rank ≡ 0 → ⊥) → None ≡ directory_path trees overlay node_number
-    other_rank some =
-        none_here (λ path born is.
-        some (sym born.ranked
-        ∙ no_rank _ _ (ap (λ o. is_directory_node (then_some o files.node)) born.leads ∙ is)))
+    other_rank some = none_here (λ path born is.
+        some (sym born.ranked ∙ no_rank _ _ (ap (λ o. is_directory_node (then_some o files.node)) born.leads ∙ is)))
 
     abbrev pub parent : ℕ
     parent = parent_in object (files.node object)
 
     pub other_parent : nat_eq (exchanged count directory) parent ≡ false
         → None ≡ directory_path trees overlay node_number
-    other_parent other =
-        none_here (λ path born is.
+    other_parent other = none_here (λ path born is.
         let last = has_last trees lower is_layer path object born.named born.leads in
         let up = sym born.above ∙ directory_slot trees lower is_layer path object last is in
         true≢false (sym (eq-eqb (exchanged count directory) parent
@@ -276,16 +266,14 @@ module _ (trees : Filesystems) (overlay : OverlayValue) (b : Birthplace trees ov
       one_way path other = one_path files is_layer.tree start path way object other leads is
 
       pub way_of_root : is_root_path way ≡ true → None ≡ directory_path trees overlay node_number
-      way_of_root root =
-          none_here (λ path born directory.
+      way_of_root root = none_here (λ path born directory.
           true≢false (sym root ∙ sym (ap is_root_path (one_way path born.leads)) ∙ born.named))
 
       abbrev pub shown_in : Bool
       shown_in = holds_of (λ (seen : Shown ℕ). nat_eq seen.layer place) (shown (layers trees overlay are) way)
 
       pub shown_elsewhere : shown_in ≡ false → None ≡ directory_path trees overlay node_number
-      shown_elsewhere other =
-          none_here (λ path born directory.
+      shown_elsewhere other = none_here (λ path born directory.
           true≢false (sym (ap (holds_of (λ (seen : Shown ℕ). nat_eq seen.layer place))
           (ap (shown (layers trees overlay are)) (sym (one_way path born.leads)) ∙ born.shown_there)
           ∙ eq-eqb place place refl) ∙ other))
@@ -299,8 +287,7 @@ module _ (trees : Filesystems) (overlay : OverlayValue) (b : Birthplace trees ov
           ∙ ap (exchanged count) (sym up) ∙ exchanged_back count directory in
           let ranked : rank_at trees lower way ≡ rank =
           no_rank _ _ (ap (λ o. is_directory_node (then_some o files.node)) leads ∙ is) ∙ sym none in
-          let birth : birth_at trees place lower way ≡ Below place directory rank =
-          ap (λ b. if b then Here
+          let birth : birth_at trees place lower way ≡ Below place directory rank = ap (λ b. if b then Here
           else Below place (slot_at trees lower (without_last way)) (rank_at trees lower way)) named
           ∙ (λ i. Below place (above i) (ranked i)) in
           let own : slot_at trees lower way ≡ slot =
@@ -315,8 +302,7 @@ module _ (trees : Filesystems) (overlay : OverlayValue) (b : Birthplace trees ov
           let same = eqb-true seen.layer place holds in
           let at = in_layer trees overlay are way seen e in
           let here = same_lower at.0 (ap (slice_get overlay.lowers) (sym same) ∙ at.1) in
-          let there : seen.object ≡ object =
-          same_Some seen.object object (sym at.2
+          let there : seen.object ≡ object = same_Some seen.object object (sym at.2
           ∙ ap (λ (l : LayerRef). led (files_at trees l.directory.filesystem.count).tree (inode_of l.directory) way) here
           ∙ leads) in
           record {
@@ -340,8 +326,7 @@ module _ (trees : Filesystems) (overlay : OverlayValue) (b : Birthplace trees ov
           led (files_at trees l.directory.filesystem.count).tree (inode_of l.directory) path
           ≡ Some (exchanged l.directory.filesystem.count slot)) (same_lower other.lower born.layer) born.leads)) in
           let here : at.lower ≡ lower = same_lower at.lower (is_born way at).layer in
-          sym (ap (only_of_directory trees overlay) there
-          ∙ directory_shown trees overlay are node_number way at
+          sym (ap (only_of_directory trees overlay) there ∙ directory_shown trees overlay are node_number way at
           (ap (λ (l : LayerRef). is_directory_node (node_at_path (layer_of trees l) way)) here
           ∙ ap (λ o. is_directory_node (then_some o files.node)) leads ∙ is))
 
@@ -359,20 +344,17 @@ module _ (trees : Filesystems) (overlay : OverlayValue) (b : Birthplace trees ov
           ((files_at trees inode.filesystem.count).tree.node (inode_of inode))) where
         parent_found : option_map (exchanged count) found
             ≡ option_map (λ (node : Node ℕ). parent_in object (Some node)) (files.node object)
-        parent_found =
-            ap (λ (n : InodeRef). option_map (exchanged n.filesystem.count) found) (sym is) ∙ finds
+        parent_found = ap (λ (n : InodeRef). option_map (exchanged n.filesystem.count) found) (sym is) ∙ finds
             ∙ ap (λ (n : InodeRef). option_map (λ (node : Node ℕ). parent_in (inode_of n) (Some node))
             ((files_at trees n.filesystem.count).tree.node (inode_of n))) is
             ∙ ap (λ m. option_map (λ (node : Node ℕ). parent_in m (Some node)) (files.node m)) number_is
 
         pub no_inode : found ≡ None → None ≡ directory_path trees overlay node_number
-        no_inode none =
-            none_here (λ path born is. by (files.node object) refl is)
+        no_inode none = none_here (λ path born is. by (files.node object) refl is)
           where
             by : (o : Option (Node ℕ)) → files.node object ≡ o → is_directory_node (files.node object) ≡ true → ⊥
             by None e is = true≢false (sym (sym (ap is_directory_node e) ∙ is))
-            by (Some node) e is =
-                none_is_some (parent_in object (Some node))
+            by (Some node) e is = none_is_some (parent_in object (Some node))
                 (ap (option_map (exchanged count)) (sym none) ∙ parent_found
                 ∙ ap (option_map (λ (node : Node ℕ). parent_in object (Some node))) e)
 
@@ -380,12 +362,10 @@ module _ (trees : Filesystems) (overlay : OverlayValue) (b : Birthplace trees ov
         parent_at p e = by (files.node object) refl
           where
             by : (o : Option (Node ℕ)) → files.node object ≡ o → exchanged count p ≡ parent
-            by None none =
-                none_is_some (exchanged count p)
+            by None none = none_is_some (exchanged count p)
                 (sym (ap (option_map (exchanged count)) (sym e) ∙ parent_found
                 ∙ ap (option_map (λ (node : Node ℕ). parent_in object (Some node))) none))
-            by (Some node) some =
-                same_Some (exchanged count p) (parent_in object (Some node))
+            by (Some node) some = same_Some (exchanged count p) (parent_in object (Some node))
                 (ap (option_map (exchanged count)) (sym e) ∙ parent_found
                 ∙ ap (option_map (λ (node : Node ℕ). parent_in object (Some node))) some)
                 ∙ ap (parent_in object) (sym some)
@@ -400,8 +380,7 @@ module _ (trees : Filesystems) (overlay : OverlayValue) (b : Birthplace trees ov
             by : (b : Bool) → nat_eq (exchanged count directory) parent ≡ b
                 → None ≡ directory_path trees overlay node_number
             by false apart = other_parent apart
-            by true same =
-                absurd (other (sym (exchanged_back count p)
+            by true same = absurd (other (sym (exchanged_back count p)
                 ∙ ap (exchanged count) (parent_at p e ∙ sym (eqb-true (exchanged count directory) parent same))
                 ∙ exchanged_back count directory))
 

@@ -132,26 +132,22 @@ module _ (trees : Filesystems) (overlay : OverlayValue) (b : Birthplace trees ov
         last : last_or [] path ≡ name
         last = ap (last_or []) (sym split) ∙ last_of_longer way name []
 
-        here : rank_at trees lower path
-            ≡ (if is_directory_node (files.node object) then 0
+        here : rank_at trees lower path ≡ (if is_directory_node (files.node object) then 0
             else rank_among (entries_in (files.node above)) name object)
-        here =
-            (λ i. if is_directory_node (then_some (there i) files.node) then 0
+        here = (λ i. if is_directory_node (then_some (there i) files.node) then 0
             else rank_among (entries_in (then_some ((ap (led files start) front ∙ leads) i) files.node)) (last i)
             (unwrap_or (there i) 0))
 
         by : (d : Bool) → is_directory_node (files.node object) ≡ d
             → rank_at trees lower path ≡ rank_among (entries_in (files.node above)) name object
-        by true d =
-            here ∙ ap (λ t. if t then 0 else rank_among (entries_in (files.node above)) name object) d
+        by true d = here ∙ ap (λ t. if t then 0 else rank_among (entries_in (files.node above)) name object) d
             ∙ sym (alone_rank files above object name is_layer.tree d entry)
         by false d = here ∙ ap (λ t. if t then 0 else rank_among (entries_in (files.node above)) name object) d
 
     pub is_named : (path : List (List ℕ)) → Born path lower → IsNamed path
     is_named path is =
         let last = has_last trees lower is_layer path object is.named is.leads in
-        let up : last.directory ≡ above =
-        sym (exchanged_back count last.directory)
+        let up : last.directory ≡ above = sym (exchanged_back count last.directory)
         ∙ ap (exchanged count) (sym (ap (λ o. exchanged count (unwrap_or o 0)) last.leads) ∙ is.above) in
         let leads : led files start (without_last path) ≡ Some above = last.leads ∙ ap Some up in
         let entry : entry_at files above last.name ≡ Some object =
@@ -162,8 +158,7 @@ module _ (trees : Filesystems) (overlay : OverlayValue) (b : Birthplace trees ov
           split = last.split;
           leads = leads;
           entry = entry;
-          ranked = sym is.ranked
-              ∙ rank_is path (without_last path) last.name last.split leads is.leads entry;
+          ranked = sym is.ranked ∙ rank_is path (without_last path) last.name last.split leads is.leads entry;
         }
 
     -- the directory, and its names, as they are found in its slot
@@ -176,23 +171,18 @@ module _ (trees : Filesystems) (overlay : OverlayValue) (b : Birthplace trees ov
         above_number = ap inode_of is ∙ in_slot_above
 
         pub above_node : (files_at trees inode.filesystem.count).tree.node (inode_of inode) ≡ files.node above
-        above_node =
-            ap (λ (n : InodeRef). (files_at trees n.filesystem.count).tree.node (inode_of n)) is
+        above_node = ap (λ (n : InodeRef). (files_at trees n.filesystem.count).tree.node (inode_of n)) is
             ∙ ap files.node in_slot_above
 
-        pub name_seen : (node : Node ℕ)
-            → Some (node_seen inode.filesystem.count node)
-            ≡ (files_at trees inode.filesystem.count).tree.node (inode_of inode)
-            → (id : ℕ) → id ≡ b.slot
+        pub name_seen : (node : Node ℕ) → Some (node_seen inode.filesystem.count node)
+            ≡ (files_at trees inode.filesystem.count).tree.node (inode_of inode) → (id : ℕ) → id ≡ b.slot
             → name_ranked (entries_of node.content) id b.rank ≡ name_ranked (entries_in (files.node above)) object b.rank
-        name_seen node seen id same =
-            ranked_seen inode.filesystem.count node id b.rank
+        name_seen node seen id same = ranked_seen inode.filesystem.count node id b.rank
             ∙ (λ i. name_ranked (entries_in ((seen ∙ above_node) i)) (exchanged (is i).filesystem.count (same i)) b.rank)
 
     -- where it has no such name, it has no real object
     unnamed : ((path : List (List ℕ)) → Born path lower → IsNamed path → ⊥) → None ≡ object_shown trees overlay number
-    unnamed none =
-        no_object (λ path other is.
+    unnamed none = no_object (λ path other is.
         let here = subst (Born path) (same_lower other is.layer) is in none path here (is_named path here))
 
     above_is : (path : List (List ℕ)) (is : IsNamed path) → IsDirectory files above
@@ -203,13 +193,11 @@ module _ (trees : Filesystems) (overlay : OverlayValue) (b : Birthplace trees ov
     no_way none = unnamed (λ path at is. none (above_is path is) is.way is.leads)
 
     pub no_directory : files.node above ≡ None → None ≡ object_shown trees overlay number
-    no_directory none =
-        unnamed (λ path at is. true≢false (sym (sym (ap is_directory_node none) ∙ above_is path is)))
+    no_directory none = unnamed (λ path at is. true≢false (sym (sym (ap is_directory_node none) ∙ above_is path is)))
 
     named_so : (path : List (List ℕ)) (is : IsNamed path)
         → name_ranked (entries_in (files.node above)) object b.rank ≡ Some is.name
-    named_so path is =
-        ap (name_ranked (entries_in (files.node above)) object) is.ranked
+    named_so path is = ap (name_ranked (entries_in (files.node above)) object) is.ranked
         ∙ ranked_is_found is.name object (entries_in (files.node above)) (is_layer.tree.in_order above) is.entry
 
     pub no_name : name_ranked (entries_in (files.node above)) object b.rank ≡ None
@@ -231,19 +219,16 @@ module _ (trees : Filesystems) (overlay : OverlayValue) (b : Birthplace trees ov
       -- so what is not shown there in this layer is not shown
       pub shown_elsewhere : ((seen : Shown ℕ) → shown (layers trees overlay b.are) path ≡ Some seen
           → seen.layer ≢ b.place) → None ≡ object_shown trees overlay number
-      shown_elsewhere other =
-          unnamed (λ at is named.
+      shown_elsewhere other = unnamed (λ at is named.
           other (record { layer = b.place; object = object })
           (ap (shown (layers trees overlay b.are)) (sym (one at named)) ∙ is.shown_there) refl)
 
       there : (entry_named name (entries_in (files.node above)) ≡ Some object)
           × (b.rank ≡ rank_among (entries_in (files.node above)) name object)
-      there =
-          ranked_is_there object b.rank (entries_in (files.node above)) name (is_layer.tree.in_order above) has_name
+      there = ranked_is_there object b.rank (entries_in (files.node above)) name (is_layer.tree.in_order above) has_name
 
       led_there : led files start path ≡ Some object
-      led_there =
-          last_name files start way name ∙ ap (option_and_then (λ d. entry_at files d name)) leads ∙ there.0
+      led_there = last_name files start way name ∙ ap (option_and_then (λ d. entry_at files d name)) leads ∙ there.0
 
       born_so : number_of (node_born trees overlay.number b.place lower path) ≡ number
       born_so =
@@ -254,8 +239,7 @@ module _ (trees : Filesystems) (overlay : OverlayValue) (b : Birthplace trees ov
           rank_is path way name refl leads led_there there.0 ∙ sym there.1 in
           let birth : birth_at trees b.place lower path ≡ Below b.place b.directory b.rank =
           ap (λ t. if t then Here else Below b.place (slot_at trees lower (without_last path)) (rank_at trees lower path))
-          (root_of_longer way name)
-          ∙ (λ i. Below b.place (up i) (ranked i)) in
+          (root_of_longer way name) ∙ (λ i. Below b.place (up i) (ranked i)) in
           let own : slot_at trees lower path ≡ b.slot =
           (in_slot trees lower is_layer path object led_there).1 ∙ exchanged_back count b.slot in
           (λ i. inode_number (born_in overlay.number.count (birth i)) (own i))
@@ -266,12 +250,10 @@ module _ (trees : Filesystems) (overlay : OverlayValue) (b : Birthplace trees ov
       shown_here seen is same =
           let in_it = in_layer trees overlay b.are path seen is in
           let here = same_lower in_it.0 (ap (slice_get overlay.lowers) (sym same) ∙ in_it.1) in
-          let object_is : seen.object ≡ object =
-          same_Some seen.object object (sym in_it.2
+          let object_is : seen.object ≡ object = same_Some seen.object object (sym in_it.2
           ∙ ap (λ (l : LayerRef). led (files_at trees l.directory.filesystem.count).tree (inode_of l.directory) path) here
           ∙ led_there) in
-          let at : IsAt trees overlay b.are path number =
-          record {
+          let at : IsAt trees overlay b.are path number = record {
             place = b.place;
             object = object;
             lower = lower;

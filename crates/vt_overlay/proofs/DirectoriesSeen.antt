@@ -41,14 +41,11 @@ entry_listed number name (other ∷ names) =
         → entry_named name (with_names number names) ≡ cond (list_any (is_name name) names) (number name) None
         → entry_named name (cons_option (option_map (λ n. (other, n)) o) (with_names number names))
         ≡ cond (b || list_any (is_name name) names) (number name) None
-    by None e true same rest =
-        rest ∙ either (list_any (is_name name) names) (ap number (same_name name other same) ∙ e)
+    by None e true same rest = rest ∙ either (list_any (is_name name) names) (ap number (same_name name other same) ∙ e)
     by None e false same rest = rest
-    by (Some n) e true same rest =
-        ap (λ b. cond b (Some n) (entry_named name (with_names number names))) same
+    by (Some n) e true same rest = ap (λ b. cond b (Some n) (entry_named name (with_names number names))) same
         ∙ sym (ap number (same_name name other same) ∙ e)
-    by (Some n) e false same rest =
-        ap (λ b. cond b (Some n) (entry_named name (with_names number names))) same ∙ rest
+    by (Some n) e false same rest = ap (λ b. cond b (Some n) (entry_named name (with_names number names))) same ∙ rest
 
 -- a node with another parent and other entries
 module _ (parent own : ℕ) (entries : Entries ℕ) where
@@ -57,8 +54,7 @@ module _ (parent own : ℕ) (entries : Entries ℕ) where
   directory_as None = refl
   directory_as (Some node) = by node.content
     where
-      by : (content : Content ℕ)
-          → is_directory_node (option_map (node_as parent entries)
+      by : (content : Content ℕ) → is_directory_node (option_map (node_as parent entries)
           (Some (record { attr = node.attr; content = content })))
           ≡ is_directory_node (Some (record { attr = node.attr; content = content }))
       by (Directory above old opaque) = refl
@@ -100,8 +96,7 @@ module _ (trees : Filesystems) (overlay : OverlayValue) (are : AreLayers trees o
   -- a name that is not shown leads nowhere
   not_shown : (path : List (List ℕ)) (name : List ℕ) → list_any (is_name name) (names_shown all path) ≡ false
       → number_at trees overlay (path ++ name ∷ []) ≡ None
-  not_shown path name out =
-      by (shown all (path ++ name ∷ [])) refl (number_at trees overlay (path ++ name ∷ [])) refl
+  not_shown path name out = by (shown all (path ++ name ∷ [])) refl (number_at trees overlay (path ++ name ∷ [])) refl
       (number_is_shown trees overlay are (path ++ name ∷ []))
     where
       by : (o : Option (Shown ℕ)) → shown all (path ++ name ∷ []) ≡ o
@@ -117,8 +112,7 @@ module _ (trees : Filesystems) (overlay : OverlayValue) (are : AreLayers trees o
   entry_shown : (path : List (List ℕ)) (name : List ℕ)
       → entry_named name (entries_shown (real_number trees overlay) (plain_world trees) (overlay_seen overlay) path)
       ≡ number_at trees overlay (path ++ name ∷ [])
-  entry_shown path name =
-      entry_listed (λ n. number_at trees overlay (path ++ n ∷ [])) name (names_shown all path)
+  entry_shown path name = entry_listed (λ n. number_at trees overlay (path ++ n ∷ [])) name (names_shown all path)
       ∙ by (list_any (is_name name) (names_shown all path)) refl
     where
       by : (b : Bool) → list_any (is_name name) (names_shown all path) ≡ b
@@ -148,8 +142,7 @@ module _ (trees : Filesystems) (overlay : OverlayValue) (are : AreLayers trees o
           → is_directory_node (inode_there path) ≡ b → Some way ≡ (if b then Some path else None)
           → IsDirectoryAt number way
       there path p false d e = none_is_some way (sym e)
-      there path p true d e =
-          subst (IsDirectoryAt number) (sym (same_Some way path e))
+      there path p true d e = subst (IsDirectoryAt number) (sym (same_Some way path e))
           (record { node = ap (node_found number) p; directory = d })
 
       by : (o : Option (List (List ℕ))) → path_at trees overlay number ≡ o
@@ -165,15 +158,12 @@ module _ (trees : Filesystems) (overlay : OverlayValue) (are : AreLayers trees o
           → is_directory_node (inode_there path) ≡ b → None ≡ (if b then Some path else None)
           → is_directory_node ((merged_tree trees overlay).node number) ≡ false
       there path p true d e = none_is_some path e
-      there path p false d e =
-          ap (λ o. is_directory_node (node_found number o)) p
+      there path p false d e = ap (λ o. is_directory_node (node_found number o)) p
           ∙ directory_as (parent_shown (real_number trees overlay) (plain_world trees) (overlay_seen overlay) path)
           number (entries_shown (real_number trees overlay) (plain_world trees) (overlay_seen overlay) path)
-          (inode_there path)
-          ∙ d
+          (inode_there path) ∙ d
 
-      by : (o : Option (List (List ℕ))) → path_at trees overlay number ≡ o
-          → None ≡ only_of_directory trees overlay o
+      by : (o : Option (List (List ℕ))) → path_at trees overlay number ≡ o → None ≡ only_of_directory trees overlay o
           → is_directory_node ((merged_tree trees overlay).node number) ≡ false
       by None p e = ap (λ o. is_directory_node (node_found number o)) p
       by (Some path) p e = there path p (is_directory_node (inode_there path)) refl e
@@ -195,8 +185,7 @@ module _ (trees : Filesystems) (overlay : OverlayValue) (are : AreLayers trees o
 
     parts : HasParts (parent_shown (real_number trees overlay) (plain_world trees) (overlay_seen overlay) way) number
         (entries_shown (real_number trees overlay) (plain_world trees) (overlay_seen overlay) way) (inode_there way)
-    parts =
-        has_parts (parent_shown (real_number trees overlay) (plain_world trees) (overlay_seen overlay) way) number
+    parts = has_parts (parent_shown (real_number trees overlay) (plain_world trees) (overlay_seen overlay) way) number
         (entries_shown (real_number trees overlay) (plain_world trees) (overlay_seen overlay) way) (inode_there way)
         at.directory
 
@@ -206,8 +195,7 @@ module _ (trees : Filesystems) (overlay : OverlayValue) (are : AreLayers trees o
 
     pub entry_of : (name : List ℕ) → number_at trees overlay (way ++ name ∷ [])
         ≡ entry_named name (entries_in ((merged_tree trees overlay).node number))
-    entry_of name =
-        sym (ap (λ node. entry_named name (entries_in node)) at.node
+    entry_of name = sym (ap (λ node. entry_named name (entries_in node)) at.node
         ∙ ap (entry_named name) parts.entries_are ∙ entry_shown way name)
 
     way_shown : (o : Option (Shown ℕ)) → shown all way ≡ o
@@ -240,8 +228,7 @@ module _ (trees : Filesystems) (overlay : OverlayValue) (are : AreLayers trees o
     pub parent_of : number_at trees overlay (without_last way)
         ≡ when (is_directory_node ((merged_tree trees overlay).node number))
         (parent_in number ((merged_tree trees overlay).node number))
-    parent_of =
-        filled (number_at trees overlay (without_last way))
+    parent_of = filled (number_at trees overlay (without_last way))
         (number_is_shown trees overlay are (without_last way)
         ∙ above_shown way (way_shown (shown all way) refl at.directory))
         ∙ sym ((λ i. when (is_directory_node (at.node i)) (parent_in number (at.node i)))
@@ -250,5 +237,4 @@ module _ (trees : Filesystems) (overlay : OverlayValue) (are : AreLayers trees o
         (entries_shown (real_number trees overlay) (plain_world trees) (overlay_seen overlay) way)) (inode_there way))))
         (directory_as (parent_shown (real_number trees overlay) (plain_world trees) (overlay_seen overlay) way) number
         (entries_shown (real_number trees overlay) (plain_world trees) (overlay_seen overlay) way) (inode_there way)
-        ∙ at.directory)
-        ∙ ap Some parts.parent_is)
+        ∙ at.directory) ∙ ap Some parts.parent_is)

@@ -94,8 +94,7 @@ module _ (trees : Filesystems) (overlay : OverlayValue) (are : AreLayers trees o
     is_directory = sym (ap (λ o. is_directory_node (then_some o files.node)) at.leads) ∙ directory
 
     object_is : exchanged at.lower.directory.filesystem.count slot ≡ at.object
-    object_is =
-        ap (exchanged at.lower.directory.filesystem.count) at_slot.1
+    object_is = ap (exchanged at.lower.directory.filesystem.count) at_slot.1
         ∙ exchanged_back at.lower.directory.filesystem.count at.object
 
     birthplace : is_root_path path ≡ false → Birthplace trees overlay
@@ -127,33 +126,28 @@ module _ (trees : Filesystems) (overlay : OverlayValue) (are : AreLayers trees o
     unfolding birthplace
     no_other other also = by (is_root_path path) refl
       where
-        numbered : (b : Bool) → is_root_path path ≡ b
-            → number_of (record {
-              filesystem = overlay.number;
-              slot = slot;
-              birth = if b then Here
-                  else Below at.place (slot_at trees at.lower (without_last path)) (rank_at trees at.lower path);
-            }) ≡ number
-        numbered b e =
-            ap (λ b. number_of (record {
-              filesystem = overlay.number;
-              slot = slot;
-              birth = if b then Here
-                  else Below at.place (slot_at trees at.lower (without_last path)) (rank_at trees at.lower path);
-            })) (sym e) ∙ at.numbered
+        numbered : (b : Bool) → is_root_path path ≡ b → number_of (record {
+          filesystem = overlay.number;
+          slot = slot;
+          birth = if b then Here
+              else Below at.place (slot_at trees at.lower (without_last path)) (rank_at trees at.lower path);
+        }) ≡ number
+        numbered b e = ap (λ b. number_of (record {
+          filesystem = overlay.number;
+          slot = slot;
+          birth = if b then Here
+              else Below at.place (slot_at trees at.lower (without_last path)) (rank_at trees at.lower path);
+        })) (sym e) ∙ at.numbered
 
         by : (b : Bool) → is_root_path path ≡ b → other ≡ path
-        by true e =
-            (is_root trees overlay are few slot at_slot.0 other
-            (subst (IsAt trees overlay are other) (sym (numbered true e)) also)).nameless
-            ∙ sym (no_name path e)
+        by true e = (is_root trees overlay are few slot at_slot.0 other
+            (subst (IsAt trees overlay are other) (sym (numbered true e)) also)).nameless ∙ sym (no_name path e)
         by false e =
             let there = subst (IsAt trees overlay are other) (sym (numbered false e)) also in
             born_there other e there.lower (is_born trees overlay (birthplace e) other there)
 
     pub is_path : directory_path trees overlay number ≡ Some path
-    is_path =
-        ap (only_of_directory trees overlay) (found_is trees overlay are number path at no_other)
+    is_path = ap (only_of_directory trees overlay) (found_is trees overlay are number path at no_other)
         ∙ directory_shown trees overlay are number path at directory
 
   -- the directory above what is shown
@@ -168,13 +162,11 @@ module _ (trees : Filesystems) (overlay : OverlayValue) (are : AreLayers trees o
       let there : Shown ℕ = record { layer = 0 + d.place; object = d.object } in
       let in_it = in_layer trees overlay are path there d.is in
       let place : 0 + d.place ≡ d.place = omega arith in
-      let layer : layer_of trees in_it.0 ≡ d.layer =
-      same_Some (layer_of trees in_it.0) d.layer
+      let layer : layer_of trees in_it.0 ≡ d.layer = same_Some (layer_of trees in_it.0) d.layer
       (sym (slice_get-map (layer_of trees) overlay.lowers (0 + d.place) ∙ ap (option_map (layer_of trees)) in_it.1)
       ∙ ap (slice_get (layers trees overlay are)) place ∙ d.there) in
       let number = number_of (node_born trees overlay.number (0 + d.place) in_it.0 path) in
-      let at : IsAt trees overlay are path number =
-      record {
+      let at : IsAt trees overlay are path number = record {
         place = 0 + d.place;
         object = d.object;
         lower = in_it.0;
@@ -238,8 +230,7 @@ module _ (trees : Filesystems) (overlay : OverlayValue) (are : AreLayers trees o
   -- two directories at one path are one
   pub one_number : (a b : ℕ) (path : List (List ℕ)) → directory_path trees overlay a ≡ Some path
       → directory_path trees overlay b ≡ Some path → a ≡ b
-  one_number a b path e f =
-      same_Some a b (sym (is_there a path e).numbered ∙ (is_there b path f).numbered)
+  one_number a b path e f = same_Some a b (sym (is_there a path e).numbered ∙ (is_there b path f).numbered)
 
   root_is : (number : ℕ) → number_at trees overlay [] ≡ Some number → tree.root ≡ number
   root_is number e = ap (λ o. unwrap_or o 0) e
@@ -256,8 +247,7 @@ module _ (trees : Filesystems) (overlay : OverlayValue) (are : AreLayers trees o
   -- the root is at the path without names
   root_there : (path : List (List ℕ)) (seen : Shown ℕ) → shown (layers trees overlay are) path ≡ Some seen
       → number_at trees overlay [] ≡ Some tree.root
-  root_there path seen e =
-      filled (number_at trees overlay [])
+  root_there path seen e = filled (number_at trees overlay [])
       (number_is_shown trees overlay are [] ∙ ap (λ ls. is_some (shown ls [])) (layers_are trees overlay are)
       ∙ shown_before (layers trees overlay are) (open_layers trees overlay are) [] path seen e)
 
@@ -308,8 +298,7 @@ module _ (trees : Filesystems) (overlay : OverlayValue) (are : AreLayers trees o
       isnt = no_directory_at trees overlay are number (sym e)
 
       nowhere : has_entry_to nat_eq tree (parent_in number (tree.node number)) number ≡ false
-      nowhere =
-          ap (λ above. has_entry_to nat_eq tree above number) (own_parent number (tree.node number) isnt)
+      nowhere = ap (λ above. has_entry_to nat_eq tree above number) (own_parent number (tree.node number) isnt)
           ∙ ap (λ targets. is_among nat_eq number targets) (no_targets (tree.node number) isnt)
 
       by : (b : Bool) → (if b then None
@@ -319,8 +308,7 @@ module _ (trees : Filesystems) (overlay : OverlayValue) (are : AreLayers trees o
       by false = ap (λ b. when b (parent_in number (tree.node number))) nowhere
 
   pub root_above : (number : ℕ) → nat_eq number tree.root ≡ true → named_parent nat_eq tree number ≡ None
-  root_above number e =
-      ap (λ b. if b then None
+  root_above number e = ap (λ b. if b then None
       else when (has_entry_to nat_eq tree (parent_in number (tree.node number)) number)
       (parent_in number (tree.node number))) e
 
@@ -357,8 +345,7 @@ module _ (trees : Filesystems) (overlay : OverlayValue) (are : AreLayers trees o
   pub meets : (fuel top number : ℕ) (path rest : List (List ℕ)) → directory_path trees overlay top ≡ Some path
       → directory_path trees overlay number ≡ Some (path ++ rest) → length rest ≤ fuel
       → is_among nat_eq top (chain fuel up number) ≡ true
-  meets fuel top number path [] top_is is enough =
-      from_itself top number fuel
+  meets fuel top number path [] top_is is enough = from_itself top number fuel
       (eq-eqb top number (one_number top number path top_is (is ∙ ap Some (append-nil path))))
   meets zero top number path (name ∷ rest) top_is is enough = absurd (let no : ⊥ = omega (arith, enough) in no)
   meets (suc fuel) top number path (name ∷ rest) top_is is enough =
@@ -398,8 +385,7 @@ module _ (trees : Filesystems) (overlay : OverlayValue) (are : AreLayers trees o
   pub is_met : (fuel top number : ℕ) (path : List (List ℕ)) → directory_path trees overlay number ≡ Some path
       → is_among nat_eq top (chain fuel up number) ≡ true → IsMet top path
   is_met zero top number path is among = itself_met top number path is (sym (or_nothing (nat_eq top number)) ∙ among)
-  is_met (suc fuel) top number [] is among =
-      itself_met top number [] is
+  is_met (suc fuel) top number [] is among = itself_met top number [] is
       (sym (alone top number (suc fuel) (root_above number (at_root number is))) ∙ among)
   is_met (suc fuel) top number (name ∷ path) is among =
       let last = last_of (name ∷ path) (not_empty name path) in
@@ -424,8 +410,7 @@ module _ (layers : List (OpenLayer ℕ)) (are_open : AreOpen layers) (number : L
   more (Some n) numbers some = refl
 
   one_of : (g : List ℕ → List (List (List ℕ))) (names : List (List ℕ)) (name : List ℕ) (k : ℕ) → k < length names
-      → get_or names k name ≡ name
-      → length (filter_map number (g name)) ≤ length (filter_map number (flat_map g names))
+      → get_or names k name ≡ name → length (filter_map number (g name)) ≤ length (filter_map number (flat_map g names))
   one_of g [] name k near is = absurd (let no : ⊥ = omega (arith, near) in no)
   one_of g (first ∷ names) name zero near is =
       let appended = ap length (filter_map-append number (g first) (flat_map g names))
@@ -491,8 +476,7 @@ module _ (trees : Filesystems) (overlay : OverlayValue) (are : AreLayers trees o
   pub under_by_ways : (top number : ℕ) (front path : List (List ℕ))
       → directory_path trees overlay top ≡ Some front → directory_path trees overlay number ≡ Some path
       → (begins : Bool) → (begins ≡ true → (rest : List (List ℕ)) × (front ++ rest ≡ path))
-      → (begins ≡ false → (rest : List (List ℕ)) → front ++ rest ≢ path)
-      → begins ≡ is_under top number
+      → (begins ≡ false → (rest : List (List ℕ)) → front ++ rest ≢ path) → begins ≡ is_under top number
   under_by_ways top number front path top_is is true so never =
       let it = so refl in
       let deep_is = deep number path is in
@@ -520,8 +504,7 @@ module _ (trees : Filesystems) (overlay : OverlayValue) (are : AreLayers trees o
     where
       apart : (b : Bool) → nat_eq top number ≡ b → nat_eq top number ≡ false
       apart false e = e
-      apart true e =
-          none_is_some path (sym none ∙ ap (directory_path trees overlay) (eqb-true top number e) ∙ is)
+      apart true e = none_is_some path (sym none ∙ ap (directory_path trees overlay) (eqb-true top number e) ∙ is)
 
       by : (b : Bool) → is_under top number ≡ b → false ≡ is_under top number
       by false e = sym e
@@ -532,8 +515,7 @@ module _ (trees : Filesystems) (overlay : OverlayValue) (are : AreLayers trees o
   -- A directory that is shown is not removed.
   pub not_removed : (number : ℕ) (path : List (List ℕ)) → directory_path trees overlay number ≡ Some path
       → false ≡ is_removed nat_eq (merged_tree trees overlay) number
-  not_removed number [] is =
-      ap (λ b. not (b || is_some (named_parent nat_eq (merged_tree trees overlay) number)))
+  not_removed number [] is = ap (λ b. not (b || is_some (named_parent nat_eq (merged_tree trees overlay) number)))
       (sym (at_root trees overlay are few number is))
   not_removed number (name ∷ path) is =
       let last = last_of (name ∷ path) (not_empty name path) in
@@ -548,16 +530,13 @@ module _ (trees : Filesystems) (overlay : OverlayValue) (are : AreLayers trees o
       || is_some (none_above trees overlay are few number none i)))
     where
       apart : (b : Bool) → nat_eq number (merged_tree trees overlay).root ≡ b
-          → (o : Option ℕ) → number_at trees overlay [] ≡ o
-          → nat_eq number (merged_tree trees overlay).root ≡ false
+          → (o : Option ℕ) → number_at trees overlay [] ≡ o → nat_eq number (merged_tree trees overlay).root ≡ false
       apart false e o root = e
       apart true e None root =
           absurd (some (eqb-true number (merged_tree trees overlay).root e ∙ ap (λ o. unwrap_or o 0) root))
       apart true e (Some r) root =
-          let same : number ≡ r =
-          eqb-true number (merged_tree trees overlay).root e ∙ ap (λ o. unwrap_or o 0) root in
-          none_is_some [] (sym none
-          ∙ root_path trees overlay are few number (root ∙ ap Some (sym same)))
+          let same : number ≡ r = eqb-true number (merged_tree trees overlay).root e ∙ ap (λ o. unwrap_or o 0) root in
+          none_is_some [] (sym none ∙ root_path trees overlay are few number (root ∙ ap Some (sym same)))
 
 -- numbers of nodes begin above 0
 pub some_number : (node : NodeRef) → number_of node ≡ 0 → ⊥

@@ -65,25 +65,21 @@ module _ (trees : Filesystems) (overlay : OverlayValue) (are : AreLayers trees o
 
   -- it leads to something
   pub object_is_there : is_some own_node ≡ true
-  object_is_there =
-      ap (λ (id : FilesystemId). is_some ((files_at trees id.count).tree.node object)) beside
+  object_is_there = ap (λ (id : FilesystemId). is_some ((files_at trees id.count).tree.node object)) beside
       ∙ led_is_there (layer_of trees lower) is_layer.tree is_layer.directory longer object leads
 
   shown_if : shown (layers trees overlay are) longer
       ≡ when (not (is_kind_in White own_node)) (record { layer = found.above.layer; object = object })
-  shown_if =
-      first.shows
+  shown_if = first.shows
       ∙ ap (λ (id : FilesystemId). when (not (is_kind_in White ((files_at trees id.count).tree.node object)))
       (record { layer = found.above.layer; object = object })) (sym first.entry.filesystem)
 
   -- to a whiteout, and nothing is shown
   pub whiteout_shows_nothing : is_kind_in White own_node ≡ true → None ≡ number_at trees overlay longer
-  whiteout_shows_nothing white =
-      sym (no_number trees overlay are longer
+  whiteout_shows_nothing white = sym (no_number trees overlay are longer
       (shown_if ∙ ap (λ b. when (not b) (record { layer = found.above.layer; object = object })) white))
 
-  module _ (white : is_kind_in White own_node ≡ false) (rank : ℕ)
-      (ranked : rank ≡ (if is_directory_node own_node then 0
+  module _ (white : is_kind_in White own_node ≡ false) (rank : ℕ) (ranked : rank ≡ (if is_directory_node own_node then 0
       else rank_among (entries_in ((files_at trees found.above.directory.filesystem.count).tree.node
       (inode_of found.above.directory))) name object))
       (slot : exchanged found.object.filesystem.count object ≡ found.object.slot)
@@ -108,9 +104,7 @@ module _ (trees : Filesystems) (overlay : OverlayValue) (are : AreLayers trees o
 
     own_rank : rank ≡ (if is_directory_node ((files_at trees f).tree.node object) then 0
         else rank_among (entries_in ((files_at trees f).tree.node (inode_of found.above.directory))) name object)
-    own_rank =
-        ranked
-        ∙ (λ i. if is_directory_node ((files_at trees (beside i).count).tree.node object) then 0
+    own_rank = ranked ∙ (λ i. if is_directory_node ((files_at trees (beside i).count).tree.node object) then 0
         else rank_among (entries_in ((files_at trees (first.above.filesystem i).count).tree.node
         (inode_of found.above.directory))) name object)
 
@@ -118,8 +112,7 @@ module _ (trees : Filesystems) (overlay : OverlayValue) (are : AreLayers trees o
     some_names none = let many = length-append path (name ∷ []) in absurd (omega (arith, many, none))
 
     birth_is : birth ≡ birth_at trees found.above.layer lower longer
-    birth_is =
-        same_Some birth (birth_at trees found.above.layer lower longer)
+    birth_is = same_Some birth (birth_at trees found.above.layer lower longer)
         (below_birth trees overlay are longer found.above.layer object lower shows first.above.layer some_names
         (inode_of found.above.directory) found.above.directory.slot rank name
         (ap (at_path (layer_of trees lower)) (without_last_of_longer path name) ∙ first.above.leads)
@@ -150,8 +143,7 @@ module _ (trees : Filesystems) (overlay : OverlayValue) (are : AreLayers trees o
     pub is_lent : (node : Option (Node ℕ))
         → option_map (node_seen found.object.filesystem.count) node ≡ own_node → node ≡ real_lent trees overlay number
     unfolding birthplace
-    is_lent node seen =
-        some_lent trees overlay are number (record { layer = found.above.layer; inode = found.object })
+    is_lent node seen = some_lent trees overlay are number (record { layer = found.above.layer; inode = found.object })
         (ap (λ n. Some (record { layer = found.above.layer; object = n }))
         (sym (exchanged_back f object) ∙ ap (exchanged f) own_slot)
         ∙ sym (numbered_object trees overlay birthplace lower first.above.layer longer (sym is_numbered)))

@@ -47,14 +47,12 @@ module _ (path : List (List ℕ)) (name : List ℕ) where
 
   -- a layer that leads nowhere leads nowhere further on, and cuts no more
   leads_no_further : (layer : OpenLayer ℕ) → at_path layer path ≡ None → at_path layer longer ≡ None
-  leads_no_further layer none =
-      last_name layer.tree layer.directory path name
+  leads_no_further layer none = last_name layer.tree layer.directory path name
       ∙ ap (option_and_then (λ directory. entry_at layer.tree directory name)) none
 
   cuts_no_more : (layer : OpenLayer ℕ) → at_path layer path ≡ None → cuts (view_of layer) path ≡ false
       → cuts (view_of layer) longer ≡ false
-  cuts_no_more layer none uncut =
-      prefixes_longer (λ prefix. hides (node_led (view_of layer) prefix)) path name
+  cuts_no_more layer none uncut = prefixes_longer (λ prefix. hides (node_led (view_of layer) prefix)) path name
       ∙ (λ i. uncut i || hides (then_some (leads_no_further layer none i) layer.tree.node))
 
   decides : (depth : ℕ) (all : List (OpenLayer ℕ)) (seen : Shown ℕ) (place : ℕ) (layer : OpenLayer ℕ) (object : ℕ)
@@ -79,17 +77,13 @@ module _ (path : List (List ℕ)) (name : List ℕ) where
           → shown_from (depth + 1) (map view_of lower) longer ≡ visible (view_of layer) seen.layer object)
           → shown_from depth (map view_of (top ∷ lower)) longer ≡ visible (view_of layer) seen.layer object
       by (Some own) e cut c below =
-          let here : seen.layer ≡ depth =
-          visible_at top depth own seen
+          let here : seen.layer ≡ depth = visible_at top depth own seen
           (sym (λ i. shown_over (view_of top) depth (e i) (c i) (shown_from (depth + 1) (map view_of lower) path)) ∙ shows) in
           absurd (omega (arith, here, is))
-      by None e true c below =
-          none_is_some seen
+      by None e true c below = none_is_some seen
           (sym (λ i. shown_over (view_of top) depth (e i) (c i) (shown_from (depth + 1) (map view_of lower) path)) ∙ shows)
-      by None e false c below =
-          (λ i. shown_over (view_of top) depth (leads_no_further top e i) (cuts_no_more top e c i)
-          (shown_from (depth + 1) (map view_of lower) longer))
-          ∙ below
+      by None e false c below = (λ i. shown_over (view_of top) depth (leads_no_further top e i) (cuts_no_more top e c i)
+          (shown_from (depth + 1) (map view_of lower) longer)) ∙ below
           (sym (λ i. shown_over (view_of top) depth (e i) (c i) (shown_from (depth + 1) (map view_of lower) path)) ∙ shows)
 
 -- what is shown under a name is shown in a directory
@@ -106,8 +100,7 @@ under_directory trees overlay are path name seen under place object lower shows 
     (sym there.is ∙ shows) in
     let number = ap (λ (s : Shown ℕ). s.layer) same in
     let place_is : place ≡ there.place = omega (arith, number) in
-    let layer : there.layer ≡ layer_of trees lower =
-    same_Some there.layer (layer_of trees lower)
+    let layer : there.layer ≡ layer_of trees lower = same_Some there.layer (layer_of trees lower)
     (sym there.there ∙ ap (slice_get (layers trees overlay are)) (sym place_is)
     ∙ slice_get-map (layer_of trees) overlay.lowers place ∙ ap (option_map (layer_of trees)) at) in
     subst (IsDirectory (layer_of trees lower).tree) (ap (λ (s : Shown ℕ). s.object) same)
@@ -132,8 +125,7 @@ module _ (trees : Filesystems) (overlay : OverlayValue) (are : AreLayers trees o
 
   module _ (lower : LayerRef) (layer : slice_get overlay.lowers real.layer ≡ Some lower) where
     pub beside : real.inode.filesystem ≡ lower.directory.filesystem
-    beside =
-        sym (same_Some lower.directory.filesystem real.inode.filesystem
+    beside = sym (same_Some lower.directory.filesystem real.inode.filesystem
         (ap (option_map (λ (layer : LayerRef). layer.directory.filesystem)) (sym layer) ∙ tree))
 
     module _ (path : List (List ℕ)) (name : List ℕ)
@@ -167,10 +159,8 @@ module _ (trees : Filesystems) (overlay : OverlayValue) (are : AreLayers trees o
               ap (λ (id : FilesystemId). entry_at (files_at trees id.count).tree (inode_of found.above.directory) name)
               (sym at.filesystem) ∙ entry.leads in
               decides path name 0 (layers trees overlay are) (seen_of real) found.above.layer (layer_of trees at.lower)
-              object shows
-              (slice_get-map (layer_of trees) overlay.lowers found.above.layer
-              ∙ ap (option_map (layer_of trees)) at.layer)
-              (omega (arith, is))
+              object shows (slice_get-map (layer_of trees) overlay.lowers found.above.layer
+              ∙ ap (option_map (layer_of trees)) at.layer) (omega (arith, is))
               (led-append (layer_of trees at.lower).tree (inode_of at.lower.directory) path name
               (inode_of found.above.directory) object at.leads here)
               ∙ (λ i. when (not (is_kind_in White ((files_at trees ((sym at.filesystem) i).count).tree.node object)))
@@ -185,8 +175,7 @@ module _ (trees : Filesystems) (overlay : OverlayValue) (are : AreLayers trees o
           by : (o : Option (Shown ℕ)) → shown (layers trees overlay are) (path ++ name ∷ []) ≡ o
               → shown (layers trees overlay are) (path ++ name ∷ []) ≡ None
           by None e = e
-          by (Some seen) e =
-              absurd (none
+          by (Some seen) e = absurd (none
               (under_directory trees overlay are path name seen e real.layer (inode_of real.inode) lower shows layer)
               path leads)
 
@@ -220,8 +209,7 @@ module _ (trees : Filesystems) (overlay : OverlayValue) (are : AreLayers trees o
   shown_under : (seen : Shown ℕ) → shown (layers trees overlay are) (path ++ name ∷ []) ≡ Some seen
       → Some path ≡ directory_path trees overlay number
   unfolding at
-  shown_under seen under =
-      sym (ap (only_of_directory trees overlay) found
+  shown_under seen under = sym (ap (only_of_directory trees overlay) found
       ∙ directory_shown trees overlay are number path at
       (ap (λ o. is_directory_node (then_some o (layer_of trees at.lower).tree.node)) at.leads
       ∙ under_directory trees overlay are path name seen under at.place at.object at.lower at.is at.layer))
@@ -238,14 +226,11 @@ module _ (trees : Filesystems) (overlay : OverlayValue) (are : AreLayers trees o
       by : (o : Option (List (List ℕ))) → directory_path trees overlay number ≡ o
           → number_at trees overlay (path ++ name ∷ [])
           ≡ entry_named name (entries_in ((merged_tree trees overlay).node number))
-      by None e =
-          nothing_shown (sym e) (shown (layers trees overlay are) (path ++ name ∷ [])) refl
+      by None e = nothing_shown (sym e) (shown (layers trees overlay are) (path ++ name ∷ [])) refl
           ∙ no_entry_of trees overlay are number name (sym e)
-      by (Some way) e =
-          ap (λ p. number_at trees overlay (p ++ name ∷ []))
+      by (Some way) e = ap (λ p. number_at trees overlay (p ++ name ∷ []))
           (same_path (is_directory_node (node_shown nat_eq (plain_world trees) (overlay_seen overlay) path)) way
-          (sym (ap (only_of_directory trees overlay) found) ∙ e))
-          ∙ entry_of trees overlay are number way (sym e) name
+          (sym (ap (only_of_directory trees overlay) found) ∙ e)) ∙ entry_of trees overlay are number way (sym e) name
         where
           same_path : (b : Bool) (way : List (List ℕ)) → (if b then Some path else None) ≡ Some way → path ≡ way
           same_path true way e = same_Some path way e

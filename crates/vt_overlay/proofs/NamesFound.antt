@@ -43,31 +43,25 @@ no_names_of_other parent entries (Some node) is = by node.content is
 
 -- names that have numbers stay
 names_kept : (number : List ℕ → Option ℕ) (test : List ℕ → Bool) → ((name : List ℕ) → is_some (number name) ≡ test name)
-    → (names : List (List ℕ))
-    → map (λ (entry : List ℕ × ℕ). entry.0)
-    (filter_map (λ name. option_map (λ n. (name, n)) (number name)) (filter test names))
-    ≡ filter test names
+    → (names : List (List ℕ)) → map (λ (entry : List ℕ × ℕ). entry.0)
+    (filter_map (λ name. option_map (λ n. (name, n)) (number name)) (filter test names)) ≡ filter test names
 names_kept number test same [] = refl
 names_kept number test same (name ∷ names) = by (test name) refl (number name) refl (names_kept number test same names)
   where
-    by : (b : Bool) → test name ≡ b → (o : Option ℕ) → number name ≡ o
-        → map (λ (entry : List ℕ × ℕ). entry.0)
+    by : (b : Bool) → test name ≡ b → (o : Option ℕ) → number name ≡ o → map (λ (entry : List ℕ × ℕ). entry.0)
         (filter_map (λ name. option_map (λ n. (name, n)) (number name)) (filter test names)) ≡ filter test names
-        → map (λ (entry : List ℕ × ℕ). entry.0)
-        (filter_map (λ name. option_map (λ n. (name, n)) (number name))
+        → map (λ (entry : List ℕ × ℕ). entry.0) (filter_map (λ name. option_map (λ n. (name, n)) (number name))
         (if b then name ∷ filter test names else filter test names))
         ≡ (if b then name ∷ filter test names else filter test names)
     by false t o n rest = rest
     by true t None n rest = absurd (true≢false (sym t ∙ sym (same name) ∙ ap is_some n))
-    by true t (Some found) n rest =
-        ap (λ o. map (λ (entry : List ℕ × ℕ). entry.0) (cons_option
+    by true t (Some found) n rest = ap (λ o. map (λ (entry : List ℕ × ℕ). entry.0) (cons_option
         (option_map (λ n. (name, n)) o)
         (filter_map (λ name. option_map (λ n. (name, n)) (number name)) (filter test names)))) n
         ∙ ap (λ l. name ∷ l) rest
 
 module _ (trees : Filesystems) (overlay : OverlayValue) (are : AreLayers trees overlay.lowers) where
-  names_at : (path : List (List ℕ))
-      → map (λ (entry : List ℕ × ℕ). entry.0)
+  names_at : (path : List (List ℕ)) → map (λ (entry : List ℕ × ℕ). entry.0)
       (entries_shown (real_number trees overlay) (plain_world trees) (overlay_seen overlay) path)
       ≡ names_shown (layers_of trees overlay.lowers) path
   names_at path =
@@ -99,11 +93,8 @@ module _ (trees : Filesystems) (overlay : OverlayValue) (are : AreLayers trees o
           → is_directory_at path ≡ b → Some way ≡ (if b then Some path else None)
           → names_shown (layers_of trees overlay.lowers) way ≡ names_in (node_found number (path_at trees overlay number))
       at_path path p false d e = none_is_some way (sym e)
-      at_path path p true d e =
-          ap (names_shown (layers_of trees overlay.lowers))
-          (same_Some way path e)
-          ∙ sym (names_at path)
-          ∙ sym (names_of_directory (parent_at path) (entries_at path)
+      at_path path p true d e = ap (names_shown (layers_of trees overlay.lowers)) (same_Some way path e)
+          ∙ sym (names_at path) ∙ sym (names_of_directory (parent_at path) (entries_at path)
           (node_shown nat_eq (plain_world trees) (overlay_seen overlay) path) d)
           ∙ sym (ap (λ o. names_in (node_found number o)) p)
 
@@ -121,13 +112,11 @@ module _ (trees : Filesystems) (overlay : OverlayValue) (are : AreLayers trees o
           → is_directory_at path ≡ b → None ≡ (if b then Some path else None)
           → [] ≡ names_in (node_found number (path_at trees overlay number))
       at_path path p true d e = none_is_some path e
-      at_path path p false d e =
-          sym (ap (λ o. names_in (node_found number o)) p
+      at_path path p false d e = sym (ap (λ o. names_in (node_found number o)) p
           ∙ no_names_of_other (parent_at path) (entries_at path)
           (node_shown nat_eq (plain_world trees) (overlay_seen overlay) path) d)
 
-      by : (o : Option (List (List ℕ))) → path_at trees overlay number ≡ o
-          → None ≡ only_of_directory trees overlay o
+      by : (o : Option (List (List ℕ))) → path_at trees overlay number ≡ o → None ≡ only_of_directory trees overlay o
           → [] ≡ names_in (node_found number (path_at trees overlay number))
       by None p e = sym (ap (λ o. names_in (node_found number o)) p)
       by (Some path) p e = at_path path p (is_directory_at path) refl e

@@ -30,8 +30,7 @@ last_by_index (a ∷ b ∷ rest) name default (suc n) e at = last_by_index (b �
 module _ (trees : Filesystems) (overlay : OverlayValue) (are : AreLayers trees overlay.lowers) (path : List (List ℕ))
   where
     pub no_number : shown (layers trees overlay are) path ≡ None → number_at trees overlay path ≡ None
-    no_number none =
-        ap (option_map (real_number trees overlay)) (real_is trees overlay are path
+    no_number none = ap (option_map (real_number trees overlay)) (real_is trees overlay are path
         ∙ ap (real_of trees overlay are path) none)
 
     module _ (place object : ℕ) (lower : LayerRef)
@@ -57,8 +56,7 @@ module _ (trees : Filesystems) (overlay : OverlayValue) (are : AreLayers trees o
           ∙ (λ i. Some (number_of (record { filesystem = overlay.number; slot = own i; birth = sym is i }))))
 
       pub root_birth : length path ≡ 0 → Some Here ≡ Some (birth_at trees place lower path)
-      root_birth none =
-          ap (λ b. Some (if b then Here
+      root_birth none = ap (λ b. Some (if b then Here
           else Below place (slot_at trees lower (without_last path)) (rank_at trees lower path))) (sym (no_names path none))
 
       pub front_there : length path ≢ 0 → at_path (layer_of trees lower) (without_last path) ≢ None

@@ -44,8 +44,7 @@ objects_alike trees overlay number = by (path_at trees overlay number)
         ≡ front (node_by (real_number trees overlay) (λ number. None) (longest trees overlay.lowers)
         (plain_world trees) (overlay_seen overlay) number o)
     by None = refl
-    by (Some path) =
-        alike_as (parent_shown (real_number trees overlay) (plain_world trees) (overlay_seen overlay) path)
+    by (Some path) = alike_as (parent_shown (real_number trees overlay) (plain_world trees) (overlay_seen overlay) path)
         (entries_shown (real_number trees overlay) (plain_world trees) (overlay_seen overlay) path)
         (node_shown nat_eq (plain_world trees) (overlay_seen overlay) path)
 
@@ -72,12 +71,10 @@ seen_twice f (Some node) = λ i. Some (record { attr = node.attr; content = cont
 module _ (trees : Filesystems) (overlay : OverlayValue) (are : AreLayers trees overlay.lowers) (number : ℕ) where
   pub inode_of_object : (o : Option (Shown ℕ)) → o ≡ object_shown trees overlay number
       → real_inode trees overlay number ≡ then_some o (layer_node (layers trees overlay are))
-  inode_of_object o is =
-      by (path_at trees overlay number)
+  inode_of_object o is = by (path_at trees overlay number)
       ∙ ap (λ o. then_some o (layer_node (layers trees overlay are))) (sym is)
     where
-      by : (p : Option (List (List ℕ)))
-          → then_some p (node_shown nat_eq (plain_world trees) (overlay_seen overlay))
+      by : (p : Option (List (List ℕ))) → then_some p (node_shown nat_eq (plain_world trees) (overlay_seen overlay))
           ≡ then_some (then_some p (shown (layers trees overlay are))) (layer_node (layers trees overlay are))
       by None = refl
       by (Some path) = ap (λ ls. then_some (shown ls path) (layer_node ls)) (layers_are trees overlay are)
@@ -99,43 +96,36 @@ module _ (trees : Filesystems) (overlay : OverlayValue) (are : AreLayers trees o
 
   pub some_alike : (real : Real) → Some (seen_of real) ≡ object_shown trees overlay number
       → option_map (λ (layer : LayerRef). layer.directory.filesystem) (slice_get overlay.lowers real.layer)
-      ≡ Some real.inode.filesystem
-      → (node : Option (Node ℕ)) → option_map (node_seen real.inode.filesystem.count) node
+      ≡ Some real.inode.filesystem → (node : Option (Node ℕ)) → option_map (node_seen real.inode.filesystem.count) node
       ≡ (files_at trees real.inode.filesystem.count).tree.node (inode_of real.inode)
       → front node ≡ front ((merged_tree trees overlay).node number)
   some_alike real is tree node seen =
       front_seen real.inode.filesystem.count node ∙ ap front (seen ∙ sym (in_layer (slice_get overlay.lowers real.layer) refl tree))
-      ∙ ap front (sym (inode_of_object (Some (seen_of real)) is))
-      ∙ objects_alike trees overlay number
+      ∙ ap front (sym (inode_of_object (Some (seen_of real)) is)) ∙ objects_alike trees overlay number
     where
       in_layer : (o : Option LayerRef) → slice_get overlay.lowers real.layer ≡ o
           → option_map (λ (layer : LayerRef). layer.directory.filesystem) o ≡ Some real.inode.filesystem
           → layer_node (layers trees overlay are) (seen_of real)
           ≡ (files_at trees real.inode.filesystem.count).tree.node (inode_of real.inode)
       in_layer None e t = none_is_some real.inode.filesystem t
-      in_layer (Some lower) e t =
-          ap (λ o. then_some o (λ (layer : OpenLayer ℕ). layer.tree.node (inode_of real.inode)))
+      in_layer (Some lower) e t = ap (λ o. then_some o (λ (layer : OpenLayer ℕ). layer.tree.node (inode_of real.inode)))
           (slice_get-map (layer_of trees) overlay.lowers real.layer ∙ ap (option_map (layer_of trees)) e)
           ∙ ap (λ (f : FilesystemId). (files_at trees f.count).tree.node (inode_of real.inode))
           (same_Some lower.directory.filesystem real.inode.filesystem t)
 
   -- what is lent of the real object
   pub none_lent : None ≡ object_shown trees overlay number → None ≡ real_lent trees overlay number
-  none_lent is =
-      ap (λ o. then_some o (λ (seen : Shown ℕ).
+  none_lent is = ap (λ o. then_some o (λ (seen : Shown ℕ).
       then_some (slice_get overlay.lowers seen.layer) (lent_at trees seen.object))) is
 
   pub some_lent : (real : Real) → Some (seen_of real) ≡ object_shown trees overlay number
       → option_map (λ (layer : LayerRef). layer.directory.filesystem) (slice_get overlay.lowers real.layer)
-      ≡ Some real.inode.filesystem
-      → (node : Option (Node ℕ)) → option_map (node_seen real.inode.filesystem.count) node
+      ≡ Some real.inode.filesystem → (node : Option (Node ℕ)) → option_map (node_seen real.inode.filesystem.count) node
       ≡ (files_at trees real.inode.filesystem.count).tree.node (inode_of real.inode)
       → node ≡ real_lent trees overlay number
-  some_lent real is tree node seen =
-      sym (seen_twice real.inode.filesystem.count node)
+  some_lent real is tree node seen = sym (seen_twice real.inode.filesystem.count node)
       ∙ ap (option_map (node_seen real.inode.filesystem.count)) seen
-      ∙ in_layer (slice_get overlay.lowers real.layer) tree
-      ∙ ap (λ o. then_some o (λ (seen : Shown ℕ).
+      ∙ in_layer (slice_get overlay.lowers real.layer) tree ∙ ap (λ o. then_some o (λ (seen : Shown ℕ).
       then_some (slice_get overlay.lowers seen.layer) (lent_at trees seen.object))) is
     where
       in_layer : (o : Option LayerRef)

@@ -36,8 +36,7 @@ module _ (trees : Filesystems) (overlay : OverlayValue) (b : Birthplace trees ov
     found_object path e =
         let at = found_is_at trees overlay b.are number path e in
         let born = is_born trees overlay b path at in
-        ap (λ o. then_some o (shown (layers trees overlay b.are))) e
-        ∙ born.shown_there
+        ap (λ o. then_some o (shown (layers trees overlay b.are))) e ∙ born.shown_there
         ∙ ap (λ (l : LayerRef). Some (record {
           layer = b.place;
           object = exchanged l.directory.filesystem.count b.slot;
@@ -48,8 +47,7 @@ module _ (trees : Filesystems) (overlay : OverlayValue) (b : Birthplace trees ov
       where
         by : (o : Option (List (List ℕ))) → found_at trees overlay b.are number ≡ o
             → object_shown trees overlay number ≡ Some seen
-        by None e =
-            absurd (nothing_is_none (object_shown trees overlay number)
+        by None e = absurd (nothing_is_none (object_shown trees overlay number)
             (sym (ap (λ o. then_some o (shown (layers trees overlay b.are))) e)) some)
         by (Some path) e = found_object path e
 
@@ -59,8 +57,7 @@ module _ (trees : Filesystems) (overlay : OverlayValue) (b : Birthplace trees ov
       where
         by : (o : Option (List (List ℕ))) → found_at trees overlay b.are number ≡ o
             → object_shown trees overlay number ≡ Some seen
-        by None e =
-            absurd (at_is_found trees overlay b.are number path
+        by None e = absurd (at_is_found trees overlay b.are number path
             (numbered_is_at trees overlay b.are number path numbered) e)
         by (Some other) e = found_object other e
 
@@ -73,8 +70,7 @@ module _ (trees : Filesystems) (overlay : OverlayValue) (b : Birthplace trees ov
       by : (o : Option LayerRef) → slice_get overlay.lowers b.place ≡ o
           → option_map seen_of (option_map (real_in b.place b.slot) o) ≡ object_shown trees overlay number
       by None e = absurd (nothing_is_none (object_shown trees overlay number) (no_layer trees overlay b e) some)
-      by (Some lower) e =
-          ap (λ n. Some (record { layer = b.place; object = n }))
+      by (Some lower) e = ap (λ n. Some (record { layer = b.place; object = n }))
           (inode_number_is trees overlay b lower e (real_in b.place b.slot lower).inode refl)
           ∙ sym (shown_object lower e some)
 
@@ -94,18 +90,15 @@ real_here trees overlay are few slot small some = by (slice_get overlay.lowers 0
         ap (λ n. Some (record {
           layer = 0;
           object = inode_of (record { filesystem = top.directory.filesystem; slot = n });
-        })) (sym same)
-        ∙ root_object trees overlay are few slot small top e same
+        })) (sym same) ∙ root_object trees overlay are few slot small top e same
     in_slot top e false s =
         absurd (nothing_is_none (object_shown trees overlay (root_number trees overlay are few slot small))
         (other_object trees overlay are few slot small top e
         (λ same. true≢false (sym (eq-eqb top.directory.slot slot same) ∙ s))) some)
 
-    by : (o : Option LayerRef) → slice_get overlay.lowers 0 ≡ o
-        → option_map seen_of (option_map (real_in 0 slot) o)
+    by : (o : Option LayerRef) → slice_get overlay.lowers 0 ≡ o → option_map seen_of (option_map (real_in 0 slot) o)
         ≡ object_shown trees overlay (root_number trees overlay are few slot small)
-    by None e =
-        absurd (nothing_is_none (object_shown trees overlay (root_number trees overlay are few slot small))
+    by None e = absurd (nothing_is_none (object_shown trees overlay (root_number trees overlay are few slot small))
         (no_top_object trees overlay are few slot small e) some)
     by (Some top) e = in_slot top e (nat_eq top.directory.slot slot) refl
 

@@ -21,23 +21,19 @@ use Rattle.vt_overlay.proofs.DirectoriesUnder.{deep, goes_up, is_there, one_numb
 
 -- an entry that leads to a number is of a name with that number
 entry_numbered : (number : List ℕ → Option ℕ) (n : ℕ) (names : List (List ℕ)) (entry : List ℕ × ℕ)
-    → find (λ (entry : List ℕ × ℕ). nat_eq n entry.1) (with_names number names) ≡ Some entry
-    → number entry.0 ≡ Some n
+    → find (λ (entry : List ℕ × ℕ). nat_eq n entry.1) (with_names number names) ≡ Some entry → number entry.0 ≡ Some n
 entry_numbered number n [] entry e = none_is_some entry e
 entry_numbered number n (name ∷ names) entry e = by (number name) refl e (entry_numbered number n names entry)
   where
     found : (m : ℕ) → number name ≡ Some m → (b : Bool) → nat_eq n m ≡ b
         → cond b (Some (name, m)) (find (λ (entry : List ℕ × ℕ). nat_eq n entry.1) (with_names number names))
-        ≡ Some entry
-        → (find (λ (entry : List ℕ × ℕ). nat_eq n entry.1) (with_names number names) ≡ Some entry
+        ≡ Some entry → (find (λ (entry : List ℕ × ℕ). nat_eq n entry.1) (with_names number names) ≡ Some entry
         → number entry.0 ≡ Some n) → number entry.0 ≡ Some n
-    found m is true t e rest =
-        ap (λ (one : List ℕ × ℕ). number one.0) (sym (same_Some (name, m) entry e)) ∙ is
+    found m is true t e rest = ap (λ (one : List ℕ × ℕ). number one.0) (sym (same_Some (name, m) entry e)) ∙ is
         ∙ ap Some (sym (eqb-true n m t))
     found m is false t e rest = rest e
 
-    by : (o : Option ℕ) → number name ≡ o
-        → find (λ (entry : List ℕ × ℕ). nat_eq n entry.1)
+    by : (o : Option ℕ) → number name ≡ o → find (λ (entry : List ℕ × ℕ). nat_eq n entry.1)
         (cons_option (option_map (λ m. (name, m)) o) (with_names number names)) ≡ Some entry
         → (find (λ (entry : List ℕ × ℕ). nat_eq n entry.1) (with_names number names) ≡ Some entry
         → number entry.0 ≡ Some n) → number entry.0 ≡ Some n
@@ -60,8 +56,7 @@ named_is_found n name (first ∷ entries) e = by (eq_by_cmp name_cmp name first.
     by : (b : Bool) → cond b (Some first.1) (entry_named name entries) ≡ Some n
         → (entry_named name entries ≡ Some n → is_some found ≡ true)
         → is_some (cond (nat_eq n first.1) (Some first) found) ≡ true
-    by true e rest =
-        ap (λ b. is_some (cond b (Some first) found)) (eq-eqb n first.1 (sym (same_Some first.1 n e)))
+    by true e rest = ap (λ b. is_some (cond b (Some first) found)) (eq-eqb n first.1 (sym (same_Some first.1 n e)))
     by false e rest = either (nat_eq n first.1) (rest e)
 
 module _ (trees : Filesystems) (overlay : OverlayValue) (are : AreLayers trees overlay.lowers)
@@ -95,36 +90,31 @@ module _ (trees : Filesystems) (overlay : OverlayValue) (are : AreLayers trees o
       numbered n = number_at trees overlay (path ++ n ∷ [])
 
       same_last : (other : List ℕ) → numbered other ≡ Some number → other ≡ name
-      same_last other also =
-          sym (last_of_longer path other [])
+      same_last other also = sym (last_of_longer path other [])
           ∙ ap (last_or []) (one_way trees overlay are few number (path ++ name ∷ []) (path ++ other ∷ []) e also)
           ∙ last_of_longer path name []
 
       by : (o : Option (List ℕ × ℕ)) → (names : List (List ℕ)) → (above : ℕ)
           → find (λ (entry : List ℕ × ℕ). nat_eq number entry.1) (entries_in (tree.node above)) ≡ o
-          → entries_in (tree.node above) ≡ with_names numbered names
-          → is_some o ≡ true
+          → entries_in (tree.node above) ≡ with_names numbered names → is_some o ≡ true
           → unwrap_or (option_map (λ (one : ℕ × List ℕ). one.1)
           (option_map (λ (entry : List ℕ × ℕ). (above, entry.0)) o)) [] ≡ name
       by None names above found entries some = absurd (true≢false (sym some))
-      by (Some entry) names above found entries some =
-          same_last entry.0 (entry_numbered numbered number names entry
+      by (Some entry) names above found entries some = same_last entry.0 (entry_numbered numbered number names entry
           (ap (find (λ (entry : List ℕ × ℕ). nat_eq number entry.1)) (sym entries) ∙ found))
 
   abbrev names_before : ℕ → List ℕ → List (List ℕ)
   names_before top numbers = map own (before_first (nat_eq top) numbers)
 
   none_before : (top number : ℕ) (later : List ℕ) → nat_eq top number ≡ true → names_before top (number ∷ later) ≡ []
-  none_before top number later e =
-      ap (map own) (take_while-cons (λ a. not (nat_eq top a)) number later
+  none_before top number later e = ap (map own) (take_while-cons (λ a. not (nat_eq top a)) number later
       ∙ ap (λ b. cond (not b) (number ∷ before_first (nat_eq top) later) []) e)
 
   stops : (fuel top number : ℕ) → nat_eq top number ≡ true → names_before top (chain fuel up number) ≡ []
   stops zero top number e = none_before top number [] e
   stops (suc fuel) top number e = by (up number)
     where
-      by : (o : Option ℕ)
-          → names_before top (elim o [ None ↦ number ∷ [] | Some b ↦ number ∷ chain fuel up b ]) ≡ []
+      by : (o : Option ℕ) → names_before top (elim o [ None ↦ number ∷ [] | Some b ↦ number ∷ chain fuel up b ]) ≡ []
       by None = none_before top number [] e
       by (Some above) = none_before top number (chain fuel up above) e
 
@@ -138,10 +128,8 @@ module _ (trees : Filesystems) (overlay : OverlayValue) (are : AreLayers trees o
   names_met : (fuel top number : ℕ) (front rest : List (List ℕ)) → directory_path trees overlay top ≡ Some front
       → directory_path trees overlay number ≡ Some (front ++ rest) → length rest ≤ fuel
       → names_before top (chain fuel up number) ≡ reverse rest
-  names_met fuel top number front [] top_is is enough =
-      stops fuel top number
-      (eq-eqb top number (one_number trees overlay are few top number front top_is
-      (is ∙ ap Some (append-nil front))))
+  names_met fuel top number front [] top_is is enough = stops fuel top number
+      (eq-eqb top number (one_number trees overlay are few top number front top_is (is ∙ ap Some (append-nil front))))
   names_met zero top number front (name ∷ rest) top_is is enough = absurd (let no : ⊥ = omega (arith, enough) in no)
   names_met (suc fuel) top number front (name ∷ rest) top_is is enough =
       let last = last_of (name ∷ rest) (not_empty name rest) in
@@ -153,14 +141,12 @@ module _ (trees : Filesystems) (overlay : OverlayValue) (are : AreLayers trees o
       goes_on fuel top number above.above above.parent (apart (nat_eq top number) refl)
       ∙ (λ i. own_is_last number (front ++ last.0) last.1 whole i
       ∷ names_met fuel top above.above front last.0 top_is above.is (omega (arith, length_is, shorter, enough)) i)
-      ∙ sym (reverse-append last.0 (last.1 ∷ []))
-      ∙ ap reverse last.2
+      ∙ sym (reverse-append last.0 (last.1 ∷ [])) ∙ ap reverse last.2
     where
       apart : (b : Bool) → nat_eq top number ≡ b → nat_eq top number ≡ false
       apart false e = e
       apart true e =
-          let same : front ≡ front ++ name ∷ rest =
-          same_Some front (front ++ name ∷ rest)
+          let same : front ≡ front ++ name ∷ rest = same_Some front (front ++ name ∷ rest)
           (sym top_is ∙ ap (directory_path trees overlay) (eqb-true top number e) ∙ is) in
           let longer = ap length same ∙ length-append front (name ∷ rest) in
           absurd (let no : ⊥ = omega (arith, longer) in no)
@@ -173,8 +159,7 @@ module _ (trees : Filesystems) (overlay : OverlayValue) (are : AreLayers trees o
       let whole = length-append front rest in
       sym (ap (λ b. when b (reverse (names_before top (chain (length (numbers_shown trees overlay)) up number)))) under
       ∙ ap (λ names. Some (reverse names)) (names_met (length (numbers_shown trees overlay)) top number front rest
-      top_is is (omega (arith, enough, whole)))
-      ∙ ap Some (reverse-reverse rest))
+      top_is is (omega (arith, enough, whole))) ∙ ap Some (reverse-reverse rest))
 
   pub not_down : (top number : ℕ) → is_directory_under nat_eq files top number ≡ false
       → None ≡ path_down nat_eq files top number
@@ -187,8 +172,7 @@ module _ (trees : Filesystems) (overlay : OverlayValue) (are : AreLayers trees o
     to_itself = by (nat_eq top number) refl
       where
         by : (b : Bool) → nat_eq top number ≡ b → when (nat_eq top number) [] ≡ path_down nat_eq files top number
-        by true e =
-            ap (λ b. when b []) e
+        by true e = ap (λ b. when b []) e
             ∙ sym (ap (λ b. when b (reverse (names_before top (chain (length (numbers_shown trees overlay)) up number))))
             (sym alone ∙ e)
             ∙ ap (λ names. Some (reverse names)) (stops (length (numbers_shown trees overlay)) top number e))

@@ -20,8 +20,7 @@ module _ (f : ℕ) where
   same_truth false false there back = refl
 
   pub same_slots : (a b : ℕ) → nat_eq a b ≡ nat_eq (exchanged f a) (exchanged f b)
-  same_slots a b =
-      same_truth (nat_eq a b) (nat_eq (exchanged f a) (exchanged f b))
+  same_slots a b = same_truth (nat_eq a b) (nat_eq (exchanged f a) (exchanged f b))
       (λ e. eq-eqb (exchanged f a) (exchanged f b) (ap (exchanged f) (eqb-true a b e)))
       (λ e. eq-eqb a b (sym (exchanged_back f a)
       ∙ ap (exchanged f) (eqb-true (exchanged f a) (exchanged f b) e) ∙ exchanged_back f b))
@@ -29,8 +28,7 @@ module _ (f : ℕ) where
   rank_numbered : (entries : Entries ℕ) (name : List ℕ) (id : ℕ)
       → rank_among entries name id ≡ rank_among (numbered entries) name (exchanged f id)
   rank_numbered [] name id = refl
-  rank_numbered (entry ∷ entries) name id =
-      ap (λ b. length (if b && is_lt (name_cmp entry.0 name)
+  rank_numbered (entry ∷ entries) name id = ap (λ b. length (if b && is_lt (name_cmp entry.0 name)
       then entry ∷ filter (λ e. nat_eq id e.1 && is_lt (name_cmp e.0 name)) entries
       else filter (λ e. nat_eq id e.1 && is_lt (name_cmp e.0 name)) entries)) (same_slots id entry.1)
       ∙ by (nat_eq (exchanged f id) (exchanged f entry.1) && is_lt (name_cmp entry.0 name))
@@ -46,38 +44,30 @@ module _ (f : ℕ) where
       by false rest = rest
 
   -- the entry of a rank, among some of the entries
-  found_numbered : (all entries : Entries ℕ) (id rank : ℕ)
-      → option_map (λ (entry : List ℕ × ℕ). entry.0)
+  found_numbered : (all entries : Entries ℕ) (id rank : ℕ) → option_map (λ (entry : List ℕ × ℕ). entry.0)
       (find (λ entry. nat_eq id entry.1 && nat_eq rank (rank_among all entry.0 id)) entries)
-      ≡ option_map (λ (entry : List ℕ × ℕ). entry.0)
-      (find (λ entry. nat_eq (exchanged f id) entry.1
+      ≡ option_map (λ (entry : List ℕ × ℕ). entry.0) (find (λ entry. nat_eq (exchanged f id) entry.1
       && nat_eq rank (rank_among (numbered all) entry.0 (exchanged f id))) (numbered entries))
   found_numbered all [] id rank = refl
-  found_numbered all (entry ∷ entries) id rank =
-      (λ i. option_map (λ (e : List ℕ × ℕ). e.0)
+  found_numbered all (entry ∷ entries) id rank = (λ i. option_map (λ (e : List ℕ × ℕ). e.0)
       (if same_slots id entry.1 i && nat_eq rank (rank_numbered all entry.0 id i) then Some entry
       else find (λ e. nat_eq id e.1 && nat_eq rank (rank_among all e.0 id)) entries))
       ∙ by (nat_eq (exchanged f id) (exchanged f entry.1)
       && nat_eq rank (rank_among (numbered all) entry.0 (exchanged f id))) (found_numbered all entries id rank)
     where
-      by : (b : Bool)
-          → option_map (λ (e : List ℕ × ℕ). e.0)
+      by : (b : Bool) → option_map (λ (e : List ℕ × ℕ). e.0)
           (find (λ e. nat_eq id e.1 && nat_eq rank (rank_among all e.0 id)) entries)
-          ≡ option_map (λ (e : List ℕ × ℕ). e.0)
-          (find (λ e. nat_eq (exchanged f id) e.1
+          ≡ option_map (λ (e : List ℕ × ℕ). e.0) (find (λ e. nat_eq (exchanged f id) e.1
           && nat_eq rank (rank_among (numbered all) e.0 (exchanged f id))) (numbered entries))
-          → option_map (λ (e : List ℕ × ℕ). e.0)
-          (if b then Some entry
+          → option_map (λ (e : List ℕ × ℕ). e.0) (if b then Some entry
           else find (λ e. nat_eq id e.1 && nat_eq rank (rank_among all e.0 id)) entries)
-          ≡ option_map (λ (e : List ℕ × ℕ). e.0)
-          (if b then Some (renamed_entry (exchanged f) (exchanged f) entry)
+          ≡ option_map (λ (e : List ℕ × ℕ). e.0) (if b then Some (renamed_entry (exchanged f) (exchanged f) entry)
           else find (λ e. nat_eq (exchanged f id) e.1
           && nat_eq rank (rank_among (numbered all) e.0 (exchanged f id))) (numbered entries))
       by true rest = refl
       by false rest = rest
 
-  pub rank_seen : (node : Node ℕ) (name : List ℕ) (id : ℕ)
-      → rank_among (entries_of node.content) name id
+  pub rank_seen : (node : Node ℕ) (name : List ℕ) (id : ℕ) → rank_among (entries_of node.content) name id
       ≡ rank_among (entries_in (Some (node_seen f node))) name (exchanged f id)
   rank_seen node name id = by node.content
     where
@@ -89,8 +79,7 @@ module _ (f : ℕ) where
       by (Symlink text) = refl
       by Whiteout = refl
 
-  pub ranked_seen : (node : Node ℕ) (id rank : ℕ)
-      → name_ranked (entries_of node.content) id rank
+  pub ranked_seen : (node : Node ℕ) (id rank : ℕ) → name_ranked (entries_of node.content) id rank
       ≡ name_ranked (entries_in (Some (node_seen f node))) (exchanged f id) rank
   ranked_seen node id rank = by node.content
     where

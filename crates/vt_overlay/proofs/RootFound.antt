@@ -65,8 +65,7 @@ module _ (trees : Filesystems) (overlay : OverlayValue) (are : AreLayers trees o
       let parts = number_parts (born_in overlay.number.count (birth_at trees at.place at.lower path))
       (born_in overlay.number.count Here) (slot_at trees at.lower path) slot at_slot.0 slot_small at.numbered in
       let birth = births_apart overlay.number.count (birth_at trees at.place at.lower path) Here
-      (small_birth trees at.lower layer_is at.place path at.object (omega (arith, within, few)) at.leads)
-      tt parts.0 in
+      (small_birth trees at.lower layer_is at.place path at.object (omega (arith, within, few)) at.leads) tt parts.0 in
       let named = by (is_root_path path) refl birth in
       record {
         nameless = no_name path named;
@@ -131,8 +130,7 @@ module _ (trees : Filesystems) (overlay : OverlayValue) (are : AreLayers trees o
         same_Some at.lower top (sym at.layer ∙ ap (slice_get overlay.lowers) place ∙ layer)
 
     elsewhere : (top.directory.slot ≡ slot → ⊥) → found_at trees overlay are root_number ≡ None
-    elsewhere other =
-        nowhere (λ path at.
+    elsewhere other = nowhere (λ path at.
         let root = is_root path at in
         let own : exchanged count start ≡ slot =
         ap (λ (l : LayerRef). slot_at trees l []) (sym (first_layer path at)) ∙ root.in_slot_of_top in
@@ -167,8 +165,7 @@ module _ (trees : Filesystems) (overlay : OverlayValue) (are : AreLayers trees o
 
       root_path : Some [] ≡ directory_path trees overlay root_number
       unfolding at_root
-      root_path =
-          sym (ap (only_of_directory trees overlay) found_there
+      root_path = sym (ap (only_of_directory trees overlay) found_there
           ∙ directory_shown trees overlay are root_number [] at_root is_layer.directory)
 
       pub way_of_root : (way : List (List ℕ)) → led files start way ≡ Some start

@@ -63,8 +63,7 @@ module _ (trees : Filesystems) (overlay : OverlayValue) (are : AreLayers trees o
   unfolding as_layer
   opened_so lower = ap (as_layer lower) (found_by_number trees lower.directory.filesystem.count)
 
-  all_opened : (lowers : List LayerRef)
-      → map (open_layer nat_eq world) (map layer_seen lowers) ≡ layers_of trees lowers
+  all_opened : (lowers : List LayerRef) → map (open_layer nat_eq world) (map layer_seen lowers) ≡ layers_of trees lowers
   all_opened [] = refl
   all_opened (lower ∷ lowers) = λ i. opened_so lower i ∷ all_opened lowers i
 
@@ -76,13 +75,10 @@ module _ (trees : Filesystems) (overlay : OverlayValue) (are : AreLayers trees o
   real_of path seen = option_map (λ (s : Shown ℕ). Lower s.layer path) seen
 
   pub real_is : (path : List (List ℕ)) → real_shown nat_eq world (overlay_seen overlay) path ≡ real_of path (shown layers path)
-  real_is path =
-      ap (λ ls. option_map (λ object. real_object false object.seen.layer object)
-      (merged_at ls path)) layers_are
-      ∙ by (shown layers path)
+  real_is path = ap (λ ls. option_map (λ object. real_object false object.seen.layer object)
+      (merged_at ls path)) layers_are ∙ by (shown layers path)
     where
-      by : (o : Option (Shown ℕ))
-          → option_map (λ object. real_object false object.seen.layer object)
+      by : (o : Option (Shown ℕ)) → option_map (λ object. real_object false object.seen.layer object)
           (option_map (λ seen. record { path = path; seen = seen }) o) ≡ real_of path o
       by None = refl
       by (Some seen) = refl
@@ -93,11 +89,9 @@ module _ (trees : Filesystems) (overlay : OverlayValue) (are : AreLayers trees o
       ≡ is_some (shown (layers_shown world (overlay_seen overlay)) path)
   number_is_shown path = by (shown (layers_shown world (overlay_seen overlay)) path)
     where
-      by : (o : Option (Shown ℕ))
-          → is_some (option_map (real_number trees overlay)
+      by : (o : Option (Shown ℕ)) → is_some (option_map (real_number trees overlay)
           (option_map (λ object. real_object false object.seen.layer object)
-          (option_map (λ seen. record { path = path; seen = seen }) o)))
-          ≡ is_some o
+          (option_map (λ seen. record { path = path; seen = seen }) o))) ≡ is_some o
       by None = refl
       by (Some seen) = refl
 
@@ -128,20 +122,17 @@ module _ (trees : Filesystems) (overlay : OverlayValue) (are : AreLayers trees o
           → (lower : LayerRef) × (slice_get overlay.lowers seen.layer ≡ Some lower)
           × (at_path (layer_of trees lower) path ≡ Some seen.object)
       by layer l None s m = none_is_some layer m
-      by layer l (Some lower) s m =
-          (lower, s, ap (λ o. at_path o path) (same_Some (layer_of trees lower) layer m) ∙ l)
+      by layer l (Some lower) s m = (lower, s, ap (λ o. at_path o path) (same_Some (layer_of trees lower) layer m) ∙ l)
 
   pub open_layers : AreOpen layers
-  open_layers place layer e =
-      by (slice_get overlay.lowers place) refl
+  open_layers place layer e = by (slice_get overlay.lowers place) refl
       (sym (slice_get-map (layer_of trees) overlay.lowers place) ∙ e)
     where
       by : (o : Option LayerRef) → slice_get overlay.lowers place ≡ o → option_map (layer_of trees) o ≡ Some layer
           → Rattle.vt_spec.specs.TreeInvariant.IsTree layer.tree
           × Rattle.vt_spec.specs.TreeInvariant.IsDirectory layer.tree layer.directory
       by None s m = none_is_some layer m
-      by (Some lower) s m =
-          subst (λ (l : OpenLayer ℕ). Rattle.vt_spec.specs.TreeInvariant.IsTree l.tree
+      by (Some lower) s m = subst (λ (l : OpenLayer ℕ). Rattle.vt_spec.specs.TreeInvariant.IsTree l.tree
           × Rattle.vt_spec.specs.TreeInvariant.IsDirectory l.tree l.directory)
           (same_Some (layer_of trees lower) layer m) ((are place lower s).tree, (are place lower s).directory)
 
@@ -159,8 +150,7 @@ module _ (trees : Filesystems) (overlay : OverlayValue) (are : AreLayers trees o
   pub number_of_shown : (path : List (List ℕ)) (seen : Shown ℕ) (lower : LayerRef) → shown layers path ≡ Some seen
       → slice_get overlay.lowers seen.layer ≡ Some lower
       → number_at path ≡ Some (number_of (node_born trees overlay.number seen.layer lower path))
-  number_of_shown path seen lower e l =
-      ap (option_map (real_number trees overlay)) (real_is path ∙ ap (real_of path) e)
+  number_of_shown path seen lower e l = ap (option_map (real_number trees overlay)) (real_is path ∙ ap (real_of path) e)
       ∙ ap (λ (o : Option LayerRef). Some (unwrap_or (option_map (λ (layer : LayerRef).
       number_of (node_born trees overlay.number seen.layer layer path)) o) 0)) l
 
@@ -192,15 +182,13 @@ module _ (trees : Filesystems) (overlay : OverlayValue) (are : AreLayers trees o
           }
 
   pub found_is_at : (number : ℕ) (path : List (List ℕ)) → found_at number ≡ Some path → IsAt path number
-  found_is_at number path e =
-      numbered_is_at number path (shown_number number (number_at path)
+  found_is_at number path e = numbered_is_at number path (shown_number number (number_at path)
       (found_passes (passes number)
       (paths_from (longest trees overlay.lowers) (layers_shown world (overlay_seen overlay)) []) path e))
 
   -- and one that is at a path is found
   pub at_is_found : (number : ℕ) (path : List (List ℕ)) → IsAt path number → found_at number ≢ None
-  at_is_found number path at =
-      not_missed (passes number)
+  at_is_found number path at = not_missed (passes number)
       (paths_from (longest trees overlay.lowers) (layers_shown world (overlay_seen overlay)) []) path
       (ap (holds_of (nat_eq number))
       (number_of_shown path (record { layer = at.place; object = at.object }) at.lower at.is at.layer)
@@ -222,10 +210,8 @@ module _ (trees : Filesystems) (overlay : OverlayValue) (are : AreLayers trees o
   -- the inode that is shown at its path
   pub node_there : (number : ℕ) (path : List (List ℕ)) (at : IsAt path number)
       → node_shown nat_eq world (overlay_seen overlay) path ≡ node_at_path (layer_of trees at.lower) path
-  node_there number path at =
-      ap (λ ls. then_some (shown ls path) (layer_node ls)) layers_are
-      ∙ ap (λ o. then_some o (layer_node layers)) at.is
-      ∙ ap (λ o. then_some o (λ layer. layer.tree.node at.object))
+  node_there number path at = ap (λ ls. then_some (shown ls path) (layer_node ls)) layers_are
+      ∙ ap (λ o. then_some o (layer_node layers)) at.is ∙ ap (λ o. then_some o (λ layer. layer.tree.node at.object))
       (slice_get-map (layer_of trees) overlay.lowers at.place ∙ ap (option_map (layer_of trees)) at.layer)
       ∙ sym (ap (λ o. then_some o (files_at trees at.lower.directory.filesystem.count).tree.node) at.leads)
 
@@ -238,11 +224,9 @@ module _ (trees : Filesystems) (overlay : OverlayValue) (are : AreLayers trees o
   pub no_directory_shown : (number : ℕ) (path : List (List ℕ)) (at : IsAt path number)
       → (is_directory_node (node_at_path (layer_of trees at.lower) path) ≡ true → ⊥)
       → only_of_directory trees overlay (Some path) ≡ None
-  no_directory_shown number path at none =
-      by (is_directory_node (node_at_path (layer_of trees at.lower) path)) refl
+  no_directory_shown number path at none = by (is_directory_node (node_at_path (layer_of trees at.lower) path)) refl
     where
       by : (b : Bool) → is_directory_node (node_at_path (layer_of trees at.lower) path) ≡ b
           → only_of_directory trees overlay (Some path) ≡ None
       by true is = absurd (none is)
-      by false is =
-          ap (λ b. if b then Some path else None) (ap is_directory_node (node_there number path at) ∙ is)
+      by false is = ap (λ b. if b then Some path else None) (ap is_directory_node (node_there number path at) ∙ is)

@@ -20,8 +20,7 @@ has_its_own task = ap not (eq-eqb
     (and_self task.credentials.capabilities))
 
 same_groups : (gid : ℕ) (groups : _) (lacking : Bool) → (not (gid == gid && bytes_eq groups groups) && lacking) ≡ false
-same_groups gid groups lacking =
-    ap (λ same. not (same && bytes_eq groups groups) && lacking) (eq-eqb gid gid refl)
+same_groups gid groups lacking = ap (λ same. not (same && bytes_eq groups groups) && lacking) (eq-eqb gid gid refl)
     ∙ ap (λ same. not same && lacking) ((bytes_eq-Decides groups groups).1 refl)
 
 pub forked_alike : (task : Task ℕ) → (nat_le most_forks task.forks || nat_le deepest_name (length task.name)) ≡ false

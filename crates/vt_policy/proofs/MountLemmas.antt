@@ -27,22 +27,19 @@ pub reached : {A : Type 0} (end : Result (Here ℕ) Deny) (at : Location ℕ) (n
 reached end at next r = ap (λ e. and_then e (λ here. next here.location)) r.1 ∙ ap next r.2
 
 pub mount_plain_asked : (looks : Looks ℕ) (overfills : Permit ℕ → Bool) (task : Task ℕ) (path : List ℕ)
-    (flags : MountFlags) (place : Location ℕ)
-    → lacks task cap_sys_admin ≡ false
+    (flags : MountFlags) (place : Location ℕ) → lacks task cap_sys_admin ≡ false
     → Reaches (walk_end (destination_walk nat_eq looks task path)) place
     → mount_plain_permit nat_eq looks overfills task path flags
     ≡ unless (new_mount_rules nat_eq looks task place (overfills (ToMountPlain place flags)))
     (Ok (ToMountPlain place flags))
 unfolding mount_plain_permit
-mount_plain_asked looks overfills task path flags place admin there =
-    skipped _ K1 [] _ admin
+mount_plain_asked looks overfills task path flags place admin there = skipped _ K1 [] _ admin
     ∙ reached (walk_end (destination_walk nat_eq looks task path)) place
     (λ at. unless (new_mount_rules nat_eq looks task at (overfills (ToMountPlain at flags)))
     (Ok (ToMountPlain at flags))) there
 
 pub bind_asked : (looks : Looks ℕ) (overfills : Permit ℕ → Bool) (task : Task ℕ) (old new : List ℕ) (recursive : Bool)
-    (source place : Location ℕ)
-    → lacks task cap_sys_admin ≡ false
+    (source place : Location ℕ) → lacks task cap_sys_admin ≡ false
     → Reaches (walk_end (source_walk nat_eq looks task old)) source
     → Reaches (walk_end (destination_walk nat_eq looks task new)) place
     → bind_permit nat_eq looks overfills task old new recursive
@@ -53,14 +50,12 @@ bind_asked looks overfills task old new recursive source place admin from there 
     let asked : Location ℕ → Location ℕ → Result (Permit ℕ) Deny = λ from. λ at.
     unless (bind_rules nat_eq looks task from at (overfills (ToBind from at recursive)))
     (Ok (ToBind from at recursive)) in
-    skipped _ K1 [] _ admin
-    ∙ reached (walk_end (source_walk nat_eq looks task old)) source
+    skipped _ K1 [] _ admin ∙ reached (walk_end (source_walk nat_eq looks task old)) source
     (λ from. and_then (walk_end (destination_walk nat_eq looks task new)) (λ here. asked from here.location)) from
     ∙ reached (walk_end (destination_walk nat_eq looks task new)) place (asked source) there
 
 pub move_asked : (looks : Looks ℕ) (overfills : Permit ℕ → Bool) (task : Task ℕ) (old new : List ℕ)
-    (source place : Location ℕ)
-    → lacks task cap_sys_admin ≡ false
+    (source place : Location ℕ) → lacks task cap_sys_admin ≡ false
     → Reaches (walk_end (source_walk nat_eq looks task old)) source
     → Reaches (walk_end (destination_walk nat_eq looks task new)) place
     → move_permit nat_eq looks overfills task old new
@@ -70,43 +65,36 @@ unfolding move_permit
 move_asked looks overfills task old new source place admin from there =
     let asked : Location ℕ → Location ℕ → Result (Permit ℕ) Deny = λ from. λ at.
     unless (move_rules nat_eq looks task from at (overfills (ToMove from.mount at))) (Ok (ToMove from.mount at)) in
-    skipped _ K1 [] _ admin
-    ∙ reached (walk_end (source_walk nat_eq looks task old)) source
+    skipped _ K1 [] _ admin ∙ reached (walk_end (source_walk nat_eq looks task old)) source
     (λ from. and_then (walk_end (destination_walk nat_eq looks task new)) (λ here. asked from here.location)) from
     ∙ reached (walk_end (destination_walk nat_eq looks task new)) place (asked source) there
 
 pub pivot_asked : (looks : Looks ℕ) (task : Task ℕ) (new put : List ℕ) (root place : Location ℕ)
-    → lacks task cap_sys_admin ≡ false
-    → Reaches (walk_end (source_walk nat_eq looks task new)) root
-    → Reaches (walk_end (destination_walk nat_eq looks task put)) place
-    → pivot_permit nat_eq looks task new put
+    → lacks task cap_sys_admin ≡ false → Reaches (walk_end (source_walk nat_eq looks task new)) root
+    → Reaches (walk_end (destination_walk nat_eq looks task put)) place → pivot_permit nat_eq looks task new put
     ≡ unless (pivot_rules nat_eq looks task root place) (Ok (ToPivot root.mount place))
 unfolding pivot_permit
 pivot_asked looks task new put root place admin from there =
     let asked : Location ℕ → Location ℕ → Result (Permit ℕ) Deny = λ from. λ at.
     unless (pivot_rules nat_eq looks task from at) (Ok (ToPivot from.mount at)) in
-    skipped _ K1 [] _ admin
-    ∙ reached (walk_end (source_walk nat_eq looks task new)) root
+    skipped _ K1 [] _ admin ∙ reached (walk_end (source_walk nat_eq looks task new)) root
     (λ from. and_then (walk_end (destination_walk nat_eq looks task put)) (λ here. asked from here.location)) from
     ∙ reached (walk_end (destination_walk nat_eq looks task put)) place (asked root) there
 
 rows_refused : {A B : Type 0} (elsewhere no_root : Bool) (more : Rules) (here : A) (answer : Result B Deny)
-    (deny : Deny)
-    → unless ((elsewhere, M2) ∷ (no_root, M7) ∷ []) (Ok here) ≡ Err deny
+    (deny : Deny) → unless ((elsewhere, M2) ∷ (no_root, M7) ∷ []) (Ok here) ≡ Err deny
     → unless ((elsewhere, M2) ∷ (no_root, M7) ∷ more) answer ≡ Err deny
 rows_refused true no_root more here answer deny e = cc
 rows_refused false true more here answer deny e = cc
 rows_refused false false more here answer deny e = absurd cc
 
 walk_refused : {B : Type 0} (lacking : Bool) (end : Result (Here ℕ) Deny) (elsewhere no_root : Location ℕ → Bool)
-    (more : Location ℕ → Rules)
-    (answer : Location ℕ → Result B Deny) (deny : Deny)
+    (more : Location ℕ → Rules) (answer : Location ℕ → Result B Deny) (deny : Deny)
     → unless ((lacking, K1) ∷ []) (and_then end
     (λ here. unless ((elsewhere here.location, M2) ∷ (no_root here.location, M7) ∷ []) (Ok here))) ≡ Err deny
     → unless ((lacking, K1) ∷ []) (and_then end
     (λ here. unless ((elsewhere here.location, M2) ∷ (no_root here.location, M7) ∷ more here.location)
-    (answer here.location)))
-    ≡ Err deny
+    (answer here.location))) ≡ Err deny
 walk_refused true end elsewhere no_root more answer deny e = cc
 walk_refused false (Err refusal) elsewhere no_root more answer deny e = cc
 walk_refused false (Ok here) elsewhere no_root more answer deny e =
@@ -115,12 +103,10 @@ walk_refused false (Ok here) elsewhere no_root more answer deny e =
 
 -- a walk to the root of a mount that is refused refuses the call
 pub root_refused : {B : Type 0} (looks : Looks ℕ) (task : Task ℕ) (path : List ℕ) (more : Location ℕ → Rules)
-    (answer : Location ℕ → Result B Deny) (deny : Deny)
-    → root_walk looks task path ≡ Err deny
+    (answer : Location ℕ → Result B Deny) (deny : Deny) → root_walk looks task path ≡ Err deny
     → unless ((lacks task cap_sys_admin, K1) ∷ []) (and_then (walk_end (directory_walk nat_eq looks task path)) (λ here.
     unless ((is_elsewhere nat_eq looks task here.location, M2) ∷ (is_no_root nat_eq looks here.location, M7)
-    ∷ more here.location) (answer here.location)))
-    ≡ Err deny
+    ∷ more here.location) (answer here.location))) ≡ Err deny
 root_refused looks task path more answer deny e =
     walk_refused (lacks task cap_sys_admin) (walk_end (directory_walk nat_eq looks task path))
     (is_elsewhere nat_eq looks task) (is_no_root nat_eq looks) more answer deny e

@@ -24,8 +24,7 @@ abbrev pub last_rows : Looks ℕ → Location ℕ → Bool → Rules
 last_rows looks source overfull = (overfull, M9) ∷ (not (is_some (mount_at looks source).mount_point), M10) ∷ []
 
 pub move_refused : (looks : Looks ℕ) (overfills : Permit ℕ → Bool) (task : Task ℕ) (old new : List ℕ)
-    (source place : Location ℕ)
-    → lacks task cap_sys_admin ≡ false
+    (source place : Location ℕ) → lacks task cap_sys_admin ≡ false
     → Reaches (walk_end (source_walk nat_eq looks task old)) source
     → Reaches (walk_end (destination_walk nat_eq looks task new)) place
     → (deny : Deny) → Err deny ≡ unless {A = Unit {0}} (move_table looks task source place) (Ok tt)
@@ -38,8 +37,7 @@ move_refused looks overfills task old new source place admin from there deny ref
     (unless (last_rows looks source (overfills permit)) (Ok permit)) deny refused
 
 pub move_left : (looks : Looks ℕ) (overfills : Permit ℕ → Bool) (task : Task ℕ) (old new : List ℕ)
-    (source place : Location ℕ)
-    → lacks task cap_sys_admin ≡ false
+    (source place : Location ℕ) → lacks task cap_sys_admin ≡ false
     → Reaches (walk_end (source_walk nat_eq looks task old)) source
     → Reaches (walk_end (destination_walk nat_eq looks task new)) place
     → Ok tt ≡ unless {A = Unit {0}} (move_table looks task source place) (Ok tt)

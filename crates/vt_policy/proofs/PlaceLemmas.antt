@@ -29,47 +29,40 @@ is_some_mapped (Some object) = refl
 
 -- mkdir(2), symlink(2)
 pub made_asked : (looks : Looks ℕ) (task : Task ℕ) (end : Result (Place ℕ) Deny) (seen : Place ℕ)
-    (node : Place ℕ → Node ℕ)
-    → end ≡ Ok seen → is_special seen.last ≡ false → is_some seen.object ≡ false
+    (node : Place ℕ → Node ℕ) → end ≡ Ok seen → is_special seen.last ≡ false → is_some seen.object ≡ false
     → and_then end (λ place. made_permit nat_eq looks task place (node place))
     ≡ unless (make_rules looks task seen (unnumbered seen (node seen))) (Ok (make_permit seen (node seen)))
 made_asked looks task end seen node walked named missing =
     went end seen (λ place. made_permit nat_eq looks task place (node place)) walked
-    ∙ skipped (is_special seen.last) E1 _ _ named
-    ∙ skipped (is_some seen.object) E1 _ _ missing
+    ∙ skipped (is_special seen.last) E1 _ _ named ∙ skipped (is_some seen.object) E1 _ _ missing
 
 -- unlink(2)
 pub unlink_asked : (looks : Looks ℕ) (task : Task ℕ) (path : List ℕ) (seen : Place ℕ) (object : meant.Location ℕ)
     → walk_end (old_leaf_walk nat_eq looks task path) ≡ Ok seen → is_special seen.last ≡ false
-    → object_there seen ≡ object
-    → unlink_permit nat_eq looks task path
+    → object_there seen ≡ object → unlink_permit nat_eq looks task path
     ≡ unless (unlink_rules looks task seen object) (Ok (ToChange seen.parent (removing seen object)))
 unfolding unlink_permit
 unlink_asked looks task path seen object walked named there =
-    went (walk_end (old_leaf_walk nat_eq looks task path)) seen _ walked
-    ∙ skipped (is_special seen.last) E2 [] _ named
+    went (walk_end (old_leaf_walk nat_eq looks task path)) seen _ walked ∙ skipped (is_special seen.last) E2 [] _ named
     ∙ (λ i. unless (unlink_rules looks task seen (there i)) (Ok (ToChange seen.parent (removing seen (there i)))))
 
 -- rmdir(2)
 pub rmdir_asked : (looks : Looks ℕ) (task : Task ℕ) (path : List ℕ) (seen : Place ℕ) (object : meant.Location ℕ)
     (name : List ℕ)
     → walk_end (old_walk nat_eq looks task path) ≡ Ok seen → seen.last ≡ Named name → object_there seen ≡ object
-    → rmdir_permit nat_eq looks task path
-    ≡ unless (rmdir_rules nat_eq looks task seen object)
+    → rmdir_permit nat_eq looks task path ≡ unless (rmdir_rules nat_eq looks task seen object)
     (Ok (ToRemoveDirectory seen.parent (name_of seen.last) object))
 unfolding rmdir_permit
 rmdir_asked looks task path seen object name walked named there =
     went (walk_end (old_walk nat_eq looks task path)) seen _ walked
-    ∙ skipped (is_dot_dot seen.last) E4 _ _ (ap is_dot_dot named)
-    ∙ skipped (is_dot seen.last) E5 _ _ (ap is_dot named)
+    ∙ skipped (is_dot_dot seen.last) E4 _ _ (ap is_dot_dot named) ∙ skipped (is_dot seen.last) E5 _ _ (ap is_dot named)
     ∙ skipped (is_no_word seen.last) P1 [] _ (ap is_no_word named)
     ∙ (λ i. unless (rmdir_rules nat_eq looks task seen (there i))
     (Ok (ToRemoveDirectory seen.parent (name_of seen.last) (there i))))
 
 -- link(2)
 pub link_asked : (looks : Looks ℕ) (task : Task ℕ) (old new : List ℕ) (from : Here ℕ) (seen : Place ℕ)
-    (object : meant.Location ℕ)
-    → walk_end (symlink_walk nat_eq looks task old) ≡ Ok from → from.location ≡ object
+    (object : meant.Location ℕ) → walk_end (symlink_walk nat_eq looks task old) ≡ Ok from → from.location ≡ object
     → walk_end (new_leaf_walk nat_eq looks task new) ≡ Ok seen → is_special seen.last ≡ false
     → hard_link_permit nat_eq looks task old new
     ≡ unless (hard_link_rules nat_eq looks task object seen (linking object seen))
@@ -84,13 +77,10 @@ link_asked looks task old new from seen object walked_old there walked_new named
 
 -- rename(2)
 pub rename_asked : (looks : Looks ℕ) (task : Task ℕ) (old new : List ℕ) (from to : Place ℕ) (object : meant.Location ℕ)
-    (same : Bool)
-    → walk_end (old_leaf_walk nat_eq looks task old) ≡ Ok from → is_special from.last ≡ false
-    → object_there from ≡ object
-    → is_directory_there nat_eq looks from ≡ is_directory_at looks object
+    (same : Bool) → walk_end (old_leaf_walk nat_eq looks task old) ≡ Ok from → is_special from.last ≡ false
+    → object_there from ≡ object → is_directory_there nat_eq looks from ≡ is_directory_at looks object
     → walk_end (rename_new_walk nat_eq looks task new (is_directory_at looks object)) ≡ Ok to
-    → is_special to.last ≡ false
-    → is_one_object nat_eq looks object to.object ≡ same
+    → is_special to.last ≡ false → is_one_object nat_eq looks object to.object ≡ same
     → rename_permit nat_eq looks task old new ≡ renamed_permit nat_eq same looks task from to object
 unfolding rename_permit
 rename_asked looks task old new from to object same walked_old old_named there kind walked_new new_named is_same =

@@ -49,12 +49,10 @@ module _ (looks : Looks ℕ) (task : Task ℕ) (at : Location ℕ) (object : Opt
   by-object : rows (is_directory_node object) (is_kind_in White object)
       (not (node_allows task.credentials read_right object)) (mounter_may_not looks at read_right)
       ≡ read_rules looks task at
-  by-object i =
-      rows (test-alike _ is_directory_node directory-asked object (looks.node at) alike i)
+  by-object i = rows (test-alike _ is_directory_node directory-asked object (looks.node at) alike i)
       (test-alike _ (is_kind_in White) white-asked object (looks.node at) alike i)
       (not (test-alike _ (node_allows task.credentials read_right) (allowed-asked task.credentials) object
-      (looks.node at) alike i))
-      (mounter_may_not looks at read_right)
+      (looks.node at) alike i)) (mounter_may_not looks at read_right)
 
   abbrev answered : Rules → Result (Unit {0}) Deny
   answered rules = unless rules (Ok tt)
@@ -68,5 +66,4 @@ module _ (looks : Looks ℕ) (task : Task ℕ) (at : Location ℕ) (object : Opt
       sym (ap (λ b. answered (rows b (is_kind_in White object) (not (node_allows task.credentials read_right object))
       denied)) directory
       ∙ ap (λ b. answered (rows false b (not (node_allows task.credentials read_right object)) denied)) white
-      ∙ ap (λ b. answered (rows false false (not b) denied)) allowed)
-      ∙ ap answered by-object
+      ∙ ap (λ b. answered (rows false false (not b) denied)) allowed) ∙ ap answered by-object

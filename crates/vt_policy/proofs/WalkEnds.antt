@@ -18,37 +18,32 @@ same-ok : {A : Type 0} (a b : A) → okay a ≡ okay b → a ≡ b
 same-ok a b e = cc
 
 pub ends_at : (result : Result Location Deny) (end : Result (walked.Here ℕ) Deny)
-    → location_result result ≡ location_end end
-    → IfOk result (λ at. EndsAt end at)
+    → location_result result ≡ location_end end → IfOk result (λ at. EndsAt end at)
 ends_at (Ok at) (Ok here) e = (here, refl, same-ok here.location (location_of at) (sym e))
 ends_at (Ok at) (Err deny) e = absurd cc
 ends_at (Err deny) end e = tt
 
 pub refused_by : (result : Result Location Deny) (end : Result (walked.Here ℕ) Deny)
-    → location_result result ≡ location_end end
-    → IfErr result (λ deny. end ≡ Err deny)
+    → location_result result ≡ location_end end → IfErr result (λ deny. end ≡ Err deny)
 refused_by (Ok at) end e = tt
 refused_by (Err deny) (Ok here) e = absurd cc
 refused_by (Err deny) (Err other) e = cc
 
 -- the same, with the object that was found
 pub found_ends_at : (result : Result ObjectFound Deny) (end : Result (walked.Here ℕ) Deny)
-    → object_found_result result ≡ location_end end
-    → IfOk result (λ found. EndsAt end found.location)
+    → object_found_result result ≡ location_end end → IfOk result (λ found. EndsAt end found.location)
 found_ends_at (Ok found) (Ok here) e = (here, refl, same-ok here.location (location_of found.location) (sym e))
 found_ends_at (Ok found) (Err deny) e = absurd cc
 found_ends_at (Err deny) end e = tt
 
 pub found_refused_by : (result : Result ObjectFound Deny) (end : Result (walked.Here ℕ) Deny)
-    → object_found_result result ≡ location_end end
-    → IfErr result (λ deny. end ≡ Err deny)
+    → object_found_result result ≡ location_end end → IfErr result (λ deny. end ≡ Err deny)
 found_refused_by (Ok found) end e = tt
 found_refused_by (Err deny) (Ok here) e = absurd cc
 found_refused_by (Err deny) (Err other) e = cc
 
 pub ends_at_place : (result : Result Place Deny) (end : Result (walked.Place ℕ) Deny)
-    → place_result result ≡ place_end end
-    → IfOk result (λ place. EndsAtPlace end place)
+    → place_result result ≡ place_end end → IfOk result (λ place. EndsAtPlace end place)
 ends_at_place (Ok place) (Ok seen) e =
     let same = same-ok (without_steps seen) (place_of place) (sym e) in (
       seen,
@@ -64,21 +59,18 @@ ends_at_place (Ok place) (Err deny) e = absurd cc
 ends_at_place (Err deny) end e = tt
 
 pub refused_place : (result : Result Place Deny) (end : Result (walked.Place ℕ) Deny)
-    → place_result result ≡ place_end end
-    → IfErr result (λ deny. end ≡ Err deny)
+    → place_result result ≡ place_end end → IfErr result (λ deny. end ≡ Err deny)
 refused_place (Ok place) end e = tt
 refused_place (Err deny) (Ok seen) e = absurd cc
 refused_place (Err deny) (Err other) e = cc
 
 -- the same of a name that exists
 pub ends_at_old_place : (result : Result OldPlace Deny) (end : Result (walked.Place ℕ) Deny)
-    → old_place_result result ≡ place_end end
-    → IfOk result (λ place. EndsAtPlace end (as_place place))
+    → old_place_result result ≡ place_end end → IfOk result (λ place. EndsAtPlace end (as_place place))
 ends_at_old_place (Ok place) end e = ends_at_place (Ok (as_place place)) end e
 ends_at_old_place (Err deny) end e = tt
 
 pub refused_old_place : (result : Result OldPlace Deny) (end : Result (walked.Place ℕ) Deny)
-    → old_place_result result ≡ place_end end
-    → IfErr result (λ deny. end ≡ Err deny)
+    → old_place_result result ≡ place_end end → IfErr result (λ deny. end ≡ Err deny)
 refused_old_place (Ok place) end e = tt
 refused_old_place (Err deny) end e = refused_place (Err deny) end e

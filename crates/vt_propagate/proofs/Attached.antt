@@ -33,8 +33,7 @@ length-rows f row (a ∷ list) =
 
 -- A world to which a graft is attached is the one that the planned copies, groups and points make.
 pub attached_by_plans : (world : World ℕ) (graft : Graft) (counts : Counts) (copies : List (Mount ℕ)) (new : List
-    (ℕ × Option ℕ))
-    (points : List (ℕ × Location ℕ)) → copies ≡ planned_copies world graft counts → new
+    (ℕ × Option ℕ)) (points : List (ℕ × Location ℕ)) → copies ≡ planned_copies world graft counts → new
     ≡ planned_groups world graft counts
     → PushesBy world graft counts points → KeepsLeaver graft points → AttachesBy world graft counts copies new points
 attached_by_plans world graft counts copies new points copies_are groups_are pushes keeps = record {
@@ -55,8 +54,7 @@ attached_by_plans world graft counts copies new points copies_are groups_are pus
     mounts = (append_assoc (map pushed (with_moved_mounts nat_eq graft.moves world.mounts moved))
         (added_mounts graft.moves moved) elsewhere
         ∙ (λ j. map pushed (with_moved_mounts nat_eq (moves j) world.mounts moved) ++ (added_mounts
-        (moves j) moved ++ elsewhere))
-        ∙ ap (λ mounts. mounts ++ elsewhere)
+        (moves j) moved ++ elsewhere)) ∙ ap (λ mounts. mounts ++ elsewhere)
         (map_alike pushed (moved_by points) (folded (with_mount nat_eq) world.mounts moved)
         (all_pushed world graft counts points pushes keeps moves is))
         ∙ (λ j. map (moved_by points) (folded (with_mount nat_eq) world.mounts (sym first_copies j))
@@ -71,13 +69,11 @@ attached_by_plans world graft counts copies new points copies_are groups_are pus
 
     moved : List (Mount ℕ)
     moved = copies_at nat_eq world (numbers_at world graft counts) (graft_in world graft counts)
-        (parts_of nat_eq world (location_of graft.place))
-        (mount_at nat_eq world (location_of graft.place))
+        (parts_of nat_eq world (location_of graft.place)) (mount_at nat_eq world (location_of graft.place))
 
     elsewhere : List (Mount ℕ)
     elsewhere = flat_map (copies_at nat_eq world (numbers_at world graft counts) (graft_in world graft counts)
-        (parts_of nat_eq world (location_of graft.place)))
-        (rest_of (parts_of nat_eq world (location_of graft.place)))
+        (parts_of nat_eq world (location_of graft.place))) (rest_of (parts_of nat_eq world (location_of graft.place)))
 
     stays : (number : ℕ) → graft.moves ≡ false → holds_of (nat_eq number) (leaver graft) ≡ false
     stays number binds = ap (λ b. holds_of (nat_eq number) (if b then option_map (λ top. counted top.number.count)

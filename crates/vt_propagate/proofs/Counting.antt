@@ -69,8 +69,7 @@ parts_counted parts namespace = all parts ∙ length-filter (is_part_in namespac
 module _ (world : World ℕ) (invariants : NamespaceInvariants nat_eq world) where
   listed : (mount : Mount ℕ) (namespace : ℕ) → Among mount world.mounts → mount.namespace ≡ Some namespace
       → is_listed nat_eq world namespace ≡ true
-  listed mount namespace m is =
-      (and_parts (is_listed nat_eq world namespace) true
+  listed mount namespace m is = (and_parts (is_listed nat_eq world namespace) true
       (ap (λ o. list_all (is_listed nat_eq world) (option_to_list o)) (sym is)
       ∙ among_from_list_all (λ (one : Mount ℕ). list_all (is_listed nat_eq world)
       (option_to_list one.namespace)) world.mounts invariants.mounts_listed mount m)).0
@@ -78,8 +77,7 @@ module _ (world : World ℕ) (invariants : NamespaceInvariants nat_eq world) whe
 -- These parts tell whether a namespace has too many mounts, if a namespace without a part gets no more.
 module _ (world : World ℕ) (parts : List (Mount ℕ)) (invariants : NamespaceInvariants nat_eq world)
     (part_listed : (part : Mount ℕ) (namespace : ℕ) → Among part parts → part.namespace ≡ Some namespace
-    → is_listed nat_eq world namespace ≡ true)
-    (after : World ℕ) (same : after.namespaces ≡ world.namespaces)
+    → is_listed nat_eq world namespace ≡ true) (after : World ℕ) (same : after.namespaces ≡ world.namespaces)
     (small : (namespace : ℕ) → count_in parts namespace ≡ 0
     → count_in after.mounts namespace ≤ count_in world.mounts namespace) where
   abbrev full : ℕ → Bool
@@ -129,10 +127,8 @@ module _ (world : World ℕ) (parts : List (Mount ℕ)) (invariants : NamespaceI
               absurd (omega (
                 arith,
                 low,
-                ltb-true most_mounts
-                    (count_in after.mounts found.0.number) found.2,
-                ltb-false most_mounts
-                    (count_in world.mounts found.0.number) few,
+                ltb-true most_mounts (count_in after.mounts found.0.number) found.2,
+                ltb-false most_mounts (count_in world.mounts found.0.number) few,
               ))
           by (part ∷ list) e =
               let inside : Among part parts × (is_in found.0.number part ≡ true) =
@@ -155,12 +151,10 @@ module _ (world : World ℕ) (parts : List (Mount ℕ)) (invariants : NamespaceI
       one : (o : Option NamespaceId)
           → is_overfilled mounts load counts o ≡ holds_of full (option_map (λ n. counted n.count) o)
       one None = refl
-      one (Some namespace) =
-          ap (nat_lt most_mounts) (
+      one (Some namespace) = ap (nat_lt most_mounts) (
           (λ i. count_in (same_mounts i) (counted namespace.count) - leaving load namespace
           + (right namespace ∙ sym (parts_counted kept namespace)
-          ∙ ap (λ list. count_in list (counted namespace.count)) are) i * load.count)
-          ∙ sym (exact namespace))
+          ∙ ap (λ list. count_in list (counted namespace.count)) are) i * load.count) ∙ sym (exact namespace))
 
       over : (list : List Kept) → list_any (λ part. is_overfilled mounts load counts part.namespace) list
           ≡ list_any (λ part. holds_of full part.namespace) (map mount_of list)
@@ -175,25 +169,21 @@ module _ (world : World ℕ) (place : Location ℕ) where
   part_listed : NamespaceInvariants nat_eq world → (part : Mount ℕ) (namespace : ℕ)
       → Among part (parts_of nat_eq world place) → part.namespace ≡ Some namespace
       → is_listed nat_eq world namespace ≡ true
-  part_listed invariants part namespace m is =
-      ⊎_elim (λ e. first (numbered world.mounts place.mount) refl e)
+  part_listed invariants part namespace m is = ⊎_elim (λ e. first (numbered world.mounts place.mount) refl e)
       (λ l. listed world invariants part namespace (rest l) is) m
     where
       rest : Among part (filter (takes_part nat_eq world place)
           (receivers_of nat_eq world (mount_at nat_eq world place))) → Among part world.mounts
-      rest l =
-          receivers_there world (mount_at nat_eq world place) part
+      rest l = receivers_there world (mount_at nat_eq world place) part
           (among-from_filter (takes_part nat_eq world place)
           (receivers_of nat_eq world (mount_at nat_eq world place)) part l).0
 
       first : (o : Option (Mount ℕ)) → numbered world.mounts place.mount ≡ o → part ≡ mount_at nat_eq world place
           → is_listed nat_eq world namespace ≡ true
-      first None e same =
-          absurd (true≢false (ap (λ (found : Option ℕ). holds_of (λ n. true) found)
+      first None e same = absurd (true≢false (ap (λ (found : Option ℕ). holds_of (λ n. true) found)
           (sym is ∙ ap (λ (mount : Mount ℕ). mount.namespace)
           (same ∙ ap (λ found. unwrap_or found (no_mount place.mount)) e))))
-      first (Some mount) e same =
-          listed world invariants mount namespace
+      first (Some mount) e same = listed world invariants mount namespace
           (found_in (λ (one : Mount ℕ). nat_eq place.mount one.number) world.mounts mount e).0
           (ap (λ (one : Mount ℕ). one.namespace) (sym (same ∙ ap (λ found. unwrap_or found (no_mount place.mount)) e))
           ∙ is)
@@ -205,12 +195,10 @@ module _ (world : World ℕ) (place : Location ℕ) where
     added = attached_by nat_eq world new place false tree
 
     pub added_tell : NamespaceInvariants nat_eq world → (mounts : List (Mount ℕ)) → mounts ≡ world.mounts
-        → (kept : List Kept) → map mount_of kept ≡ parts
-        → (load : Load) → length tree ≡ load.count → load.leaves ≡ None
+        → (kept : List Kept) → map mount_of kept ≡ parts → (load : Load) → length tree ≡ load.count → load.leaves ≡ None
         → (counts : NamespaceId → ℕ) → ((namespace : NamespaceId) → counts namespace ≡ parts_in kept namespace)
         → list_any (λ part. is_overfilled mounts load counts part.namespace) kept ≡ has_too_many nat_eq added
-    added_tell invariants mounts same kept are load size stay counts right =
-        kept_tell world parts invariants
+    added_tell invariants mounts same kept are load size stay counts right = kept_tell world parts invariants
         (part_listed invariants) added refl small mounts same kept are load counts right exact
       where
         small : (namespace : ℕ) → count_in parts namespace ≡ 0
@@ -241,13 +229,11 @@ module _ (world : World ℕ) (place : Location ℕ) where
     module _ (own : OneNumberAMount world.mounts) (apart : OneNumberAMount tree)
         (within : (mount : Mount ℕ) → Among mount tree → Among mount world.mounts) where
       moved_tell : NamespaceInvariants nat_eq world → (mounts : List (Mount ℕ)) → mounts ≡ world.mounts
-          → (kept : List Kept) → map mount_of kept ≡ parts
-          → (load : Load) → length tree ≡ load.count
+          → (kept : List Kept) → map mount_of kept ≡ parts → (load : Load) → length tree ≡ load.count
           → ((mount : Mount ℕ) → Among mount tree → mount.namespace ≡ option_map (λ n. counted n.count) load.leaves)
           → (counts : NamespaceId → ℕ) → ((namespace : NamespaceId) → counts namespace ≡ parts_in kept namespace)
           → list_any (λ part. is_overfilled mounts load counts part.namespace) kept ≡ has_too_many nat_eq moved
-      moved_tell invariants mounts same kept are load size inside counts right =
-          kept_tell world parts invariants
+      moved_tell invariants mounts same kept are load size inside counts right = kept_tell world parts invariants
           (part_listed invariants) moved refl small mounts same kept are load counts right exact
         where
           small : (namespace : ℕ) → count_in parts namespace ≡ 0
@@ -282,21 +268,17 @@ module _ (world : World ℕ) (place : Location ℕ) where
 
 -- What code counts tells whether a namespace overfills where a tree moves with copies.
 pub moves_tell : (world : World ℕ) (place : Location ℕ) (new : Copies ℕ) (tree : List (Mount ℕ))
-    → NamespaceInvariants nat_eq world
-    → (mounts : List (Mount ℕ)) → mounts ≡ world.mounts → (kept : List Kept)
+    → NamespaceInvariants nat_eq world → (mounts : List (Mount ℕ)) → mounts ≡ world.mounts → (kept : List Kept)
     → map mount_of kept ≡ parts_of nat_eq world place
     → (load : Load) → length tree ≡ load.count → MovesFrom world load.leaves tree
     → (counts : NamespaceId → ℕ) → ((namespace : NamespaceId) → counts namespace ≡ parts_in kept namespace)
     → list_any (λ part. is_overfilled mounts load counts part.namespace) kept
     ≡ has_too_many nat_eq (attached_by nat_eq world new place true tree)
 moves_tell world place new tree invariants mounts same kept are load size moves counts right =
-    moved_tell world place new tree moves.one_number moves.each_once
-    (λ mount m. among_from_contains world.mounts mount
-    (among_from_all (Contains world.mounts) tree moves.there mount m))
-    invariants mounts same kept are load size
+    moved_tell world place new tree moves.one_number moves.each_once (λ mount m. among_from_contains world.mounts mount
+    (among_from_all (Contains world.mounts) tree moves.there mount m)) invariants mounts same kept are load size
     (λ mount m. among_from_all (λ (one : Mount ℕ). one.namespace
-    ≡ option_map (λ (n : NamespaceId). counted n.count) load.leaves) tree moves.inside mount m)
-    counts right
+    ≡ option_map (λ (n : NamespaceId). counted n.count) load.leaves) tree moves.inside mount m) counts right
 
 -- a world that has so many more mounts in the namespace of each part
 pub more_tell : (world after : World ℕ) → NamespaceInvariants nat_eq world → (mounts : List (Mount ℕ))
@@ -305,8 +287,7 @@ pub more_tell : (world after : World ℕ) → NamespaceInvariants nat_eq world �
     → (counts : NamespaceId → ℕ) → ((namespace : NamespaceId) → counts namespace ≡ parts_in kept namespace)
     → list_any (λ part. is_overfilled mounts load counts part.namespace) kept ≡ has_too_many nat_eq after
 more_tell world after invariants mounts same kept load stay grows counts right =
-    kept_tell world (map mount_of kept) invariants
-    (λ part namespace m is. listed world invariants part namespace
+    kept_tell world (map mount_of kept) invariants (λ part namespace m is. listed world invariants part namespace
     (among_from_contains world.mounts part
     (among_from_all (Contains world.mounts) (map mount_of kept) grows.there part m)) is)
     after grows.namespaces small mounts same kept refl load counts right exact
@@ -315,8 +296,7 @@ more_tell world after invariants mounts same kept load stay grows counts right =
         → count_in after.mounts namespace ≤ count_in world.mounts namespace
     small namespace e =
         let all = grows.counts namespace in
-        let none : count_in (map mount_of kept) namespace * load.count ≡ 0 = ap (λ n. n * load.count) e
-        ∙ omega arith in
+        let none : count_in (map mount_of kept) namespace * load.count ≡ 0 = ap (λ n. n * load.count) e ∙ omega arith in
         omega (arith, all, none)
 
     exact : (namespace : NamespaceId) → count_in after.mounts (counted namespace.count)

@@ -29,17 +29,14 @@ module _ (test : Mount ℕ → Bool) (all : List (Mount ℕ)) where
 
   -- a mount that passes is added
   pub passing-here : (id : MountId) (ids : List MountId) (mount : Mount ℕ)
-      → Some mount ≡ numbered all (counted id.count)
-      → test mount ≡ true → passing (id ∷ ids) ≡ mount ∷ passing ids
-  passing-here id ids mount e passes =
-      ap (λ o. filter test (cons_option o (mounts_numbered all (counts ids)))) (sym e)
+      → Some mount ≡ numbered all (counted id.count) → test mount ≡ true → passing (id ∷ ids) ≡ mount ∷ passing ids
+  passing-here id ids mount e passes = ap (λ o. filter test (cons_option o (mounts_numbered all (counts ids)))) (sym e)
       ∙ ap (λ b. cond b (mount ∷ passing ids) (passing ids)) passes
 
   -- and one that does not is not
   pub passing-not : (id : MountId) (ids : List MountId) (mount : Mount ℕ) → Some mount ≡ numbered all (counted id.count)
       → test mount ≡ false → passing (id ∷ ids) ≡ passing ids
-  passing-not id ids mount e fails =
-      ap (λ o. filter test (cons_option o (mounts_numbered all (counts ids)))) (sym e)
+  passing-not id ids mount e fails = ap (λ o. filter test (cons_option o (mounts_numbered all (counts ids)))) (sym e)
       ∙ ap (λ b. cond b (mount ∷ passing ids) (passing ids)) fails
 
 -- each mount of an ascending list is found by its number
@@ -52,29 +49,23 @@ numbered_among (first ∷ rest) up mount m = ⊎_elim here (later (numbered_amon
     parts = and_parts _ _ up
 
     here : mount ≡ first → numbered (first ∷ rest) mount.number ≡ Some mount
-    here e =
-        ap (λ b. cond b (Some first) (numbered rest mount.number))
-        (eq-eqb mount.number first.number (ap (λ x. x.number) e))
-        ∙ ap Some (sym e)
+    here e = ap (λ b. cond b (Some first) (numbered rest mount.number))
+        (eq-eqb mount.number first.number (ap (λ x. x.number) e)) ∙ ap Some (sym e)
 
     later : (Among mount rest → numbered rest mount.number ≡ Some mount) → Among mount rest
         → numbered (first ∷ rest) mount.number ≡ Some mount
-    later again l =
-        ap (λ b. cond b (Some first) (numbered rest mount.number))
+    later again l = ap (λ b. cond b (Some first) (numbered rest mount.number))
         (ne_eqb mount.number first.number (λ same. omega (
           arith,
           same,
           ltb-true first.number mount.number
               (among_from_list_all (λ later. nat_lt first.number later.number) rest parts.0 mount l),
-        )))
-        ∙ again l
+        ))) ∙ again l
 
 -- the mounts of an ascending list that are numbered like some of them are these
 pub numbered_again : (all some : List (Mount ℕ)) → are_ascending all ≡ true
-    → ((mount : Mount ℕ) → Among mount some → Among mount all)
-    → mounts_numbered all (numbers_of some) ≡ some
+    → ((mount : Mount ℕ) → Among mount some → Among mount all) → mounts_numbered all (numbers_of some) ≡ some
 numbered_again all [] up within = refl
-numbered_again all (mount ∷ some) up within =
-    ap (λ o. cons_option o (mounts_numbered all (numbers_of some)))
+numbered_again all (mount ∷ some) up within = ap (λ o. cons_option o (mounts_numbered all (numbers_of some)))
     (numbered_among all up mount (within mount (inl refl)))
     ∙ ap (λ l. mount ∷ l) (numbered_again all some up (λ other m. within other (inr m)))

@@ -27,9 +27,7 @@ module _ {A B : Type 0} (f : A → B) (test : A → Bool) (seen : B → Bool) (a
 
 -- one step up a chain, past one that does not pass
 pub find_up : (test : ℕ → Bool) (next : ℕ → Option ℕ) (here above n k : ℕ) → n ≡ suc k → test here ≡ false
-    → next here ≡ Some above
-    → seek test (chain k next above) ≡ seek test (chain n next here)
-find_up test next here above n k e fails is =
-    sym (ap (λ m. seek test (chain m next here)) e
+    → next here ≡ Some above → seek test (chain k next above) ≡ seek test (chain n next here)
+find_up test next here above n k e fails is = sym (ap (λ m. seek test (chain m next here)) e
     ∙ ap (seek test) (chain_goes_on next k here above is)
     ∙ ap (λ b. cond b (Some here) (seek test (chain k next above))) fails)

@@ -35,12 +35,10 @@ use Rattle.vt_laws_mounts.specs.LettingGo.Attaching.{is_attached}
 
 -- where nothing goes, nothing changes
 pub nothing_taken : (world : World ℕ) → MountInvariants nat_eq world → taken_away nat_eq world [] ≡ world
-nothing_taken world kept =
-    ap (λ mounts. regrouped nat_eq (with_mounts world mounts))
+nothing_taken world kept = ap (λ mounts. regrouped nat_eq (with_mounts world mounts))
     (map_same (after_going nat_eq world []) world.mounts (λ mount m. λ i. record mount {
       mount_point = stays mount.mount_point i;
-    }))
-    ∙ regrouped_living world kept.groups
+    })) ∙ regrouped_living world kept.groups
   where
     stays : (o : Option (Location ℕ)) → option_map (mount_point_left nat_eq world []) o ≡ o
     stays None = refl
@@ -84,8 +82,7 @@ goes_itself now kept number alone = by (mount_numbered nat_eq now number).mount_
   where
     by : (o : Option (Location ℕ)) → (mount_numbered nat_eq now number).mount_point ≡ o
         → is_going nat_eq (going nat_eq now (mount_numbered nat_eq now number)) number ≡ true
-    by None e =
-        ap (λ p. is_going nat_eq (going_at nat_eq now (mount_numbered nat_eq now number) p) number) e
+    by None e = ap (λ p. is_going nat_eq (going_at nat_eq now (mount_numbered nat_eq now number) p) number) e
         ∙ head_among number (mount_numbered nat_eq now number).number [] (sym (number_found now.mounts number))
     by (Some place) e = the_mount_itself_goes now number place kept.one_child e alone
 
@@ -108,23 +105,18 @@ module _ (start : World ℕ) (at_first : MountInvariants nat_eq start) (one : �
       → (number : ℕ) → is_among nat_eq number (numbers_of events) ≡ true → is_attached now number ≡ true
       → is_among nat_eq number (gone_by now events) ≡ true
   events_take [] now way number m there = absurd (true≢false (sym m))
-  events_take (mount ∷ rest) now way number m there =
-      list_any-append (nat_eq number) (going_if_there now mount)
-      (gone_by (unmounted_if_there nat_eq now mount) rest)
-      ∙ ⊎_elim
-      (λ same. own same (is_attached now mount.number) refl)
-      (λ later. further (is_attached now mount.number) refl
+  events_take (mount ∷ rest) now way number m there = list_any-append (nat_eq number) (going_if_there now mount)
+      (gone_by (unmounted_if_there nat_eq now mount) rest) ∙ ⊎_elim
+      (λ same. own same (is_attached now mount.number) refl) (λ later. further (is_attached now mount.number) refl
       (events_take rest (unmounted_if_there nat_eq now mount) (next start at_first one now mount rest way) number
-      later))
-      (among_cases number mount.number (numbers_of rest) m)
+      later)) (among_cases number mount.number (numbers_of rest) m)
     where
       others : Bool
       others = is_among nat_eq number (gone_by (unmounted_if_there nat_eq now mount) rest)
 
       own : number ≡ mount.number → (b : Bool) → is_attached now mount.number ≡ b
           → (is_among nat_eq number (gone_by_event b now mount.number) || others) ≡ true
-      own same true e =
-          ap (λ t. t || others)
+      own same true e = ap (λ t. t || others)
           (subst (λ n. is_among nat_eq n (going nat_eq now (mount_numbered nat_eq now mount.number)) ≡ true) (sym same)
           (goes_itself now way.kept mount.number (childless start at_first one now mount rest way)))
       own same false e = absurd (true≢false (sym there ∙ ap (is_attached now) same ∙ e))
@@ -149,8 +141,7 @@ lazy_unmounts_take_the_tree world number kept there =
     let lies = subst (λ top. LiesIn world top mount.number) (number_found world.mounts number)
     (lies_in_tree world kept.one_number kept.standing (length world.mounts) (mount_numbered nat_eq world number)
     mount m) in
-    contains_from_among (gone_lazily world number) mount.number
-    (among_numbers (gone_lazily world number) mount.number
+    contains_from_among (gone_lazily world number) mount.number (among_numbers (gone_lazily world number) mount.number
     (events_take world kept number (taken_in_turn world number) world (begun world kept number) mount.number
     (is_taken_in_turn world kept.one_number kept.standing number mount.number lies)
     (ap is_some (same_namespace_in world kept number mount.number lies) ∙ there))))
@@ -178,8 +169,7 @@ seen_alike one other kept grouping same live seen =
 pub seen_lazily : LazyUnmountsAreSeen
 seen_lazily world number kept grouping invariants seen =
     seen_alike (taken_away nat_eq world (gone_lazily world number)) (lazily_unmounted nat_eq world number) kept grouping
-    (lazy_unmounts_are_at_once world number invariants)
-    (lazy_unmount_keeps_mounts world number invariants).groups seen
+    (lazy_unmounts_are_at_once world number invariants) (lazy_unmount_keeps_mounts world number invariants).groups seen
 
 -- Parts that are taken in turn settle to the world from which all of them are taken at once.
 parts_settle_alike : (world : World ℕ) (parts : List (List ℕ)) → KeepsMounts (taken_away nat_eq) world parts
@@ -196,12 +186,10 @@ parts_settle_alike world (first ∷ rest) kept =
 -- parts that are taken away in turn leave, once swept, what they leave at once
 pub parts_are_swept_once : PartsAreSweptOnce
 parts_are_swept_once world parts trees uppers reals kept =
-    one_sweep_for_all_mounts_with_overlays world parts trees uppers reals kept
-    ∙ parts_settle_alike world parts kept
+    one_sweep_for_all_mounts_with_overlays world parts trees uppers reals kept ∙ parts_settle_alike world parts kept
 
 -- A lazy unmount settles to the world in which they were detached at once.
 pub settled_lazily : LazyUnmountsSettleAlike
-settled_lazily world number kept =
-    sym (settled_without_groups (lazily_unmounted nat_eq world number))
+settled_lazily world number kept = sym (settled_without_groups (lazily_unmounted nat_eq world number))
     ∙ ap (settled nat_eq) (lazy_unmounts_are_at_once world number kept)
     ∙ settled_without_groups (taken_away nat_eq world (gone_lazily world number))

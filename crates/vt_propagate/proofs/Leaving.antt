@@ -67,8 +67,7 @@ numbered-number mounts number mount found =
 module _ (mounts : List (Mount ℕ)) (number : ℕ) (mount : Mount ℕ) (found : Some mount ≡ numbered mounts number)
     (ids : List MountId) (told : counts ids ≡ numbers_of (children nat_eq mounts number)) where
   length-kids : length ids ≡ length (children nat_eq mounts mount.number)
-  length-kids =
-      sym (length-map ids (λ (id : MountId). 4 * id.count + 1)) ∙ ap length told
+  length-kids = sym (length-map ids (λ (id : MountId). 4 * id.count + 1)) ∙ ap length told
       ∙ length-map (children nat_eq mounts number) (λ (m : Mount ℕ). m.number)
       ∙ ap (λ n. length (children nat_eq mounts n)) (numbered-number mounts number mount found)
 
@@ -84,8 +83,7 @@ module _ (mounts : List (Mount ℕ)) (number : ℕ) (mount : Mount ℕ) (found :
   -- one on which just one mount stands is free where that covers its root
   pub free-one : length ids ≡ 1 → is_some (child_at nat_eq mounts (root_of mount))
       ≡ holds_of (is_free mounts) (numbered mounts number)
-  free-one one =
-      ap is_some (find-filter (stands_at nat_eq (root_of mount)) (stands_on nat_eq mount.number)
+  free-one one = ap is_some (find-filter (stands_at nat_eq (root_of mount)) (stands_on nat_eq mount.number)
       (at_on (root_of mount)) mounts)
       ∙ by (children nat_eq mounts mount.number) (sym length-kids ∙ one) ∙ ap (holds_of (is_free mounts)) found
     where
@@ -129,8 +127,7 @@ free-childless mounts up place number told ids on none = by (child_at nat_eq mou
     by : (o : Option (Mount ℕ)) → child_at nat_eq mounts place ≡ o → Some number ≡ option_map (λ child. child.number) o
         → true ≡ holds_of (is_free mounts) (numbered mounts number)
     by None e t = absurd (true≢false (ap is_some t))
-    by (Some child) e t =
-        free-none mounts number child
+    by (Some child) e t = free-none mounts number child
         (sym (found_by_number mounts up place number child e (same_Some number child.number t))) ids on none
 
 -- the mount at a place is free just where the one that is found by its number is
@@ -171,13 +168,10 @@ module _ (world : World ℕ) (kept : List MountEntry) (grouping : Grouping) (see
 
   -- what goes with a mount at a place, by the mount that is found there
   going_with : (mount : Mount ℕ) (place : Location ℕ) (o : Option (Mount ℕ)) → numbered (mounts_in kept) place.mount ≡ o
-      → going_at nat_eq world mount (Some place)
-      ≡ (if is_shared (unwrap_or o (no_mount place.mount)).propagation
+      → going_at nat_eq world mount (Some place) ≡ (if is_shared (unwrap_or o (no_mount place.mount)).propagation
       then numbers_of (filter_map (goes_at nat_eq world place.node)
-      (receivers_of nat_eq world (unwrap_or o (no_mount place.mount))))
-      else (mount.number ∷ []))
-  going_with mount place o e =
-      by (is_shared (mount_at nat_eq world place).propagation)
+      (receivers_of nat_eq world (unwrap_or o (no_mount place.mount)))) else (mount.number ∷ []))
+  going_with mount place o e = by (is_shared (mount_at nat_eq world place).propagation)
       ∙ (λ i. if is_shared (at i).propagation
       then numbers_of (filter_map (goes_at nat_eq world place.node) (receivers_of nat_eq world (at i)))
       else (mount.number ∷ []))
@@ -196,8 +190,7 @@ module _ (world : World ℕ) (kept : List MountEntry) (grouping : Grouping) (see
   going-place mount place none = by (numbered (mounts_in kept) place.mount) refl none
     where
       shared_by : (mount parent : Mount ℕ) (group : Option ℕ) → group_of parent.propagation ≡ group
-          → option_map (at_group place) group ≡ None
-          → is_shared parent.propagation ≡ false
+          → option_map (at_group place) group ≡ None → is_shared parent.propagation ≡ false
       shared_by mount parent None e none = ap is_some e
       shared_by mount parent (Some group) e none = absurd (true≢false (ap is_some none))
 
@@ -205,28 +198,22 @@ module _ (world : World ℕ) (kept : List MountEntry) (grouping : Grouping) (see
           → option_map (at_group place) (then_some o (λ parent. group_of parent.propagation)) ≡ None
           → going_at nat_eq world mount (Some place) ≡ mount.number ∷ []
       by None e none = going_with mount place None e
-      by (Some parent) e none =
-          going_with mount place (Some parent) e
-          ∙ ap (λ b. if b then numbers_of
-          (filter_map (goes_at nat_eq world place.node) (receivers_of nat_eq world parent))
-          else (mount.number ∷ []))
+      by (Some parent) e none = going_with mount place (Some parent) e ∙ ap (λ b. if b then numbers_of
+          (filter_map (goes_at nat_eq world place.node) (receivers_of nat_eq world parent)) else (mount.number ∷ []))
           (shared_by mount parent (group_of parent.propagation) refl none)
 
   going-shared : (mount : Mount ℕ) (place : Location ℕ) (found : Location ℕ × ℕ)
-      → group_at (mounts_in kept) place ≡ Some found
-      → going_at nat_eq world mount (Some place)
+      → group_at (mounts_in kept) place ≡ Some found → going_at nat_eq world mount (Some place)
       ≡ numbers_of (filter_map (goes_at nat_eq world found.0.node) (receivers nat_eq world found.1))
   going-shared mount place found some = by (numbered (mounts_in kept) place.mount) refl some
     where
       with_group : (parent : Mount ℕ) (group : Option ℕ) → group_of parent.propagation ≡ group
-          → option_map (at_group place) group ≡ Some found
-          → (if is_shared parent.propagation
+          → option_map (at_group place) group ≡ Some found → (if is_shared parent.propagation
           then numbers_of (filter_map (goes_at nat_eq world place.node) (receivers_of nat_eq world parent))
           else (mount.number ∷ []))
           ≡ numbers_of (filter_map (goes_at nat_eq world found.0.node) (receivers nat_eq world found.1))
       with_group parent None e is = absurd (true≢false (sym (ap is_some is)))
-      with_group parent (Some group) e is =
-          ap (λ (o : Option ℕ). if is_some o
+      with_group parent (Some group) e is = ap (λ (o : Option ℕ). if is_some o
           then numbers_of (filter_map (goes_at nat_eq world place.node)
           (unwrap_or (option_map (receivers nat_eq world) o) [])) else (mount.number ∷ [])) e
           ∙ ap (λ (f : Location ℕ × ℕ). numbers_of
@@ -252,8 +239,7 @@ module _ (world : World ℕ) (kept : List MountEntry) (grouping : Grouping) (see
   going-alone number none = by (numbered (mounts_in kept) number) refl none
     where
       at : (mount : Mount ℕ) → number ≡ mount.number → (point : Option (Location ℕ)) → mount.mount_point ≡ point
-          → then_some point (group_at (mounts_in kept)) ≡ None
-          → number ∷ [] ≡ going nat_eq world mount
+          → then_some point (group_at (mounts_in kept)) ≡ None → number ∷ [] ≡ going nat_eq world mount
       at mount same None e none = ap (λ n. n ∷ []) same ∙ sym (ap (going_at nat_eq world mount) e)
       at mount same (Some place) e none = ap (λ n. n ∷ []) same
           ∙ sym (ap (going_at nat_eq world mount) e ∙ going-place mount place none)
@@ -271,12 +257,10 @@ module _ (world : World ℕ) (kept : List MountEntry) (grouping : Grouping) (see
       → (ids : List MountId) → counts ids ≡ numbers_of (receivers nat_eq world found.1)
       → numbers_of (free_on (mounts_in kept) found.0.node (counts ids))
       ≡ going nat_eq world (mount_numbered nat_eq world number)
-  going-everywhere number found is ids told =
-      (λ i. numbers_of (free_on (seen.mounts i) found.0.node (told i)))
+  going-everywhere number found is ids told = (λ i. numbers_of (free_on (seen.mounts i) found.0.node (told i)))
       ∙ ap numbers_of (filter_map-numbers
       (λ receiver. free_at world.mounts (record { mount = receiver; node = found.0.node }))
-      (receivers nat_eq world found.1))
-      ∙ by (numbered (mounts_in kept) number) refl is
+      (receivers nat_eq world found.1)) ∙ by (numbered (mounts_in kept) number) refl is
     where
       at : (mount : Mount ℕ) (point : Option (Location ℕ)) → mount.mount_point ≡ point
           → then_some point (group_at (mounts_in kept)) ≡ Some found
@@ -305,8 +289,7 @@ module _ (world : World ℕ) (kept : List MountEntry) (grouping : Grouping) (see
           let place = any_among (λ (location : Location ℕ). nat_eq number.0 location.mount)
           (all_locations world) number.2 in
           any_from_among (λ (location : Location ℕ). is_among nat_eq location.mount gone)
-          (all_locations world) place.0 place.1
-          (any_from_among (nat_eq place.0.mount) gone number.0 number.1
+          (all_locations world) place.0 place.1 (any_from_among (nat_eq place.0.mount) gone number.0 number.1
           (eq-eqb place.0.mount number.0 (sym (eqb-true number.0 place.0.mount place.2))))
 
       back : is_used nat_eq world gone ≡ true → list_any (is_located nat_eq world) gone ≡ true
@@ -323,8 +306,7 @@ module _ (world : World ℕ) (kept : List MountEntry) (grouping : Grouping) (see
   pub busy-told : CountsUses world kept → (number : ℕ) → list_any (stands_on nat_eq number) (mounts_in kept) ≡ false
       → (gone : List ℕ) → gone ≡ going nat_eq world (mount_numbered nat_eq world number)
       → list_any (λ number. nat_lt 0 (uses_of kept number)) gone ≡ is_busy nat_eq world number
-  busy-told counted_right number childless gone told =
-      used-told counted_right gone ∙ ap (is_used nat_eq world) told
+  busy-told counted_right number childless gone told = used-told counted_right gone ∙ ap (is_used nat_eq world) told
       ∙ ap (λ b. b || is_used nat_eq world (going nat_eq world (mount_numbered nat_eq world number)))
       (sym childless ∙ ap (list_any (stands_on nat_eq number)) seen.mounts)
 

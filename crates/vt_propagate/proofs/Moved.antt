@@ -47,8 +47,7 @@ among-folded (a ∷ new) mounts mount m =
             let same : mount ≡ old = is ∙ ap (λ b. if b then a else old) e in
             inr (
               subst (λ x. Among x mounts) (sym same) m,
-              λ one n.
-                  ⊎_elim
+              λ one n. ⊎_elim
                   (λ here. (λ i. nat_eq (same i).number (here i).number) ∙ nat_eq-swapped a.number old.number false e)
                   (λ later. apart one later) n,
             )
@@ -68,8 +67,7 @@ in_rest new group origin (top ∷ tree) e m =
     (λ later. later) m
 
 module _ (world : World ℕ) (graft : Graft) (counts : Counts) (points : List (ℕ × Location ℕ))
-    (pushes : PushesBy world graft counts points)
-    (keeps : KeepsLeaver graft points) (moves : graft.moves ≡ true)
+    (pushes : PushesBy world graft counts points) (keeps : KeepsLeaver graft points) (moves : graft.moves ≡ true)
     (is : IsMoved world (map mount_of graft.tree.now)) where
   abbrev place : Location ℕ
   place = location_of graft.place
@@ -110,10 +108,8 @@ module _ (world : World ℕ) (graft : Graft) (counts : Counts) (points : List (�
       ∙ ap (λ b. if b then number else new.copy destination.number number) (eq-eqb destination.number place.mount own)
 
   top_leaves : (number : ℕ) → holds_of (nat_eq number) (leaver graft) ≡ is_top nat_eq seen number
-  top_leaves number =
-      ap (λ b. holds_of (nat_eq number)
-      (if b then option_map (λ top. counted top.number.count) (first_of_list graft.tree.now)
-      else None)) moves
+  top_leaves number = ap (λ b. holds_of (nat_eq number)
+      (if b then option_map (λ top. counted top.number.count) (first_of_list graft.tree.now) else None)) moves
       ∙ by graft.tree.now
     where
       by : (tree : List Kept) → holds_of (nat_eq number)
@@ -125,10 +121,8 @@ module _ (world : World ℕ) (graft : Graft) (counts : Counts) (points : List (�
   -- the first mount stands at the destination, which is no receiver's place
   first_stays : (origin : Mount ℕ) → is_top nat_eq seen origin.number ≡ true
       → pushed (copy origin) ≡ moved_by points (copy origin)
-  first_stays origin e =
-      ap (pushed_onto nat_eq world new seen parts (copy origin))
-      (find_none at_part (rest_of parts) (λ part m. apart part m))
-      ∙ (λ i. record (copy origin) {
+  first_stays origin e = ap (pushed_onto nat_eq world new seen parts (copy origin))
+      (find_none at_part (rest_of parts) (λ part m. apart part m)) ∙ (λ i. record (copy origin) {
         mount_point = or_else (sym (keeps (copy origin).number
             (ap (λ n. holds_of (nat_eq n) (leaver graft)) (number_kept origin.number)
             ∙ top_leaves origin.number ∙ e)) i) (copy origin).mount_point;
@@ -138,8 +132,7 @@ module _ (world : World ℕ) (graft : Graft) (counts : Counts) (points : List (�
       at_part part = stands_at nat_eq (record { mount = part.number; node = place.node }) (copy origin)
 
       apart : (part : Mount ℕ) → Among part (rest_of parts) → at_part part ≡ false
-      apart part m =
-          ap (λ b. same_location nat_eq (record { mount = part.number; node = place.node })
+      apart part m = ap (λ b. same_location nat_eq (record { mount = part.number; node = place.node })
           (if b then record { mount = destination.number; node = place.node }
           else unwrap_or (option_map (mount_point_on_copy nat_eq new seen destination.number) origin.mount_point) place)) e
           ∙ ap (λ n. nat_eq part.number n && nat_eq place.node place.node) own
@@ -147,17 +140,13 @@ module _ (world : World ℕ) (graft : Graft) (counts : Counts) (points : List (�
 
   -- the others stay on their parents
   other_stays : (origin : Mount ℕ) → Among origin (map mount_of graft.tree.now)
-      → is_top nat_eq seen origin.number ≡ false
-      → pushed (copy origin) ≡ moved_by points (copy origin)
-  other_stays origin m e =
-      pushes origin (copy origin) (among_from_all (Contains world.mounts)
-      (map mount_of graft.tree.now) is.there origin m)
-      (top_leaves origin.number ∙ e) (number_kept origin.number)
+      → is_top nat_eq seen origin.number ≡ false → pushed (copy origin) ≡ moved_by points (copy origin)
+  other_stays origin m e = pushes origin (copy origin) (among_from_all (Contains world.mounts)
+      (map mount_of graft.tree.now) is.there origin m) (top_leaves origin.number ∙ e) (number_kept origin.number)
       (ap (λ b. Some (if b then record { mount = destination.number; node = place.node }
       else unwrap_or (option_map (mount_point_on_copy nat_eq new seen destination.number) origin.mount_point) place)) e
       ∙ by origin.mount_point (among_from_all (λ mount. is_some mount.mount_point ≡ true)
-      (rest_of (map mount_of graft.tree.now))
-      is.standing origin
+      (rest_of (map mount_of graft.tree.now)) is.standing origin
       (in_rest new (group_of destination.propagation) origin (map mount_of graft.tree.now) e m)))
     where
       by : (point : Option (Location ℕ)) → is_some point ≡ true
@@ -174,20 +163,16 @@ module _ (world : World ℕ) (graft : Graft) (counts : Counts) (points : List (�
       (by origin.0 origin.1 (is_top nat_eq seen origin.0.number) refl)
     where
       by : (origin : Mount ℕ) → Among origin (map mount_of graft.tree.now) → (b : Bool)
-          → is_top nat_eq seen origin.number ≡ b
-          → pushed (copy origin) ≡ moved_by points (copy origin)
+          → is_top nat_eq seen origin.number ≡ b → pushed (copy origin) ≡ moved_by points (copy origin)
       by origin m true e = first_stays origin e
       by origin m false e = other_stays origin m e
 
   -- each mount is pushed up by the points that code has for it
   pub all_pushed : (mount : Mount ℕ) → Among mount (folded (with_mount nat_eq) world.mounts moved)
       → pushed mount ≡ moved_by points mount
-  all_pushed mount m =
-      ⊎_elim (moved_stays mount)
-      (λ t. pushes mount mount (contains_from_among world.mounts mount t.0)
+  all_pushed mount m = ⊎_elim (moved_stays mount) (λ t. pushes mount mount (contains_from_among world.mounts mount t.0)
       (top_leaves mount.number ∙ not_first mount.number seen.twigs (λ one n.
       ap (nat_eq mount.number) (sym (number_kept one.origin.number))
       ∙ t.1 (copy_at nat_eq world new seen parts destination one)
-      (among-map (copy_at nat_eq world new seen parts destination) seen.twigs one n)))
-      refl refl)
+      (among-map (copy_at nat_eq world new seen parts destination) seen.twigs one n))) refl refl)
       (among-folded moved world.mounts mount m)

@@ -28,15 +28,12 @@ module _ {K : Type 0} (count : K → ℕ) (one : (a b : K) → count a ≡ count
           let same : count q ≡ count key = eqb-true (count q) (count key) e in
           updates q ∙ ap (λ b. cond b (Some index) (before q)) (eq-eqb (count key) (count q) (sym same))
           ∙ sym (ap (λ o. or_else o (Some index)) (ap before (one q key same) ∙ none))
-      by false e =
-          updates q
-          ∙ ap (λ b. cond b (Some index) (before q))
+      by false e = updates q ∙ ap (λ b. cond b (Some index) (before q))
           (ne_eqb (count key) (count q) (λ same. eqb-false (count q) (count key) e (sym same)))
           ∙ sym (or_none (before q))
 
 module _ {A : Type 0} (test : A → Bool) where
-  index_from-last : (k : ℕ) (list : List A) (a : A)
-      → index_from test k (list ++ a ∷ [])
+  index_from-last : (k : ℕ) (list : List A) (a : A) → index_from test k (list ++ a ∷ [])
       ≡ or_else (index_from test k list) (if test a then Some (k + length list) else None)
   index_from-last k [] a = by (test a)
     where
@@ -50,8 +47,7 @@ module _ {A : Type 0} (test : A → Bool) where
       later true = ap Some (omega arith)
       later false = refl
 
-      by : (b : Bool)
-          → index_from test (k + 1) (list ++ a ∷ [])
+      by : (b : Bool) → index_from test (k + 1) (list ++ a ∷ [])
           ≡ or_else (index_from test (k + 1) list) (if test a then Some ((k + 1) + length list) else None)
           → (if b then Some k else index_from test (k + 1) (list ++ a ∷ []))
           ≡ or_else (if b then Some k else index_from test (k + 1) list)
@@ -64,8 +60,7 @@ pub place_more : (test : Mount ℕ → Bool) (mounts : List Kept) (i : ℕ) (def
     → index_from test 0 (map mount_of (take (i + 1) mounts))
     ≡ or_else (index_from test 0 (map mount_of (take i mounts)))
     (if test (mount_of (get_or mounts i default)) then Some i else None)
-place_more test mounts i default less =
-    ap (λ l. index_from test 0 (map mount_of l)) (take_more mounts i default less)
+place_more test mounts i default less = ap (λ l. index_from test 0 (map mount_of l)) (take_more mounts i default less)
     ∙ ap (index_from test 0) (map-append mount_of (take i mounts) (get_or mounts i default ∷ []))
     ∙ index_from-last test 0 (map mount_of (take i mounts)) (mount_of (get_or mounts i default))
     ∙ ap (λ n. or_else (index_from test 0 (map mount_of (take i mounts))) (if test (mount_of (get_or mounts i default))
@@ -106,8 +101,7 @@ below_length test k (a ∷ list) i e = by (test (mount_of a)) e (below_length te
 
 -- the place of a mount, or 0, is a place of the list
 pub place_within : (test : Mount ℕ → Bool) (mounts : List Kept) (n : ℕ)
-    → n ≡ unwrap_or (index_from test 0 (map mount_of mounts)) 0
-    → 0 < length mounts → n < length mounts
+    → n ≡ unwrap_or (index_from test 0 (map mount_of mounts)) 0 → 0 < length mounts → n < length mounts
 place_within test mounts n is some = by (index_from test 0 (map mount_of mounts)) (below_length test 0 mounts) is
   where
     by : (o : Option ℕ) → ((i : ℕ) → o ≡ Some i → i < 0 + length mounts) → n ≡ unwrap_or o 0 → n < length mounts
@@ -118,5 +112,4 @@ place_within test mounts n is some = by (index_from test 0 (map mount_of mounts)
 pub place_at : {A B : Type 0} (seen : A → B) (here : A → Bool) (test : B → Bool) → ((a : A) → here a ≡ test (seen a))
     → (k : ℕ) (list : List A) → position_from here k list ≡ index_from test k (map seen list)
 place_at seen here test same k [] = refl
-place_at seen here test same k (a ∷ list) =
-    λ i. cond (same a i) (Some k) (place_at seen here test same (k + 1) list i)
+place_at seen here test same k (a ∷ list) = λ i. cond (same a i) (Some k) (place_at seen here test same (k + 1) list i)

@@ -54,21 +54,18 @@ pub push_more : (mounts : List (Mount ℕ)) (left : Option ℕ) (place : Locatio
 push_more mounts left place size parts i default less rest here later front back before after all one so_far =
     ap (λ l. l ++ pushes_from mounts left place size (map mount_of (drop (i + 1) parts)) (map mount_of later)) one
     ∙ append_assoc before (cons_option (pushed_at mounts left place (counted (get_or parts i default).number.count)
-    (map mount_of here)) []) _
-    ∙ ap (λ l. before ++ l) (sym (cons-one (pushed_at mounts left place (counted
+    (map mount_of here)) []) _ ∙ ap (λ l. before ++ l) (sym (cons-one (pushed_at mounts left place (counted
     (get_or parts i default).number.count) (map mount_of here)) _))
     ∙ (λ j. before ++ cons_option (pushed_at mounts left place (counted (get_or parts i default).number.count) ((ap
     (map mount_of) front ∙ map-take size rest) j))
     (pushes_from mounts left place size (map mount_of (drop (i + 1) parts)) ((ap (map mount_of) back
     ∙ map-drop size rest) j)))
     ∙ ap (λ l. before ++ pushes_from mounts left place size (map mount_of l) (map mount_of rest)) (sym
-    (drop_more parts i default less))
-    ∙ so_far
+    (drop_more parts i default less)) ∙ so_far
 
 -- what is left of the copies is that of the parts that are left
 pub rest_more : (parts : List Kept) (i : ℕ) → i < length parts → (size all later : ℕ) → all
-    ≡ length (drop i parts) * size
-    → later + size ≡ all → later ≡ length (drop (i + 1) parts) * size
+    ≡ length (drop i parts) * size → later + size ≡ all → later ≡ length (drop (i + 1) parts) * size
 rest_more parts i less size all later so_far one =
     let count : length (drop i parts)
     ≡ suc (length (drop (i + 1) parts)) = omega (arith, less, length-drop i parts, length-drop (i + 1) parts) in
@@ -87,8 +84,7 @@ found_some p (b ∷ list) a m e = by (p b) refl (found_some p list a)
     by : (t : Bool) → p b ≡ t → (Among a list → p a ≡ true → (first : _) × (seek p list ≡ Some first))
         → (first : _) × (seek p (b ∷ list) ≡ Some first)
     by true is later = (b, ap (λ t. cond t (Some b) (seek p list)) is)
-    by false is later =
-        ⊎_elim (λ same. absurd (true≢false (sym e ∙ ap p same ∙ is)))
+    by false is later = ⊎_elim (λ same. absurd (true≢false (sym e ∙ ap p same ∙ is)))
         (λ l. let t = later l e in (t.0, ap (λ t. cond t (Some b) (seek p list)) is ∙ t.1)) m
 
 module _ (world : World ℕ) (one_child : OneChild world) (up : are_ascending world.mounts ≡ true) where
@@ -100,15 +96,11 @@ module _ (world : World ℕ) (one_child : OneChild world) (up : are_ascending wo
   one_at (first ∷ rest) apart a b m n one two =
       let parts : (list_any (share_a_mount_point nat_eq first) rest ≡ false)
       × (any_pair (share_a_mount_point nat_eq) rest ≡ false) = or_parts _ _ apart in
-      ⊎_elim
-      (λ e. ⊎_elim (λ f. e ∙ sym f)
+      ⊎_elim (λ e. ⊎_elim (λ f. e ∙ sym f)
       (λ l. absurd (true≢false (sym (any_from_among (share_a_mount_point nat_eq first) rest b l (ap
-      (λ x. share_a_mount_point nat_eq x b) (sym e) ∙ one)) ∙ parts.0))) n)
-      (λ k. ⊎_elim
+      (λ x. share_a_mount_point nat_eq x b) (sym e) ∙ one)) ∙ parts.0))) n) (λ k. ⊎_elim
       (λ f. absurd (true≢false (sym (any_from_among (share_a_mount_point nat_eq first) rest a k (ap
-      (λ x. share_a_mount_point nat_eq x a) (sym f) ∙ two)) ∙ parts.0)))
-      (λ l. one_at rest parts.1 a b k l one two) n)
-      m
+      (λ x. share_a_mount_point nat_eq x a) (sym f) ∙ two)) ∙ parts.0))) (λ l. one_at rest parts.1 a b k l one two) n) m
 
   both_at : (place : Location ℕ) (a b : Mount ℕ) → stands_at nat_eq place a ≡ true → stands_at nat_eq place b
       ≡ true → share_a_mount_point nat_eq a b ≡ true
@@ -141,8 +133,7 @@ module _ (world : World ℕ) (one_child : OneChild world) (up : are_ascending wo
   module _ (left : Option ℕ) (place : Location ℕ) (size : ℕ) (copies : Mount ℕ
       → List (Mount ℕ)) (sized : (part : Mount ℕ) → length (copies part) ≡ size)
       (before mount : Mount ℕ) (there : Among before world.mounts) (stays : holds_of (nat_eq before.number) left
-      ≡ false)
-      (number : mount.number ≡ before.number) (point : mount.mount_point ≡ before.mount_point) where
+      ≡ false) (number : mount.number ≡ before.number) (point : mount.mount_point ≡ before.mount_point) where
     abbrev at_part : Mount ℕ → Location ℕ
     at_part part = record { mount = part.number; node = place.node }
 
@@ -160,16 +151,14 @@ module _ (world : World ℕ) (one_child : OneChild world) (up : are_ascending wo
     -- the mount stands there
     standing : (part : Mount ℕ) → stands_at nat_eq (at_part part) before ≡ true
         → stander world.mounts left (at_part part) ≡ Some before.number
-    standing part at =
-        ap (λ o. then_some (option_map (λ (child : Mount ℕ). child.number) o) (λ n. if holds_of
+    standing part at = ap (λ o. then_some (option_map (λ (child : Mount ℕ). child.number) o) (λ n. if holds_of
         (nat_eq n) left then None else Some n)) (child_is (at_part part) before there at)
         ∙ ap (λ b. if b then None else Some before.number) stays
 
     -- another stands there, or none
     skipped : (part : Mount ℕ) → stands_at nat_eq (at_part part) before ≡ false → (rest : List (ℕ × Location ℕ))
         → lookup (nat_eq mount.number) (cons_option (option_map (λ n. (n, top_at part)) (stander world.mounts left
-        (at_part part))) rest)
-        ≡ lookup (nat_eq mount.number) rest
+        (at_part part))) rest) ≡ lookup (nat_eq mount.number) rest
     skipped part apart rest = by (child_at nat_eq world.mounts (at_part part)) refl
       where
         other : (child : Mount ℕ) → child_at nat_eq world.mounts (at_part part) ≡ Some child → (b : Bool)
@@ -178,30 +167,26 @@ module _ (world : World ℕ) (one_child : OneChild world) (up : are_ascending wo
         other child e false is = refl
         other child e true is =
             let first = found_in (stands_at nat_eq (at_part part)) world.mounts child e in
-            let same : child ≡ before =
-            same_Some child before (sym (numbered_among world.mounts up child first.0)
+            let same : child ≡ before = same_Some child before (sym (numbered_among world.mounts up child first.0)
             ∙ ap (numbered world.mounts) (sym (eqb-true mount.number child.number is) ∙ number)
             ∙ numbered_among world.mounts up before there) in
             absurd (true≢false (sym first.1 ∙ ap (stands_at nat_eq (at_part part)) same ∙ apart))
 
         leaving : (child : Mount ℕ) → child_at nat_eq world.mounts (at_part part) ≡ Some child → (b : Bool)
             → lookup (nat_eq mount.number) (cons_option (option_map (λ n. (n, top_at part))
-            (if b then None else Some child.number)) rest)
-            ≡ lookup (nat_eq mount.number) rest
+            (if b then None else Some child.number)) rest) ≡ lookup (nat_eq mount.number) rest
         leaving child e true = refl
         leaving child e false = other child e (nat_eq mount.number child.number) refl
 
         by : (o : Option (Mount ℕ)) → child_at nat_eq world.mounts (at_part part) ≡ o
             → lookup (nat_eq mount.number) (cons_option (option_map (λ n. (n, top_at part))
             (then_some (option_map (λ (child : Mount ℕ). child.number) o) (λ n. if holds_of
-            (nat_eq n) left then None else Some n))) rest)
-            ≡ lookup (nat_eq mount.number) rest
+            (nat_eq n) left then None else Some n))) rest) ≡ lookup (nat_eq mount.number) rest
         by None e = refl
         by (Some child) e = leaving child e (holds_of (nat_eq child.number) left)
 
     points_at : (parts : List (Mount ℕ)) → ((part : Mount ℕ) → Among part parts → nat_eq part.number place.mount
-        ≡ false)
-        → lookup (nat_eq mount.number) (pushes_from world.mounts left place size parts (flat_map copies parts))
+        ≡ false) → lookup (nat_eq mount.number) (pushes_from world.mounts left place size parts (flat_map copies parts))
         ≡ option_map top_at (seek (λ part. stands_at nat_eq (at_part part) mount) parts)
     points_at [] apart = refl
     points_at (part ∷ parts) apart =
@@ -224,17 +209,14 @@ module _ (world : World ℕ) (one_child : OneChild world) (up : are_ascending wo
             (pushes_from world.mounts left place size parts (flat_map copies parts)))
             ≡ option_map top_at (cond (stands_at nat_eq (at_part part) mount) (Some part) (seek
             (λ part. stands_at nat_eq (at_part part) mount) parts))
-        by true is later =
-            ap (λ o. lookup (nat_eq mount.number) (cons_option (option_map (λ n. (n, top_at part)) o)
+        by true is later = ap (λ o. lookup (nat_eq mount.number) (cons_option (option_map (λ n. (n, top_at part)) o)
             (pushes_from world.mounts left place size parts (flat_map copies parts))))
-            (standing part (sym as_before ∙ is))
-            ∙ ap (λ b. cond b (Some (top_at part)) (lookup (nat_eq mount.number)
+            (standing part (sym as_before ∙ is)) ∙ ap (λ b. cond b (Some (top_at part)) (lookup (nat_eq mount.number)
             (pushes_from world.mounts left place size parts (flat_map copies parts))))
             (eq-eqb mount.number before.number number)
             ∙ ap (λ b. option_map top_at (cond b (Some part) (seek (λ part. stands_at nat_eq
             (at_part part) mount) parts))) (sym is)
-        by false is later =
-            skipped part (sym as_before ∙ is) (pushes_from world.mounts left place size parts
+        by false is later = skipped part (sym as_before ∙ is) (pushes_from world.mounts left place size parts
             (flat_map copies parts)) ∙ later
             ∙ ap (λ b. option_map top_at (cond b (Some part) (seek (λ part. stands_at nat_eq
             (at_part part) mount) parts))) (sym is)
@@ -260,11 +242,9 @@ receivers_apart world place part m =
 pub all_pushed : (world : World ℕ) → OneChild world → are_ascending world.mounts ≡ true
     → (graft : Graft) (counts : Counts)
     → PushesBy world graft counts (pushes_from world.mounts (leaver graft) (location_of graft.place)
-    (length graft.tree.now)
-    (parts_of nat_eq world (location_of graft.place)) (planned_copies world graft counts))
+    (length graft.tree.now) (parts_of nat_eq world (location_of graft.place)) (planned_copies world graft counts))
 all_pushed world one_child up graft counts before mount there stays number point =
-    onto (seek (λ part. stands_at nat_eq (record { mount = part.number; node = place.node }) mount) receivers)
-    (found_at
+    onto (seek (λ part. stands_at nat_eq (record { mount = part.number; node = place.node }) mount) receivers) (found_at
     ∙ points_at world one_child up (leaver graft) place size copies sized before mount
     (among_from_contains world.mounts before there) stays number point receivers apart)
   where
@@ -291,23 +271,16 @@ all_pushed world one_child up graft counts before mount there stays number point
 
     -- the first part is the destination
     found_at : lookup (nat_eq mount.number) (pushes_from world.mounts (leaver graft) place size
-        (mount_at nat_eq world place ∷ receivers)
-        (copies (mount_at nat_eq world place) ++ flat_map copies receivers))
+        (mount_at nat_eq world place ∷ receivers) (copies (mount_at nat_eq world place) ++ flat_map copies receivers))
         ≡ lookup (nat_eq mount.number) (pushes_from world.mounts (leaver graft) place size receivers
         (flat_map copies receivers))
-    found_at =
-        ap (λ b. lookup (nat_eq mount.number) (cons_option
-        (if b then None else option_map (λ n. (
-          n,
-          top_of_copies nat_eq (take size (copies
-              (mount_at nat_eq world place) ++ flat_map copies receivers)) place,
-        ))
-        (stander world.mounts (leaver graft) (record {
-          mount =
-              (mount_at nat_eq world place).number;
-          node = place.node;
-        })))
-        (pushes_from world.mounts (leaver graft) place size receivers (drop size (copies
+    found_at = ap (λ b. lookup (nat_eq mount.number) (cons_option (if b then None else option_map (λ n. (
+      n,
+      top_of_copies nat_eq (take size (copies (mount_at nat_eq world place) ++ flat_map copies receivers)) place,
+    )) (stander world.mounts (leaver graft) (record {
+      mount = (mount_at nat_eq world place).number;
+      node = place.node;
+    }))) (pushes_from world.mounts (leaver graft) place size receivers (drop size (copies
         (mount_at nat_eq world place) ++ flat_map copies receivers)))))
         (eq-eqb (mount_at nat_eq world place).number place.mount (number-mount_in world.mounts place.mount))
         ∙ ap (λ l. lookup (nat_eq mount.number) (pushes_from world.mounts (leaver graft) place size receivers l))
@@ -315,10 +288,8 @@ all_pushed world one_child up graft counts before mount there stays number point
         (mount_at nat_eq world place)))
         ∙ drop-append_seam (copies (mount_at nat_eq world place)) (flat_map copies receivers))
 
-    onto : (found : Option (Mount ℕ))
-        → lookup (nat_eq mount.number) (pushes_from world.mounts (leaver graft) place size
-        (mount_at nat_eq world place ∷ receivers)
-        (copies (mount_at nat_eq world place) ++ flat_map copies receivers))
+    onto : (found : Option (Mount ℕ)) → lookup (nat_eq mount.number) (pushes_from world.mounts (leaver graft) place size
+        (mount_at nat_eq world place ∷ receivers) (copies (mount_at nat_eq world place) ++ flat_map copies receivers))
         ≡ option_map (λ part. top_of_copies nat_eq (copies part) place) found
         → pushed_onto nat_eq world (numbers_at world graft counts) (graft_in world graft counts)
         (parts_of nat_eq world (location_of graft.place)) mount found
@@ -333,15 +304,13 @@ module _ (mounts : List (Mount ℕ)) (left : Option ℕ) (place : Location ℕ) 
   other_stands : (child : Option (Mount ℕ)) (top : Location ℕ) (rest : List (ℕ × Location ℕ))
       → lookup (nat_eq number) (cons_option
       (option_map (λ n. (n, top)) (then_some (option_map (λ (child : Mount ℕ). child.number) child)
-      (λ n. if holds_of (nat_eq n) left then None else Some n))) rest)
-      ≡ lookup (nat_eq number) rest
+      (λ n. if holds_of (nat_eq n) left then None else Some n))) rest) ≡ lookup (nat_eq number) rest
   other_stands None top rest = refl
   other_stands (Some child) top rest = by (holds_of (nat_eq child.number) left) refl (nat_eq number child.number) refl
     where
       by : (b : Bool) → holds_of (nat_eq child.number) left ≡ b → (c : Bool) → nat_eq number child.number ≡ c
           → lookup (nat_eq number) (cons_option
-          (option_map (λ n. (n, top)) (if b then None else Some child.number)) rest)
-          ≡ lookup (nat_eq number) rest
+          (option_map (λ n. (n, top)) (if b then None else Some child.number)) rest) ≡ lookup (nat_eq number) rest
       by true e c is = refl
       by false e true is =
           absurd (true≢false (sym leaves ∙ ap (λ n. holds_of (nat_eq n) left) (eqb-true number child.number is) ∙ e))
@@ -351,9 +320,7 @@ module _ (mounts : List (Mount ℕ)) (left : Option ℕ) (place : Location ℕ) 
   pub leaver_stays : (parts copies : List (Mount ℕ))
       → lookup (nat_eq number) (pushes_from mounts left place size parts copies) ≡ None
   leaver_stays [] copies = refl
-  leaver_stays (part ∷ parts) copies =
-      by (nat_eq part.number place.mount)
-      ∙ leaver_stays parts (drop size copies)
+  leaver_stays (part ∷ parts) copies = by (nat_eq part.number place.mount) ∙ leaver_stays parts (drop size copies)
     where
       by : (b : Bool) → lookup (nat_eq number) (cons_option (if b then None
           else option_map (λ n. (n, top_of_copies nat_eq (take size copies) place))
@@ -361,7 +328,5 @@ module _ (mounts : List (Mount ℕ)) (left : Option ℕ) (place : Location ℕ) 
           (pushes_from mounts left place size parts (drop size copies)))
           ≡ lookup (nat_eq number) (pushes_from mounts left place size parts (drop size copies))
       by true = refl
-      by false =
-          other_stands (child_at nat_eq mounts (record { mount = part.number; node = place.node }))
-          (top_of_copies nat_eq (take size copies) place)
-          (pushes_from mounts left place size parts (drop size copies))
+      by false = other_stands (child_at nat_eq mounts (record { mount = part.number; node = place.node }))
+          (top_of_copies nat_eq (take size copies) place) (pushes_from mounts left place size parts (drop size copies))

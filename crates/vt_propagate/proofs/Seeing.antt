@@ -39,14 +39,12 @@ module _ (world : World ℕ) (kept : List MountEntry) (before : Grouping) (seen 
   -- what has the number and the type of a mount is typed
   typed_alike : (mount : Mount ℕ) → Among mount world.mounts → (other : Mount ℕ) → other.number ≡ mount.number
       → other.propagation ≡ mount.propagation → typed_by before other ≡ other
-  typed_alike mount m other number kind =
-      λ i. record other {
-        propagation = kind_told other.propagation (propagation_in before other.number)
-            (ap (propagation_in before) number
-            ∙ among_from_all (λ x. propagation_in before x.number ≡ shown x.propagation) world.mounts
-            (shows_types world before seen.groups) mount m
-            ∙ ap shown (sym kind)) i;
-      }
+  typed_alike mount m other number kind = λ i. record other {
+    propagation = kind_told other.propagation (propagation_in before other.number)
+        (ap (propagation_in before) number
+        ∙ among_from_all (λ x. propagation_in before x.number ≡ shown x.propagation) world.mounts
+        (shows_types world before seen.groups) mount m ∙ ap shown (sym kind)) i;
+  }
 
   -- changed mounts are typed but for those of these numbers
   pub are_typed : (numbers : List ℕ) (left : List MountEntry) (change : Mount ℕ → Mount ℕ)
@@ -54,8 +52,7 @@ module _ (world : World ℕ) (kept : List MountEntry) (before : Grouping) (seen 
       → ((mount : Mount ℕ) → is_among nat_eq (change mount).number numbers ≡ false
       → ((change mount).number ≡ mount.number) × ((change mount).propagation ≡ mount.propagation))
       → AreTypedBut before numbers left
-  are_typed numbers left change is keeps =
-      all_from_among (λ entry. is_among nat_eq entry.mount.number numbers ≡ false
+  are_typed numbers left change is keeps = all_from_among (λ entry. is_among nat_eq entry.mount.number numbers ≡ false
       → typed_entry before entry ≡ entry) left (λ entry m apart.
       let from = among-from_map change world.mounts entry.mount
       (subst (Among entry.mount) is (among-map (λ e. e.mount) left entry m)) in
@@ -88,8 +85,7 @@ pub detaching_is_seen : DetachingIsSeen
 detaching_is_seen world kept left after before now gone points seen leaves is takes follows =
     let change = left_by gone points in
     let base = with_mounts world (map change world.mounts) in
-    subst (λ w. IsSeen w after now) (sym leaves)
-    (seen_after base left after now (ap (map (typed_by now)) is)
+    subst (λ w. IsSeen w after now) (sym leaves) (seen_after base left after now (ap (map (typed_by now)) is)
     (subst (λ w. Has w now) leaves (takes world seen.groups seen.living))
     (subst AllGroupsLive leaves (all_live (taken_away nat_eq world gone)
     (taking_away_keeps_groups world gone (tested_live world seen.living))))
@@ -100,10 +96,8 @@ detaching_is_seen world kept left after before now gone points seen leaves is ta
         → is_among nat_eq (left_by gone points mount).number gone ≡ false
         → ((left_by gone points mount).number ≡ mount.number)
         × ((left_by gone points mount).propagation ≡ mount.propagation)
-    keeps mount true e apart =
-        absurd (true≢false (sym e ∙ sym
-        (ap (λ b. is_among nat_eq (if b then detached mount else moved_by points mount).number gone) e)
-        ∙ apart))
+    keeps mount true e apart = absurd (true≢false (sym e ∙ sym
+        (ap (λ b. is_among nat_eq (if b then detached mount else moved_by points mount).number gone) e) ∙ apart))
     keeps mount false e apart = (
       ap (λ b. (if b then detached mount else moved_by points mount).number) e,
       ap (λ b. (if b then detached mount else moved_by points mount).propagation) e,
@@ -121,8 +115,7 @@ module _ (world : World ℕ) (live : AllGroupsLive world) (group : ℕ → ℕ) 
 
     retyped_live : All (Contains world.mounts) named → ((number : ℕ) → LacksGroup world (group number))
         → AllGroupsLive (retyped nat_eq world group word named)
-    retyped_live there lacks =
-        all_live (retyped nat_eq world group word named)
+    retyped_live there lacks = all_live (retyped nat_eq world group word named)
         (retyping.all_live world group word named (tested_live world live) lacks (λ mount m source e.
         among_from_contains world.mounts mount (among_from_all (Contains world.mounts) named there mount m)))
 
@@ -139,11 +132,9 @@ module _ (world : World ℕ) (live : AllGroupsLive world) (group : ℕ → ℕ) 
         × ((retyped_mount nat_eq group word named mount).propagation ≡ mount.propagation)
     others_keep mount apart = by (chosen mount) refl
       where
-        by : (b : Bool) → chosen mount ≡ b
-            → ((retyped_if mount (chosen mount)).number ≡ mount.number)
+        by : (b : Bool) → chosen mount ≡ b → ((retyped_if mount (chosen mount)).number ≡ mount.number)
             × ((retyped_if mount (chosen mount)).propagation ≡ mount.propagation)
-        by true e =
-            absurd (true≢false (sym e ∙ named_numbers world live mount.number named
+        by true e = absurd (true≢false (sym e ∙ named_numbers world live mount.number named
             ∙ sym (ap (λ b. is_among nat_eq (retyped_if mount b).number (numbers_of named)) e) ∙ apart))
         by false e = (ap (λ b. (retyped_if mount b).number) e, ap (λ b. (retyped_if mount b).propagation) e)
 
@@ -163,8 +154,7 @@ unchanged (mount ∷ mounts) = ap (λ rest. mount ∷ rest) (unchanged mounts)
 -- where they become slaves
 pub slaves_are_seen : SlavesAreSeen
 slaves_are_seen world group named kept after before now seen there lacks retypes follows =
-    seen_after (base world seen.living group ToSlave named) kept after now
-    (ap (map (typed_by now)) seen.mounts
+    seen_after (base world seen.living group ToSlave named) kept after now (ap (map (typed_by now)) seen.mounts
     ∙ map_alike (typed_by now) (λ mount. typed_by now (retyped_mount nat_eq group ToSlave named mount)) world.mounts
     (λ mount m. typed mount (chosen world seen.living group ToSlave named mount))
     ∙ sym (map_twice (typed_by now) (retyped_mount nat_eq group ToSlave named) world.mounts))
@@ -181,11 +171,10 @@ slaves_are_seen world group named kept after before now seen there lacks retypes
 
     typed : (mount : Mount ℕ) (b : Bool)
         → typed_by now mount ≡ typed_by now (retyped_if world seen.living group ToSlave named mount b)
-    typed mount true =
-        λ i. record mount {
-          propagation = if same (group mount.number) mount.propagation i then Unbindable
-              else propagation_in now mount.number;
-        }
+    typed mount true = λ i. record mount {
+      propagation = if same (group mount.number) mount.propagation i then Unbindable
+          else propagation_in now mount.number;
+    }
     typed mount false = refl
 
 -- a mount that may be one of those that are shared now
@@ -208,8 +197,7 @@ mounts-shared now numbers (entry ∷ kept) = λ i. by (is_among nat_eq entry.mou
 -- and where they become shared
 pub sharing_is_seen : SharingIsSeen
 sharing_is_seen world group named kept before now seen there lacks shares = record {
-  mounts = mounts-shared now (numbers_of named) kept
-      ∙ ap (map (shared_mount now (numbers_of named))) seen.mounts
+  mounts = mounts-shared now (numbers_of named) kept ∙ ap (map (shared_mount now (numbers_of named))) seen.mounts
       ∙ map_alike (shared_mount now (numbers_of named)) (retyped_mount nat_eq group ToShared named) world.mounts alike
       ∙ sym (ap (λ w. w.mounts) regroups);
   groups = has;
@@ -230,15 +218,13 @@ sharing_is_seen world group named kept before now seen there lacks shares = reco
 
     alike : (mount : Mount ℕ) → Among mount world.mounts
         → shared_mount now (numbers_of named) mount ≡ retyped_mount nat_eq group ToShared named mount
-    alike mount m =
-        ap (λ b. if b then record mount { propagation = propagation_in now mount.number } else mount)
+    alike mount m = ap (λ b. if b then record mount { propagation = propagation_in now mount.number } else mount)
         (sym (named_numbers world seen.living mount.number named))
         ∙ by (chosen world seen.living group ToShared named mount) refl
       where
         told : propagation_in now (retyped_mount nat_eq group ToShared named mount).number
             ≡ shown (retyped_mount nat_eq group ToShared named mount).propagation
-        told =
-            among_from_all (λ x. propagation_in now x.number ≡ shown x.propagation)
+        told = among_from_all (λ x. propagation_in now x.number ≡ shown x.propagation)
             (base world seen.living group ToShared named).mounts
             (shows_types (base world seen.living group ToShared named) now (subst (λ w. Has w now) regroups has))
             (retyped_mount nat_eq group ToShared named mount)
@@ -249,16 +235,12 @@ sharing_is_seen world group named kept before now seen there lacks shares = reco
             then record mount { propagation = propagation_in now mount.number } else mount)
             ≡ retyped_if world seen.living group ToShared named mount
             (chosen world seen.living group ToShared named mount)
-        by true e =
-            ap (λ b. if b then record mount { propagation = propagation_in now mount.number } else mount) e
+        by true e = ap (λ b. if b then record mount { propagation = propagation_in now mount.number } else mount) e
             ∙ (λ i. record mount {
               propagation = (sym (ap (λ b. propagation_in now
-                  (retyped_if world seen.living group ToShared named mount b).number) e)
-                  ∙ told
+                  (retyped_if world seen.living group ToShared named mount b).number) e) ∙ told
                   ∙ ap (λ b. shown (retyped_if world seen.living group ToShared named mount b).propagation) e
                   ∙ same (group mount.number) mount.propagation) i;
-            })
-            ∙ sym (ap (retyped_if world seen.living group ToShared named mount) e)
-        by false e =
-            ap (λ b. if b then record mount { propagation = propagation_in now mount.number } else mount) e
+            }) ∙ sym (ap (retyped_if world seen.living group ToShared named mount) e)
+        by false e = ap (λ b. if b then record mount { propagation = propagation_in now mount.number } else mount) e
             ∙ sym (ap (retyped_if world seen.living group ToShared named mount) e)

@@ -58,8 +58,7 @@ module _ (world : World ℕ) (first second : List ℕ) where
   goes_at_once number = list_any-append (nat_eq number) first second
 
   same_length : length left.mounts ≡ length world.mounts
-  same_length =
-      sym (length-map left.mounts (λ (mount : Mount ℕ). mount.number)) ∙ ap length (numbers_taken world first)
+  same_length = sym (length-map left.mounts (λ (mount : Mount ℕ). mount.number)) ∙ ap length (numbers_taken world first)
       ∙ length-map world.mounts (λ (mount : Mount ℕ). mount.number)
 
   -- Places
@@ -84,8 +83,7 @@ module _ (world : World ℕ) (first second : List ℕ) where
   fall_from_root : (a b c : ℕ) (place : Location ℕ) → down place ≡ None → FallAlike a b c place
   fall_from_root a b c place e =
       ap (end_of falls_then b) (end-here falls a place (rests (is_going nat_eq first place.mount) (down place) e))
-      ∙ end-here falls_then b place
-      (rests (is_going nat_eq second place.mount) (mount_at nat_eq left place).mount_point
+      ∙ end-here falls_then b place (rests (is_going nat_eq second place.mount) (mount_at nat_eq left place).mount_point
       (root_stays world first place.mount e))
       ∙ sym (end-here falls_at_once c place (rests (is_going nat_eq (first ++ second) place.mount) (down place) e))
     where
@@ -96,10 +94,8 @@ module _ (world : World ℕ) (first second : List ℕ) where
   -- on a mount that stays at first, and has fallen then
   fallen_point : (place below : Location ℕ) → is_going nat_eq first place.mount ≡ false → down place ≡ Some below
       → (mount_at nat_eq left place).mount_point ≡ Some (end_of falls (length world.mounts) below)
-  fallen_point place below stays e =
-      ap (λ (mount : Mount ℕ). mount.mount_point) (taken world first place.mount)
-      ∙ ap (λ (mount : Mount ℕ). mount.mount_point)
-      (staying_is_placed world first (mount_at nat_eq world place)
+  fallen_point place below stays e = ap (λ (mount : Mount ℕ). mount.mount_point) (taken world first place.mount)
+      ∙ ap (λ (mount : Mount ℕ). mount.mount_point) (staying_is_placed world first (mount_at nat_eq world place)
       (ap (is_going nat_eq first) (number_found world.mounts place.mount) ∙ stays))
       ∙ ap (option_map (mount_point_left nat_eq world first)) e
 
@@ -115,23 +111,17 @@ module _ (world : World ℕ) (first second : List ℕ) where
       through gone false f = ap (λ b. if b then down place else None) f
 
       by : (one : Bool) → is_going nat_eq first place.mount ≡ one
-          → (other : Bool) → is_going nat_eq second place.mount ≡ other
-          → FallAlike (suc a) (suc b) (suc c) place
-      by true f other g =
-          ap (end_of falls_then (suc b)) (end-more falls a place below (through first true f)) ∙ goes
+          → (other : Bool) → is_going nat_eq second place.mount ≡ other → FallAlike (suc a) (suc b) (suc c) place
+      by true f other g = ap (end_of falls_then (suc b)) (end-more falls a place below (through first true f)) ∙ goes
           ∙ sym (end-more falls_at_once c place below (through (first ++ second) true
           (goes_at_once place.mount ∙ ap (λ t. t || is_going nat_eq second place.mount) f)))
-      by false f true g =
-          ap (end_of falls_then (suc b)) (end-here falls (suc a) place (through first false f))
+      by false f true g = ap (end_of falls_then (suc b)) (end-here falls (suc a) place (through first false f))
           ∙ end-more falls_then b place (end_of falls (length world.mounts) below)
           (ap (λ t. if t then (mount_at nat_eq left place).mount_point else None) g ∙ fallen_point place below f e)
-          ∙ stays
-          ∙ sym (end-more falls_at_once c place below (through (first ++ second) true
+          ∙ stays ∙ sym (end-more falls_at_once c place below (through (first ++ second) true
           (goes_at_once place.mount ∙ (λ i. f i || g i))))
-      by false f false g =
-          ap (end_of falls_then (suc b)) (end-here falls (suc a) place (through first false f))
-          ∙ end-here falls_then (suc b) place
-          (ap (λ t. if t then (mount_at nat_eq left place).mount_point else None) g)
+      by false f false g = ap (end_of falls_then (suc b)) (end-here falls (suc a) place (through first false f))
+          ∙ end-here falls_then (suc b) place (ap (λ t. if t then (mount_at nat_eq left place).mount_point else None) g)
           ∙ sym (end-here falls_at_once (suc c) place (through (first ++ second) false
           (goes_at_once place.mount ∙ (λ i. f i || g i))))
 
@@ -152,8 +142,7 @@ module _ (world : World ℕ) (first second : List ℕ) where
       where
         by : (o : Option (Location ℕ)) → down place ≡ o
             → ((a b c : ℕ) (below : Location ℕ) → rank_at below ≤ n → rank_at below ≤ a → rank_at below ≤ b
-            → rank_at below ≤ c → FallAlike a b c below)
-            → FallAlike a b c place
+            → rank_at below ≤ c → FallAlike a b c below) → FallAlike a b c place
         by None e later = fall_from_root a b c place e
         by (Some below) e later =
             let child : rank_at place ≡ suc (rank_at below) = rank_child world one all place.mount below e in
@@ -167,10 +156,8 @@ module _ (world : World ℕ) (first second : List ℕ) where
             let in_first : rank_at below ≤ x.0 = omega (arith, child, more, u) in
             let in_second : rank_at below ≤ y.0 = omega (arith, child, more_then, v) in
             let in_all : rank_at below ≤ z.0 = omega (arith, child, more_at_once, w) in
-            subst (λ k. FallAlike k b c place) (sym u)
-            (subst (λ k. FallAlike (suc x.0) k c place) (sym v)
-            (subst (λ k. FallAlike (suc x.0) (suc y.0) k place) (sym w)
-            (fall_further x.0 y.0 z.0 place below e
+            subst (λ k. FallAlike k b c place) (sym u) (subst (λ k. FallAlike (suc x.0) k c place) (sym v)
+            (subst (λ k. FallAlike (suc x.0) (suc y.0) k place) (sym w) (fall_further x.0 y.0 z.0 place below e
             (later x.0 (suc y.0) z.0 below few_below in_first (omega (arith, in_second)) in_all)
             (later (length world.mounts) y.0 z.0 below few_below (rank_bounded world one all below.mount)
             in_second in_all))))
@@ -209,8 +196,7 @@ module _ (world : World ℕ) (first second : List ℕ) where
   twice_goes mount = ap (is_going nat_eq second) (number_after world first mount)
 
   mounts_then : secondly.mounts ≡ map twice world.mounts
-  mounts_then =
-      ap (map (after_going nat_eq left second)) (mounts-regrouped firstly)
+  mounts_then = ap (map (after_going nat_eq left second)) (mounts-regrouped firstly)
       ∙ map_twice (after_going nat_eq left second) (inheriting nat_eq firstly) firstly.mounts
       ∙ map_twice (λ mount. after_going nat_eq left second (inheriting nat_eq firstly mount))
       (after_going nat_eq world first) world.mounts
@@ -224,8 +210,7 @@ module _ (world : World ℕ) (first second : List ℕ) where
       λ i. holds_of (nat_eq group) (same mount i) || members_alike f g same mounts group i
 
   members_then : (group : ℕ) → has_members nat_eq secondly.mounts group ≡ has_members nat_eq at_once.mounts group
-  members_then group =
-      ap (λ mounts. has_members nat_eq mounts group) mounts_then
+  members_then group = ap (λ mounts. has_members nat_eq mounts group) mounts_then
       ∙ members_alike twice (after_going nat_eq world (first ++ second)) alike world.mounts group
     where
       alike : (mount : Mount ℕ) → group_of (twice mount).propagation
@@ -254,8 +239,7 @@ module _ (world : World ℕ) (first second : List ℕ) where
       still false false mount e = e
 
       none : has_members nat_eq firstly.mounts group ≡ false → has_members nat_eq at_once.mounts group ≡ false
-      none e =
-          none_from_among (is_member_of nat_eq group) at_once.mounts (λ x m.
+      none e = none_from_among (is_member_of nat_eq group) at_once.mounts (λ x m.
           let from = among-from_map (after_going nat_eq world (first ++ second)) world.mounts x m in
           let mount = from.0 in
           ap (is_member_of nat_eq group) from.2
@@ -291,26 +275,19 @@ module _ (world : World ℕ) (first second : List ℕ) where
       where
         by : (b : Bool) → has_members nat_eq firstly.mounts group ≡ b
             → (c : Bool) → has_members nat_eq at_once.mounts group ≡ c → SameHeir (Some group)
-        by true e true f =
-            ap (heir nat_eq secondly) (heir_itself firstly group e)
+        by true e true f = ap (heir nat_eq secondly) (heir_itself firstly group e)
             ∙ heir_itself secondly group (members_then group ∙ f) ∙ sym (heir_itself at_once group f)
-        by true e false f =
-            ap (heir nat_eq secondly) (heir_itself firstly group e)
-            ∙ heir_above secondly group
-            (subst (λ n. Ends left.master n group)
-            (sym (length-map left.mounts (after_going nat_eq left second)))
+        by true e false f = ap (heir nat_eq secondly) (heir_itself firstly group e) ∙ heir_above secondly group
+            (subst (λ n. Ends left.master n group) (sym (length-map left.mounts (after_going nat_eq left second)))
             (living_ends left group (group_lives left live_left group (members-regrouped firstly group ∙ e))))
-            (members_then group ∙ f)
-            ∙ ap (heir nat_eq secondly) (master_inherited firstly group e) ∙ above
+            (members_then group ∙ f) ∙ ap (heir nat_eq secondly) (master_inherited firstly group e) ∙ above
             ∙ sym (heir_above at_once group (ends_in (first ++ second) group life) f)
         by false e true f = absurd (true≢false (sym (members_before group f) ∙ e))
-        by false e false f =
-            ap (heir nat_eq secondly) (heir_above firstly group (ends_in first group life) e) ∙ above
+        by false e false f = ap (heir nat_eq secondly) (heir_above firstly group (ends_in first group life) e) ∙ above
             ∙ sym (heir_above at_once group (ends_in (first ++ second) group life) f)
 
     same_heir : (group : ℕ) → LivesAt group → SameHeir (Some group)
-    same_heir group (has_no_master it has e) =
-        heir_by_master it (has_no_master it has e) (subst SameHeir (sym e) refl)
+    same_heir group (has_no_master it has e) = heir_by_master it (has_no_master it has e) (subst SameHeir (sym e) refl)
     same_heir group (has_master it next has e later) =
         heir_by_master it (has_master it next has e later) (subst SameHeir (sym e) (same_heir next later))
 
@@ -329,23 +306,20 @@ module _ (world : World ℕ) (first second : List ℕ) where
     -- the master of a group that has members in the end
     same_master : (group : ℕ) → has_members nat_eq at_once.mounts group ≡ true
         → (taken_away nat_eq left second).master group ≡ (taken_away nat_eq world (first ++ second)).master group
-    same_master group has =
-        master_inherited secondly group (members_then group ∙ has)
+    same_master group has = master_inherited secondly group (members_then group ∙ has)
         ∙ ap (heir nat_eq secondly) (master_inherited firstly group (members_before group has))
         ∙ above (group_lives world live group (members_at_first (has_members nat_eq world.mounts group) refl))
         ∙ sym (master_inherited at_once group has)
       where
         still : (goes : Bool) (fall : Location ℕ → Location ℕ) (mount : Mount ℕ)
-            → is_member_of nat_eq group mount ≡ false
-            → holds_of (nat_eq group) (group_if goes fall mount) ≡ false
+            → is_member_of nat_eq group mount ≡ false → holds_of (nat_eq group) (group_if goes fall mount) ≡ false
         still true fall mount e = refl
         still false fall mount e = e
 
         members_at_first : (b : Bool) → has_members nat_eq world.mounts group ≡ b
             → has_members nat_eq world.mounts group ≡ true
         members_at_first true e = e
-        members_at_first false e =
-            absurd (true≢false (sym has
+        members_at_first false e = absurd (true≢false (sym has
             ∙ none_from_among (is_member_of nat_eq group) at_once.mounts (λ x m.
             let from = among-from_map (after_going nat_eq world (first ++ second)) world.mounts x m in
             ap (is_member_of nat_eq group) from.2
@@ -364,20 +338,17 @@ module _ (world : World ℕ) (first second : List ℕ) where
     mount_alike true true mount m = refl
     mount_alike true false mount m = refl
     mount_alike false true mount m = refl
-    mount_alike false false mount m =
-        λ i. record mount {
-          mount_point = same_points kept.one_number kept.standing mount.mount_point i;
-          propagation = same_kind kept.groups mount.propagation
-              (among_from_all (HasLivingGroups nat_eq world) world.mounts kept.groups mount m) i;
-        }
+    mount_alike false false mount m = λ i. record mount {
+      mount_point = same_points kept.one_number kept.standing mount.mount_point i;
+      propagation = same_kind kept.groups mount.propagation
+          (among_from_all (HasLivingGroups nat_eq world) world.mounts kept.groups mount m) i;
+    }
 
     same_mounts : (taken_away nat_eq left second).mounts ≡ (taken_away nat_eq world (first ++ second)).mounts
-    same_mounts =
-        mounts-regrouped secondly ∙ ap (map (inheriting nat_eq secondly)) mounts_then
+    same_mounts = mounts-regrouped secondly ∙ ap (map (inheriting nat_eq secondly)) mounts_then
         ∙ map_twice (inheriting nat_eq secondly) twice world.mounts
         ∙ map_alike (λ mount. inheriting nat_eq secondly (twice mount))
-        (λ mount. inheriting nat_eq at_once (after_going nat_eq world (first ++ second) mount)) world.mounts
-        (λ mount m.
+        (λ mount. inheriting nat_eq at_once (after_going nat_eq world (first ++ second) mount)) world.mounts (λ mount m.
         ap (λ b. inheriting nat_eq secondly (gone_if b (mount_point_left nat_eq left second)
         (inheriting nat_eq firstly (after_going nat_eq world first mount)))) (twice_goes mount)
         ∙ mount_alike (is_going nat_eq first mount.number) (is_going nat_eq second mount.number) mount m
@@ -388,10 +359,8 @@ module _ (world : World ℕ) (first second : List ℕ) where
 
     same_masters : (group : ℕ) → (without_dead_groups nat_eq (taken_away nat_eq left second)).master group
         ≡ (without_dead_groups nat_eq (taken_away nat_eq world (first ++ second))).master group
-    same_masters group =
-        ap (λ b. if b then (taken_away nat_eq left second).master group else None)
-        (members-regrouped secondly group ∙ members_then group)
-        ∙ by (has_members nat_eq at_once.mounts group) refl
+    same_masters group = ap (λ b. if b then (taken_away nat_eq left second).master group else None)
+        (members-regrouped secondly group ∙ members_then group) ∙ by (has_members nat_eq at_once.mounts group) refl
         ∙ ap (λ b. if b then (taken_away nat_eq world (first ++ second)).master group else None)
         (sym (members-regrouped at_once group))
       where
@@ -401,8 +370,7 @@ module _ (world : World ℕ) (first second : List ℕ) where
             then (taken_away nat_eq world (first ++ second)).master group else None)
         by true e =
             ap (λ o. if has_members nat_eq at_once.mounts group then o else None) (same_master kept.groups group e)
-        by false e =
-            ap (λ b. if b then (taken_away nat_eq left second).master group else None) e
+        by false e = ap (λ b. if b then (taken_away nat_eq left second).master group else None) e
             ∙ ap (λ b. if b then (taken_away nat_eq world (first ++ second)).master group else None) (sym e)
 
 -- mounts that are taken away in two parts leave the world that they leave at once

@@ -24,8 +24,7 @@ module _ (world : World ℕ) (kept : List MountEntry) (grouping : Grouping) (see
   pub receivers-numbered : are_ascending (mounts_in kept) ≡ true → (mount : Mount ℕ) (ids : List MountId)
       → counts ids ≡ numbers_of (receivers_of nat_eq world mount)
       → mounts_numbered (mounts_in kept) (counts ids) ≡ receivers_of nat_eq world mount
-  receivers-numbered up mount ids told =
-      (λ i. mounts_numbered (seen.mounts i) (told i))
+  receivers-numbered up mount ids told = (λ i. mounts_numbered (seen.mounts i) (told i))
       ∙ numbered_again world.mounts (receivers_of nat_eq world mount) (ap are_ascending (sym seen.mounts) ∙ up)
       (receivers_there world mount)
 
@@ -42,7 +41,5 @@ module _ (world : World ℕ) (kept : List MountEntry) (grouping : Grouping) (see
       at = sym (mount_at-found place parent found)
 
       same : (mount : Mount ℕ) → joins under place parent mount ≡ takes_part nat_eq world place mount
-      same mount =
-          λ i. not (nat_eq place.mount mount.number) && is_some mount.namespace
-          && nat_eq (at i).filesystem mount.filesystem
-          && reaches mount.filesystem mount.root place.node i
+      same mount = λ i. not (nat_eq place.mount mount.number) && is_some mount.namespace
+          && nat_eq (at i).filesystem mount.filesystem && reaches mount.filesystem mount.root place.node i

@@ -74,8 +74,7 @@ still_sources groups numbers entries typed sourceless =
     by : (entry : MountEntry) → Among entry entries → (group : ℕ) → source_of entry.mount.propagation ≡ Some group
         → (b : Bool) → is_among nat_eq entry.mount.number numbers ≡ b
         → source_of (propagation_in groups entry.mount.number) ≡ Some group
-    by entry m group source true is =
-        absurd (true≢false (ap is_some (sym source
+    by entry m group source true is = absurd (true≢false (ap is_some (sym source
         ∙ among_from_all (λ (one : MountEntry). is_among nat_eq one.mount.number numbers ≡ true
         → source_of one.mount.propagation ≡ None) entries sourceless entry m is)))
     by entry m group source false is =
@@ -94,13 +93,11 @@ still_begin groups numbers entries typed sourceless = record {
 -- none has left yet
 pub still_at_first : (groups : Grouping) (entries : List MountEntry) → AreTyped groups entries
     → StillTyped groups [] [] entries
-still_at_first groups entries typed =
-    still_begin groups [] entries
+still_at_first groups entries typed = still_begin groups [] entries
     (all_from_among (λ (entry : MountEntry). is_among nat_eq entry.mount.number [] ≡ false
     → typed_entry groups entry ≡ entry) entries (λ entry m apart i. record entry {
       mount = among_from_all (λ (one : MountEntry). typed_by groups one.mount ≡ one.mount) entries typed entry m i;
-    }))
-    (all_from_among (λ (entry : MountEntry). is_among nat_eq entry.mount.number [] ≡ true
+    })) (all_from_among (λ (entry : MountEntry). is_among nat_eq entry.mount.number [] ≡ true
     → source_of entry.mount.propagation ≡ None) entries (λ entry m is. absurd (true≢false (sym is))))
 
 module _ (before now : Grouping) (numbers left : List ℕ) (number : ℕ) (old new : List MountEntry)
@@ -131,13 +128,11 @@ module _ (before now : Grouping) (numbers left : List ℕ) (number : ℕ) (old n
     typed = all_from_among (λ (entry : MountEntry). is_among nat_eq entry.mount.number numbers ≡ false
         → typed_entry now entry ≡ entry) new
         (each (λ (entry : MountEntry). is_among nat_eq entry.mount.number numbers ≡ false
-        → typed_entry now entry ≡ entry) (λ was m apart.
-        ap (λ kind. with_kind kind was)
+        → typed_entry now entry ≡ entry) (λ was m apart. ap (λ kind. with_kind kind was)
         (typed_once_ended before (lone_group before number) was.mount.propagation
         (propagation_in before was.mount.number) (propagation_in now was.mount.number)
         (typed_kind before was (among_from_all (λ (one : MountEntry). is_among nat_eq one.mount.number numbers ≡ false
-        → typed_entry before one ≡ one) old still.typed was m apart))
-        (told was.mount.number
+        → typed_entry before one ≡ one) old still.typed was m apart)) (told was.mount.number
         ∙ ap (λ b. if b then Private else type_once_ended before (lone_group before number)
         (propagation_in before was.mount.number)) (apart_from was.mount.number apart)))));
     sourceless = all_from_among (λ (entry : MountEntry). is_among nat_eq entry.mount.number numbers ≡ true
@@ -154,8 +149,7 @@ module _ (before now : Grouping) (numbers left : List ℕ) (number : ℕ) (old n
           → (if b then Private else type_once_ended before (lone_group before number) (propagation_in before other))
           ≡ Private
       by other true same is = refl
-      by other false apart is =
-          ap (type_once_ended before (lone_group before number))
+      by other false apart is = ap (type_once_ended before (lone_group before number))
           (still.private other (unsnoc (is_among nat_eq other left) (nat_eq other number) apart
           (sym (is_among-snoc other number left) ∙ is)))
           ∙ sourceless_once_ended before (lone_group before number) Private refl
@@ -172,14 +166,12 @@ still_done groups numbers entries still =
   where
     by : (entry : MountEntry) → Among entry entries → (b : Bool) → is_among nat_eq entry.mount.number numbers ≡ b
         → typed_entry groups entry ≡ entry
-    by entry m true is =
-        ap (λ kind. with_kind kind entry)
+    by entry m true is = ap (λ kind. with_kind kind entry)
         (sourceless_typed entry.mount.propagation (propagation_in groups entry.mount.number)
         (among_from_all (λ (one : MountEntry). is_among nat_eq one.mount.number numbers ≡ true
         → source_of one.mount.propagation ≡ None) entries still.sourceless entry m is)
         (still.private entry.mount.number is))
-    by entry m false is =
-        among_from_all (λ (one : MountEntry). is_among nat_eq one.mount.number numbers ≡ false
+    by entry m false is = among_from_all (λ (one : MountEntry). is_among nat_eq one.mount.number numbers ≡ false
         → typed_entry groups one ≡ one) entries still.typed entry m is
 
 -- Members that become slaves
@@ -208,55 +200,44 @@ module _ (before now : Grouping) (number : ℕ) (old : List MountEntry) (typed :
   pub slave_typed : (between new : List MountEntry)
       → (HaveSources before old → between ≡ map (once_left before number) old)
       → new ≡ changed number (typed_entry now) between → new ≡ map (typed_entry now) old
-  slave_typed between new slaves is =
-      is
+  slave_typed between new slaves is = is
       ∙ ap (changed number (typed_entry now)) (slaves (still_sources before [] old typed
       (all_from_among (λ (one : MountEntry). is_among nat_eq one.mount.number [] ≡ true
       → source_of one.mount.propagation ≡ None) old (λ one m none. absurd (true≢false (sym none))))))
       ∙ map_twice (λ entry. if nat_eq number entry.mount.number then typed_entry now entry else entry)
       (once_left before number) old
       ∙ map_alike (λ was. if nat_eq number was.mount.number then typed_entry now (once_left before number was)
-      else once_left before number was) (typed_entry now) old
-      (λ was m. by was m (nat_eq number was.mount.number) refl)
+      else once_left before number was) (typed_entry now) old (λ was m. by was m (nat_eq number was.mount.number) refl)
     where
-      bindable : (was : MountEntry)
-          → typed_entry now (once_left before number was) ≡ typed_entry now was
-      bindable was =
-          ap (λ b. with_kind (if b then Unbindable else propagation_in now was.mount.number) was)
+      bindable : (was : MountEntry) → typed_entry now (once_left before number was) ≡ typed_entry now was
+      bindable was = ap (λ b. with_kind (if b then Unbindable else propagation_in now was.mount.number) was)
           (bindable_once_ended before (lone_group before number) was.mount.propagation)
 
       by : (was : MountEntry) → Among was old → (b : Bool) → nat_eq number was.mount.number ≡ b
           → (if b then typed_entry now (once_left before number was) else once_left before number was)
           ≡ typed_entry now was
       by was m true same = bindable was
-      by was m false apart =
-          sym (ap (λ kind. with_kind kind was)
+      by was m false apart = sym (ap (λ kind. with_kind kind was)
           (typed_once_ended before (lone_group before number) was.mount.propagation
           (propagation_in before was.mount.number) (propagation_in now was.mount.number) (was_typed was m)
-          (told was.mount.number
-          ∙ ap (λ b. type_once_ended before (lone_group before number)
+          (told was.mount.number ∙ ap (λ b. type_once_ended before (lone_group before number)
           (if b then as_slave (propagation_in before number) else propagation_in before was.mount.number))
-          (nat_eq-swapped number was.mount.number false apart))))
-          ∙ bindable was
+          (nat_eq-swapped number was.mount.number false apart)))) ∙ bindable was
 
   pub slave_only_types : OnlyTypesChange old (map (typed_entry now) old)
-  slave_only_types groups =
-      map_twice (typed_entry groups) (typed_entry now) old
+  slave_only_types groups = map_twice (typed_entry groups) (typed_entry now) old
       ∙ map_alike (λ was. typed_entry groups (typed_entry now was)) (typed_entry groups) old (λ was m.
       ap (λ b. with_kind (if b then Unbindable else propagation_in groups was.mount.number) was)
       (bindable_told was.mount.propagation (propagation_in before was.mount.number) (was_typed was m)
-      (propagation_in now was.mount.number)
-      (ap is_unbindable (told was.mount.number)
+      (propagation_in now was.mount.number) (ap is_unbindable (told was.mount.number)
       ∙ bindable_once_ended before (lone_group before number)
       (if nat_eq was.mount.number number then as_slave (propagation_in before number)
-      else propagation_in before was.mount.number)
-      ∙ by was.mount.number (nat_eq was.mount.number number) refl)))
+      else propagation_in before was.mount.number) ∙ by was.mount.number (nat_eq was.mount.number number) refl)))
     where
       by : (other : ℕ) (b : Bool) → nat_eq other number ≡ b
           → is_unbindable (if b then as_slave (propagation_in before number) else propagation_in before other)
           ≡ is_unbindable (propagation_in before other)
-      by other true same =
-          bindable_slave (propagation_in before number)
+      by other true same = bindable_slave (propagation_in before number)
           ∙ ap (λ n. is_unbindable (propagation_in before n)) (sym (eqb-true other number same))
       by other false apart = refl
 
@@ -280,8 +261,7 @@ map_fixed f (y ∷ ys) is x m =
 
 all_typed : (groups : Grouping) (entries : List MountEntry) → map (typed_entry groups) entries ≡ entries
     → AreTypedBut groups [] entries
-all_typed groups entries is =
-    all_from_among (λ (entry : MountEntry). is_among nat_eq entry.mount.number [] ≡ false
+all_typed groups entries is = all_from_among (λ (entry : MountEntry). is_among nat_eq entry.mount.number [] ≡ false
     → typed_entry groups entry ≡ entry) entries (λ entry m apart. map_fixed (typed_entry groups) entries is entry m)
 
 pub slaves_next : (before now : Grouping) (number : ℕ) (first old new : List MountEntry) → ReTyped before first old

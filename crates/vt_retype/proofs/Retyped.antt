@@ -23,13 +23,10 @@ module _ (groups : Grouping) (numbers : List ℕ) (number : ℕ) where
   told entry = with_kind (propagation_in groups entry.mount.number) entry
 
   -- one more is shared
-  shared_more : (entry : MountEntry)
-      → (if nat_eq number (shared_by groups numbers entry).mount.number
+  shared_more : (entry : MountEntry) → (if nat_eq number (shared_by groups numbers entry).mount.number
       then with_kind (propagation_in groups number) (shared_by groups numbers entry)
-      else shared_by groups numbers entry)
-      ≡ shared_by groups (numbers ++ number ∷ []) entry
-  shared_more entry =
-      by (is_among nat_eq entry.mount.number numbers) (nat_eq number entry.mount.number) refl
+      else shared_by groups numbers entry) ≡ shared_by groups (numbers ++ number ∷ []) entry
+  shared_more entry = by (is_among nat_eq entry.mount.number numbers) (nat_eq number entry.mount.number) refl
       ∙ sym (ap (λ b. if b then told entry else entry) (is_among-snoc entry.mount.number number numbers))
     where
       same : nat_eq number entry.mount.number ≡ true
@@ -41,16 +38,13 @@ module _ (groups : Grouping) (numbers : List ℕ) (number : ℕ) where
           then with_kind (propagation_in groups number) (if a then told entry else entry)
           else (if a then told entry else entry))
           ≡ (if a || nat_eq entry.mount.number number then told entry else entry)
-      by true true is =
-          ap (λ b. if b then with_kind (propagation_in groups number) (told entry) else told entry) is
+      by true true is = ap (λ b. if b then with_kind (propagation_in groups number) (told entry) else told entry) is
           ∙ ap (λ kind. with_kind kind (told entry)) (same is)
       by true false is = ap (λ b. if b then with_kind (propagation_in groups number) (told entry) else told entry) is
-      by false true is =
-          ap (λ b. if b then with_kind (propagation_in groups number) entry else entry) is
+      by false true is = ap (λ b. if b then with_kind (propagation_in groups number) entry else entry) is
           ∙ ap (λ kind. with_kind kind entry) (same is)
           ∙ sym (ap (λ b. if b then told entry else entry) (nat_eq-swapped number entry.mount.number true is))
-      by false false is =
-          ap (λ b. if b then with_kind (propagation_in groups number) entry else entry) is
+      by false false is = ap (λ b. if b then with_kind (propagation_in groups number) entry else entry) is
           ∙ sym (ap (λ b. if b then told entry else entry) (nat_eq-swapped number entry.mount.number false is))
 
   pub changed-shared : (entries : List MountEntry)
@@ -60,21 +54,17 @@ module _ (groups : Grouping) (numbers : List ℕ) (number : ℕ) where
   changed-shared (entry ∷ entries) = λ i. shared_more entry i ∷ changed-shared entries i
 
 module _ (groups : Grouping) (old now new : List MountEntry) (named : List (MountId × GroupId)) (i : ℕ)
-    (default : MountId × GroupId)
-    (less : i < length named) (kind : Propagation ℕ)
+    (default : MountId × GroupId) (less : i < length named) (kind : Propagation ℕ)
     (told : kind ≡ propagation_in groups (counted (get_or named i default).0.count)) where
   pub shared_next : new ≡ changed (counted (get_or named i default).0.count) (with_kind kind) now
       → now ≡ map (shared_by groups (map (λ pair. counted pair.0.count) (take i named))) old
       → new ≡ map (shared_by groups (map (λ pair. counted pair.0.count) (take (i + 1) named))) old
-  shared_next next sofar =
-      next
+  shared_next next sofar = next
       ∙ (λ j. changed (counted (get_or named i default).0.count) (with_kind (told j)) (sofar j))
       ∙ changed-shared groups (map (λ pair. counted pair.0.count) (take i named))
-      (counted (get_or named i default).0.count) old
-      ∙ ap (λ numbers. map (shared_by groups numbers) old)
+      (counted (get_or named i default).0.count) old ∙ ap (λ numbers. map (shared_by groups numbers) old)
       (sym (map-append (λ (pair : MountId × GroupId). counted pair.0.count) (take i named)
-      (get_or named i default ∷ []))
-      ∙ ap (map (λ pair. counted pair.0.count)) (sym (take_more named i default less)))
+      (get_or named i default ∷ [])) ∙ ap (map (λ pair. counted pair.0.count)) (sym (take_more named i default less)))
 
 -- one more has the type that it is given
 pub typed_next : (old now new : List MountEntry) (types : List Mount) (i : ℕ) (default : Mount) → i < length types
@@ -91,7 +81,6 @@ none_shared groups (entry ∷ entries) = ap (λ rest. entry ∷ rest) (none_shar
 -- where each mount has the type that the groups tell, it has it
 pub typed_already : (groups : Grouping) (entries : List MountEntry) → AreTypedBut groups [] entries
     → entries ≡ map (typed_entry groups) entries
-typed_already groups entries typed =
-    sym (map_same (typed_entry groups) entries (λ entry m.
+typed_already groups entries typed = sym (map_same (typed_entry groups) entries (λ entry m.
     among_from_all (λ (one : MountEntry). is_among nat_eq one.mount.number [] ≡ false
     → typed_entry groups one ≡ one) entries typed entry m refl))

@@ -72,8 +72,7 @@ module _ (groups : Grouping) where
   pub sourceless_once_ended : (lost : Option ℕ) (kind : Propagation ℕ) → source_of kind ≡ None
       → type_once_ended groups lost kind ≡ kind
   sourceless_once_ended None kind none = refl
-  sourceless_once_ended (Some lost) kind none =
-      others_after_end lost (master_in groups lost) kind
+  sourceless_once_ended (Some lost) kind none = others_after_end lost (master_in groups lost) kind
       (λ some. true≢false (ap is_some (sym some ∙ none)))
 
 -- One mount among all
@@ -102,8 +101,7 @@ module _ (number : ℕ) where
   absent_unchanged change (entry ∷ rest) none =
       by (nat_eq number entry.mount.number) none (absent_unchanged change rest)
     where
-      by : (b : Bool)
-          → cond b (Some entry.mount) (find (λ mount. nat_eq number mount.number) (mounts_in rest)) ≡ None
+      by : (b : Bool) → cond b (Some entry.mount) (find (λ mount. nat_eq number mount.number) (mounts_in rest)) ≡ None
           → (find (λ mount. nat_eq number mount.number) (mounts_in rest) ≡ None → rest ≡ changed number change rest)
           → entry ∷ rest ≡ cond b (change entry) entry ∷ changed number change rest
       by true is later = absurd (true≢false (ap is_some is))
@@ -149,8 +147,7 @@ module _ (numbers : List ℕ) (lost : ℕ) (heir : Option ℕ) (number : ℕ) wh
   handed_first : (entry : MountEntry)
       → after_end_of numbers lost heir (if nat_eq number entry.mount.number then after_end lost heir entry else entry)
       ≡ after_end_of (number ∷ numbers) lost heir entry
-  handed_first entry =
-      by (nat_eq number entry.mount.number) refl (is_among nat_eq entry.mount.number numbers) refl
+  handed_first entry = by (nat_eq number entry.mount.number) refl (is_among nat_eq entry.mount.number numbers) refl
     where
       by : (b : Bool) → nat_eq number entry.mount.number ≡ b → (a : Bool) → is_among nat_eq entry.mount.number numbers ≡ a
           → after_end_of numbers lost heir (if nat_eq number entry.mount.number then after_end lost heir entry else entry)
@@ -166,8 +163,7 @@ module _ (numbers : List ℕ) (lost : ℕ) (heir : Option ℕ) (number : ℕ) wh
           ∙ ap (λ b. if b then after_end lost heir (after_end lost heir entry) else after_end lost heir entry) among
           ∙ sym (ap (λ b. if b || is_among nat_eq entry.mount.number numbers then after_end lost heir entry else entry)
           (nat_eq-swapped number entry.mount.number true is))
-      by false is a among =
-          ap (λ b. after_end_of numbers lost heir (if b then after_end lost heir entry else entry)) is
+      by false is a among = ap (λ b. after_end_of numbers lost heir (if b then after_end lost heir entry else entry)) is
           ∙ sym (ap (λ b. if b || is_among nat_eq entry.mount.number numbers then after_end lost heir entry else entry)
           (nat_eq-swapped number entry.mount.number false is))
 
@@ -217,8 +213,7 @@ module _ (groups : Grouping) (mount : ℕ) (entries : List MountEntry) where
           → (if b then after_end lost (master_in groups lost) entry else entry)
           ≡ after_end lost (master_in groups lost) entry
       by entry m true is = refl
-      by entry m false is =
-          sym (ap (λ kind. with_kind kind entry)
+      by entry m false is = sym (ap (λ kind. with_kind kind entry)
           (others_after_end lost (master_in groups lost) entry.mount.propagation (λ source.
           true≢false (sym (listed entry.mount.number
           (among_from_all (λ (one : MountEntry). (group : ℕ) → source_of one.mount.propagation ≡ Some group

@@ -10,8 +10,7 @@ module _ {A : Type 0} (next : A → Option A) (test : A → Bool) where
   any_first zero a = refl
   any_first (suc most) a = by (next a)
     where
-      by : (above : Option A)
-          → list_any test (elim above [ None ↦ a ∷ [] | Some b ↦ a ∷ chain most next b ])
+      by : (above : Option A) → list_any test (elim above [ None ↦ a ∷ [] | Some b ↦ a ∷ chain most next b ])
           ≡ (test a || list_any test (rest_of (elim above [ None ↦ a ∷ [] | Some b ↦ a ∷ chain most next b ])))
       by None = refl
       by (Some b) = refl
@@ -38,14 +37,11 @@ module _ {A : Type 0} (next : A → Option A) (test : A → Bool) where
   -- a place that does not pass, under another
   pub any_above : (most : ℕ) (a b : A) → next a ≡ Some b → test a ≡ false
       → list_any test (chain (suc most) next a) ≡ list_any test (chain most next b)
-  any_above most a b above is =
-      any_first (suc most) a
-      ∙ ap (λ first. first || list_any test (rest_of (chain (suc most) next a))) is
-      ∙ rest_above most a b above
+  any_above most a b above is = any_first (suc most) a
+      ∙ ap (λ first. first || list_any test (rest_of (chain (suc most) next a))) is ∙ rest_above most a b above
 
   -- a place above which another does not pass
   pub rest_more : (most : ℕ) (a b : A) → next a ≡ Some b → test b ≡ false
       → list_any test (rest_of (chain (suc most) next a)) ≡ list_any test (rest_of (chain most next b))
-  rest_more most a b above is =
-      rest_above most a b above ∙ any_first most b
+  rest_more most a b above is = rest_above most a b above ∙ any_first most b
       ∙ ap (λ first. first || list_any test (rest_of (chain most next b))) is

@@ -27,8 +27,7 @@ refused_before call task (Err refusal) deny e = inl cc
 
 -- want of memory for the receivers, before what is asked after them: ENOSPC of mount(2)
 pub no_receivers : (call : Call) (task : Task ℕ) (judged : Judgement ℕ) (overfull : Bool) (permit : Permit ℕ)
-    (deny : Deny)
-    → IsAfterReceivers call (denial M9)
+    (deny : Deny) → IsAfterReceivers call (denial M9)
     → judged ≡ unless ((overfull, M9) ∷ []) (Ok permit) → deny ≡ denial S5
     → JudgesByReceivers call task judged (Err deny)
 no_receivers call task (Ok other) overfull permit deny late e memory = memory

@@ -39,12 +39,10 @@ module _ (looks : Looks ℕ) (task : Task ℕ) (from to : Place ℕ) (old : Loca
 
   -- each table in turn
   pub kind_refused : (deny : Deny) → Stops kinds deny → judged ≡ Err deny
-  kind_refused deny stops =
-      one_by_one kinds (ways ++ (rights ++ layers)) (Ok tt) ∙ unless-stopped kinds _ deny stops
+  kind_refused deny stops = one_by_one kinds (ways ++ (rights ++ layers)) (Ok tt) ∙ unless-stopped kinds _ deny stops
 
   way_left : Passes kinds → judged ≡ unless ways (unless (rights ++ layers) (Ok tt))
-  way_left kind =
-      one_by_one kinds (ways ++ (rights ++ layers)) (Ok tt) ∙ unless-let_through kinds _ kind
+  way_left kind = one_by_one kinds (ways ++ (rights ++ layers)) (Ok tt) ∙ unless-let_through kinds _ kind
       ∙ one_by_one ways (rights ++ layers) (Ok tt)
 
   pub way_refused : (deny : Deny) → Passes kinds → Stops ways deny → judged ≡ Err deny

@@ -6,8 +6,7 @@ use Rattle.vt_spec.specs.Language.Script.{Version}
 use Rattle.vt_run.specs.Answered.{AnswersKnown}
 
 -- a value is known as before its error was mapped
-pub known_mapped :
-    {A E F : Type 0} (Q : E → Type 0) (old : Result A E) (new : Result A F) (value : A) (P : A → Type 0)
+pub known_mapped : {A E F : Type 0} (Q : E → Type 0) (old : Result A E) (new : Result A F) (value : A) (P : A → Type 0)
     → MatchResult old (λ a. new ≡ Ok a) Q → is_ok new ≡ is_ok old → new ≡ Ok value → IfOk old P → P value
 known_mapped Q (Ok a) new value P cases variant is known =
     let both : Ok a ≡ Ok value = sym cases ∙ is in
@@ -29,7 +28,6 @@ pub handed_on :
     → kept_back ≡ held_back → Keeps kept_back after → AnswersKnown version script before after
 handed_on version {source} {begun} {held_back} {kept_back} script before after answers same empty back kept =
     λ bytes held is_script short is_before.
-    let was : begun ≡ Some held =
-    empty ∙ ap (λ b. append_known b []) is_before ∙ ap Some (append-nil held) in
+    let was : begun ≡ Some held = empty ∙ ap (λ b. append_known b []) is_before ∙ ap Some (append-nil held) in
     let told = answers bytes held (same ∙ is_script) short was in
     (told.0, told.1, known_kept kept_back after _ (back ∙ told.2) kept)

@@ -152,24 +152,22 @@ module _ {W : Type 0} (version : Version) (sink : Ghosts W) where
 
   -- the reply to a line that is no request, or was refused memory
   pub replies_unread : {T E : Type 0} (r : Result T E) (world : World ℕ) (line : List ℕ) (number : ℕ) (deny : Deny)
-      (x y : W) → HasNumbers world →
-      (deny ≡ denial S1) ⊎ (deny ≡ denial S5) →
+      (x y : W) → HasNumbers world → (deny ≡ denial S1) ⊎ (deny ≡ denial S5) →
       (deny ≡ denial S1 → (longest_line < length line) ⊎ (IsSpoken line × (request_of (overlays version) line ≡ None)))
       → (deny ≡ denial S5 → IsSpoken line × IsSomeAnd (request_of (overlays version) line) words.TakesMemory) →
       Prints sink (reply_line number (Err deny)) r x y → Replies sink version world line number r world x y
-  replies_unread r world line number deny x y some refused bad memory wrote =
-      elim refused [
-        | inl is ↦ elim (bad is) [
-          | inl long ↦ replies_denied r world line number (Some some.0) deny x y some some.1
-              (step_too_long version world line (Some some.0.new) (grind (arith, nat_tests))
-              ∙ ap (λ d. Answered (denied world d)) (sym is)) wrote
-          | inr none ↦ replies_denied r world line number (Some some.0) deny x y some some.1
-              (step_spoken version world line some.0.new None none.0 none.1
-              ∙ ap (λ d. Answered (denied world d)) (sym is)) wrote
-        ]
-        | inr is ↦ replies_denied r world line number None deny x y some (words_take (request_of (overlays version) line) (memory is).1)
-            (step_refused version world line (memory is).0 ∙ ap (λ d. Answered (denied world d)) (sym is)) wrote
-      ]
+  replies_unread r world line number deny x y some refused bad memory wrote = elim refused [
+    | inl is ↦ elim (bad is) [
+      | inl long ↦ replies_denied r world line number (Some some.0) deny x y some some.1
+          (step_too_long version world line (Some some.0.new) (grind (arith, nat_tests))
+          ∙ ap (λ d. Answered (denied world d)) (sym is)) wrote
+      | inr none ↦ replies_denied r world line number (Some some.0) deny x y some some.1
+          (step_spoken version world line some.0.new None none.0 none.1
+          ∙ ap (λ d. Answered (denied world d)) (sym is)) wrote
+    ]
+    | inr is ↦ replies_denied r world line number None deny x y some (words_take (request_of (overlays version) line) (memory is).1)
+        (step_refused version world line (memory is).0 ∙ ap (λ d. Answered (denied world d)) (sym is)) wrote
+  ]
 
   module _ {V : Type 0} (seen : V → World ℕ) where
     -- the reply to a call that met its outcome, and that answers as the policy if it takes no memory

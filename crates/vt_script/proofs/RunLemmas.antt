@@ -16,16 +16,14 @@ use Rattle.vt_script.specs.Session.{step_of}
 -- a line ends at its newline
 pub lines_of-newline : (line more : List ℕ) → HasNoNewline line → lines_of (line ++ 10 ∷ more) ≡ line ∷ lines_of more
 lines_of-newline [] more whole = refl
-lines_of-newline (byte ∷ line) more whole =
-    ap (λ b. with_line_byte b byte (lines_of (line ++ 10 ∷ more))) whole.0
+lines_of-newline (byte ∷ line) more whole = ap (λ b. with_line_byte b byte (lines_of (line ++ 10 ∷ more))) whole.0
     ∙ ap (with_line_byte false byte) (lines_of-newline line more whole.1)
 
 -- a last line without a newline is one too
 pub lines_of-last : (byte : ℕ) (line : List ℕ) → HasNoNewline (byte ∷ line)
     → lines_of (byte ∷ line) ≡ (byte ∷ line) ∷ []
 lines_of-last byte [] whole = ap (λ b. with_line_byte b byte []) whole.0
-lines_of-last byte (next ∷ line) whole =
-    ap (λ b. with_line_byte b byte (lines_of (next ∷ line))) whole.0
+lines_of-last byte (next ∷ line) whole = ap (λ b. with_line_byte b byte (lines_of (next ∷ line))) whole.0
     ∙ ap (with_line_byte false byte) (lines_of-last next line whole.1)
 
 not_newline : (byte : ℕ) → byte ≢ 10 → (byte == 10) ≡ false
@@ -50,8 +48,7 @@ cut_at_newline bytes front back rest n within newline before is_prefix is_back i
     let low : k < n = omega (arith, below, length-take n bytes) in
     λ e. before k low (sym (get_or-take n bytes k 0 low) ∙ e) in (
       sym (take-append-drop n bytes) ∙ ap (λ back. take n bytes ++ back) at
-          ∙ ap (λ rest. take n bytes ++ 10 ∷ rest) (sym whole)
-          ∙ ap (λ front. front ++ 10 ∷ rest) (sym is_prefix),
+          ∙ ap (λ rest. take n bytes ++ 10 ∷ rest) (sym whole) ∙ ap (λ front. front ++ 10 ∷ rest) (sym is_prefix),
       subst HasNoNewline (sym is_prefix) (HasNoNewline-each (take n bytes) other),
     )
 
@@ -205,8 +202,7 @@ runs_refused moment world none takes same = record {
   goes_on = λ more later rest told.
       subst (λ lines. TellsAlike (overlays moment.version) may_be_given moment.world (moment.answered + 1) lines (true ∷ later)
       (step_text (moment.answered + 1) (step_of moment.version moment.world moment.line None) ++ rest))
-      (sym (line_then moment.line more none))
-      (world, same, rest, refl, told);
+      (sym (line_then moment.line more none)) (world, same, rest, refl, told);
 }
 
 -- a newline answers the line, to which numbers were handed that serve the world
@@ -225,8 +221,7 @@ runs_spoken moment allotment world serves none same = record {
   goes_on = λ more later rest told.
       subst (λ lines. TellsAlike (overlays moment.version) may_be_given moment.world (moment.answered + 1) lines (false ∷ later)
       (step_text (moment.answered + 1) (step_of moment.version moment.world moment.line (Some allotment)) ++ rest))
-      (sym (line_then moment.line more none))
-      (allotment, serves, world, same, rest, refl, told);
+      (sym (line_then moment.line more none)) (allotment, serves, world, same, rest, refl, told);
 }
 
 -- the text of the lines that ended

@@ -32,15 +32,13 @@ module _ {W : Type 0} (sink : Ghosts W) where
   -- nothing was read yet
   pub fed_nothing : (state : State) (line : List ℕ) (x : W) → IsReading state line
       → Fed sink (moment state line) [] state x x
-  fed_nothing state line x reading =
-      record {
-        line = line;
-        text = [];
-        reading = reading;
-        runs = stays
-            (moment state line);
-        wrote = Wrote-nothing sink x;
-      }
+  fed_nothing state line x reading = record {
+    line = line;
+    text = [];
+    reading = reading;
+    runs = stays (moment state line);
+    wrote = Wrote-nothing sink x;
+  }
 
   -- what was read one after another
   pub fed_then : (old : Moment) (read more : List ℕ) (middle new : State) (x y z : W)
@@ -113,9 +111,7 @@ module _ {W : Type 0} (sink : Ghosts W) where
   -- a line that was answered at its newline
   pub fed_line : (old new : State) (line : List ℕ) (x y : W) → IsReading old line
       → Replied sink old.version old.world line (old.answered + 1) new.world x y → new.version ≡ old.version
-      → new.answered ≡ old.answered + 1
-      → Holds [] new.kept →
-      Fed sink (moment old line) (10 ∷ []) new x y
+      → new.answered ≡ old.answered + 1 → Holds [] new.kept → Fed sink (moment old line) (10 ∷ []) new x y
   fed_line old new line x y reading replied version answered held =
       let step = step_of old.version old.world line replied.handed in
       let same : moment new [] ≡ after_line (moment old line) new.world = same_moment version refl answered refl in
@@ -233,8 +229,7 @@ begun_of_some [] some = absurd (some refl)
 begun_of_some (byte ∷ line) some = refl
 
 pub lines_begun-grows : (old new : State) (bytes : List ℕ) → new.answered ≡ old.answered
-    → new.kept.bytes ≡ take 8192 (old.kept.bytes ++ bytes)
-    → lines_begun new ≤ lines_begun old + length bytes
+    → new.kept.bytes ≡ take 8192 (old.kept.bytes ++ bytes) → lines_begun new ≤ lines_begun old + length bytes
 lines_begun-grows old new bytes answered kept =
     let longer : length new.kept.bytes ≤ length old.kept.bytes + length bytes =
     omega (arith, ap length kept, length-take 8192 (old.kept.bytes ++ bytes), length-append old.kept.bytes bytes) in

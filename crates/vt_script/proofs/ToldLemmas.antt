@@ -41,8 +41,7 @@ module _ {version : Version} {first : Moment} (opens : IsOpening version first) 
       TellsAlike (overlays first.version) may_be_given first.world (first.answered + 1) (lines_of script) refused text
       → text ≡ script_text_as version refused script
   unfolding script_text_as
-  one_text script refused text told =
-      every_program_has_one_text (overlays version) refused script text opens.0 opens.1
+  one_text script refused text told = every_program_has_one_text (overlays version) refused script text opens.0 opens.1
       (subst (λ (moment : Moment). TellsAlike (overlays moment.version) may_be_given moment.world (moment.answered + 1)
       (lines_of script) refused text) opens.2 told)
 
@@ -80,8 +79,7 @@ module _ {version : Version} {first : Moment} (opens : IsOpening version first) 
       (runs.refused ++ refused) (text ++ last) = runs.goes_on new.line refused last told in (
         runs.refused ++ refused,
         rw lines (MayBeRefused-append version (lines_of runs.ended) (lines_of new.line) runs.refused refused
-            (may_be_in (lines_of runs.ended) runs.refused runs.may_be)
-            (may_be_in (lines_of new.line) refused
+            (may_be_in (lines_of runs.ended) runs.refused runs.may_be) (may_be_in (lines_of new.line) refused
             (subst (λ spoken. MayBeRefusedIn spoken (lines_of new.line) refused) runs.version may_be))),
         one_text (runs.ended ++ new.line) (runs.refused ++ refused) (text ++ last) all
             ∙ ap (script_text_as version (runs.refused ++ refused)) (sym (parts script text new runs)),
@@ -107,8 +105,7 @@ module _ {version : Version} {first : Moment} (opens : IsOpening version first) 
         ap (λ xs. text_from (overlays version) first_world 1 xs (runs.refused ++ pad)) lines ∙ front.1
             ∙ ap (λ xs. xs ++ front.0) (text_from-padded version first_world 1
             (lines_of runs.ended) runs.refused pad (MayBeRefused-length version (lines_of runs.ended) runs.refused
-            (may_be_in (lines_of runs.ended) runs.refused runs.may_be)))
-            ∙ ap (λ xs. xs ++ front.0) (sym
+            (may_be_in (lines_of runs.ended) runs.refused runs.may_be))) ∙ ap (λ xs. xs ++ front.0) (sym
             (one_text runs.ended runs.refused text (told_whole first read text new runs))),
       )
 
@@ -163,8 +160,7 @@ module _ {version : Version} {first : Moment} (opens : IsOpening version first) 
         (moment state fed.line) fed.runs closed.told.refused closed.text closed.told.tells closed.told.may_be in (
           told.0,
           told.1,
-          (Wrote-append sink fed.wrote closed.wrote).appended tells
-              ∙ ap (λ text. sink.written x ++ text) told.2,
+          (Wrote-append sink fed.wrote closed.wrote).appended tells ∙ ap (λ text. sink.written x ++ text) told.2,
         )
 
     -- how a run ends that read all of its script

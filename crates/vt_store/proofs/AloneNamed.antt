@@ -34,8 +34,7 @@ none_passes test one only fails (first ∷ rest) = by (test first) refl (none_pa
 one_passes : (test : ℕ → Bool) (one : ℕ) → test one ≡ true → (list : List ℕ) → is_among nat_eq one list ≡ true
     → list_any test list ≡ true
 one_passes test one passes [] among = absurd (true≢false (sym among))
-one_passes test one passes (first ∷ rest) among =
-    by (nat_eq one first) refl among (one_passes test one passes rest)
+one_passes test one passes (first ∷ rest) among = by (nat_eq one first) refl among (one_passes test one passes rest)
   where
     later : (b : Bool) → list_any test rest ≡ true → (b || list_any test rest) ≡ true
     later true e = refl
@@ -75,8 +74,7 @@ nodes_found trees count tree is number = by (entry_of trees count) refl is
         let same = eqb-true count entry.count
         (found_passes (λ (one : FilesystemEntry). nat_eq count one.count) trees entry e) in
         (λ i. option_map (node_seen (same i))
-        ((tree_of (same_Some tree entry.tree f i)).node (exchanged (same i) number)))
-        ∙ node_numbered entry.count _
+        ((tree_of (same_Some tree entry.tree f i)).node (exchanged (same i) number))) ∙ node_numbered entry.count _
         ∙ sym (ap (λ o. (files_seen (unwrap_or o (no_entry count))).tree.node number) e)
 
 seen_targets : (count : ℕ) (o : Option (Node ℕ)) (slot : ℕ)
@@ -85,8 +83,7 @@ seen_targets : (count : ℕ) (o : Option (Node ℕ)) (slot : ℕ)
 seen_targets count None slot = refl
 seen_targets count (Some node) slot =
     sym (some_ranked (exchanged count slot) (entries_in (Some (node_seen count node))))
-    ∙ sym (ap is_some (ranked_seen count node slot 0))
-    ∙ some_ranked slot (entries_of node.content)
+    ∙ sym (ap is_some (ranked_seen count node slot 0)) ∙ some_ranked slot (entries_of node.content)
 
 -- what has an entry is there
 has_node : (object : ℕ) (o : Option (Node ℕ)) → is_among nat_eq object (targets_in o) ≡ true → is_some o ≡ true
@@ -99,48 +96,40 @@ module _ (plain : Filesystems) (overlays : List OverlayEntry) (count : ℕ) (tre
     (alone : AloneNames (tree_of tree) slot directory) where
   entry_seen : (number : ℕ) → has_entry_to nat_eq (files_at plain count).tree number (inode_number count slot)
       ≡ has_entry_to nat_eq (tree_of tree) (exchanged count number) slot
-  entry_seen number =
-      (λ i. is_among nat_eq (sym (exchanged_slot count slot small) i)
+  entry_seen number = (λ i. is_among nat_eq (sym (exchanged_slot count slot small) i)
       (targets_in (sym (nodes_found plain count tree is number) i)))
       ∙ seen_targets count ((tree_of tree).node (exchanged count number)) slot
 
   named : has_entry_to nat_eq (files_at plain count).tree (exchanged count directory) (inode_number count slot) ≡ true
-  named =
-      entry_seen (exchanged count directory)
+  named = entry_seen (exchanged count directory)
       ∙ ap (λ n. has_entry_to nat_eq (tree_of tree) n slot) (exchanged_back count directory) ∙ alone.0
 
   abbrev test : ℕ → Bool
   test = names_in_layer plain overlays count (inode_number count slot)
 
   only : (number : ℕ) → test number ≡ true → number ≡ exchanged count directory
-  only number passes =
-      by (has_entry_to nat_eq (files_at plain count).tree number (inode_number count slot)) refl passes
+  only number passes = by (has_entry_to nat_eq (files_at plain count).tree number (inode_number count slot)) refl passes
     where
       by : (b : Bool) → has_entry_to nat_eq (files_at plain count).tree number (inode_number count slot) ≡ b
           → (b && list_any (directory_lies_in_overlay plain count number) overlays) ≡ true
           → number ≡ exchanged count directory
-      by true e passes =
-          sym (exchanged_back count number)
+      by true e passes = sym (exchanged_back count number)
           ∙ ap (exchanged count) (alone.1 (exchanged count number) (sym (entry_seen number) ∙ e))
       by false e passes = absurd (true≢false (sym passes))
 
   listed : is_among nat_eq (exchanged count directory) (files_at plain count).numbers ≡ true
-  listed =
-      numbers_listed (entry_at plain count) (exchanged count directory)
+  listed = numbers_listed (entry_at plain count) (exchanged count directory)
       ∙ has_node (inode_number count slot) ((files_at plain count).tree.node (exchanged count directory)) named
 
   -- so the directory decides
   pub alone_decides : list_any (directory_lies_in_overlay plain count (exchanged count directory)) overlays
       ≡ list_any test (files_at plain count).numbers
-  alone_decides =
-      sym (any_one test (exchanged count directory) only (files_at plain count).numbers listed
+  alone_decides = sym (any_one test (exchanged count directory) only (files_at plain count).numbers listed
       ∙ ap (λ b. b && list_any (directory_lies_in_overlay plain count (exchanged count directory)) overlays) named)
 
   -- its slot is one of the tree
   pub alone_small : ((id : ℕ) → 18446744073709551616 ≤ id → (tree_of tree).node id ≡ None)
       → directory < 18446744073709551616
-  alone_small fits =
-      ⊎_elim (λ less. less)
+  alone_small fits = ⊎_elim (λ less. less)
       (λ large. absurd (true≢false (sym (has_node slot ((tree_of tree).node directory) alone.0)
-      ∙ ap is_some (fits directory large))))
-      (cases_lt directory 18446744073709551616)
+      ∙ ap is_some (fits directory large)))) (cases_lt directory 18446744073709551616)

@@ -15,8 +15,7 @@ use Rattle.vt_store.specs.OverlaysValue.{OverlayEntry}
 any-fewer : {X : Type 0} (p q : X → Bool) → ((x : X) → p x ≡ false → q x ≡ false) → (xs : List X)
     → list_any p xs ≡ false → list_any q xs ≡ false
 any-fewer p q less [] none = refl
-any-fewer p q less (x ∷ xs) none =
-    ap (λ b. b || list_any q xs) (less x (or_false_left (p x) (list_any p xs) none))
+any-fewer p q less (x ∷ xs) none = ap (λ b. b || list_any q xs) (less x (or_false_left (p x) (list_any p xs) none))
     ∙ any-fewer p q less xs (or_false_right (p x) (list_any p xs) none)
 
 module _ {D : Type 0} (has : D → Bool) where
@@ -30,8 +29,7 @@ module _ {D : Type 0} (has : D → Bool) where
   any-or : (p q : D → Bool) (ds : List D) → (list_any (λ d. has d && p d) ds || list_any (λ d. has d && q d) ds)
       ≡ list_any (λ d. has d && (p d || q d)) ds
   any-or p q [] = refl
-  any-or p q (d ∷ ds) =
-      each_or (has d) (p d) (q d) (list_any (λ d. has d && p d) ds) (list_any (λ d. has d && q d) ds)
+  any-or p q (d ∷ ds) = each_or (has d) (p d) (q d) (list_any (λ d. has d && p d) ds) (list_any (λ d. has d && q d) ds)
       ∙ ap (λ b. has d && (p d || q d) || b) (any-or p q ds)
 
   never : (ds : List D) → list_any (λ d. has d && false) ds ≡ false
@@ -53,16 +51,14 @@ module _ {D : Type 0} (has : D → Bool) where
   pub any-swapped : {X : Type 0} (test : X → D → Bool) (xs : List X) (ds : List D)
       → list_any (λ x. list_any (λ d. has d && test x d) ds) xs ≡ list_any (λ d. has d && list_any (λ x. test x d) xs) ds
   any-swapped test [] ds = sym (never ds)
-  any-swapped test (x ∷ xs) ds =
-      ap (λ b. list_any (λ d. has d && test x d) ds || b) (any-swapped test xs ds)
+  any-swapped test (x ∷ xs) ds = ap (λ b. list_any (λ d. has d && test x d) ds || b) (any-swapped test xs ds)
       ∙ any-or (test x) (λ d. list_any (λ x. test x d) xs) ds
 
 -- nothing lies in a layer of a filesystem that has none
 pub none_stands : (plain : Filesystems) (count number : ℕ) (overlays : List OverlayEntry)
     → list_any (overlay_stands_in count) overlays ≡ false
     → list_any (lies_in_overlay plain count number) overlays ≡ false
-none_stands plain count number =
-    any-fewer (overlay_stands_in count) (lies_in_overlay plain count number)
+none_stands plain count number = any-fewer (overlay_stands_in count) (lies_in_overlay plain count number)
     (λ entry. any-fewer (stands_in count) (lies_in plain count number)
     (λ layer none. ap (λ b. b && is_under nat_eq (files_at plain count) (inode_of layer.directory) number) none)
     entry.overlay.lowers)
@@ -73,19 +69,16 @@ module _ (plain : Filesystems) (count file : ℕ) where
 
   -- a file has a name in the directory of a layer, or under it
   abbrev pub file_lies_in : LayerRef → Bool
-  file_lies_in layer =
-      nat_eq count layer.directory.filesystem.count
+  file_lies_in layer = nat_eq count layer.directory.filesystem.count
       && is_file_under nat_eq (files_at plain count) (inode_of layer.directory) file
 
   pub named_in_one : (overlays : List OverlayEntry)
       → list_any (λ (entry : OverlayEntry). list_any file_lies_in entry.overlay.lowers) overlays
       ≡ list_any (names_in_layer plain overlays count file) (files_at plain count).numbers
-  named_in_one overlays =
-      (λ i. list_any (λ (entry : OverlayEntry). list_any (λ (layer : LayerRef).
+  named_in_one overlays = (λ i. list_any (λ (entry : OverlayEntry). list_any (λ (layer : LayerRef).
       any-and names_it (nat_eq count layer.directory.filesystem.count)
       (is_directory_under nat_eq (files_at plain count) (inode_of layer.directory))
-      (files_at plain count).numbers i) entry.overlay.lowers) overlays)
-      ∙ (λ i. list_any (λ (entry : OverlayEntry).
+      (files_at plain count).numbers i) entry.overlay.lowers) overlays) ∙ (λ i. list_any (λ (entry : OverlayEntry).
       any-swapped names_it (λ layer directory. directory_lies_in plain count directory layer) entry.overlay.lowers
       (files_at plain count).numbers i) overlays)
       ∙ any-swapped names_it (λ entry directory. directory_lies_in_overlay plain count directory entry) overlays

@@ -53,8 +53,7 @@ pub first_found : (id first : FilesystemId) (x : KeptOverlay) (es : List (Filesy
 first_found id first x [] at is = absurd cc
 first_found id first x (e ∷ es) at is =
     let here : e ≡ (first, x) = cc in
-    sym (ap (λ e. lookup (is_key id.count) (e ∷ es)) here
-    ∙ ap (λ b. cond b (Some x) (lookup (is_key id.count) es))
+    sym (ap (λ e. lookup (is_key id.count) (e ∷ es)) here ∙ ap (λ b. cond b (Some x) (lookup (is_key id.count) es))
     (eq-eqb id.count first.count (sym (eqb-true first.count id.count is))))
 
 pub none_kept : (es : List (FilesystemId × KeptOverlay)) → length es ≡ 0 → kept_overlays es ≡ []
@@ -66,8 +65,7 @@ some_put : (kept : FilesystemId × KeptOverlay) (es : List (FilesystemId × Kept
 some_put kept [] none = cc
 some_put kept (e ∷ es) none = by (cmp_by count_of kept.0 e.0) none
   where
-    by : (o : Ordering)
-        → ¬ (entries_kept (by_order o (kept ∷ e ∷ es) ((e.0, kept.1) ∷ es)
+    by : (o : Ordering) → ¬ (entries_kept (by_order o (kept ∷ e ∷ es) ((e.0, kept.1) ∷ es)
         (e ∷ put (cmp_by count_of) kept.0 kept.1 es)) ≡ [])
     by Less none = cc
     by Equal none = cc
@@ -99,8 +97,7 @@ module _ (f : ℕ) where
   -- the overlay of a count is changed
   entries-changed : (written : KeptOverlay → KeptOverlay) (change : OverlayEntry → OverlayEntry)
       → ((k : ℕ) (one : KeptOverlay) → of_count k (written one) ≡ change (of_count k one))
-      → (kept : List (FilesystemId × KeptOverlay))
-      → entries_kept (map (change_kept count_of (id_of f) written) kept)
+      → (kept : List (FilesystemId × KeptOverlay)) → entries_kept (map (change_kept count_of (id_of f) written) kept)
       ≡ with_overlay_changed f change (entries_kept kept)
   entries-changed written change so [] = refl
   entries-changed written change so (e ∷ kept) =
@@ -169,11 +166,9 @@ overlay_of-kept f es all o view is =
 
 -- and so many mounts show it
 pub mounts-kept : (f : ℕ) (es : List (FilesystemId × KeptOverlay)) (all : Overlays) (o : Option KeptOverlay)
-    → kept_overlays es ≡ all → o ≡ lookup (is_key f) es
-    → option_map (λ (one : KeptOverlay). one.mounts) o
+    → kept_overlays es ≡ all → o ≡ lookup (is_key f) es → option_map (λ (one : KeptOverlay). one.mounts) o
     ≡ option_map (λ (entry : OverlayEntry). entry.mounts) (entry_kept all f)
-mounts-kept f es all o view is =
-    ap (option_map (λ (one : KeptOverlay). one.mounts)) is ∙ both (lookup (is_key f) es)
+mounts-kept f es all o view is = ap (option_map (λ (one : KeptOverlay). one.mounts)) is ∙ both (lookup (is_key f) es)
     ∙ ap (option_map (λ (entry : OverlayEntry). entry.mounts))
     (sym (entry_kept-kept f es) ∙ ap (λ l. entry_kept l f) view)
   where
@@ -188,8 +183,7 @@ pub writes : {S : Type 0} (f : ℕ) (written : KeptOverlay → KeptOverlay) (cha
     → get_by (is_key f) m ≡ Some x → w ≡ written x
     → ((k : ℕ) (one : KeptOverlay) → of_count k (written one) ≡ change (of_count k one))
     → WritesThrough key_eq (is_key f) m w n → kept_overlays n.entries ≡ with_overlay_changed f change all
-writes f written change m n all x w view there is so through =
-    kept-changed f written change m.entries n.entries so
+writes f written change m n all x w view there is so through = kept-changed f written change m.entries n.entries so
     (changed-by count_of whole (id_of f) written m.entries n.entries x w there is (through.3 some).0)
     ∙ ap (with_overlay_changed f change) view
   where
@@ -199,9 +193,7 @@ writes f written change m n all x w view there is so through =
 pub writes_none : (f : ℕ) (change : OverlayEntry → OverlayEntry) (es new : List (FilesystemId × KeptOverlay))
     (all : Overlays) → kept_overlays es ≡ all
     → lookup (is_key f) es ≡ None → new ≡ es → kept_overlays new ≡ with_overlay_changed f change all
-writes_none f change es new all view absent is =
-    ap kept_overlays is ∙ view
-    ∙ sym (absent_changed f change all
+writes_none f change es new all view absent is = ap kept_overlays is ∙ view ∙ sym (absent_changed f change all
     (ap (λ l. entry_kept l f) (sym view) ∙ entry_kept-kept f es ∙ ap (option_map (of_count f)) absent))
 
 -- A new overlay
@@ -217,14 +209,11 @@ above_entries k [] = refl
 above_entries k (e ∷ kept) = ap (λ b. nat_lt e.0.count k.count && b) (above_entries k kept)
 
 pub added : (es new : List (FilesystemId × KeptOverlay)) (all : Overlays) (k : FilesystemId) (x : KeptOverlay)
-    → kept_overlays es ≡ all
-    → list_all (λ (entry : OverlayEntry). nat_lt entry.count k.count) all ≡ true
+    → kept_overlays es ≡ all → list_all (λ (entry : OverlayEntry). nat_lt entry.count k.count) all ≡ true
     → ((q : FilesystemId) → lookup (key_eq q) new ≡ cond (key_eq k q) (Some x) (lookup (key_eq q) es))
     → kept_overlays new ≡ all ++ kept_overlay (k, x) ∷ []
-added es new all k x view above comes =
-    ap entries_kept (in_order-last count_of whole k x es new last comes)
-    ∙ entries_behind (k, x) (in_order es)
-    ∙ ap (λ l. l ++ kept_overlay (k, x) ∷ []) view
+added es new all k x view above comes = ap entries_kept (in_order-last count_of whole k x es new last comes)
+    ∙ entries_behind (k, x) (in_order es) ∙ ap (λ l. l ++ kept_overlay (k, x) ∷ []) view
   where
     last : is_above count_of k (in_order es) ≡ true
     last = sym (above_entries k (in_order es))
@@ -239,8 +228,7 @@ is_own id kept own one e = own id one (sym e)
 -- still where one is put in under its own,
 pub own_added : (es new : List (FilesystemId × KeptOverlay)) (k : FilesystemId) (x : KeptOverlay) → AreOwn es
     → x.overlay.number ≡ k
-    → ((q : FilesystemId) → lookup (key_eq q) new ≡ cond (key_eq k q) (Some x) (lookup (key_eq q) es))
-    → AreOwn new
+    → ((q : FilesystemId) → lookup (key_eq q) new ≡ cond (key_eq k q) (Some x) (lookup (key_eq q) es)) → AreOwn new
 own_added es new k x own its comes id one e = by (key_eq k id) (eqb-true k.count id.count) (sym (comes id) ∙ e)
   where
     by : (b : Bool) → (b ≡ true → k.count ≡ id.count)
@@ -252,8 +240,7 @@ own_added es new k x own its comes id one e = by (key_eq k id) (eqb-true k.count
 
 -- where one is taken out,
 pub own_removed : (f : ℕ) (es new : List (FilesystemId × KeptOverlay)) → AreOwn es
-    → ((q : FilesystemId) → lookup (key_eq q) new ≡ cond (nat_eq f q.count) None (lookup (key_eq q) es))
-    → AreOwn new
+    → ((q : FilesystemId) → lookup (key_eq q) new ≡ cond (nat_eq f q.count) None (lookup (key_eq q) es)) → AreOwn new
 own_removed f es new own goes id one e = by (nat_eq f id.count) (sym (goes id) ∙ e)
   where
     by : (b : Bool) → cond b None (lookup (key_eq id) es) ≡ Some one → one.overlay.number ≡ id
@@ -271,8 +258,7 @@ own_written f m n x w own there is through id one e =
         → cond b (Some w) (lookup (key_eq id) m.entries) ≡ Some one → one.overlay.number ≡ id
     by true here written =
         let same : w ≡ one = cc in
-        ap (λ (l : KeptOverlay). l.overlay.number) (sym same)
-        ∙ ap (λ (l : OverlayValue). l.number) is
+        ap (λ (l : KeptOverlay). l.overlay.number) (sym same) ∙ ap (λ (l : OverlayValue). l.number) is
         ∙ own (id_of f) x there ∙ whole (id_of f) id (here refl)
     by false here written = own id one written
 
@@ -280,6 +266,5 @@ own_written f m n x w own there is through id one e =
 pub mounts_below : (f most : ℕ) (es : List (FilesystemId × KeptOverlay)) (all : Overlays) (x : KeptOverlay)
     → kept_overlays es ≡ all → lookup (is_key f) es ≡ Some x
     → IfSome (entry_kept all f) (λ (entry : OverlayEntry). entry.mounts < most) → x.mounts < most
-mounts_below f most es all x view there less =
-    subst (λ o. IfSome o (λ (entry : OverlayEntry). entry.mounts < most))
+mounts_below f most es all x view there less = subst (λ o. IfSome o (λ (entry : OverlayEntry). entry.mounts < most))
     (ap (λ l. entry_kept l f) (sym view) ∙ entry_kept-kept f es ∙ ap (option_map (of_count f)) there) less

@@ -18,8 +18,7 @@ module _ (inodes : Inodes ℕ) (test : ℕ → Bool) (here : ℕ) where
   passes_first zero e = ap (λ b. b || false) e
   passes_first (suc left) e = by (up here)
     where
-      by : (o : Option ℕ)
-          → list_any test (elim o [ None ↦ here ∷ [] | Some above ↦ here ∷ chain left up above ]) ≡ true
+      by : (o : Option ℕ) → list_any test (elim o [ None ↦ here ∷ [] | Some above ↦ here ∷ chain left up above ]) ≡ true
       by None = ap (λ b. b || false) e
       by (Some above) = ap (λ b. b || list_any test (chain left up above)) e
 
@@ -27,10 +26,8 @@ module _ (inodes : Inodes ℕ) (test : ℕ → Bool) (here : ℕ) where
   pub passes_root : (left : ℕ) → nat_eq here inodes.root ≡ true → test here ≡ false
       → list_any test (chain left up here) ≡ false
   passes_root zero e fails = ap (λ b. b || false) fails
-  passes_root (suc left) e fails =
-      ap (λ b. list_any test (elim (if b then None else Some parent)
-      [ None ↦ here ∷ [] | Some above ↦ here ∷ chain left up above ])) e
-      ∙ ap (λ b. b || false) fails
+  passes_root (suc left) e fails = ap (λ b. list_any test (elim (if b then None else Some parent)
+      [ None ↦ here ∷ [] | Some above ↦ here ∷ chain left up above ])) e ∙ ap (λ b. b || false) fails
 
   -- and goes on at the parent
   pub passes_above : (left : ℕ) → 0 < left → nat_eq here inodes.root ≡ false → test here ≡ false
@@ -40,5 +37,4 @@ module _ (inodes : Inodes ℕ) (test : ℕ → Bool) (here : ℕ) where
       let one_less : left ≡ suc left - 1 = omega arith in
       ap (λ b. list_any test (elim (if b then None else Some parent)
       [ None ↦ here ∷ [] | Some above ↦ here ∷ chain left up above ])) e
-      ∙ ap (λ b. b || list_any test (chain left up parent)) fails
-      ∙ ap (λ n. list_any test (chain n up parent)) one_less
+      ∙ ap (λ b. b || list_any test (chain left up parent)) fails ∙ ap (λ n. list_any test (chain n up parent)) one_less

@@ -67,8 +67,7 @@ found-shown count (entry ∷ rest) = by (nat_eq count entry.count) (found-shown 
     by false later = later
 
 pub mounts_are_shown : (count : ℕ) (fs : Filesystems) → (entry_at fs count).mounts ≡ mounts_shown count (shown fs)
-mounts_are_shown count fs =
-    by (entry_of fs count)
+mounts_are_shown count fs = by (entry_of fs count)
     ∙ ap (λ o. unwrap_or (option_map (λ (one : Shown). one.mounts) o) 0) (sym (found-shown count fs))
   where
     by : (o : Option FilesystemEntry) → (unwrap_or o (no_entry count)).mounts
@@ -78,8 +77,7 @@ mounts_are_shown count fs =
 
 pub uses_are_shown : (count number : ℕ) (fs : Filesystems)
     → uses_in ((inodes_at fs count).inode number) ≡ uses_shown count number (shown fs)
-uses_are_shown count number fs =
-    by (entry_of fs count)
+uses_are_shown count number fs = by (entry_of fs count)
     ∙ ap (λ o. unwrap_or (option_map (λ (one : Shown). uses_in (one.inodes.inode number)) o) 0)
     (sym (found-shown count fs))
   where
@@ -102,16 +100,14 @@ module _ (layer : LayerRef) (at : NodeRef) (is : IsAt layer at) where
   pub layer_pinned : (old mid : Filesystems)
       → ChangesInodes at.filesystem.count (λ inodes. pinned nat_eq inodes (number_of at)) old mid
       → shown mid ≡ shown_with count (λ inodes. pinned nat_eq inodes (inode_of layer.directory)) (shown old)
-  layer_pinned old mid changes =
-      changes.changed
+  layer_pinned old mid changes = changes.changed
       ∙ (λ i. shown_with (is.filesystem i).count (λ inodes. pinned nat_eq inodes (is.number i)) (shown old))
 
   pub layer_more : (old mid new : Filesystems)
       → ChangesInodes at.filesystem.count (λ inodes. pinned nat_eq inodes (number_of at)) old mid
       → new ≡ with_changed count (λ entry. record entry { mounts = entry.mounts + 1 }) mid
       → shown new ≡ with_layer (shown old) layer
-  layer_more old mid new changes held =
-      ap shown held ∙ shown-mounts_changed count (λ mounts. mounts + 1) mid
+  layer_more old mid new changes held = ap shown held ∙ shown-mounts_changed count (λ mounts. mounts + 1) mid
       ∙ ap (mounts_changed count (λ mounts. mounts + 1)) (layer_pinned old mid changes)
 
   pub layer_less : (old mid new : Filesystems)
@@ -119,16 +115,13 @@ module _ (layer : LayerRef) (at : NodeRef) (is : IsAt layer at) where
       → shown new ≡ without_unmounted count (mounts_changed count (λ mounts. mounts - 1) (shown mid))
       → shown new ≡ without_layer (shown old) layer
   layer_less old mid new changes left =
-      left ∙ ap (λ all. without_unmounted count (mounts_changed count (λ mounts. mounts - 1) all))
-      (changes.changed
+      left ∙ ap (λ all. without_unmounted count (mounts_changed count (λ mounts. mounts - 1) all)) (changes.changed
       ∙ (λ i. shown_with (is.filesystem i).count (λ inodes. unpinned nat_eq inodes (is.number i)) (shown old)))
 
   -- its uses
-  pub layer_used : (fs : Filesystems)
-      → uses_in ((inodes_at fs at.filesystem.count).inode (number_of at))
+  pub layer_used : (fs : Filesystems) → uses_in ((inodes_at fs at.filesystem.count).inode (number_of at))
       ≡ uses_shown count (inode_of layer.directory) (shown fs)
-  layer_used fs =
-      (λ i. uses_in ((inodes_at fs (is.filesystem i).count).inode (is.number i)))
+  layer_used fs = (λ i. uses_in ((inodes_at fs (is.filesystem i).count).inode (is.number i)))
       ∙ uses_are_shown count (inode_of layer.directory) fs
 
 module _ (count : ℕ) (old mid : Filesystems) (n : ℕ)
@@ -147,10 +140,8 @@ module _ (count : ℕ) (old mid : Filesystems) (n : ℕ)
   left b = cond b (filter (λ (one : Shown). not (nat_eq count one.count)) less) less
 
   -- a filesystem goes with its last mount, and stays while another shows it
-  pub filesystem_goes : (new : Filesystems) → n ≡ 0 → new ≡ without count mid
-      → shown new ≡ without_unmounted count less
-  filesystem_goes new zero gone =
-      ap shown gone ∙ shown-without count mid
+  pub filesystem_goes : (new : Filesystems) → n ≡ 0 → new ≡ without count mid → shown new ≡ without_unmounted count less
+  filesystem_goes new zero gone = ap shown gone ∙ shown-without count mid
       ∙ ap (filter (λ (one : Shown). not (nat_eq count one.count))) seen
       ∙ ap left (sym (eq-eqb (mounts_shown count less) 0 (sym same ∙ zero)))
 
@@ -181,8 +172,7 @@ pinned_more inodes number other = by (nat_eq other number) (eqb-true other numbe
 
 -- a change by which what is counted grows by so many at most
 grows : (count : ℕ) (change : Shown → Shown) → ((one : Shown) → (change one).count ≡ one.count)
-    → (counts : Shown → ℕ) (more : ℕ) → ((one : Shown) → counts (change one) ≤ counts one + more)
-    → (all : List Shown)
+    → (counts : Shown → ℕ) (more : ℕ) → ((one : Shown) → counts (change one) ≤ counts one + more) → (all : List Shown)
     → unwrap_or (option_map counts (found count (map change all))) 0
     ≤ unwrap_or (option_map counts (found count all)) 0 + more
 grows count change kept counts more most all =
@@ -243,8 +233,7 @@ module _ (layer : LayerRef) where
   pinned_mounts all count =
       grows count (shown_if home pins) pinned_count (λ one. one.mounts) 0 (λ one. keeps one (nat_eq home one.count)) all
     where
-      keeps : (one : Shown) (b : Bool)
-          → (cond b (record one { inodes = pins one.inodes }) one).mounts ≤ one.mounts + 0
+      keeps : (one : Shown) (b : Bool) → (cond b (record one { inodes = pins one.inodes }) one).mounts ≤ one.mounts + 0
       keeps one true = omega arith
       keeps one false = omega arith
 

@@ -23,19 +23,16 @@ use Rattle.vt_store.specs.declared.layer_counts.LayerCounts.{LayerCounts}
 use Rattle.vt_store.specs.declared.overlays.KeptOverlay.{KeptOverlay}
 
 -- some layer of all passes where one of some overlay does
-pub any_layers : (test : LayerRef → Bool) (overlays : Overlays)
-    → list_any test (all_layers overlays)
+pub any_layers : (test : LayerRef → Bool) (overlays : Overlays) → list_any test (all_layers overlays)
     ≡ list_any (λ (entry : OverlayEntry). list_any test entry.overlay.lowers) overlays
 any_layers test [] = refl
-any_layers test (entry ∷ rest) =
-    list_any-append test entry.overlay.lowers (all_layers rest)
+any_layers test (entry ∷ rest) = list_any-append test entry.overlay.lowers (all_layers rest)
     ∙ ap (λ b. list_any test entry.overlay.lowers || b) (any_layers test rest)
 
 -- a new overlay is the last
 pub layers_with : (overlays : Overlays) (entry : OverlayEntry)
     → all_layers (overlays ++ entry ∷ []) ≡ all_layers overlays ++ entry.overlay.lowers
-layers_with overlays entry =
-    flat_map-append (λ (one : OverlayEntry). one.overlay.lowers) overlays (entry ∷ [])
+layers_with overlays entry = flat_map-append (λ (one : OverlayEntry). one.overlay.lowers) overlays (entry ∷ [])
     ∙ ap (λ layers. all_layers overlays ++ layers) (append-nil entry.overlay.lowers)
 
 -- an overlay that changes keeps its layers
@@ -43,8 +40,7 @@ pub layers_changed : (f : ℕ) (change : OverlayEntry → OverlayEntry)
     → ((entry : OverlayEntry) → (change entry).overlay ≡ entry.overlay) → (overlays : Overlays)
     → all_layers (with_overlay_changed f change overlays) ≡ all_layers overlays
 layers_changed f change keeps [] = refl
-layers_changed f change keeps (entry ∷ rest) =
-    λ i. by (nat_eq f entry.count) i ++ layers_changed f change keeps rest i
+layers_changed f change keeps (entry ∷ rest) = λ i. by (nat_eq f entry.count) i ++ layers_changed f change keeps rest i
   where
     by : (b : Bool) → (cond b (change entry) entry).overlay.lowers ≡ entry.overlay.lowers
     by true = ap (λ overlay. overlay.lowers) (keeps entry)
@@ -55,13 +51,11 @@ layers_changed f change keeps (entry ∷ rest) =
 no_key : (k : FilesystemId) (kept : List (FilesystemId × KeptOverlay))
     → AllByRecursion (λ other. same_by count_of k other ≡ false) (keys_of kept) → lookup (is_key k.count) kept ≡ None
 no_key k [] apart = refl
-no_key k (e ∷ kept) apart =
-    ap (λ b. cond b (Some e.1) (lookup (is_key k.count) kept)) apart.0 ∙ no_key k kept apart.1
+no_key k (e ∷ kept) apart = ap (λ b. cond b (Some e.1) (lookup (is_key k.count) kept)) apart.0 ∙ no_key k kept apart.1
 
 module _ (f : ℕ) (entry : OverlayEntry) where
   entries_without : (kept : List (FilesystemId × KeptOverlay)) → T (rises count_of kept)
-      → entry_kept (entries_kept kept) f ≡ Some entry
-      → IsPermutation (all_layers (entries_kept kept))
+      → entry_kept (entries_kept kept) f ≡ Some entry → IsPermutation (all_layers (entries_kept kept))
       (entry.overlay.lowers ++ all_layers (without_overlay f (entries_kept kept)))
   entries_without [] risen found = absurd cc
   entries_without (e ∷ kept) risen found =
@@ -70,16 +64,13 @@ module _ (f : ℕ) (entry : OverlayEntry) where
       rest : Overlays
       rest = entries_kept kept
 
-      by : (b : Bool) → (b ≡ true → f ≡ e.0.count)
-          → cond b (Some (kept_overlay e)) (entry_kept rest f) ≡ Some entry
+      by : (b : Bool) → (b ≡ true → f ≡ e.0.count) → cond b (Some (kept_overlay e)) (entry_kept rest f) ≡ Some entry
           → (entry_kept rest f ≡ Some entry
           → IsPermutation (all_layers rest) (entry.overlay.lowers ++ all_layers (without_overlay f rest)))
-          → IsPermutation (e.1.overlay.lowers ++ all_layers rest)
-          (entry.overlay.lowers
+          → IsPermutation (e.1.overlay.lowers ++ all_layers rest) (entry.overlay.lowers
           ++ all_layers (cond (not b) (kept_overlay e ∷ without_overlay f rest) (without_overlay f rest)))
       by true here there later =
-          let none : overlay_of rest f ≡ None =
-          ap (option_map (λ (one : OverlayEntry). one.overlay))
+          let none : overlay_of rest f ≡ None = ap (option_map (λ (one : OverlayEntry). one.overlay))
           (ap (entry_kept rest) (here refl) ∙ entry_kept-entries e.0.count kept
           ∙ ap (option_map _) (no_key e.0 kept (apart-below count_of e.0 kept (T_and_left _ _ risen)))) in
           subst (λ layers. IsPermutation (e.1.overlay.lowers ++ all_layers rest) layers)
@@ -125,11 +116,9 @@ kept_added es new k x lowers before after oldest is number layers above comes co
   own = own_added es new k x is.own number comes;
   older = λ q less.
       let below : q.count < min oldest k.count = ltb-true q.count (min oldest k.count) less in
-      comes q
-      ∙ (λ i. cond (ne_eqb k.count q.count (λ same. omega (arith, same, below)) i) (Some x)
+      comes q ∙ (λ i. cond (ne_eqb k.count q.count (λ same. omega (arith, same, below)) i) (Some x)
       (is.older q (lt-ltb q.count oldest (omega (arith, below))) i));
-  layers = subst (λ all. AreCounted all after)
-      (ap (λ more. all_layers (kept_overlays es) ++ more) (sym layers)
+  layers = subst (λ all. AreCounted all after) (ap (λ more. all_layers (kept_overlays es) ++ more) (sym layers)
       ∙ sym (layers_with (kept_overlays es) (kept_overlay (k, x)))
       ∙ sym (ap all_layers (added es new (kept_overlays es) k x refl above comes)))
       (counts (all_layers (kept_overlays es)) is.layers);
@@ -145,8 +134,7 @@ kept_removed f es new x before after oldest is there goes counts = record {
   own = own_removed f es new is.own goes;
   older = λ q less. goes q ∙ nothing (nat_eq f q.count) (lookup (key_eq q) es) (is.older q less);
   layers = subst (λ all. AreCounted (all_layers all) after) (sym (removed f es new goes))
-      (counts (all_layers (without_overlay f (kept_overlays es)))
-      (counted_in_any_order (all_layers (kept_overlays es))
+      (counts (all_layers (without_overlay f (kept_overlays es))) (counted_in_any_order (all_layers (kept_overlays es))
       (x.overlay.lowers ++ all_layers (without_overlay f (kept_overlays es))) before
       (layers_without f (of_count f x) es (entry_kept-kept f es ∙ ap (option_map (of_count f)) (sym there)))
       is.layers));
@@ -163,8 +151,7 @@ pub kept_written : {S : Type 0} (f : ℕ) (change : ℕ → ℕ) (m n : IndexMap
     → AreKept n.entries counts oldest
 kept_written f change m n x w counts oldest is there so through = record {
   own = own_written f m n x w is.own there (ap (λ (one : KeptOverlay). one.overlay) so) through;
-  older = λ q less.
-      by q less (nat_eq f q.count) (eqb-true f q.count) (((through.3 (ap is_some there)).0 q));
+  older = λ q less. by q less (nat_eq f q.count) (eqb-true f q.count) (((through.3 (ap is_some there)).0 q));
   layers = subst (λ layers. AreCounted layers counts)
       (sym (ap all_layers (writes f (λ one. record one { mounts = change one.mounts })
       (λ entry. record entry { mounts = change entry.mounts }) m n (kept_overlays m.entries) x w refl there so

@@ -37,8 +37,7 @@ any_alike P p q alike (x ∷ xs) all =
     λ i. alike x (All-head P x xs all) i || any_alike P p q alike xs (All-tail P x xs all) i
 
 same_either_way : (a b : ℕ) → nat_eq a b ≡ nat_eq b a
-same_either_way a b =
-    same_truth _ _ (λ e. eq-eqb b a (sym (eqb-true a b e))) (λ e. eq-eqb a b (sym (eqb-true b a e)))
+same_either_way a b = same_truth _ _ (λ e. eq-eqb b a (sym (eqb-true a b e))) (λ e. eq-eqb a b (sym (eqb-true b a e)))
 
 among : (slot : ℕ) (slots : List ℕ) → list_any (λ other. nat_eq other slot) slots ≡ is_among nat_eq slot slots
 among slot [] = refl
@@ -78,8 +77,7 @@ module _ (overlays : Overlays) (counts : LayerCounts) (counted : AreCounted (all
       abbrev above : List ℕ
       above = ancestors nat_eq (inodes_of tree) directory.slot
 
-      under : (slot top : ℕ) → slot < 2 ^ 64 → inode_number filesystem.count slot ≡ top
-          → is_among nat_eq slot above
+      under : (slot top : ℕ) → slot < 2 ^ 64 → inode_number filesystem.count slot ≡ top → is_among nat_eq slot above
           ≡ is_directory_under nat_eq (files_at plain filesystem.count) top (inode_of directory)
       under slot top fits is =
           sym (under_there plain filesystem.count tree (sym found) slot top directory.slot (inode_of directory)
@@ -88,10 +86,8 @@ module _ (overlays : Overlays) (counts : LayerCounts) (counted : AreCounted (all
           (numbers_seen (entry_at plain filesystem.count)) (numbers_counted (entry_at plain filesystem.count)) top
           (inode_of directory)
 
-      met : (layer : LayerRef) → IsSmall layer
-          → list_any (λ slot. stands_at (place slot) layer) above ≡ lies layer
-      met layer fits =
-          sym (any-and (λ slot. true) (nat_eq filesystem.count layer.directory.filesystem.count)
+      met : (layer : LayerRef) → IsSmall layer → list_any (λ slot. stands_at (place slot) layer) above ≡ lies layer
+      met layer fits = sym (any-and (λ slot. true) (nat_eq filesystem.count layer.directory.filesystem.count)
           (λ slot. nat_eq slot layer.directory.slot) above)
           ∙ by (nat_eq filesystem.count layer.directory.filesystem.count)
           (eqb-true filesystem.count layer.directory.filesystem.count)
@@ -100,26 +96,21 @@ module _ (overlays : Overlays) (counts : LayerCounts) (counted : AreCounted (all
               → (b && list_any (λ slot. nat_eq slot layer.directory.slot) above)
               ≡ (b && is_directory_under nat_eq (files_at plain filesystem.count) (inode_of layer.directory)
               (inode_of directory))
-          by true same =
-              among layer.directory.slot above
-              ∙ under layer.directory.slot (inode_of layer.directory) fits
+          by true same = among layer.directory.slot above ∙ under layer.directory.slot (inode_of layer.directory) fits
               (ap (λ count. inode_number count layer.directory.slot) (same refl))
           by false same = refl
 
       pub layers_above : list_any (λ slot. has_layer_at counts (place slot)) above
           ≡ list_any (directory_lies_in_overlay plain filesystem.count (inode_of directory)) overlays
-      layers_above =
-          (λ i. list_any (λ slot. layers_at (place slot) i) above)
+      layers_above = (λ i. list_any (λ slot. layers_at (place slot) i) above)
           ∙ any-swapped (λ layer. true) (λ slot layer. stands_at (place slot) layer) above (all_layers overlays)
           ∙ any_alike IsSmall (λ layer. list_any (λ slot. stands_at (place slot) layer) above) lies met
-          (all_layers overlays) counted.small
-          ∙ any_layers lies overlays
+          (all_layers overlays) counted.small ∙ any_layers lies overlays
 
     -- where there is no tree, there is nothing above it
     module _ (none : entry_of plain filesystem.count ≡ None) where
       alone : (layer : LayerRef) → IsSmall layer → stands_at directory layer ≡ lies layer
-      alone layer fits =
-          by (nat_eq filesystem.count layer.directory.filesystem.count)
+      alone layer fits = by (nat_eq filesystem.count layer.directory.filesystem.count)
           (eqb-true filesystem.count layer.directory.filesystem.count)
         where
           top : ℕ
@@ -130,8 +121,7 @@ module _ (overlays : Overlays) (counts : LayerCounts) (counted : AreCounted (all
               ≡ (b && is_directory_under nat_eq (files_at plain filesystem.count) top (inode_of directory))
           by true same =
               sym (ap (λ o. is_directory_under nat_eq (files_seen (unwrap_or o (no_entry filesystem.count))) top
-              (inode_of directory)) none
-              ∙ or-false (nat_eq top (inode_of directory))
+              (inode_of directory)) none ∙ or-false (nat_eq top (inode_of directory))
               ∙ inode_test layer.directory.filesystem.count filesystem.count layer.directory.slot directory.slot fits small
               ∙ ap (λ b. b && nat_eq layer.directory.slot directory.slot)
               (eq-eqb layer.directory.filesystem.count filesystem.count (sym (same refl)))
@@ -140,7 +130,6 @@ module _ (overlays : Overlays) (counts : LayerCounts) (counted : AreCounted (all
 
       pub layers_alone : has_layer_at counts directory
           ≡ list_any (directory_lies_in_overlay plain filesystem.count (inode_of directory)) overlays
-      layers_alone =
-          layers_at directory
+      layers_alone = layers_at directory
           ∙ any_alike IsSmall (stands_at directory) lies alone (all_layers overlays) counted.small
           ∙ any_layers lies overlays

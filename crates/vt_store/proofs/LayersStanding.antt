@@ -45,8 +45,7 @@ pub still_layer : (old new : Filesystems) (layer : LayerRef) → IsSameTree old 
 still_layer old new layer same is = record {
   tree = subst (λ (tree : Tree ℕ). IsTree tree) (sym same) is.tree;
   directory = subst (λ (tree : Tree ℕ). IsDirectory tree (inode_of layer.directory)) (sym same) is.directory;
-  own_numbers = λ number e.
-      nothing_there ((inodes_at new layer.directory.filesystem.count).inode number)
+  own_numbers = λ number e. nothing_there ((inodes_at new layer.directory.filesystem.count).inode number)
       (ap (λ (tree : Tree ℕ). tree.node number) same ∙ ap node_in (is.own_numbers number e));
 }
 
@@ -69,8 +68,7 @@ not_empty (a ∷ list) e = omega arith
 each_seen : (test : Layer ℕ → Bool) (layers : List LayerRef) → list_all test (map layer_seen layers) ≡ true
     → (place : ℕ) (layer : LayerRef) → slice_get layers place ≡ Some layer → test (layer_seen layer) ≡ true
 each_seen test [] all place layer e = none_is_some layer e
-each_seen test (first ∷ layers) all zero layer e =
-    ap (λ l. test (layer_seen l)) (sym (same_Some first layer e))
+each_seen test (first ∷ layers) all zero layer e = ap (λ l. test (layer_seen l)) (sym (same_Some first layer e))
     ∙ (and_parts (test (layer_seen first)) (list_all test (map layer_seen layers)) all).0
 each_seen test (first ∷ layers) all (suc place) layer e =
     each_seen test layers (and_parts (test (layer_seen first)) (list_all test (map layer_seen layers)) all).1
@@ -82,8 +80,7 @@ length-layers (layer ∷ layers) = ap suc (length-layers layers)
 
 module _ (store : StoreValue) (world : World ℕ) (whole : IsWorld nat_eq world)
     (is : world.filesystems ≡ filesystems_of store) (own : All HasOwnNumbers store.plain) where
-  found_so : (count : ℕ)
-      → find (λ (one : Filesystem ℕ). nat_eq (counted count) one.number) world.filesystems
+  found_so : (count : ℕ) → find (λ (one : Filesystem ℕ). nat_eq (counted count) one.number) world.filesystems
       ≡ filesystem_found store count
   found_so count = ap (find (λ (one : Filesystem ℕ). nat_eq (counted count) one.number)) is
 
@@ -126,13 +123,11 @@ module _ (store : StoreValue) (world : World ℕ) (whole : IsWorld nat_eq world)
           → not (is_overlay (filesystem_in store layer.directory.filesystem.count)) ≡ true
           → overlay_in store layer.directory.filesystem.count ≡ None
       no_overlay None s e = s
-      no_overlay (Some overlay) s e =
-          absurd (true≢false (sym e
+      no_overlay (Some overlay) s e = absurd (true≢false (sym e
           ∙ ap not (sym (is_overlay_in store layer.directory.filesystem.count) ∙ ap is_some s)))
 
       tree_of_found : (count : ℕ) (o : Option (Filesystem ℕ))
-          → find (λ (one : Filesystem ℕ). nat_eq (counted count) one.number) world.filesystems ≡ o
-          → (number : ℕ)
+          → find (λ (one : Filesystem ℕ). nat_eq (counted count) one.number) world.filesystems ≡ o → (number : ℕ)
           → is_directory_node ((unwrap_or o (no_filesystem (counted count))).files.tree.node number) ≡ true
           → IsTree (unwrap_or o (no_filesystem (counted count))).files.tree
       tree_of_found count None s number e = absurd (true≢false (sym e))
@@ -149,15 +144,13 @@ module _ (store : StoreValue) (world : World ℕ) (whole : IsWorld nat_eq world)
     lowers = map layer_seen entry.overlay.lowers
 
     layers_stand : AreLayers store.plain entry.overlay.lowers
-    layers_stand place layer at =
-        layer_stands layer (each_seen (is_plain_layer nat_eq world) entry.overlay.lowers
+    layers_stand place layer at = layer_stands layer (each_seen (is_plain_layer nat_eq world) entry.overlay.lowers
         (among_from_list_all
         (of_overlay true (λ one. list_all (is_plain_layer nat_eq world) (layers_of one))) world.filesystems
         whole.overlays.plain_layers (overlay_filesystem store.plain entry) among) place layer at)
 
     fits : (not (is_empty_list lowers) ≡ true) × (nat_le (length lowers) most_lowers ≡ true)
-    fits =
-        and_parts (not (is_empty_list lowers)) (nat_le (length lowers) most_lowers)
+    fits = and_parts (not (is_empty_list lowers)) (nat_le (length lowers) most_lowers)
         (and_parts (not (is_empty_list lowers) && nat_le (length lowers) most_lowers) true
         (among_from_list_all (of_overlay true has_fit_layers) world.filesystems whole.overlays.fit_layers
         (overlay_filesystem store.plain entry) among)).0

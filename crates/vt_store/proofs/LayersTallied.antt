@@ -10,8 +10,7 @@ use Rattle.vt_store.specs.declared.layer_counts.LayerCounts.{LayerCounts}
 -- one more at the end,
 pub counted_more : {X : Type 0} (test : X → Bool) (xs : List X) (x : X)
     → count_by test (xs ++ x ∷ []) ≡ cond (test x) (count_by test xs + 1) (count_by test xs)
-counted_more test xs x =
-    sum_by-append (λ x. cond (test x) 1 0) xs (x ∷ []) ∙ by (test x) (count_by test xs)
+counted_more test xs x = sum_by-append (λ x. cond (test x) 1 0) xs (x ∷ []) ∙ by (test x) (count_by test xs)
   where
     by : (b : Bool) (n : ℕ) → n + (0 + cond b 1 0) ≡ cond b (n + 1) n
     by true n = refl

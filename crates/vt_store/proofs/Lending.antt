@@ -19,10 +19,8 @@ module _ (f : ℕ) where
   entry-seen_in name [] = refl
   entry-seen_in name (entry ∷ entries) = by (eq_by_cmp name_cmp name entry.0) (entry-seen_in name entries)
     where
-      by : (b : Bool)
-          → entry_named name (map (renamed_entry (exchanged f) (exchanged f)) entries)
-          ≡ option_map (exchanged f) (entry_named name entries)
-          → cond b (Some (exchanged f entry.1))
+      by : (b : Bool) → entry_named name (map (renamed_entry (exchanged f) (exchanged f)) entries)
+          ≡ option_map (exchanged f) (entry_named name entries) → cond b (Some (exchanged f entry.1))
           (entry_named name (map (renamed_entry (exchanged f) (exchanged f)) entries))
           ≡ option_map (exchanged f) (cond b (Some entry.1) (entry_named name entries))
       by true rest = refl
@@ -58,8 +56,7 @@ module _ (f : ℕ) where
   pub entry_lent : (object : Node ℕ) (seen : Option (Node ℕ)) → option_map (node_seen f) seen ≡ Some object
       → (name : List ℕ)
       → option_map (exchanged f) (entry_named name (entries_of object.content)) ≡ entry_named name (entries_in seen)
-  entry_lent object seen lent name =
-      sym (entry-seen name object.content)
+  entry_lent object seen lent name = sym (entry-seen name object.content)
       ∙ ap (λ node. entry_named name (entries_in node)) (ap (option_map (node_seen f)) (sym lent) ∙ seen_twice f seen)
 
 -- what is no directory is its own parent

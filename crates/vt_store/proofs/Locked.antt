@@ -21,11 +21,9 @@ use Rattle.vt_fs.specs.Trees.TreeValue.{TreeValue}
 
 -- a directory has a name for an inode where it has one of rank 0 for its slot
 pub has_name : (count : ℕ) (tree : Tree ℕ) (directory : ℕ) (node : Node ℕ) (slot : ℕ) → slot < 18446744073709551616
-    → Some (node_seen count node) ≡ tree.node directory
-    → is_some (name_ranked (entries_of node.content) slot 0)
+    → Some (node_seen count node) ≡ tree.node directory → is_some (name_ranked (entries_of node.content) slot 0)
     ≡ has_entry_to nat_eq tree directory (inode_number count slot)
-has_name count tree directory node slot small there =
-    ap is_some (ranked_seen count node slot 0)
+has_name count tree directory node slot small there = ap is_some (ranked_seen count node slot 0)
     ∙ some_ranked (exchanged count slot) (entries_in (Some (node_seen count node)))
     ∙ (λ i. is_among nat_eq (exchanged_slot count slot small i) (map (λ (entry : List ℕ × ℕ). entry.1)
     (entries_in (there i))))
@@ -41,8 +39,7 @@ numbers_found trees count tree is = by (entry_of trees count) refl is
         → map (exchanged count) (filled_from 0 tree.slots)
         ≡ (files_seen (unwrap_or (entry_of trees count) (no_entry count))).numbers
     by None e f = none_is_some tree (sym f)
-    by (Some entry) e f =
-        (λ i. map (exchanged (eqb-true count entry.count
+    by (Some entry) e f = (λ i. map (exchanged (eqb-true count entry.count
         (found_passes (λ (one : FilesystemEntry). nat_eq count one.count) trees entry e) i))
         (filled_from 0 (same_Some tree entry.tree f i).slots))
         ∙ sym (ap (λ o. (files_seen (unwrap_or o (no_entry count))).numbers) e)

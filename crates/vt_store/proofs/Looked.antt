@@ -38,8 +38,7 @@ module _ (store : StoreValue) (plain : Filesystems) (same : plain ≡ store.plai
     over_node number = ap (λ (files : FileTree ℕ). files.tree.node number) over_files
 
     pub over_lent : (number : ℕ) → real_lent plain overlay number ≡ lent_in store count number
-    over_lent number =
-        ap (λ p. real_lent p overlay number) same ∙ ap (lent_by store.plain count number) (sym is)
+    over_lent number = ap (λ p. real_lent p overlay number) same ∙ ap (lent_by store.plain count number) (sym is)
 
     module _ (standing : StandOnLayers store) where
       pub over_stands : StandsOnLayers store.plain (record { count = count; overlay = overlay; mounts = 0 })
@@ -67,8 +66,7 @@ module _ (store : StoreValue) (plain : Filesystems) (same : plain ≡ store.plai
 
     pub plain_lent : (number : ℕ)
         → option_map (node_seen count) ((files_at plain count).tree.node number) ≡ lent_in store count number
-    plain_lent number =
-        ap (λ p. option_map (node_seen count) ((files_at p count).tree.node number)) same
+    plain_lent number = ap (λ p. option_map (node_seen count) ((files_at p count).tree.node number)) same
         ∙ ap (lent_by store.plain count number) (sym none)
 
     -- what is lent is the inode by its slots

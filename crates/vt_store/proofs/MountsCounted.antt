@@ -58,8 +58,7 @@ module _ (count : ℕ) (change : ℕ → ℕ) where
   woven_plain : (plain : Filesystems) (overlays : Overlays) → All (StandsOnLayers plain) overlays
       → woven (more plain) overlays ≡ woven plain overlays
   woven_plain plain [] all = filesystems_same plain
-  woven_plain plain (entry ∷ overlays) all =
-      λ i. put_in (overlays_stay_with_layers plain (more plain) entry
+  woven_plain plain (entry ∷ overlays) all = λ i. put_in (overlays_stay_with_layers plain (more plain) entry
       (All-head (StandsOnLayers plain) entry overlays all).layers
       (λ place default within. same_layer plain (get_or entry.overlay.lowers place default)) i)
       (woven_plain plain overlays (All-tail (StandsOnLayers plain) entry overlays all) i)
@@ -71,8 +70,7 @@ module _ (count : ℕ) (change : ℕ → ℕ) where
   woven_overlays plain (entry ∷ overlays) =
       λ i. put_in (by (nat_eq count entry.count) i) (woven_overlays plain overlays i)
     where
-      by : (b : Bool)
-          → overlay_filesystem plain (cond b (record entry { mounts = change entry.mounts }) entry)
+      by : (b : Bool) → overlay_filesystem plain (cond b (record entry { mounts = change entry.mounts }) entry)
           ≡ overlay_filesystem plain entry
       by true = refl
       by false = refl
@@ -80,8 +78,7 @@ module _ (count : ℕ) (change : ℕ → ℕ) where
   -- overlays stand on their layers
   stands_plain : (plain : Filesystems) (entry : OverlayEntry) → StandsOnLayers plain entry
       → StandsOnLayers (more plain) entry
-  stands_plain plain entry stands =
-      overlays_stand_still plain (more plain) entry stands
+  stands_plain plain entry stands = overlays_stand_still plain (more plain) entry stands
       (λ place default within. (same_layer plain (get_or entry.overlay.lowers place default)).tree)
 
   stand_plain : (plain : Filesystems) (overlays : Overlays) → All (StandsOnLayers plain) overlays
@@ -93,8 +90,7 @@ module _ (count : ℕ) (change : ℕ → ℕ) where
       → All (StandsOnLayers plain)
       (with_overlay_changed count (λ one. record one { mounts = change one.mounts }) overlays)
   stand_overlays plain [] all = all
-  stand_overlays plain (entry ∷ overlays) all =
-      All-cons (StandsOnLayers plain) _ _
+  stand_overlays plain (entry ∷ overlays) all = All-cons (StandsOnLayers plain) _ _
       (by (nat_eq count entry.count) (All-head (StandsOnLayers plain) entry overlays all))
       (stand_overlays plain overlays (All-tail (StandsOnLayers plain) entry overlays all))
     where

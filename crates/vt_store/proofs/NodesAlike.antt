@@ -32,26 +32,21 @@ front_seen f (Some node) = by node.content
 -- the real object of a node of an overlay
 over_alike : (plain : Filesystems) (overlay : OverlayValue) → AreLayers plain overlay.lowers → (number : ℕ)
     → front (real_lent plain overlay number) ≡ front ((merged_tree plain overlay).node number)
-over_alike plain overlay are number =
-    by (object_shown plain overlay number)
+over_alike plain overlay are number = by (object_shown plain overlay number)
     ∙ ap front (sym (inode_of_object plain overlay are number (object_shown plain overlay number) refl))
     ∙ objects_alike plain overlay number
   where
-    in_layer : (object : ℕ) (o : Option LayerRef)
-        → front (then_some o (lent_at plain object))
+    in_layer : (object : ℕ) (o : Option LayerRef) → front (then_some o (lent_at plain object))
         ≡ front (then_some (option_map (layer_of plain) o) (λ (layer : OpenLayer ℕ). layer.tree.node object))
     in_layer object None = refl
-    in_layer object (Some layer) =
-        front_seen layer.directory.filesystem.count
+    in_layer object (Some layer) = front_seen layer.directory.filesystem.count
         ((files_at plain layer.directory.filesystem.count).tree.node object)
 
-    by : (o : Option (Shown ℕ))
-        → front (then_some o (λ (seen : Shown ℕ).
+    by : (o : Option (Shown ℕ)) → front (then_some o (λ (seen : Shown ℕ).
         then_some (slice_get overlay.lowers seen.layer) (lent_at plain seen.object)))
         ≡ front (then_some o (layer_node (layers_of plain overlay.lowers)))
     by None = refl
-    by (Some seen) =
-        in_layer seen.object (slice_get overlay.lowers seen.layer)
+    by (Some seen) = in_layer seen.object (slice_get overlay.lowers seen.layer)
         ∙ ap (λ o. front (then_some o (λ (layer : OpenLayer ℕ). layer.tree.node seen.object)))
         (sym (slice_get-map (layer_of plain) overlay.lowers seen.layer))
 
@@ -60,10 +55,8 @@ nodes_are_like_objects store count number standing = by (overlay_in store count)
   where
     by : (o : Option OverlayValue) → overlay_in store count ≡ o
         → front (lent_in store count number) ≡ front ((files_in store count).tree.node number)
-    by None e =
-        ap front (sym (plain_seen store store.plain refl count e number))
+    by None e = ap front (sym (plain_seen store store.plain refl count e number))
         ∙ front_seen count ((files_in store count).tree.node number)
-    by (Some overlay) e =
-        ap front (sym (over_lent store store.plain refl count overlay e number))
+    by (Some overlay) e = ap front (sym (over_lent store store.plain refl count overlay e number))
         ∙ over_alike store.plain overlay (over_layers store store.plain refl count overlay e standing) number
         ∙ ap front (over_node store store.plain refl count overlay e number)

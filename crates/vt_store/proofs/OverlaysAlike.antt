@@ -32,11 +32,9 @@ module _ (layers : List (OpenLayer ℕ)) (numbered : Real ℕ → ℕ) (most : �
       option_map numbered (option_map (λ object. real_object false object.seen.layer object) (merged_at layers path))
 
   abbrev inode_in : List (List ℕ) → Option (Node ℕ)
-  inode_in path =
-      option_map (node_as (unwrap_or (number_in (without_last path)) 0)
+  inode_in path = option_map (node_as (unwrap_or (number_in (without_last path)) 0)
       (filter_map (λ name. option_map (λ number. (name, number)) (number_in (path ++ name ∷ [])))
-      (names_shown layers path)))
-      (then_some (shown layers path) (layer_node layers))
+      (names_shown layers path))) (then_some (shown layers path) (layer_node layers))
 
   abbrev inode_found : Option (List (List ℕ)) → Option (Node ℕ)
   inode_found None = None
@@ -60,14 +58,12 @@ module _ (layers : List (OpenLayer ℕ)) (numbered : Real ℕ → ℕ) (most : �
   abbrev real_in : ℕ → Option (Real ℕ)
   real_in number = real_found (find (λ path. holds_of (nat_eq number) (number_in path)) (paths_from most layers []))
 
-files_are : (trees : Filesystems) (overlay : OverlayValue)
-    → merged_files trees overlay
+files_are : (trees : Filesystems) (overlay : OverlayValue) → merged_files trees overlay
     ≡ files_in (layers_shown (plain_world trees) (overlay_seen overlay)) (real_number trees overlay)
     (longest trees overlay.lowers)
-files_are trees overlay =
-    λ i. record (merged_files trees overlay) {
-      tree = record (merged_files trees overlay).tree { node = λ number. by number (path_at trees overlay number) i };
-    }
+files_are trees overlay = λ i. record (merged_files trees overlay) {
+  tree = record (merged_files trees overlay).tree { node = λ number. by number (path_at trees overlay number) i };
+}
   where
     by : (number : ℕ) (o : Option (List (List ℕ)))
         → node_by (real_number trees overlay) (λ number. None) (longest trees overlay.lowers) (plain_world trees)
@@ -77,8 +73,7 @@ files_are trees overlay =
     by number None = refl
     by number (Some path) = refl
 
-real_is : (trees : Filesystems) (overlay : OverlayValue) (number : ℕ)
-    → (layers_and_objects trees overlay).real number
+real_is : (trees : Filesystems) (overlay : OverlayValue) (number : ℕ) → (layers_and_objects trees overlay).real number
     ≡ real_in (layers_shown (plain_world trees) (overlay_seen overlay)) (real_number trees overlay)
     (longest trees overlay.lowers) number
 real_is trees overlay number = by (path_at trees overlay number)
@@ -96,8 +91,7 @@ abbrev born : OverlayValue → ℕ → LayerRef → List (List ℕ) → OpenLaye
 born overlay place layer path open_layer = record {
   filesystem = overlay.number;
   slot = exchanged layer.directory.filesystem.count (unwrap_or (at_path open_layer path) 0);
-  birth = if is_root_path path then Here
-      else Below place
+  birth = if is_root_path path then Here else Below place
       (exchanged layer.directory.filesystem.count (unwrap_or (at_path open_layer (without_last path)) 0))
       (if is_directory_node (node_at_path open_layer path) then 0
       else rank_among (entries_in (node_at_path open_layer (without_last path))) (last_or [] path)
@@ -111,14 +105,12 @@ module _ (old new : Filesystems) where
   layers_alike : (layers : List LayerRef) → All (IsSameLayer old new) layers
       → layers_of new layers ≡ layers_of old layers
   layers_alike [] all = refl
-  layers_alike (layer ∷ layers) all =
-      λ i. layer_alike layer (All-head (IsSameLayer old new) layer layers all) i
+  layers_alike (layer ∷ layers) all = λ i. layer_alike layer (All-head (IsSameLayer old new) layer layers all) i
       ∷ layers_alike layers (All-tail (IsSameLayer old new) layer layers all) i
 
   longest_alike : (layers : List LayerRef) → All (IsSameLayer old new) layers → longest new layers ≡ longest old layers
   longest_alike [] all = refl
-  longest_alike (layer ∷ layers) all =
-      λ i. (All-head (IsSameLayer old new) layer layers all).numbers i
+  longest_alike (layer ∷ layers) all = λ i. (All-head (IsSameLayer old new) layer layers all).numbers i
       + longest_alike layers (All-tail (IsSameLayer old new) layer layers all) i
 
   module _ (overlay : OverlayValue) (all : All (IsSameLayer old new) overlay.lowers) where
@@ -130,23 +122,20 @@ module _ (old new : Filesystems) where
             → unwrap_or (option_map (λ layer. number_of (born overlay place layer path (layer_of new layer))) o) 0
             ≡ unwrap_or (option_map (λ layer. number_of (born overlay place layer path (layer_of old layer))) o) 0
         by None e = refl
-        by (Some layer) e =
-            ap (λ open_layer. number_of (born overlay place layer path open_layer))
+        by (Some layer) e = ap (λ open_layer. number_of (born overlay place layer path open_layer))
             (layer_alike layer (all_at (IsSameLayer old new) overlay.lowers all place layer e))
 
 -- so what is a function of these is as it was
 module _ (old new : Filesystems) (overlay : OverlayValue) (are : AreLayers old overlay.lowers)
     (all : All (IsSameLayer old new) overlay.lowers) where
   still : AreLayers new overlay.lowers
-  still place layer at =
-      still_layer old new layer (all_at (IsSameLayer old new) overlay.lowers all place layer at).tree
+  still place layer at = still_layer old new layer (all_at (IsSameLayer old new) overlay.lowers all place layer at).tree
       (are place layer at)
 
   stays : {A : Type 0} (f : List (OpenLayer ℕ) → (Real ℕ → ℕ) → ℕ → A)
       → f (layers_shown (plain_world new) (overlay_seen overlay)) (real_number new overlay) (longest new overlay.lowers)
       ≡ f (layers_shown (plain_world old) (overlay_seen overlay)) (real_number old overlay) (longest old overlay.lowers)
-  stays f =
-      ap (λ layers. f layers (real_number new overlay) (longest new overlay.lowers))
+  stays f = ap (λ layers. f layers (real_number new overlay) (longest new overlay.lowers))
       (layers_are new overlay still ∙ layers_alike old new overlay.lowers all ∙ sym (layers_are old overlay are))
       ∙ (λ i. f (layers_shown (plain_world old) (overlay_seen overlay))
       (λ real. number_alike old new overlay all real i) (longest_alike old new overlay.lowers all i))
@@ -156,15 +145,13 @@ module _ (old new : Filesystems) (overlay : OverlayValue) (are : AreLayers old o
 
   objects_stay : (number : ℕ)
       → (layers_and_objects new overlay).real number ≡ (layers_and_objects old overlay).real number
-  objects_stay number =
-      real_is new overlay number ∙ stays (λ layers numbered most. real_in layers numbered most number)
+  objects_stay number = real_is new overlay number ∙ stays (λ layers numbered most. real_in layers numbered most number)
       ∙ sym (real_is old overlay number)
 
 pub overlays_stay_with_layers : OverlaysStayWithLayers
-overlays_stay_with_layers old new entry are all =
-    λ i. record (overlay_filesystem old entry) {
-      files = files_stay old new entry.overlay are all i;
-      overlay = Some (record (overlay_seen entry.overlay) {
-        real = λ number. objects_stay old new entry.overlay are all number i;
-      });
-    }
+overlays_stay_with_layers old new entry are all = λ i. record (overlay_filesystem old entry) {
+  files = files_stay old new entry.overlay are all i;
+  overlay = Some (record (overlay_seen entry.overlay) {
+    real = λ number. objects_stay old new entry.overlay are all number i;
+  });
+}

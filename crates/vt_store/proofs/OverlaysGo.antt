@@ -12,8 +12,7 @@ use Rattle.vt_store.proofs.LayersStanding.{overlays_stand_still}
 pub absent_removed : (count : ℕ) (overlays : Overlays) → overlay_of overlays count ≡ None
     → without_overlay count overlays ≡ overlays
 absent_removed count [] none = refl
-absent_removed count (entry ∷ overlays) none =
-    by (nat_eq count entry.count) none (absent_removed count overlays)
+absent_removed count (entry ∷ overlays) none = by (nat_eq count entry.count) none (absent_removed count overlays)
   where
     by : (b : Bool)
         → option_map (λ (one : OverlayEntry). one.overlay) (cond b (Some entry) (entry_kept overlays count)) ≡ None

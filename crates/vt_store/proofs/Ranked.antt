@@ -76,31 +76,25 @@ not_before_itself id entry = by (nat_eq id entry.1) (name_cmp entry.0 entry.0) (
 first_by : (entries : Entries ℕ) (id : ℕ) (entry : List ℕ × ℕ) → Among entry entries → nat_eq id entry.1 ≡ true
     → ((other : List ℕ × ℕ) → Among other entries → nat_eq id other.1 ≡ true
     → 1 + rank_among entries other.0 id ≤ rank_among entries entry.0 id
-    → is_some (find (has_rank entries id 0) entries) ≡ true)
-    → is_some (find (has_rank entries id 0) entries) ≡ true
+    → is_some (find (has_rank entries id 0) entries) ≡ true) → is_some (find (has_rank entries id 0) entries) ≡ true
 first_by entries id entry m leads smaller = by (find (before id entry.0) entries) refl
   where
     by : (o : Option (List ℕ × ℕ)) → find (before id entry.0) entries ≡ o
         → is_some (find (has_rank entries id 0) entries) ≡ true
-    by None e =
-        some_found (has_rank entries id 0) entries entry m
-        (λ i. leads i && eq-eqb 0 (rank_among entries entry.0 id)
-        (sym (none_counted (before id entry.0) entries e)) i)
+    by None e = some_found (has_rank entries id 0) entries entry m
+        (λ i. leads i && eq-eqb 0 (rank_among entries entry.0 id) (sym (none_counted (before id entry.0) entries e)) i)
     by (Some other) e =
         let among = found_among (before id entry.0) entries other e in
         let passes = found_passes (before id entry.0) entries other e in
         let less = less_so (name_cmp other.0 entry.0) (and_true_right (nat_eq id other.1) _ passes) in
-        smaller other among (and_true_left (nat_eq id other.1) _ passes)
-        (fewer (before id other.0) (before id entry.0)
-        (λ x h. λ i. and_true_left (nat_eq id x.1) _ h i
-        && is_lt (nat_list_cmp_total.trans x.0 other.0 entry.0
+        smaller other among (and_true_left (nat_eq id other.1) _ passes) (fewer (before id other.0) (before id entry.0)
+        (λ x h. λ i. and_true_left (nat_eq id x.1) _ h i && is_lt (nat_list_cmp_total.trans x.0 other.0 entry.0
         (less_so (name_cmp x.0 other.0) (and_true_right (nat_eq id x.1) _ h)) less i))
         entries other among (not_before_itself id other) passes)
 
 first_ranked : (n : ℕ) (entries : Entries ℕ) (id : ℕ) (entry : List ℕ × ℕ) → Among entry entries
     → nat_eq id entry.1 ≡ true → rank_among entries entry.0 id ≤ n → is_some (find (has_rank entries id 0) entries) ≡ true
-first_ranked zero entries id entry m leads within =
-    first_by entries id entry m leads (λ other among leads_too smaller.
+first_ranked zero entries id entry m leads within = first_by entries id entry m leads (λ other among leads_too smaller.
     absurd (let no : ⊥ = omega (arith, smaller, within) in no))
 first_ranked (suc n) entries id entry m leads within =
     first_by entries id entry m leads (λ other among leads_too smaller.
@@ -130,20 +124,15 @@ some_ranked id entries = by (find (λ (entry : List ℕ × ℕ). nat_eq id entry
     none : (o : Option (List ℕ × ℕ)) → find (has_rank entries id 0) entries ≡ o
         → find (λ (entry : List ℕ × ℕ). nat_eq id entry.1) entries ≡ None → is_some o ≡ false
     none None e f = refl
-    none (Some entry) e f =
-        absurd (true≢false
-        (sym (some_found (λ (x : List ℕ × ℕ). nat_eq id x.1) entries entry
+    none (Some entry) e f = absurd (true≢false (sym (some_found (λ (x : List ℕ × ℕ). nat_eq id x.1) entries entry
         (found_among (has_rank entries id 0) entries entry e)
-        (and_true_left (nat_eq id entry.1) _ (found_passes (has_rank entries id 0) entries entry e)))
-        ∙ ap is_some f))
+        (and_true_left (nat_eq id entry.1) _ (found_passes (has_rank entries id 0) entries entry e))) ∙ ap is_some f))
 
     by : (o : Option (List ℕ × ℕ)) → find (λ (entry : List ℕ × ℕ). nat_eq id entry.1) entries ≡ o
         → is_some (name_ranked entries id 0) ≡ is_among nat_eq id (map (λ (entry : List ℕ × ℕ). entry.1) entries)
-    by None e =
-        some_mapped (find (has_rank entries id 0) entries)
+    by None e = some_mapped (find (has_rank entries id 0) entries)
         ∙ none (find (has_rank entries id 0) entries) refl e ∙ sym (among entries ∙ ap is_some e)
-    by (Some entry) e =
-        some_mapped (find (has_rank entries id 0) entries)
+    by (Some entry) e = some_mapped (find (has_rank entries id 0) entries)
         ∙ first_ranked (rank_among entries entry.0 id) entries id entry
         (found_among (λ (x : List ℕ × ℕ). nat_eq id x.1) entries entry e)
         (found_passes (λ (x : List ℕ × ℕ). nat_eq id x.1) entries entry e) (omega arith)

@@ -19,8 +19,7 @@ pub next_slot : (slot : ℕ) (slots : Slots) → 0 < count_by is_some (drop slot
 next_slot zero [] some = absurd (let no : ⊥ = omega (arith, some) in no)
 next_slot zero (first ∷ slots) some = refl
 next_slot (suc slot) [] some = absurd (let no : ⊥ = omega (arith, some) in no)
-next_slot (suc slot) (first ∷ slots) some =
-    next_slot slot slots some
+next_slot (suc slot) (first ∷ slots) some = next_slot slot slots some
     ∙ ap (λ k. slice_index_or slots slot None ∷ drop k (first ∷ slots)) (let one : suc (slot + 1) ≡ suc slot + 1 =
     omega arith in one)
 
@@ -35,8 +34,7 @@ none_beyond least slots none slot beyond = all_none (drop slot slots)
         ≡ slice_index_or slots (slot + k) None
     dropped zero slots k = ap (λ n. slice_index_or slots n None) (let same : k ≡ 0 + k = omega arith in same)
     dropped (suc slot) [] k = refl
-    dropped (suc slot) (first ∷ slots) k =
-        dropped slot slots k
+    dropped (suc slot) (first ∷ slots) k = dropped slot slots k
         ∙ ap (λ n. slice_index_or (first ∷ slots) n None) (let same : suc (slot + k) ≡ suc slot + k = omega arith in same)
 
     all_none : (slots : Slots) → ((k : ℕ) → slice_index_or slots k None ≡ None) → count_by is_some slots ≡ 0
@@ -68,8 +66,7 @@ module _ (test : ℕ → Bool) (number : ℕ → ℕ) (slot : ℕ) (slots : Slot
   pub vacant_found : slice_index_or slots slot None ≡ None → found_in (slot + 1) rest ≡ found_in slot (drop slot slots)
   vacant_found e = sym (ap (found_in slot) (next_slot slot slots some ∙ ap (λ o. o ∷ rest) e))
 
-  pub vacant_left : slice_index_or slots slot None ≡ None
-      → count_by is_some (drop slot slots) ≡ count_by is_some rest
+  pub vacant_left : slice_index_or slots slot None ≡ None → count_by is_some (drop slot slots) ≡ count_by is_some rest
   vacant_left e =
       ap (count_by is_some) (next_slot slot slots some ∙ ap (λ o. o ∷ rest) e) ∙ counted None rest ∙ omega arith
 

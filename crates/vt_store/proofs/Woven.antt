@@ -28,8 +28,7 @@ find-put_in number filesystem (first ∷ rest) =
     found list = find (λ (one : Filesystem ℕ). nat_eq number one.number) list
 
     turned : (a b : Bool) → nat_eq number first.number ≡ a → nat_eq number filesystem.number ≡ b
-        → nat_lt first.number filesystem.number ≡ true
-        → cond a (Some first) (cond b (Some filesystem) (found rest))
+        → nat_lt first.number filesystem.number ≡ true → cond a (Some first) (cond b (Some filesystem) (found rest))
         ≡ cond b (Some filesystem) (cond a (Some first) (found rest))
     turned true true is also less =
         let one = eqb-true number first.number is in
@@ -43,8 +42,7 @@ find-put_in number filesystem (first ∷ rest) =
         → found (put_in filesystem rest) ≡ cond (nat_eq number filesystem.number) (Some filesystem) (found rest)
         → found (cond b (first ∷ put_in filesystem rest) (filesystem ∷ first ∷ rest))
         ≡ cond (nat_eq number filesystem.number) (Some filesystem) (found (first ∷ rest))
-    by true less later =
-        ap (cond (nat_eq number first.number) (Some first)) later
+    by true less later = ap (cond (nat_eq number first.number) (Some first)) later
         ∙ turned (nat_eq number first.number) (nat_eq number filesystem.number) refl refl less
     by false less later = refl
 
@@ -87,8 +85,7 @@ find-woven plain count (entry ∷ entries) =
     find-put_in (counted count) (overlay_filesystem plain entry) (woven plain entries)
     ∙ ap (λ b. cond b (Some (overlay_filesystem plain entry))
     (find (λ (one : Filesystem ℕ). nat_eq (counted count) one.number) (woven plain entries)))
-    (counted_test count entry.count)
-    ∙ by (nat_eq count entry.count) (find-woven plain count entries)
+    (counted_test count entry.count) ∙ by (nat_eq count entry.count) (find-woven plain count entries)
   where
     plain_found : Option (Filesystem ℕ)
     plain_found = find (λ (one : Filesystem ℕ). nat_eq (counted count) one.number) (filesystems_seen plain)
@@ -96,27 +93,20 @@ find-woven plain count (entry ∷ entries) =
     found : Option OverlayEntry
     found = find (λ (entry : OverlayEntry). nat_eq count entry.count) entries
 
-    by : (b : Bool)
-        → find (λ (one : Filesystem ℕ). nat_eq (counted count) one.number) (woven plain entries)
-        ≡ over plain found plain_found
-        → cond b (Some (overlay_filesystem plain entry))
+    by : (b : Bool) → find (λ (one : Filesystem ℕ). nat_eq (counted count) one.number) (woven plain entries)
+        ≡ over plain found plain_found → cond b (Some (overlay_filesystem plain entry))
         (find (λ (one : Filesystem ℕ). nat_eq (counted count) one.number) (woven plain entries))
         ≡ over plain (cond b (Some entry) found) plain_found
     by true later = refl
     by false later = later
 
 module _ (store : StoreValue) (count : ℕ) where
-  found_by : (o : Option OverlayEntry) → entry_in store count ≡ o
-      → filesystem_found store count
-      ≡ over store.plain o
+  found_by : (o : Option OverlayEntry) → entry_in store count ≡ o → filesystem_found store count ≡ over store.plain o
       (find (λ (one : Filesystem ℕ). nat_eq (counted count) one.number) (filesystems_seen store.plain))
-  found_by o e =
-      find-woven store.plain count store.overlays
-      ∙ ap (λ o. over store.plain o
+  found_by o e = find-woven store.plain count store.overlays ∙ ap (λ o. over store.plain o
       (find (λ (one : Filesystem ℕ). nat_eq (counted count) one.number) (filesystems_seen store.plain))) e
 
-  found_so : (o : Option OverlayEntry) → entry_in store count ≡ o
-      → filesystem_in store count
+  found_so : (o : Option OverlayEntry) → entry_in store count ≡ o → filesystem_in store count
       ≡ unwrap_or (over store.plain o
       (find (λ (one : Filesystem ℕ). nat_eq (counted count) one.number) (filesystems_seen store.plain)))
       (no_filesystem (counted count))
@@ -146,13 +136,12 @@ module _ (store : StoreValue) (count : ℕ) where
       by : (o : Option OverlayEntry) → entry_in store count ≡ o
           → option_map (λ (entry : OverlayEntry). entry.overlay) o ≡ Some overlay → IsOver overlay
       by None e some = none_is_some overlay some
-      by (Some entry) e some =
-          record {
-            entry = entry;
-            holds = same_Some entry.overlay overlay some;
-            among = found_among (λ (one : OverlayEntry). nat_eq count one.count) store.overlays entry e;
-            is = found_so (Some entry) e;
-          }
+      by (Some entry) e some = record {
+        entry = entry;
+        holds = same_Some entry.overlay overlay some;
+        among = found_among (λ (one : OverlayEntry). nat_eq count one.count) store.overlays entry e;
+        is = found_so (Some entry) e;
+      }
 
   pub files_over : (overlay : OverlayValue) → overlay_in store count ≡ Some overlay
       → merged_files store.plain overlay ≡ files_in store count
@@ -170,24 +159,19 @@ module _ (store : StoreValue) (count : ℕ) where
       by : (o : Option OverlayValue) → overlay_in store count ≡ o
           → is_some o ≡ is_some (filesystem_in store count).overlay
       by None e = sym (ap (λ (filesystem : Filesystem ℕ). is_some filesystem.overlay) (is_plain e))
-      by (Some overlay) e =
-          sym (ap (λ (filesystem : Filesystem ℕ). is_some filesystem.overlay) (is_over overlay e).is)
+      by (Some overlay) e = sym (ap (λ (filesystem : Filesystem ℕ). is_some filesystem.overlay) (is_over overlay e).is)
 
 -- a plain filesystem is found by its count
 found_plain : (plain : Filesystems) (count : ℕ)
     → find (λ (one : Filesystem ℕ). nat_eq (counted count) one.number) (filesystems_seen plain)
     ≡ option_map filesystem_seen (entry_of plain count)
 found_plain [] count = refl
-found_plain (entry ∷ plain) count =
-    ap (λ b. cond b (Some (filesystem_seen entry))
+found_plain (entry ∷ plain) count = ap (λ b. cond b (Some (filesystem_seen entry))
     (find (λ (one : Filesystem ℕ). nat_eq (counted count) one.number) (filesystems_seen plain)))
-    (counted_test count entry.count)
-    ∙ by (nat_eq count entry.count) (found_plain plain count)
+    (counted_test count entry.count) ∙ by (nat_eq count entry.count) (found_plain plain count)
   where
-    by : (b : Bool)
-        → find (λ (one : Filesystem ℕ). nat_eq (counted count) one.number) (filesystems_seen plain)
-        ≡ option_map filesystem_seen (entry_of plain count)
-        → cond b (Some (filesystem_seen entry))
+    by : (b : Bool) → find (λ (one : Filesystem ℕ). nat_eq (counted count) one.number) (filesystems_seen plain)
+        ≡ option_map filesystem_seen (entry_of plain count) → cond b (Some (filesystem_seen entry))
         (find (λ (one : Filesystem ℕ). nat_eq (counted count) one.number) (filesystems_seen plain))
         ≡ option_map filesystem_seen (cond b (Some entry) (entry_of plain count))
     by true later = refl
@@ -208,9 +192,7 @@ root_plain store count none = by (entry_in store count) refl none
     by : (o : Option OverlayEntry) → entry_in store count ≡ o
         → option_map (λ (entry : OverlayEntry). entry.overlay) o ≡ None
         → option_map (λ entry. (inodes_seen entry).root) (entry_of store.plain count) ≡ root_in store count
-    by None e none =
-        same (entry_of store.plain count)
-        ∙ ap (option_map (λ (one : Filesystem ℕ). one.files.tree.root))
+    by None e none = same (entry_of store.plain count) ∙ ap (option_map (λ (one : Filesystem ℕ). one.files.tree.root))
         (sym (found_by store count None e ∙ found_plain store.plain count))
     by (Some entry) e none = none_is_some entry.overlay (sym none)
 

@@ -97,14 +97,12 @@ module _ (K V : Type 0) (birth : V → ℕ) where
   put-last : (k : ℕ) (e : E) (kept : List (ℕ × E)) → list_all (λ one. nat_lt one.0 k) kept ≡ true
       → put cmp k e kept ≡ kept ++ (k, e) ∷ []
   put-last k e [] above = refl
-  put-last k e (x ∷ kept) above =
-      ap (λ o. by_order o ((k, e) ∷ x ∷ kept) ((x.0, e) ∷ kept) (x ∷ put cmp k e kept))
+  put-last k e (x ∷ kept) above = ap (λ o. by_order o ((k, e) ∷ x ∷ kept) ((x.0, e) ∷ kept) (x ∷ put cmp k e kept))
       (sym (nat_cmp_is k x.0 Greater (ltb-true x.0 k (and_true_left _ _ above))))
       ∙ ap (λ rest. x ∷ rest) (put-last k e kept (and_true_right _ _ above))
 
   all-put : (p : ℕ × E → Bool) (k : ℕ) (e : E) (kept : List (ℕ × E)) → p (k, e) ≡ true → list_all p kept ≡ true
-      → ((n : ℕ) (a b : E) → p (n, a) ≡ p (n, b))
-      → list_all p (put cmp k e kept) ≡ true
+      → ((n : ℕ) (a b : E) → p (n, a) ≡ p (n, b)) → list_all p (put cmp k e kept) ≡ true
   all-put p k e [] here all key = and_from (p (k, e)) true here refl
   all-put p k e (x ∷ kept) here all key = by (cmp k x.0) (all-put p k e kept here (and_true_right _ _ all) key)
     where
@@ -116,8 +114,7 @@ module _ (K V : Type 0) (birth : V → ℕ) where
 
   -- the one that was put is taken out
   removed-put : (test : K → Bool) (k : ℕ) (e : E) (kept : List (ℕ × E)) → find cmp k kept ≡ None → test e.0 ≡ true
-      → lookup test (entries kept) ≡ None
-      → remove_entry test (entries (put cmp k e kept)) ≡ entries kept
+      → lookup test (entries kept) ≡ None → remove_entry test (entries (put cmp k e kept)) ≡ entries kept
   removed-put test k e [] absent is none = ap (λ b. cond b [] (e ∷ [])) is
   removed-put test k e (x ∷ kept) absent is none =
       by (cmp k x.0) absent (test x.1.0) refl none (λ a n. removed-put test k e kept a is n)
@@ -144,17 +141,14 @@ module _ (K V : Type 0) (birth : V → ℕ) where
   absent-births k (e ∷ es) apart =
       ap (λ b. cond b (Some e) (lookup (same_by own k) (under_birth es))) apart.0 ∙ absent-births k es apart.1
 
-  unborn : (k : ℕ) (es : List E) → AllByRecursion (λ y. nat_eq k y ≡ false) (births es)
-      → find cmp k (sorted es) ≡ None
+  unborn : (k : ℕ) (es : List E) → AllByRecursion (λ y. nat_eq k y ≡ false) (births es) → find cmp k (sorted es) ≡ None
   unborn k es apart = found-in_order own k (under_birth es) ∙ absent-births k es apart
 
   pub permuted : (es : List E) → IsDistinct nat_eq (births es) → IsPermutation es (ordered es)
   permuted [] distinct = IsPermutation-refl []
-  permuted (e ∷ es) distinct =
-      IsPermutation-trans (e ∷ es) (e ∷ ordered es) (ordered (e ∷ es))
+  permuted (e ∷ es) distinct = IsPermutation-trans (e ∷ es) (e ∷ ordered es) (ordered (e ∷ es))
       (IsPermutation-cons e es (ordered es) (permuted es (IsDistinct-tail nat_eq (born e) (births es) distinct)))
-      (put-permutes (born e) e (sorted es)
-      (unborn (born e) es (IsDistinct-head nat_eq (born e) (births es) distinct)))
+      (put-permutes (born e) e (sorted es) (unborn (born e) es (IsDistinct-head nat_eq (born e) (births es) distinct)))
 
   keys-under : (es : List E) → keys_of (under_birth es) ≡ births es
   keys-under [] = refl
@@ -167,11 +161,9 @@ module _ (K V : Type 0) (birth : V → ℕ) where
       (rises-in_order own (under_birth es)) (rises-in_order own (under_birth fs))
       (λ q. found-in_order own q (under_birth es)
       ∙ sym (lookup_permutation nat_eq_equiv (under_birth es) (under_birth fs)
-      (IsPermutation-map (λ e. (birth e.1, e)) es fs moves)
-      (subst (IsDistinct nat_eq) (sym (keys-under fs))
+      (IsPermutation-map (λ e. (birth e.1, e)) es fs moves) (subst (IsDistinct nat_eq) (sym (keys-under fs))
       (distinct_permutation nat_eq_equiv (births es) (births fs)
-      (IsPermutation-map (λ e. birth e.1) es fs moves) distinct))
-      (nat_eq q) (nat_eq_equiv.congr q))
+      (IsPermutation-map (λ e. birth e.1) es fs moves) distinct)) (nat_eq q) (nat_eq_equiv.congr q))
       ∙ sym (found-in_order own q (under_birth fs)))
 
   -- What entries show, where their births stay
@@ -186,8 +178,7 @@ module _ (K V : Type 0) (birth : V → ℕ) where
 
     pub shows : (show : E → Y) (es : List E)
         → map show (ordered es) ≡ map (λ one. one.1) (in_order_by own (shown show es))
-    shows show es =
-        sym (values-changed show (sorted es))
+    shows show es = sym (values-changed show (sorted es))
         ∙ ap (map (λ one. one.1)) (sym (order-changed show (under_birth es)) ∙ ap (in_order_by own)
         (sym (shown-under show es)))
 
@@ -217,15 +208,13 @@ module _ (K V : Type 0) (birth : V → ℕ) where
 
   pub ordered-changed : (change : E → E) (es : List E) → births (map change es) ≡ births es
       → ordered (map change es) ≡ map change (ordered es)
-  ordered-changed change es same =
-      sym (itself (ordered (map change es)))
+  ordered-changed change es same = sym (itself (ordered (map change es)))
       ∙ ordered-same (λ e. e) change es (map change es) same (map-twice change es)
 
   pub above-sorted : (next : ℕ) (es : List E) → list_all (λ n. nat_lt n next) (births es) ≡ true
       → list_all (λ one. nat_lt one.0 next) (sorted es) ≡ true
   above-sorted next [] all = refl
-  above-sorted next (e ∷ es) all =
-      all-put (λ one. nat_lt one.0 next) (born e) e (sorted es) (and_true_left _ _ all)
+  above-sorted next (e ∷ es) all = all-put (λ one. nat_lt one.0 next) (born e) e (sorted es) (and_true_left _ _ all)
       (above-sorted next es (and_true_right _ _ all)) (λ n a b. refl)
 
   births-moved : (es fs : List E) → IsPermutation es fs → IsDistinct nat_eq (births es) → IsDistinct nat_eq (births fs)
@@ -242,11 +231,9 @@ module _ (K V : Type 0) (birth : V → ℕ) where
       by false b = refl
 
   all-moved : (p : ℕ → Bool) (es fs : List E) → IsPermutation es fs → list_all p (births es) ≡ list_all p (births fs)
-  all-moved p es fs moves =
-      all-any p (births es)
+  all-moved p es fs moves = all-any p (births es)
       ∙ ap not (list_any-IsPermutation (λ n. not (p n)) (births es) (births fs)
-      (IsPermutation-map (λ e. birth e.1) es fs moves))
-      ∙ sym (all-any p (births fs))
+      (IsPermutation-map (λ e. birth e.1) es fs moves)) ∙ sym (all-any p (births fs))
 
   -- One behind all others
 
@@ -271,8 +258,7 @@ module _ (K V : Type 0) (birth : V → ℕ) where
 
   pub before-last : (e : E) (es : List E) → list_all (λ n. nat_lt n (born e)) (births es) ≡ true
       → list_all (λ n. nat_lt n (born e + 1)) (births (es ++ e ∷ [])) ≡ true
-  before-last e es before =
-      all-moved (λ n. nat_lt n (born e + 1)) (es ++ e ∷ []) (e ∷ es) (IsPermutation-to_front es e)
+  before-last e es before = all-moved (λ n. nat_lt n (born e + 1)) (es ++ e ∷ []) (e ∷ es) (IsPermutation-to_front es e)
       ∙ and_from (nat_lt (born e) (born e + 1)) _ (lt-ltb (born e) (born e + 1) (omega arith)) (later (births es) before)
     where
       later : (ns : List ℕ) → list_all (λ n. nat_lt n (born e)) ns ≡ true
@@ -284,12 +270,10 @@ module _ (K V : Type 0) (birth : V → ℕ) where
           (later ns (and_true_right _ _ before))
 
   pub ordered-last : (e : E) (es : List E) → IsDistinct nat_eq (births es)
-      → list_all (λ n. nat_lt n (born e)) (births es) ≡ true
-      → ordered (es ++ e ∷ []) ≡ ordered es ++ e ∷ []
+      → list_all (λ n. nat_lt n (born e)) (births es) ≡ true → ordered (es ++ e ∷ []) ≡ ordered es ++ e ∷ []
   ordered-last e es distinct before =
       ap entries (same-sorted (es ++ e ∷ []) (e ∷ es) (IsPermutation-to_front es e) (births-last e es distinct before)
-      ∙ put-last (born e) e (sorted es) (above-sorted (born e) es before))
-      ∙ entries-last (sorted es)
+      ∙ put-last (born e) e (sorted es) (above-sorted (born e) es before)) ∙ entries-last (sorted es)
     where
       entries-last : (kept : List (ℕ × E)) → entries (kept ++ (born e, e) ∷ []) ≡ entries kept ++ e ∷ []
       entries-last [] = refl
@@ -319,8 +303,7 @@ module _ (K V : Type 0) (birth : V → ℕ) where
   remove-absent test [] none = refl
   remove-absent test (e ∷ es) none = by (test e.0) none (remove-absent test es)
     where
-      by : (b : Bool) → cond b (Some e.1) (lookup test es) ≡ None
-          → (lookup test es ≡ None → remove_entry test es ≡ es)
+      by : (b : Bool) → cond b (Some e.1) (lookup test es) ≡ None → (lookup test es ≡ None → remove_entry test es ≡ es)
           → cond b es (e ∷ remove_entry test es) ≡ e ∷ es
       by true none rest = absurd cc
       by false none rest = ap (λ l. e ∷ l) (rest none)
@@ -333,8 +316,7 @@ module _ (K V : Type 0) (birth : V → ℕ) where
 
     pub keys-ordered : (es : List E) → IsDistinct nat_eq (births es) → IsDistinct eq (keys_of es)
         → IsDistinct eq (keys_of (ordered es))
-    keys-ordered es distinct keys =
-        distinct_permutation equivalence (keys_of es) (keys_of (ordered es))
+    keys-ordered es distinct keys = distinct_permutation equivalence (keys_of es) (keys_of (ordered es))
         (IsPermutation-map (λ e. e.0) es (ordered es) (permuted es distinct)) keys
 
     -- what is left when one goes
@@ -349,14 +331,12 @@ module _ (K V : Type 0) (birth : V → ℕ) where
         let more = births-moved es (x ∷ fs) moves distinct in
         let apart = IsDistinct-tail nat_eq (born x) (births fs) more in
         record {
-          ordered_so = sym
-              (ap (λ kept. remove_entry test (entries kept)) (same-sorted es (x ∷ fs) moves distinct)
+          ordered_so = sym (ap (λ kept. remove_entry test (entries kept)) (same-sorted es (x ∷ fs) moves distinct)
               ∙ removed-put test (born x) x (sorted fs)
               (unborn (born x) fs (IsDistinct-head nat_eq (born x) (births fs) more)) is
               (looked-ordered fs apart (keys-ordered fs apart keys) ∙ none));
           births_apart = apart;
-          births_kept = λ p all. and_true_right _ _
-              (sym (all-moved p es (x ∷ fs) moves) ∙ all);
+          births_kept = λ p all. and_true_right _ _ (sym (all-moved p es (x ∷ fs) moves) ∙ all);
         }
 
     pub left : (es fs : List E) → fs ≡ swap_remove_entry test es → lookup test fs ≡ None
@@ -367,17 +347,14 @@ module _ (K V : Type 0) (birth : V → ℕ) where
             → test x.0 ≡ true → IsLeft es fs
         found i x at within here passes =
             let same : x ≡ get_or es i x = (let e = sym here ∙ slice_get-get_or es i x within in cc) in
-            one-left es fs x
-            (subst (λ l. IsPermutation es (x ∷ l)) (sym (is ∙ swap_remove_entry-found test es i x at))
-            (IsPermutation-swap_remove es i x within same))
-            passes none distinct keys
+            one-left es fs x (subst (λ l. IsPermutation es (x ∷ l)) (sym (is ∙ swap_remove_entry-found test es i x at))
+            (IsPermutation-swap_remove es i x within same)) passes none distinct keys
 
         by : (o : Option ℕ) → position test (keys_of es) ≡ o → IsLeft es fs
         by None at =
             let same = is ∙ swap_remove_entry-missing test es at in
             record {
-              ordered_so = sym (remove-absent test (ordered es)
-                  (ap (λ l. lookup test (ordered l)) (sym same)
+              ordered_so = sym (remove-absent test (ordered es) (ap (λ l. lookup test (ordered l)) (sym same)
                   ∙ looked-ordered fs (subst (λ l. IsDistinct nat_eq (births l)) (sym same) distinct)
                   (keys-ordered fs (subst (λ l. IsDistinct nat_eq (births l)) (sym same) distinct) keys) ∙ none)
                   ∙ ap ordered (sym same));
@@ -402,8 +379,7 @@ module _ (K V : Type 0) (birth : V → ℕ) where
 
     set-given : (w : V) (es : List E) → IsDistinct eq (keys_of es) → set_value test es w ≡ map (given w) es
     set-given w [] keys = refl
-    set-given w (e ∷ es) keys =
-        by (test e.0) refl (set-given w es (IsDistinct-tail eq e.0 (keys_of es) keys))
+    set-given w (e ∷ es) keys = by (test e.0) refl (set-given w es (IsDistinct-tail eq e.0 (keys_of es) keys))
       where
         by : (b : Bool) → test e.0 ≡ b → set_value test es w ≡ map (given w) es
             → cond b ((e.0, w) ∷ es) (e ∷ set_value test es w) ≡ cond b (e.0, w) e ∷ map (given w) es
@@ -425,7 +401,6 @@ module _ (K V : Type 0) (birth : V → ℕ) where
     pub ordered-set : (x w : V) (es : List E) → lookup test es ≡ Some x → birth w ≡ birth x
         → IsDistinct nat_eq (births es) → IsDistinct eq (keys_of es)
         → ordered (set_value test es w) ≡ set_value test (ordered es) w
-    ordered-set x w es found same distinct keys =
-        ap ordered (set-given w es keys)
+    ordered-set x w es found same distinct keys = ap ordered (set-given w es keys)
         ∙ ordered-changed (given w) es (ap births (sym (set-given w es keys)) ∙ births-set x w es found same)
         ∙ sym (set-given w (ordered es) (keys-ordered es distinct keys))

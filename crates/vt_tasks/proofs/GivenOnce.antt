@@ -70,8 +70,7 @@ all-called p name task (first ∷ tasks) e found = by (same_name name first.name
 name-called : (p : TaskName → Bool) (name : TaskName) (task : Task ℕ) (tasks : Tasks)
     → list_all p (names_of tasks) ≡ true → called name tasks ≡ Some task → p name ≡ true
 name-called p name task [] e found = absurd cc
-name-called p name task (first ∷ tasks) e found =
-    by (same_name name first.name) (same_task_name name first.name) found
+name-called p name task (first ∷ tasks) e found = by (same_name name first.name) (same_task_name name first.name) found
     (name-called p name task tasks (and_true_right _ _ e))
   where
     by : (b : Bool) → (b ≡ true → name ≡ first.name) → cond b (Some first) (called name tasks) ≡ Some task
@@ -84,8 +83,7 @@ pub all-replaced : (p q : Task ℕ → Bool) (new : Task ℕ) (tasks : Tasks) �
     → ((other : Task ℕ) → new.name ≢ other.name → p other ≡ true → q other ≡ true)
     → list_all q (replaced new tasks) ≡ true
 all-replaced p q new [] e here others = refl
-all-replaced p q new (first ∷ tasks) e here others =
-    and_from _ _ (by (same_name new.name first.name) refl)
+all-replaced p q new (first ∷ tasks) e here others = and_from _ _ (by (same_name new.name first.name) refl)
     (all-replaced p q new tasks (and_true_right _ _ e) here others)
   where
     by : (b : Bool) → same_name new.name first.name ≡ b → q (cond b new first) ≡ true
@@ -147,8 +145,7 @@ as-parent forks number (x ∷ first) (y ∷ name) apart e =
 none-from : (given forks number : ℕ) (name other : TaskName) → forks < number → is_of_forks forks name other ≡ true
     → is_of_forks given (name ++ number ∷ []) other ≡ true
 none-from given forks number [] [] lt e = refl
-none-from given forks number [] (y ∷ other) lt e =
-    ap (λ b. cond b (is_of_forks given [] other) true)
+none-from given forks number [] (y ∷ other) lt e = ap (λ b. cond b (is_of_forks given [] other) true)
     (ne_eqb number y (λ is. omega (arith, lt, is, leb-true y forks e)))
 none-from given forks number (x ∷ name) [] lt e = refl
 none-from given forks number (x ∷ name) (y ∷ other) lt e = by (nat_eq x y) e
@@ -176,8 +173,7 @@ given-changed name old new tasks given found same le =
     ∙ all-replaced (has_given (names_of tasks)) (has_given (names_of tasks)) new tasks given
     (ap (λ own. list_all (is_of_forks new.forks own) (names_of tasks)) same
     ∙ all-kept _ _ (names_of tasks) (λ other. more_forks old.forks new.forks old.name other le)
-    (all-called (has_given (names_of tasks)) name old tasks given found))
-    (λ other apart e. e)
+    (all-called (has_given (names_of tasks)) name old tasks given found)) (λ other apart e. e)
 
 names-filter : (test : TaskName → Bool) (tasks : Tasks)
     → names_of (filter (λ task. test task.name) tasks) ≡ filter test (names_of tasks)
@@ -193,8 +189,7 @@ names-filter test (first ∷ tasks) = by (test first.name) (names-filter test ta
 -- where one leaves
 pub given-without : (name : TaskName) (tasks : Tasks) → are_given_once tasks ≡ true
     → are_given_once (without_called name tasks) ≡ true
-given-without name tasks given =
-    ap (λ names. list_all (has_given names) (without_called name tasks))
+given-without name tasks given = ap (λ names. list_all (has_given names) (without_called name tasks))
     (names-filter (λ other. not (same_name name other)) tasks)
     ∙ all-kept (has_given (names_of tasks)) _ (without_called name tasks)
     (λ task e. all-filter (is_of_forks task.forks task.name) (λ other. not (same_name name other)) (names_of tasks) e)
@@ -225,8 +220,7 @@ apart-behind (first ∷ tasks) new apart none =
         → (called new.name tasks ≡ None → AreNamedApart (tasks ++ new ∷ []))
         → AreNamedApart ((first ∷ tasks) ++ new ∷ [])
     by true is here rest = absurd cc
-    by false is here rest =
-        or_from _ _ (none-behind (λ b. same_name first.name b.name) tasks new parts.0
+    by false is here rest = or_from _ _ (none-behind (λ b. same_name first.name b.name) tasks new parts.0
         (same_name-swapped new.name first.name is)) (rest here)
 
 -- where one forks
@@ -247,8 +241,7 @@ module _ (name : TaskName) (task : Task ℕ) (tasks : Tasks) (given : are_given_
       by (Some other) e =
           let all : list_all (is_of_forks task.forks task.name) (names_of others)
           ≡ true = ap (list_all (is_of_forks task.forks task.name)) are ∙ gave in
-          let within : nat_le (task.forks + 1) task.forks ≡ true =
-          sym (goes-on task.forks (task.forks + 1) task.name)
+          let within : nat_le (task.forks + 1) task.forks ≡ true = sym (goes-on task.forks (task.forks + 1) task.name)
           ∙ name-called (is_of_forks task.forks task.name) child other others all e in
           absurd (omega (arith, leb-true (task.forks + 1) task.forks within))
 
@@ -261,15 +254,13 @@ module _ (name : TaskName) (task : Task ℕ) (tasks : Tasks) (given : are_given_
 
   pub apart-forked : (credentials : Credentials) → AreNamedApart tasks
       → AreNamedApart (with_child_behind task (child_of task credentials) tasks)
-  apart-forked credentials apart =
-      apart-behind (replaced (forked_once task) tasks) (child_of task credentials)
+  apart-forked credentials apart = apart-behind (replaced (forked_once task) tasks) (child_of task credentials)
       (apart-replaced (forked_once task) tasks apart)
       (new-among (replaced (forked_once task) tasks) (names-replaced (forked_once task) tasks))
 
   pub given-forked : (credentials : Credentials)
       → are_given_once (with_child_behind task (child_of task credentials) tasks) ≡ true
-  given-forked credentials =
-      ap (λ all. list_all (has_given all) (replaced parent tasks ++ new ∷ []))
+  given-forked credentials = ap (λ all. list_all (has_given all) (replaced parent tasks ++ new ∷ []))
       (names-behind new (replaced parent tasks) ∙ ap (λ all. all ++ child ∷ []) (names-replaced parent tasks))
       ∙ all-behind (has_given names) (replaced parent tasks) new olds news
     where
@@ -283,16 +274,13 @@ module _ (name : TaskName) (task : Task ℕ) (tasks : Tasks) (given : are_given_
       names = names_of tasks ++ child ∷ []
 
       of_parent : has_given names parent ≡ true
-      of_parent =
-          all-behind _ (names_of tasks) child
-          (all-kept _ _ (names_of tasks)
+      of_parent = all-behind _ (names_of tasks) child (all-kept _ _ (names_of tasks)
           (λ other. more_forks task.forks (task.forks + 1) task.name other (omega arith)) gave)
           (goes-on (task.forks + 1) (task.forks + 1) task.name ∙ le-leb (task.forks + 1) (task.forks + 1) (omega arith))
 
       of_other : (other : Task ℕ) → task.name ≢ other.name → has_given (names_of tasks) other ≡ true
           → has_given names other ≡ true
-      of_other other apart e =
-          all-behind _ (names_of tasks) child e
+      of_other other apart e = all-behind _ (names_of tasks) child e
           (as-parent other.forks (task.forks + 1) other.name task.name (λ same. apart (sym same))
           (ap (is_of_forks other.forks other.name) (name-of-called name tasks task found)
           ∙ name-called (is_of_forks other.forks other.name) name task tasks e found))
@@ -301,8 +289,5 @@ module _ (name : TaskName) (task : Task ℕ) (tasks : Tasks) (given : are_given_
       olds = all-replaced (has_given (names_of tasks)) (has_given names) parent tasks given of_parent of_other
 
       news : has_given names new ≡ true
-      news =
-          all-behind _ (names_of tasks) child
-          (all-kept _ _ (names_of tasks)
-          (λ other. none-from 0 task.forks (task.forks + 1) task.name other (omega arith)) gave)
-          (from-itself 0 child)
+      news = all-behind _ (names_of tasks) child (all-kept _ _ (names_of tasks)
+          (λ other. none-from 0 task.forks (task.forks + 1) task.name other (omega arith)) gave) (from-itself 0 child)

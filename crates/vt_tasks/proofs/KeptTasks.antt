@@ -46,8 +46,7 @@ module _ {A : Type 0} where
       let parts = or_parts (same_name e.1.name x.1.name) _ none in
       ((λ i. pointwise nat_eq (own i) (keyed.0 i)) ∙ parts.0, heads e es own keyed.1 parts.1)
 
-  keys-apart : (es : List (Vec ℕ A × Held)) → AreKeyed es → AreNamedApart (tasks_of es)
-      → IsDistinct key_eq (keys_of es)
+  keys-apart : (es : List (Vec ℕ A × Held)) → AreKeyed es → AreNamedApart (tasks_of es) → IsDistinct key_eq (keys_of es)
   unfolding IsDistinct
   keys-apart [] keyed apart = tt
   keys-apart (e ∷ es) keyed apart =
@@ -71,8 +70,7 @@ module _ {A : Type 0} where
     -- births stay where a task is written back
     births-kept : (name : TaskName) (fs : List (Vec ℕ A × Held)) (x w : Held) → lookup (is_key name) es ≡ Some x
         → w.birth ≡ x.birth → fs ≡ set_value (is_key name) es w → births_of fs ≡ births_of es
-    births-kept name fs x w found same writes =
-        ap births_of writes
+    births-kept name fs x w found same writes = ap births_of writes
         ∙ births.births-set (Vec ℕ A) Held birth key_eq key_equivalence (is_key name) (key_test name) x w es found same
 
   -- the first task alone
@@ -152,13 +150,11 @@ module _ {A S : Type 0} {next : ℕ} (name : TaskName) (m n : IndexMap (Vec ℕ 
   pub written-fit : (x w : Held) → get_by (is_key name) m ≡ Some x → w.name ≡ x.name → w.birth ≡ x.birth
       → IsUnique key_eq m → WritesThrough key_eq (is_key name) m w n → x.forks ≤ w.forks
       → (has_files_in_order (task_of x) ≡ true → has_files_in_order (task_of w) ≡ true) → AreKept next n.entries
-  written-fit x w found same same_birth unique writes le files =
-      fit-so x w found same_birth unique writes same le files
+  written-fit x w found same same_birth unique writes le files = fit-so x w found same_birth unique writes same le files
 
   pub written-same : (x w : Held) → w ≡ x → get_by (is_key name) m ≡ Some x → WritesThrough key_eq (is_key name) m w n
       → fs ≡ es
-  written-same x w same found writes =
-      ap in_order (writes.0 ∙ ap (set_value (is_key name) m.entries) same
+  written-same x w same found writes = ap in_order (writes.0 ∙ ap (set_value (is_key name) m.entries) same
       ∙ listed.set_value-same (is_key name) x m.entries found)
 
   -- One that goes
@@ -175,8 +171,7 @@ module _ {A S : Type 0} {next : ℕ} (name : TaskName) (m n : IndexMap (Vec ℕ 
         births.looked-ordered (Vec ℕ A) Held birth key_eq key_equivalence (is_key name) (key_test name) n.entries
         what_is_left.births_apart
         (births.keys-ordered (Vec ℕ A) Held birth key_eq key_equivalence (is_key name) (key_test name) n.entries
-        what_is_left.births_apart unique)
-        ∙ gone
+        what_is_left.births_apart unique) ∙ gone
 
     pub tasks-left : tasks_of fs ≡ without_called name (tasks_of es)
     tasks-left = listed.tasks-removed name es fs kept.fit what_is_left.ordered_so none_left
@@ -207,9 +202,7 @@ module _ {A S : Type 0} (next : ℕ) (name : TaskName) (m middle n : IndexMap (V
   named_so = key_is ∙ ap (λ (task : Task ℕ). task.name) child_is
 
   new_key : lookup (is_key key.items) m.entries ≡ None
-  new_key =
-      sym (looked next m.entries kept key.items)
-      ∙ listed.absent-called key.items old kept.fit.0
+  new_key = sym (looked next m.entries kept key.items) ∙ listed.absent-called key.items old kept.fit.0
       (ap (λ name. called name (tasks_of old)) named_so
       ∙ child-new name (task_of parent) (tasks_of old) kept.fit.1 here)
 
@@ -227,8 +220,7 @@ module _ {A S : Type 0} (next : ℕ) (name : TaskName) (m middle n : IndexMap (V
       (births.births-last (Vec ℕ A) Held birth (key, child) m.entries kept.apart before)
 
   middle_before : list_all (λ birth. nat_lt birth (next + 1)) (births_of middle.entries) ≡ true
-  middle_before =
-      (λ i. list_all (λ birth. nat_lt birth (sym born i + 1)) (births_of (behind i)))
+  middle_before = (λ i. list_all (λ birth. nat_lt birth (sym born i + 1)) (births_of (behind i)))
       ∙ births.before-last (Vec ℕ A) Held birth (key, child) m.entries before
 
   module _ (unique : IsUnique key_eq middle) where
@@ -240,8 +232,7 @@ module _ {A S : Type 0} (next : ℕ) (name : TaskName) (m middle n : IndexMap (V
         → lookup (is_key name) (in_order middle.entries) ≡ r
     seen_middle r there =
         births.looked-ordered (Vec ℕ A) Held birth key_eq key_equivalence (is_key name) (key_test name) middle.entries middle_apart
-        keys_middle
-        ∙ there
+        keys_middle ∙ there
 
     pub never-absent : get_by (is_key name) middle ≡ None → ⊥
     never-absent absent =
@@ -252,14 +243,12 @@ module _ {A S : Type 0} (next : ℕ) (name : TaskName) (m middle n : IndexMap (V
         (forks : w ≡ record found { forks = parent.forks + 1 })
         (writes : WritesThrough key_eq (is_key name) middle w n) where
       in_place_there : in_order n.entries ≡ set_value (is_key name) (in_order middle.entries) w
-      in_place_there =
-          ap in_order writes.0
+      in_place_there = ap in_order writes.0
           ∙ births.ordered-set (Vec ℕ A) Held birth key_eq key_equivalence (is_key name) (key_test name) found w middle.entries there
           (ap birth forks) middle_apart unique
 
       same_births : births_of n.entries ≡ births_of middle.entries
-      same_births =
-          ap births_of writes.0
+      same_births = ap births_of writes.0
           ∙ births.births-set (Vec ℕ A) Held birth key_eq key_equivalence (is_key name) (key_test name) found w middle.entries there
           (ap birth forks)
 
@@ -288,6 +277,5 @@ module _ {A : Type 0} where
   kept-shown (e ∷ kept) = ap (λ l. (e.1.birth, task_of e.1) ∷ l) (kept-shown kept)
 
   pub born-kept : (kept : List (Vec ℕ A × Held)) → born_in_order (map (λ e. e.1) kept) ≡ tasks_of (in_order kept)
-  born-kept kept =
-      ap (λ l. map (λ one. one.1) (in_order_by (λ n. n) l)) (kept-shown kept)
+  born-kept kept = ap (λ l. map (λ one. one.1) (in_order_by (λ n. n) l)) (kept-shown kept)
       ∙ sym (births.shows (Vec ℕ A) Held birth (λ e. task_of e.1) kept)

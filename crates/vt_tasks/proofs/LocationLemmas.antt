@@ -36,8 +36,7 @@ without-nobody name (task ∷ tasks) none =
 
 -- behind a task with a name, no task has that name
 pub nobody-behind : (name : TaskName) (first : Task ℕ) (tasks : Tasks) → AreNamedApart (first ∷ tasks)
-    → same_name name first.name ≡ true
-    → list_any (λ task. same_name name task.name) tasks ≡ false
+    → same_name name first.name ≡ true → list_any (λ task. same_name name task.name) tasks ≡ false
 nobody-behind name first tasks apart is =
     ap (λ own. list_any (λ (task : Task ℕ). same_name own task.name) tasks) (same_task_name name first.name is)
     ∙ (or_parts (list_any (λ (task : Task ℕ). same_name first.name task.name) tasks) _ apart).0
@@ -54,8 +53,7 @@ module _ (weigh : Task ℕ → ℕ) where
   total (task ∷ tasks) = weigh task + total tasks
 
   total-put : (name : TaskName) (tasks : Tasks) (task new : Task ℕ) → AreNamedApart tasks
-      → called name tasks ≡ Some task
-      → total (put name new tasks) + weigh task ≡ total tasks + weigh new
+      → called name tasks ≡ Some task → total (put name new tasks) + weigh task ≡ total tasks + weigh new
   total-put name [] task new apart found = absurd cc
   total-put name (first ∷ tasks) task new apart found =
       by (same_name name first.name) refl found (total-put name tasks task new (apart-behind-first first tasks apart))
@@ -84,8 +82,7 @@ module _ (weigh : Task ℕ → ℕ) where
       ∙ total-put name tasks task new apart found
 
   pub total-without : (name : TaskName) (tasks : Tasks) (task : Task ℕ) → AreNamedApart tasks
-      → called name tasks ≡ Some task
-      → total (without_called name tasks) + weigh task ≡ total tasks
+      → called name tasks ≡ Some task → total (without_called name tasks) + weigh task ≡ total tasks
   total-without name [] task apart found = absurd cc
   total-without name (first ∷ tasks) task apart found =
       by (same_name name first.name) refl found (total-without name tasks task (apart-behind-first first tasks apart))
@@ -116,8 +113,7 @@ module _ (weigh : Task ℕ → ℕ) where
 
   -- a task that is replaced by one of the same weight, and a child behind
   pub total-forked : (name : TaskName) (tasks : Tasks) (task new child : Task ℕ) → AreNamedApart tasks
-      → called name tasks ≡ Some task
-      → new.name ≡ task.name → weigh new ≡ weigh task
+      → called name tasks ≡ Some task → new.name ≡ task.name → weigh new ≡ weigh task
       → total (replaced new tasks ++ child ∷ []) ≡ total tasks + weigh child
   total-forked name tasks task new child apart found same weight =
       so _ _ _ _ _ _ (total-behind (replaced new tasks) child)
@@ -151,10 +147,8 @@ module _ (test : Location ℕ → Bool) where
 
   pub uses-total : (tasks : Tasks) → uses test tasks ≡ total weight tasks
   uses-total [] = refl
-  uses-total (task ∷ tasks) =
-      ap (times test) (flat_map-cons locations_of task tasks)
-      ∙ times-append test (locations_of task) (locations_in tasks)
-      ∙ ap (λ n. weight task + n) (uses-total tasks)
+  uses-total (task ∷ tasks) = ap (times test) (flat_map-cons locations_of task tasks)
+      ∙ times-append test (locations_of task) (locations_in tasks) ∙ ap (λ n. weight task + n) (uses-total tasks)
 
 pub tasks_in-total : (namespace : ℕ) (tasks : Tasks)
     → tasks_in namespace tasks ≡ total (λ task. one_if (nat_eq namespace task.namespace)) tasks
@@ -194,14 +188,12 @@ module _ (test : Location ℕ → Bool) where
   others-above number least (d ∷ ds) less rising =
       let at = leb-true least d.number (and_true_left _ _ rising) in
       ap (λ b. cond (not b) (d ∷ filter (λ d. not (nat_eq number d.number)) ds)
-      (filter (λ d. not (nat_eq number d.number)) ds))
-      (ne_eqb number d.number (λ same. omega (arith, less, same, at)))
+      (filter (λ d. not (nat_eq number d.number)) ds)) (ne_eqb number d.number (λ same. omega (arith, less, same, at)))
       ∙ ap (λ rest. d ∷ rest)
       (others-above number (d.number + 1) ds (omega (arith, less, at)) (and_true_right _ _ rising))
 
   files-closed : (number least : ℕ) (ds : List (Descriptor ℕ)) (descriptor : Descriptor ℕ)
-      → are_ascending_from least ds ≡ true
-      → find (λ d. nat_eq number d.number) ds ≡ Some descriptor
+      → are_ascending_from least ds ≡ true → find (λ d. nat_eq number d.number) ds ≡ Some descriptor
       → files (filter (λ d. not (nat_eq number d.number)) ds) + one_if (test descriptor.location) ≡ files ds
   files-closed number least [] descriptor rising found = absurd cc
   files-closed number least (d ∷ ds) descriptor rising found =
@@ -219,9 +211,7 @@ module _ (test : Location ℕ → Bool) where
           → (find (λ d. nat_eq number d.number) ds ≡ Some descriptor
           → files (filter (λ d. not (nat_eq number d.number)) ds) + one_if (test descriptor.location) ≡ files ds)
           → files (cond (not b) (d ∷ filter (λ d. not (nat_eq number d.number)) ds)
-          (filter (λ d. not (nat_eq number d.number)) ds))
-          + one_if (test descriptor.location)
-          ≡ files (d ∷ ds)
+          (filter (λ d. not (nat_eq number d.number)) ds)) + one_if (test descriptor.location) ≡ files (d ∷ ds)
       by true same here rest =
           let is : d ≡ descriptor = cc in
           here_so _ (one_if (test descriptor.location)) (one_if (test d.location)) (files ds)
@@ -243,8 +233,7 @@ replaced_uses test name tasks task new apart found same =
 pub moved_uses : MovedUses
 moved_uses test name tasks task namespace root directory apart found =
     so _ _ (one_if (test task.root)) (one_if (test task.directory)) (one_if (test root)) (one_if (test directory))
-    (files test task.descriptors)
-    (replaced_uses test name tasks task
+    (files test task.descriptors) (replaced_uses test name tasks task
     (record task { namespace = namespace; root = root; directory = directory }) apart found refl)
   where
     so : (a b r d s e p : ℕ) → a + (r + (d + p)) ≡ b + (s + (e + p)) → a + (r + d) ≡ b + (s + e)
@@ -273,8 +262,7 @@ root_uses test name tasks task root apart found =
 pub opened_uses : OpenedUses
 opened_uses test name tasks task file access apart found =
     so _ _ (one_if (test task.root)) (one_if (test task.directory)) (files test task.descriptors) _ (one_if (test file))
-    (replaced_uses test name tasks task (with_descriptor task file access) apart found refl)
-    (files-inserted test
+    (replaced_uses test name tasks task (with_descriptor task file access) apart found refl) (files-inserted test
     (record {
       number = free_number task;
       location = file;
@@ -325,8 +313,7 @@ replaced_tasks namespace name tasks task new apart found same =
     so a r b t w v is was e = omega (arith, is, was, e)
 
 pub forked_tasks : ForkedTasks
-forked_tasks namespace name tasks task credentials apart found =
-    so _ _ _ _ (one_if (nat_eq namespace task.namespace))
+forked_tasks namespace name tasks task credentials apart found = so _ _ _ _ (one_if (nat_eq namespace task.namespace))
     (tasks_in-total namespace (replaced (forked_once task) tasks ++ child_of task credentials ∷ []))
     (tasks_in-total namespace tasks)
     (total-forked (λ task. one_if (nat_eq namespace task.namespace)) name tasks task (forked_once task)

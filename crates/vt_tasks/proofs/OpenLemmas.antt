@@ -109,8 +109,7 @@ free-least least (x ∷ es) = by (nat_eq x.0 least) (free-least (least + 1) es)
     by false rest = omega arith
 
 module _ (held : OpenFile) (free : ℕ) where
-  put_before : (x : ℕ × OpenFile) (es : List (ℕ × OpenFile)) (b : Bool) → b ≡ true
-      → opened ((free, held) ∷ x ∷ es)
+  put_before : (x : ℕ × OpenFile) (es : List (ℕ × OpenFile)) (b : Bool) → b ≡ true → opened ((free, held) ∷ x ∷ es)
       ≡ cond b (numbered free held ∷ descriptor_of x ∷ opened es)
       (descriptor_of x ∷ inserted (numbered free held) (opened es))
   put_before x es true e = refl
@@ -136,11 +135,9 @@ opened-inserted held free least zero (x ∷ es) e here at =
         → cond b (free_from (least + 1) (opened es)) least ≡ free → least + 1 ≤ free_from (least + 1) (opened es)
         → opened ((free, held) ∷ x ∷ es) ≡ inserted (numbered free held) (opened (x ∷ es))
     by true same other found above = absurd (omega (arith, found, above, at))
-    by false same other found above =
-        put_before held free x es (nat_lt free x.0)
+    by false same other found above = put_before held free x es (nat_lt free x.0)
         (lt-ltb free x.0 (omega (arith, other refl, at, first_number least x es e)))
-opened-inserted held free least (suc gap) (x ∷ es) e here at =
-    by (nat_eq x.0 least) (eqb-true x.0 least) here
+opened-inserted held free least (suc gap) (x ∷ es) e here at = by (nat_eq x.0 least) (eqb-true x.0 least) here
     (λ same found. opened-inserted held free (x.0 + 1) gap es (and_true_right _ _ e)
     (ap (λ n. free_from (n + 1) (opened es)) same ∙ found) (omega (arith, at, same)))
   where
@@ -148,8 +145,7 @@ opened-inserted held free least (suc gap) (x ∷ es) e here at =
         → (x.0 ≡ least → free_from (least + 1) (opened es) ≡ free
         → opened (insert es gap (free, held)) ≡ inserted (numbered free held) (opened es))
         → opened (x ∷ insert es gap (free, held)) ≡ inserted (numbered free held) (opened (x ∷ es))
-    by true same found rest =
-        put_behind held free x es (insert es gap (free, held)) (nat_lt free x.0)
+    by true same found rest = put_behind held free x es (insert es gap (free, held)) (nat_lt free x.0)
         (le-ltb free x.0 (omega (arith, same refl, at))) (rest (same refl) found)
     by false same found rest = absurd (omega (arith, found, at))
 
@@ -165,15 +161,12 @@ ascending-inserted held free least zero (x ∷ es) e here at =
     by (nat_eq x.0 least) (eqb-false x.0 least) here (free-least (least + 1) es)
   where
     by : (b : Bool) → (b ≡ false → x.0 ≢ least) → cond b (free_from (least + 1) (opened es)) least ≡ free
-        → least + 1 ≤ free_from (least + 1) (opened es)
-        → are_ascending least ((free, held) ∷ x ∷ es) ≡ true
+        → least + 1 ≤ free_from (least + 1) (opened es) → are_ascending least ((free, held) ∷ x ∷ es) ≡ true
     by true other found above = absurd (omega (arith, found, above, at))
-    by false other found above =
-        and_from (nat_le least free) _ (le-leb least free (omega (arith, at)))
+    by false other found above = and_from (nat_le least free) _ (le-leb least free (omega (arith, at)))
         (and_from (nat_le (free + 1) x.0) _
         (le-leb (free + 1) x.0 (omega (arith, other refl, at, first_number least x es e))) (and_true_right _ _ e))
-ascending-inserted held free least (suc gap) (x ∷ es) e here at =
-    by (nat_eq x.0 least) (eqb-true x.0 least) here
+ascending-inserted held free least (suc gap) (x ∷ es) e here at = by (nat_eq x.0 least) (eqb-true x.0 least) here
     (λ same found. ascending-inserted held free (x.0 + 1) gap es (and_true_right _ _ e)
     (ap (λ n. free_from (n + 1) (opened es)) same ∙ found) (omega (arith, at, same)))
   where
@@ -197,8 +190,7 @@ free-most least (x ∷ es) = by (nat_eq x.0 least) (free-most (least + 1) es)
 lookup-above : (number least : ℕ) (es : List (ℕ × OpenFile)) → number < least → are_ascending least es ≡ true
     → lookup (nat_eq number) es ≡ None
 lookup-above number least [] less e = refl
-lookup-above number least (x ∷ es) less e =
-    ap (λ b. cond b (Some x.1) (lookup (nat_eq number) es))
+lookup-above number least (x ∷ es) less e = ap (λ b. cond b (Some x.1) (lookup (nat_eq number) es))
     (ne_eqb number x.0 (λ same. omega (arith, less, same, first_number least x es e)))
     ∙ lookup-above number (x.0 + 1) es (omega (arith, less, first_number least x es e)) (and_true_right _ _ e)
 
@@ -214,11 +206,9 @@ lookup-free free least (x ∷ es) e here =
         → cond b (free_from (least + 1) (opened es)) least ≡ free → least + 1 ≤ free_from (least + 1) (opened es)
         → (x.0 ≡ least → free_from (least + 1) (opened es) ≡ free → lookup (nat_eq free) es ≡ None)
         → lookup (nat_eq free) (x ∷ es) ≡ None
-    by true same other found above rest =
-        ap (λ b. cond b (Some x.1) (lookup (nat_eq free) es))
+    by true same other found above rest = ap (λ b. cond b (Some x.1) (lookup (nat_eq free) es))
         (ne_eqb free x.0 (λ is. omega (arith, is, same refl, found, above))) ∙ rest (same refl) found
-    by false same other found above rest =
-        ap (λ b. cond b (Some x.1) (lookup (nat_eq free) es))
+    by false same other found above rest = ap (λ b. cond b (Some x.1) (lookup (nat_eq free) es))
         (ne_eqb free x.0 (λ is. omega (arith, is, other refl, found)))
         ∙ lookup-above free (x.0 + 1) es (omega (arith, found, first_number least x es e)) (and_true_right _ _ e)
 

@@ -23,8 +23,7 @@ module _ (test : Location ℕ → Bool) (namespace : ℕ) (root new : Mount ℕ)
   abbrev second : Location ℕ
   second = root_of new
 
-  one_moved : (at : Location ℕ)
-      → one_if (test (pivoted_location nat_eq root new at)) + if_so (test first)
+  one_moved : (at : Location ℕ) → one_if (test (pivoted_location nat_eq root new at)) + if_so (test first)
       (one_if (same_location nat_eq at first))
       ≡ one_if (test at) + if_so (test second) (one_if (same_location nat_eq at first))
   one_moved at = by (same_location nat_eq at first) (same_location_is at first)
@@ -33,8 +32,7 @@ module _ (test : Location ℕ → Bool) (namespace : ℕ) (root new : Mount ℕ)
       none true = refl
       none false = refl
 
-      by : (b : Bool) → (b ≡ true → at ≡ first)
-          → one_if (test (cond b second at)) + if_so (test first) (one_if b)
+      by : (b : Bool) → (b ≡ true → at ≡ first) → one_if (test (cond b second at)) + if_so (test first) (one_if b)
           ≡ one_if (test at) + if_so (test second) (one_if b)
       by true same = so (test second) (test first) (test at) (ap test (same refl))
         where
@@ -61,8 +59,7 @@ module _ (test : Location ℕ → Bool) (namespace : ℕ) (root new : Mount ℕ)
       by : (b : Bool)
           → weight test (cond b (record task { root = pivoted_location nat_eq root new task.root; directory = pivoted_location nat_eq root new task.directory }) task)
           + if_so (test first) (cond b (one_if (same_location nat_eq task.root first) + one_if
-          (same_location nat_eq task.directory first)) 0)
-          ≡ weight test task
+          (same_location nat_eq task.directory first)) 0) ≡ weight test task
           + if_so (test second) (cond b (one_if (same_location nat_eq task.root first) + one_if
           (same_location nat_eq task.directory first)) 0)
       by true =
@@ -88,8 +85,7 @@ module _ (test : Location ℕ → Bool) (namespace : ℕ) (root new : Mount ℕ)
       none true false = refl
       none false true = refl
       none false false = refl
-  all_moved (task ∷ tasks) =
-      so _ _ _ _ _ _ _ _ _ _ (moved task) (all_moved tasks)
+  all_moved (task ∷ tasks) = so _ _ _ _ _ _ _ _ _ _ (moved task) (all_moved tasks)
       (if_so-sum (test first) (places_at namespace first task) (all_places_at namespace first tasks))
       (if_so-sum (test second) (places_at namespace first task) (all_places_at namespace first tasks))
     where
@@ -99,15 +95,13 @@ module _ (test : Location ℕ → Bool) (namespace : ℕ) (root new : Mount ℕ)
 pub pivoted_uses : PivotedUses
 pivoted_uses test tasks namespace root new =
     ap (λ n. n + if_so (test (root_of root)) (all_places_at namespace (root_of root) tasks))
-    (uses-total test (map (pivoted_task nat_eq namespace root new) tasks))
-    ∙ all_moved test namespace root new tasks
+    (uses-total test (map (pivoted_task nat_eq namespace root new) tasks)) ∙ all_moved test namespace root new tasks
     ∙ ap (λ n. n + if_so (test (root_of new)) (all_places_at namespace (root_of root) tasks))
     (sym (uses-total test tasks))
 
 pub pivoted_tasks : PivotedTasks
 pivoted_tasks number [] namespace root new = refl
-pivoted_tasks number (task ∷ tasks) namespace root new =
-    λ i. one_if (nat_eq number (stays
+pivoted_tasks number (task ∷ tasks) namespace root new = λ i. one_if (nat_eq number (stays
     (nat_eq namespace task.namespace) i)) + pivoted_tasks number tasks namespace root new i
   where
     stays : (b : Bool) → (cond b (record task { root = pivoted_location nat_eq root new task.root; directory = pivoted_location nat_eq root new task.directory }) task).namespace

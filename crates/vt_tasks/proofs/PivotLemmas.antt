@@ -43,8 +43,7 @@ module _ (change : Task ℕ → Task ℕ) where
 
   -- the next one changes
   step : {A : Type 0} (i : ℕ) (es : List (Vec ℕ A × Held)) (tasks : Tasks) (x w : Held)
-      → tasks_of es ≡ changed_first i tasks
-      → slice_get (values_of es) i ≡ Some x → task_of w ≡ change (task_of x)
+      → tasks_of es ≡ changed_first i tasks → slice_get (values_of es) i ≡ Some x → task_of w ≡ change (task_of x)
       → tasks_of (set_value_at es i w) ≡ changed_first (suc i) tasks
   step i [] tasks x w so found is = absurd cc
   step zero (e ∷ es) [] x w so found is = absurd cc
@@ -60,8 +59,7 @@ module _ (change : Task ℕ → Task ℕ) where
       λ j. first j ∷ step i es tasks x w rest found is j
 
   pub changed-next : {A : Type 0} (i : ℕ) (es : List (Vec ℕ A × Held)) (tasks : Tasks) (x w : Held)
-      → tasks_of es ≡ changed_first i tasks
-      → slice_get (values_of es) i ≡ Some x → task_of w ≡ change (task_of x)
+      → tasks_of es ≡ changed_first i tasks → slice_get (values_of es) i ≡ Some x → task_of w ≡ change (task_of x)
       → tasks_of (set_value_at es i w) ≡ changed_first (i + 1) tasks
   changed-next i es tasks x w so found is = step i es tasks x w so found is
       ∙ ap (λ n. changed_first n tasks) (sym (add-one i))
@@ -80,8 +78,7 @@ module _ (change : Task ℕ → Task ℕ) where
     all-changed p q same (task ∷ tasks) = λ i. same task i && all-changed p q same tasks i
 
     given-changed : (tasks : Tasks) → are_given_once (map change tasks) ≡ are_given_once tasks
-    given-changed tasks =
-        ap (λ names. list_all (has_given names) (map change tasks)) (names-changed tasks)
+    given-changed tasks = ap (λ names. list_all (has_given names) (map change tasks)) (names-changed tasks)
         ∙ all-changed (has_given (names_of tasks)) (has_given (names_of tasks))
         (λ task i. list_all (is_of_forks (forks task i) (name task i)) (names_of tasks)) tasks
 
@@ -90,8 +87,7 @@ module _ (change : Task ℕ → Task ℕ) where
         (λ task i. has_files_in_order (record task { descriptors = files task i })) tasks
 
     apart-changed : (tasks : Tasks) → AreNamedApart tasks → AreNamedApart (map change tasks)
-    apart-changed tasks apart =
-        pair-map (λ a b. same_name a.name b.name) (λ a b. same_name a.name b.name) change tasks
+    apart-changed tasks apart = pair-map (λ a b. same_name a.name b.name) (λ a b. same_name a.name b.name) change tasks
         (λ a b m n differs. (λ i. same_name (name a i) (name b i)) ∙ differs) apart
 
     keyed-changed : {A : Type 0} (es new : List (Vec ℕ A × Held)) → AreKeyed es → keys_of new ≡ keys_of es
@@ -127,10 +123,8 @@ module _ {A : Type 0} where
   as-many es new keys = sym (length-keys new) ∙ ap length keys ∙ length-keys es
 
   pub all-of : (change : Task ℕ → Task ℕ) (i : ℕ) (es new : List (Vec ℕ A × Held)) → i ≡ length es
-      → tasks_of new ≡ changed_first change i (tasks_of es)
-      → tasks_of new ≡ map change (tasks_of es)
-  all-of change i es new last so =
-      so ∙ ap (λ n. changed_first change n (tasks_of es)) (last ∙ sym (length-tasks es))
+      → tasks_of new ≡ changed_first change i (tasks_of es) → tasks_of new ≡ map change (tasks_of es)
+  all-of change i es new last so = so ∙ ap (λ n. changed_first change n (tasks_of es)) (last ∙ sym (length-tasks es))
       ∙ changed-all change (tasks_of es)
 
 -- a task that a pivot moves keeps its name, its forks and its files
@@ -172,8 +166,7 @@ module _ (namespace : ℕ) (root new : Mount ℕ) where
     pub pivoted-in_order : tasks_of (in_order after) ≡ map pivoting (tasks_of (in_order es))
     pivoted-in_order =
         ordered-same (Vec ℕ A) Held (λ held. held.birth) (λ e. task_of e.1) (λ e. pivoting (task_of e.1)) es after births
-        (so ∙ sym (pivoted-again es))
-        ∙ pivoted-again (in_order es)
+        (so ∙ sym (pivoted-again es)) ∙ pivoted-again (in_order es)
 
     pub kept-pivoted : (next : ℕ) → AreKept next es → AreKept next after
     kept-pivoted next kept = record {

@@ -64,8 +64,7 @@ module _ (namespace : ℕ) (place : Location ℕ) where
 
   as_sum : (tasks : Tasks) → sum_by (places_at namespace place) tasks ≡ all_places_at namespace place tasks
   as_sum [] = refl
-  as_sum (task ∷ tasks) =
-      sum_by-cons (places_at namespace place) task tasks
+  as_sum (task ∷ tasks) = sum_by-cons (places_at namespace place) task tasks
       ∙ ap (λ n. places_at namespace place task + n) (as_sum tasks)
 
   module _ {A : Type 0} where
@@ -74,25 +73,17 @@ module _ (namespace : ℕ) (place : Location ℕ) where
 
     held_sum : (es : List (Vec ℕ A × Held)) → sum_by held_places (map (λ e. e.1) es) ≡ sum_by entry_places es
     held_sum [] = refl
-    held_sum (e ∷ es) =
-        sum_by-cons held_places e.1 (map (λ e. e.1) es)
-        ∙ ap (λ n. held_places e.1 + n) (held_sum es)
+    held_sum (e ∷ es) = sum_by-cons held_places e.1 (map (λ e. e.1) es) ∙ ap (λ n. held_places e.1 + n) (held_sum es)
         ∙ sym (sum_by-cons entry_places e es)
 
-    tasks_sum : (es : List (Vec ℕ A × Held))
-        → sum_by (places_at namespace place) (tasks_of es) ≡ sum_by entry_places es
+    tasks_sum : (es : List (Vec ℕ A × Held)) → sum_by (places_at namespace place) (tasks_of es) ≡ sum_by entry_places es
     tasks_sum [] = refl
-    tasks_sum (e ∷ es) =
-        sum_by-cons (places_at namespace place) (task_of e.1) (tasks_of es)
-        ∙ ap (λ n. held_places e.1 + n) (tasks_sum es)
-        ∙ sym (sum_by-cons entry_places e es)
+    tasks_sum (e ∷ es) = sum_by-cons (places_at namespace place) (task_of e.1) (tasks_of es)
+        ∙ ap (λ n. held_places e.1 + n) (tasks_sum es) ∙ sym (sum_by-cons entry_places e es)
 
     -- the order in which tasks are kept does not matter
     pub counted_in_order : (es : List (Vec ℕ A × Held)) → IsDistinct nat_eq (births_of es)
         → sum_by held_places (map (λ e. e.1) es) ≡ all_places_at namespace place (tasks_of (in_order es))
-    counted_in_order es apart =
-        held_sum es
-        ∙ sym (sum_by-IsPermutation entry_places es (in_order es)
-        (permuted (Vec ℕ A) Held (λ held. held.birth) es apart))
-        ∙ sym (tasks_sum (in_order es))
+    counted_in_order es apart = held_sum es ∙ sym (sum_by-IsPermutation entry_places es (in_order es)
+        (permuted (Vec ℕ A) Held (λ held. held.birth) es apart)) ∙ sym (tasks_sum (in_order es))
         ∙ as_sum (tasks_of (in_order es))

@@ -73,8 +73,7 @@ module _ {A : Type 0} where
 
   -- the task that a name finds is the one with that name
   put-set_value : (name : TaskName) (w : Held) (es : List (Vec ℕ A × Held)) → AreKeyed es
-      → IsDistinct key_eq (keys_of es)
-      → tasks_of (set_value (is_key name) es w) ≡ put name (task_of w) (tasks_of es)
+      → IsDistinct key_eq (keys_of es) → tasks_of (set_value (is_key name) es w) ≡ put name (task_of w) (tasks_of es)
   put-set_value name w [] keyed distinct = refl
   put-set_value name w (e ∷ es) keyed distinct =
       by (is_key name e.0) (λ here. put-none name (task_of w) e.0 es keyed.1 here
@@ -112,8 +111,7 @@ module _ {A : Type 0} where
   without-absent name [] keyed absent = refl
   without-absent name (e ∷ es) keyed absent =
       ap (λ own. cond (not (same_name name own)) (task_of e.1 ∷ without_called name (tasks_of es))
-      (without_called name (tasks_of es))) (sym keyed.0)
-      ∙ by (is_key name e.0) absent (without-absent name es keyed.1)
+      (without_called name (tasks_of es))) (sym keyed.0) ∙ by (is_key name e.0) absent (without-absent name es keyed.1)
     where
       by : (b : Bool) → cond b (Some e.1) (lookup (is_key name) es) ≡ None
           → (lookup (is_key name) es ≡ None → without_called name (tasks_of es) ≡ tasks_of es)
@@ -139,8 +137,7 @@ module _ {A : Type 0} where
           → tasks_of (cond b es (e ∷ remove_entry (is_key name) es))
           ≡ cond (not b) (task_of e.1 ∷ without_called name (tasks_of es)) (without_called name (tasks_of es))
       by true is absent none rest = sym (none absent)
-      by false is absent none rest =
-          ap (λ l. task_of e.1 ∷ l)
+      by false is absent none rest = ap (λ l. task_of e.1 ∷ l)
           (rest (sym (ap (λ b. cond b (Some e.1) (lookup (is_key name) (remove_entry (is_key name) es))) is) ∙ absent))
 
   keyed-removed : (test : Vec ℕ A → Bool) (es : List (Vec ℕ A × Held)) → AreKeyed es → AreKeyed (remove_entry test es)
@@ -187,8 +184,7 @@ module _ {A : Type 0} (name : TaskName) (es fs : List (Vec ℕ A × Held)) (fit 
   pub called-absent : lookup (is_key name) es ≡ None → called name (tasks_of es) ≡ None
   called-absent absent = called-tasks name es fit.0 ∙ ap (option_map task_of) absent
 
-  pub called-got : (r : Option Held) → r ≡ lookup (is_key name) es
-      → option_map task_of r ≡ called name (tasks_of es)
+  pub called-got : (r : Option Held) → r ≡ lookup (is_key name) es → option_map task_of r ≡ called name (tasks_of es)
   called-got r is = ap (option_map task_of) is ∙ sym (called-tasks name es fit.0)
 
   pub name-found : (x : Held) → lookup (is_key name) es ≡ Some x → x.name ≡ name
@@ -200,13 +196,10 @@ module _ {A : Type 0} (name : TaskName) (es fs : List (Vec ℕ A × Held)) (fit 
   written w same unique writes = ap tasks_of writes ∙ tasks-set_value name w es fit.0 unique same
 
   pub written-change : (change : Task ℕ → Task ℕ) (x w : Held) → lookup (is_key name) es ≡ Some x → w.name ≡ x.name
-      → IsDistinct key_eq (keys_of es)
-      → fs ≡ set_value (is_key name) es w → task_of w ≡ change (task_of x)
+      → IsDistinct key_eq (keys_of es) → fs ≡ set_value (is_key name) es w → task_of w ≡ change (task_of x)
       → tasks_of fs ≡ changed_called name change (tasks_of es)
-  written-change change x w found same unique writes is =
-      written w (same ∙ name-found x found) unique writes
-      ∙ ap (λ task. replaced task (tasks_of es)) is
-      ∙ sym (ap (changed_by change (tasks_of es)) (called-found x found))
+  written-change change x w found same unique writes is = written w (same ∙ name-found x found) unique writes
+      ∙ ap (λ task. replaced task (tasks_of es)) is ∙ sym (ap (changed_by change (tasks_of es)) (called-found x found))
 
   in_order : (x : Held) → lookup (is_key name) es ≡ Some x → has_files_in_order (task_of x) ≡ true
   in_order x found = all-called has_files_in_order name (task_of x) (tasks_of es) fit.3 (called-found x found)
@@ -218,8 +211,7 @@ module _ {A : Type 0} (name : TaskName) (es fs : List (Vec ℕ A × Held)) (fit 
 
   pub written-fit : (x w : Held) → lookup (is_key name) es ≡ Some x → w.name ≡ x.name → IsDistinct key_eq (keys_of es)
       → fs ≡ set_value (is_key name) es w
-      → x.forks ≤ w.forks → (has_files_in_order (task_of x) ≡ true → has_files_in_order (task_of w) ≡ true)
-      → AreFit fs
+      → x.forks ≤ w.forks → (has_files_in_order (task_of x) ≡ true → has_files_in_order (task_of w) ≡ true) → AreFit fs
   written-fit x w found same unique writes le files =
       let own = same ∙ name-found x found in
       let so = written w own unique writes in (
@@ -331,8 +323,7 @@ replaced-behind parent child (task ∷ tasks) other = ap (λ l. replaced_if_call
     (replaced-behind parent child tasks other)
 
 module _ {A : Type 0} (name : TaskName) (es middle fs : List (Vec ℕ A × Held)) (key : Vec ℕ A) (parent child : Held)
-    (credentials : Credentials)
-    (fit : AreFit es) (is : lookup (is_key name) es ≡ Some parent)
+    (credentials : Credentials) (fit : AreFit es) (is : lookup (is_key name) es ≡ Some parent)
     (key_is : key.items ≡ child.name) (child_is : task_of child ≡ child_of (task_of parent) credentials)
     (behind : middle ≡ es ++ (key, child) ∷ []) where
   here : called name (tasks_of es) ≡ Some (task_of parent)
@@ -357,10 +348,8 @@ module _ {A : Type 0} (name : TaskName) (es middle fs : List (Vec ℕ A × Held)
 
   by-parent : (w : Held) → task_of w ≡ forked_once (task_of parent) → IsDistinct key_eq (keys_of middle)
       → fs ≡ set_value (is_key name) middle w
-      → tasks_of fs ≡ with_child_behind (task_of parent) (child_of (task_of parent) credentials)
-      (tasks_of es)
-  by-parent w once unique writes =
-      ap tasks_of writes
+      → tasks_of fs ≡ with_child_behind (task_of parent) (child_of (task_of parent) credentials) (tasks_of es)
+  by-parent w once unique writes = ap tasks_of writes
       ∙ tasks-set_value name w middle keyed-middle unique (ap (λ (task : Task ℕ). task.name) once ∙ own)
       ∙ (λ i. replaced (once i) ((ap tasks_of behind ∙ tasks-behind (key, child) es) i))
       ∙ (λ i. replaced (forked_once (task_of parent)) (tasks_of es ++ child_is i ∷ []))
@@ -378,10 +367,8 @@ module _ {A : Type 0} (name : TaskName) (es middle fs : List (Vec ℕ A × Held)
 
   pub forked-so : (found w : Held) → lookup (is_key name) middle ≡ Some found
       → w ≡ record found { forks = parent.forks + 1 } → IsDistinct key_eq (keys_of middle)
-      → fs ≡ set_value (is_key name) middle w
-      → tasks_of fs ≡ forked name credentials (tasks_of es)
-  forked-so found w there forks unique writes =
-      by-parent w (once-forked found w there forks) unique writes
+      → fs ≡ set_value (is_key name) middle w → tasks_of fs ≡ forked name credentials (tasks_of es)
+  forked-so found w there forks unique writes = by-parent w (once-forked found w there forks) unique writes
       ∙ sym (ap (forked_by credentials (tasks_of es)) here)
 
   pub fit-forked : (found w : Held) → lookup (is_key name) middle ≡ Some found
@@ -393,8 +380,7 @@ module _ {A : Type 0} (name : TaskName) (es middle fs : List (Vec ℕ A × Held)
         subst AreKeyed (sym writes) (keyed-set_value name w middle keyed-middle
             (ap (λ (task : Task ℕ). task.name) once ∙ own)),
         ap are_given_once so ∙ given-forked name (task_of parent) (tasks_of es) fit.1 here credentials,
-        subst AreNamedApart (sym so) (apart-forked name (task_of parent)
-            (tasks_of es) fit.1 here credentials fit.2),
+        subst AreNamedApart (sym so) (apart-forked name (task_of parent) (tasks_of es) fit.1 here credentials fit.2),
         ap (list_all has_files_in_order) so
             ∙ all-behind has_files_in_order (replaced (forked_once (task_of parent)) (tasks_of es))
             (child_of (task_of parent) credentials)

@@ -15,10 +15,7 @@ use Rattle.vt_text.specs.Walkable.{IsTooLong, IsWalkable}
 pub IsTooLong-from_test : (text : List ℕ)
     → (nat_lt longest_path (length text) || list_any (λ word. nat_lt longest_name (length word)) (words text)) ≡ true
     → IsTooLong text
-IsTooLong-from_test text test =
-    ⊎_elim
-    (λ path. inl (ltb-true longest_path (length text) path))
-    (λ word.
+IsTooLong-from_test text test = ⊎_elim (λ path. inl (ltb-true longest_path (length text) path)) (λ word.
     let found = Any-from_list_any (λ word. nat_lt longest_name (length word)) (words text) word in
     inr (found.0, found.1, found.2, found.3, ltb-true longest_name (length found.1) found.4))
     (or_cases (nat_lt longest_path (length text))
@@ -26,19 +23,14 @@ IsTooLong-from_test text test =
 
 -- such a text may not be walked
 pub not_walkable : (text : List ℕ) → IsTooLong text → IsWalkable text → ⊥
-not_walkable text too_long walkable =
-    ⊎_elim
-    (λ path. omega (arith, walkable.path_limit))
-    (λ some.
+not_walkable text too_long walkable = ⊎_elim (λ path. omega (arith, walkable.path_limit)) (λ some.
     let limit = subst (λ word. length word ≤ longest_name) some.3 (walkable.name_limit some.0 some.1 some.2) in
-    omega (arith, some.4))
-    too_long
+    omega (arith, some.4)) too_long
 
 -- a text within the limit of a word has no word over it
 pub no_long_word : (text : List ℕ) → length text ≤ longest_name
     → list_any (λ word. nat_lt longest_name (length word)) (words text) ≡ false
-no_long_word text short =
-    list_any_none (λ word. nat_lt longest_name (length word)) (words text)
+no_long_word text short = list_any_none (λ word. nat_lt longest_name (length word)) (words text)
     (All-weaker (λ word. length word ≤ length text) (λ word. nat_lt longest_name (length word) ≡ false)
     (λ word h. le-ltb longest_name (length word) (omega arith)) (words text) (words_between_within 47 text))
 
@@ -48,17 +40,14 @@ some_long texts = list_any (λ word. nat_lt longest_name (length word)) texts
 
 -- what stands before a slash, and is within the limit of a word, does not matter
 pub long_word_after : (text : List ℕ) (slash : ℕ) → slash < length text → slash ≤ longest_name
-    → get_or text slash 0 ≡ 47
-    → some_long (words text) ≡ some_long (words (drop (slash + 1) text))
+    → get_or text slash 0 ≡ 47 → some_long (words text) ≡ some_long (words (drop (slash + 1) text))
 long_word_after text slash within short there =
     let front = take slash text in
     let rest = drop (slash + 1) text in
-    let cut : text ≡ front ++ 47 ∷ rest =
-    sym (take-append-drop slash text)
+    let cut : text ≡ front ++ 47 ∷ rest = sym (take-append-drop slash text)
     ∙ ap (λ back. front ++ back) (drop_more text slash 0 within ∙ ap (λ byte. byte ∷ rest) there) in
     let none : some_long (words front) ≡ false = no_long_word front (omega (arith, length-take slash text)) in
-    ap (λ text. some_long (words text)) cut
-    ∙ ap some_long (words_between-append 47 front rest)
+    ap (λ text. some_long (words text)) cut ∙ ap some_long (words_between-append 47 front rest)
     ∙ list_any-append (λ word. nat_lt longest_name (length word)) (words front) (words rest)
     ∙ ap (λ first. first || some_long (words rest)) none
 
@@ -75,15 +64,13 @@ part_with_front (byte ∷ front) rest other =
       found.0,
       found.1,
       ap (λ test. with_byte test byte (parts 47 (front ++ rest)))
-          (ne_eqb byte 47 (All-head (λ byte. byte ≢ 47) byte front other))
-          ∙ ap (with_byte false byte) found.2,
+          (ne_eqb byte 47 (All-head (λ byte. byte ≢ 47) byte front other)) ∙ ap (with_byte false byte) found.2,
     )
 
 first_is_long : (word : List ℕ) (tail : List (List ℕ)) → longest_name < length word
     → some_long (filter (λ part. not (is_empty part)) (word ∷ tail)) ≡ true
 first_is_long [] tail long = absurd (omega arith)
-first_is_long (byte ∷ bytes) tail long =
-    ap (λ first. first || some_long (filter (λ part. not (is_empty part)) tail))
+first_is_long (byte ∷ bytes) tail long = ap (λ first. first || some_long (filter (λ part. not (is_empty part)) tail))
     (lt-ltb longest_name (length (byte ∷ bytes)) long)
 
 -- a text of which one byte more than the limit of a word has no slash has a word over it

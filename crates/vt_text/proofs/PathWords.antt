@@ -26,15 +26,13 @@ parts_some s (x ∷ xs) e = with_byte_some (x == s) x (parts s xs) e
 -- a separator cuts
 pub parts-append : (s : ℕ) (xs ys : List ℕ) → parts s (xs ++ s ∷ ys) ≡ parts s xs ++ parts s ys
 parts-append s [] ys = ap (λ b. with_byte b s (parts s ys)) (eq-eqb s s refl)
-parts-append s (x ∷ xs) ys =
-    ap (with_byte (x == s) x) (parts-append s xs ys)
+parts-append s (x ∷ xs) ys = ap (with_byte (x == s) x) (parts-append s xs ys)
     ∙ with_byte-append (x == s) x (parts s xs) (parts s ys) (parts_some s xs)
 
 -- a text without a separator is its one part
 pub parts_one : (s : ℕ) (xs : List ℕ) → All (λ b. b ≢ s) xs → parts s xs ≡ xs ∷ []
 parts_one s [] other = refl
-parts_one s (x ∷ xs) other =
-    ap (λ b. with_byte b x (parts s xs)) (ne_eqb x s (All-head (λ b. b ≢ s) x xs other))
+parts_one s (x ∷ xs) other = ap (λ b. with_byte b x (parts s xs)) (ne_eqb x s (All-head (λ b. b ≢ s) x xs other))
     ∙ ap (with_byte false x) (parts_one s xs (All-tail (λ b. b ≢ s) x xs other))
 
 -- the words before a separator, and those after it
@@ -54,8 +52,7 @@ pub words_between-skip : (s : ℕ) (front xs : List ℕ) → All (λ b. b ≡ s)
 words_between-skip s [] xs same = refl
 words_between-skip s (x ∷ front) xs same =
     ap (λ b. words_between s (b ∷ (front ++ xs))) (All-head (λ b. b ≡ s) x front same)
-    ∙ words_between-append s [] (front ++ xs)
-    ∙ words_between-skip s front xs (All-tail (λ b. b ≡ s) x front same)
+    ∙ words_between-append s [] (front ++ xs) ∙ words_between-skip s front xs (All-tail (λ b. b ≡ s) x front same)
 
 -- a text of separators has no word
 pub words_between_none : (s : ℕ) (xs : List ℕ) → All (λ b. b ≡ s) xs → words_between s xs ≡ []
@@ -86,8 +83,7 @@ words_between_some s (x ∷ xs) (suc k) inside other =
 pub words_between-trim : (s : ℕ) (xs back : List ℕ) → All (λ b. b ≡ s) back
     → words_between s (xs ++ back) ≡ words_between s xs
 words_between-trim s xs [] same = ap (words_between s) (append-nil xs)
-words_between-trim s xs (b ∷ back) same =
-    ap (λ c. words_between s (xs ++ c ∷ back)) (All-head (λ b. b ≡ s) b back same)
+words_between-trim s xs (b ∷ back) same = ap (λ c. words_between s (xs ++ c ∷ back)) (All-head (λ b. b ≡ s) b back same)
     ∙ words_between-append s xs back
     ∙ ap (λ ws. words_between s xs ++ ws) (words_between_none s back (All-tail (λ b. b ≡ s) b back same))
     ∙ append-nil (words_between s xs)
@@ -95,8 +91,7 @@ words_between-trim s xs (b ∷ back) same =
 -- a word, and the words of what follows it, which is nothing or begins with a separator
 pub words_between-cons : (s : ℕ) (word ys : List ℕ) → 0 < length word → All (λ b. b ≢ s) word
     → words_between s (word ++ s ∷ ys) ≡ word ∷ words_between s (s ∷ ys)
-words_between-cons s word ys some other =
-    words_between-append s word ys
+words_between-cons s word ys some other = words_between-append s word ys
     ∙ (λ i. words_between_one s word some other i ++ sym (words_between-append s [] ys) i)
 
 -- ---- what every word is
@@ -131,8 +126,7 @@ with_byte_within false byte n (p ∷ ps) within =
 
 parts_within : (s : ℕ) (xs : List ℕ) → All (IsWithin (length xs)) (parts s xs)
 parts_within s [] = All-cons (IsWithin 0) [] [] (omega arith) (All-nil (IsWithin 0))
-parts_within s (x ∷ xs) =
-    All-weaker (IsWithin (length xs + 1)) (IsWithin (length (x ∷ xs))) (λ part h. omega arith)
+parts_within s (x ∷ xs) = All-weaker (IsWithin (length xs + 1)) (IsWithin (length (x ∷ xs))) (λ part h. omega arith)
     (with_byte (x == s) x (parts s xs)) (with_byte_within (x == s) x (length xs) (parts s xs) (parts_within s xs))
 
 -- no word is longer than the text
@@ -168,19 +162,14 @@ words_between_first s xs end some within other ends =
     (λ k h. let below : k < end = omega (arith, length-take end xs) in subst (λ b. b ≢ s)
     (sym (get_or-take end xs k 0 below)) (other k below)) in
     let long : 0 < length (take end xs) = omega (arith, length-take end xs) in
-    ⊎_elim
-    (λ inside.
+    ⊎_elim (λ inside.
     let rest : drop end xs ≡ s ∷ drop (end + 1) xs = drop_more xs end 0 inside
     ∙ ap (λ b. b ∷ drop (end + 1) xs) (ends inside) in
-    ap (words_between s) (sym (take-append-drop end xs))
-    ∙ ap (λ r. words_between s (take end xs ++ r)) rest
+    ap (words_between s) (sym (take-append-drop end xs)) ∙ ap (λ r. words_between s (take end xs ++ r)) rest
     ∙ words_between-cons s (take end xs) (drop (end + 1) xs) long word
-    ∙ ap (λ r. take end xs ∷ words_between s r) (sym rest))
-    (λ past.
-    ap (words_between s) (sym (take_all end xs past))
+    ∙ ap (λ r. take end xs ∷ words_between s r) (sym rest)) (λ past. ap (words_between s) (sym (take_all end xs past))
     ∙ words_between_one s (take end xs) long word
-    ∙ ap (λ r. take end xs ∷ words_between s r) (sym (drop_all end xs past)))
-    (cases_lt end (length xs))
+    ∙ ap (λ r. take end xs ∷ words_between s r) (sym (drop_all end xs past))) (cases_lt end (length xs))
 
 -- the last word begins after the separator before index `start`, or with the text
 pub words_between_last : (s : ℕ) (xs : List ℕ) (start : ℕ) → start < length xs
@@ -191,8 +180,7 @@ words_between_last s xs start within other begins =
     (λ k h. subst (λ b. b ≢ s) (sym (get_or-drop start xs k 0))
     (other (start + k) (omega arith) (omega (arith, length-drop start xs)))) in
     let one = words_between_one s (drop start xs) (omega (arith, length-drop start xs)) word in
-    ⊎_elim
-    (λ inside.
+    ⊎_elim (λ inside.
     let before : start - 1 < length xs = omega arith in
     let back : start - 1 + 1 ≡ start = omega arith in
     let front : take start xs ≡ take (start - 1) xs ++ s ∷ [] = ap (λ n. take n xs) (sym back)
@@ -204,13 +192,10 @@ words_between_last s xs start within other begins =
     ∙ words_between-append s (take (start - 1) xs) [] ∙ append-nil (words_between s (take (start - 1) xs)) in
     ap (words_between s) (sym (take-append-drop (start - 1) xs))
     ∙ ap (λ r. words_between s (take (start - 1) xs ++ r)) rest
-    ∙ words_between-append s (take (start - 1) xs) (drop start xs)
-    ∙ (λ i. sym front_words i ++ one i))
-    (λ at_start.
+    ∙ words_between-append s (take (start - 1) xs) (drop start xs) ∙ (λ i. sym front_words i ++ one i)) (λ at_start.
     let zero : start ≡ 0 = omega arith in
     subst (λ n. words_between s (drop n xs) ≡ drop n xs ∷ []
-    → words_between s xs ≡ words_between s (take n xs) ++ drop n xs ∷ []) (sym zero) (λ e. e) one)
-    (cases_lt 0 start)
+    → words_between s xs ≡ words_between s (take n xs) ++ drop n xs ∷ []) (sym zero) (λ e. e) one) (cases_lt 0 start)
 
 -- a text ends in a slash where its last byte is one
 pub ends_in_slash_at : (xs : List ℕ) → ends_in_slash xs ≡ (get_or xs (length xs - 1) 0 == 47)

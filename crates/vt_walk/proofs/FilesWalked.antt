@@ -20,8 +20,7 @@ use Rattle.vt_spec.proofs.Refusals.{unless-passed, unless-refused}
 module _ (looks : Looks ℕ) (task : Task ℕ) where
   -- what is done at a place: a link there is followed
   abbrev pub linked : ℕ → Here ℕ → Bool → Place ℕ → Result (Place ℕ) Deny
-  linked depth here slash place =
-      file_or_symlink looks place (symlink_there nat_eq looks place) (λ inner.
+  linked depth here slash place = file_or_symlink looks place (symlink_there nat_eq looks place) (λ inner.
       unless (follow_rules nat_eq looks (symlink_of here place) inner)
       (file_walked looks task depth (symlink_start looks task here.location (symlink_of here place) inner) inner slash))
 
@@ -53,8 +52,7 @@ module _ (looks : Looks ℕ) (task : Task ℕ) where
         (split : reverse front ≡ rest_of (reverse (words text))) (ends : last ≡ final_word (reverse (words text))) where
       pub file_walked-by : (r : Result (Here ℕ) Deny) → r ≡ walked_from looks task start front
           → and_then r (last_put (41 - (turn + 1)) wanted last) ≡ file_walked looks task (41 - turn) start text slash
-      file_walked-by r walked =
-          (λ i. and_then ((walked ∙ prefix_walked-split looks task start text front split) i)
+      file_walked-by r walked = (λ i. and_then ((walked ∙ prefix_walked-split looks task start text front split) i)
           (last_put (41 - (turn + 1)) (asked i) (ends i))) ∙ sym one-turn
 
       module _ (here : Here ℕ) (walked : Ok here ≡ walked_from looks task start front) where
@@ -72,23 +70,18 @@ module _ (looks : Looks ℕ) (task : Task ℕ) where
           -- no link stands there
           pub place-ended : None ≡ symlink_there nat_eq looks place
               → Ok (entered looks place) ≡ file_walked looks task (41 - turn) start text slash
-          place-ended none =
-              at_place (Ok (entered looks place)) (ap (λ t. file_or_symlink looks place t (λ inner.
-              unless (follow_rules nat_eq looks (symlink_of here place) inner)
-              (file_walked looks task (41 - (turn + 1))
+          place-ended none = at_place (Ok (entered looks place)) (ap (λ t. file_or_symlink looks place t (λ inner.
+              unless (follow_rules nat_eq looks (symlink_of here place) inner) (file_walked looks task (41 - (turn + 1))
               (symlink_start looks task here.location (symlink_of here place) inner) inner wanted))) none)
 
           -- a link stands there
           module _ (inner : List ℕ) (link : Here ℕ) (linked_there : Some inner ≡ symlink_there nat_eq looks place)
               (link-same : link ≡ symlink_of here place) where
-            through : (answer : Result (Place ℕ) Deny)
-                → answer ≡ unless (follow_rules nat_eq looks link inner)
+            through : (answer : Result (Place ℕ) Deny) → answer ≡ unless (follow_rules nat_eq looks link inner)
                 (file_walked looks task (41 - (turn + 1))
                 (symlink_start looks task here.location link inner) inner wanted)
                 → answer ≡ file_walked looks task (41 - turn) start text slash
-            through answer e =
-                at_place answer (e
-                ∙ ap (λ l. unless (follow_rules nat_eq looks l inner)
+            through answer e = at_place answer (e ∙ ap (λ l. unless (follow_rules nat_eq looks l inner)
                 (file_walked looks task (41 - (turn + 1))
                 (symlink_start looks task here.location l inner) inner wanted)) link-same
                 ∙ ap (λ t. file_or_symlink looks place t (λ inner.
@@ -96,21 +89,17 @@ module _ (looks : Looks ℕ) (task : Task ℕ) where
                 (file_walked looks task (41 - (turn + 1))
                 (symlink_start looks task here.location (symlink_of here place) inner) inner wanted))) linked_there)
 
-            pub link-refused : (deny : Deny)
-                → Err deny ≡ unless (follow_rules nat_eq looks link inner)
+            pub link-refused : (deny : Deny) → Err deny ≡ unless (follow_rules nat_eq looks link inner)
                 (Ok (symlink_start looks task here.location link inner))
                 → Err deny ≡ file_walked looks task (41 - turn) start text slash
-            link-refused deny e =
-                through (Err deny) (sym (unless-refused (follow_rules nat_eq looks link inner)
+            link-refused deny e = through (Err deny) (sym (unless-refused (follow_rules nat_eq looks link inner)
                 (symlink_start looks task here.location link inner) _ deny (sym e)))
 
-            pub next-turn : (next : Here ℕ)
-                → Ok next ≡ unless (follow_rules nat_eq looks link inner)
+            pub next-turn : (next : Here ℕ) → Ok next ≡ unless (follow_rules nat_eq looks link inner)
                 (Ok (symlink_start looks task here.location link inner))
                 → file_walked looks task (41 - (turn + 1)) next inner wanted
                 ≡ file_walked looks task (41 - turn) start text slash
-            next-turn next e =
-                through (file_walked looks task (41 - (turn + 1)) next inner wanted)
+            next-turn next e = through (file_walked looks task (41 - (turn + 1)) next inner wanted)
                 (ap (λ s. file_walked looks task (41 - (turn + 1)) s inner wanted)
                 (sym (unless-answer (follow_rules nat_eq looks link inner)
                 (symlink_start looks task here.location link inner) next (sym e)))
@@ -122,20 +111,17 @@ module _ (looks : Looks ℕ) (task : Task ℕ) (path : List ℕ) (walkable : IsW
   pub file_walk-by : (r : Result (Place ℕ) Deny) → r ≡ file_walked looks task 41 (walk_start task path) path false
       → and_then r (λ place. unless (new_name_rules nat_eq looks place) (Ok place))
       ≡ place_end (walk_end (file_walk nat_eq looks task path))
-  file_walk-by r e =
-      (λ i. and_then ((e ∙ sym (file-plain looks task 41 (walk_start task path) path false)) i)
+  file_walk-by r e = (λ i. and_then ((e ∙ sym (file-plain looks task 41 (walk_start task path) path false)) i)
       (λ place. unless (new_name_rules nat_eq looks place) (Ok place)))
       ∙ place-checked (Walking.file_walked nat_eq 41 looks task (walk_start task path) path false)
       (new_name_rules nat_eq looks) (λ place. refl)
       ∙ sym (ap (λ r. place_end (walk_end (then_walk (stopped_by [] r) (λ text.
       then_walk (Walking.file_walked nat_eq 41 looks task (walk_start task text) text false)
-      (λ place. walk_unless place.steps (new_name_rules nat_eq looks place) place)))))
-      (parsed-walkable path walkable))
+      (λ place. walk_unless place.steps (new_name_rules nat_eq looks place) place))))) (parsed-walkable path walkable))
 
   -- a name is missing in a removed directory, or not
   module _ (place : Place ℕ) (walked : Ok place ≡ file_walked looks task 41 (walk_start task path) path false)
-      (lacks : Bool)
-      (is : lacks ≡ (not (is_some place.object) && looks.is_removed place.parent)) where
+      (lacks : Bool) (is : lacks ≡ (not (is_some place.object) && looks.is_removed place.parent)) where
     by_test : unless ((lacks, W8) ∷ []) (Ok place) ≡ place_end (walk_end (file_walk nat_eq looks task path))
     by_test = ap (λ b. unless ((b, W8) ∷ []) (Ok place)) is ∙ file_walk-by (Ok place) walked
 

@@ -21,16 +21,14 @@ module _ (looks : Looks ℕ) where
   entered-found place next true false found is known directory = absurd (true≢false (sym known))
   entered-found place next true true found is known directory =
       let there = same_location_is (location_of next) (location_of place) (sym is) in
-      ap (is_lost nat_eq looks) there
-      ∙ found known (ap (is_directory_at looks) (sym there) ∙ directory)
+      ap (is_lost nat_eq looks) there ∙ found known (ap (is_directory_at looks) (sym there) ∙ directory)
 
   module _ (ways : WaysStayFound looks) where
     -- to the parent
     pub parent-found : (task : Task ℕ) (here : meant.Location ℕ) (parent : Location) → is_lost nat_eq looks here ≡ false
         → is_top nat_eq looks task here ≡ false → location_of parent ≡ parent_location nat_eq looks here
         → IsFound looks parent true
-    parent-found task here parent found top is known directory =
-        ap (is_lost nat_eq looks) is
+    parent-found task here parent found top is known directory = ap (is_lost nat_eq looks) is
         ∙ ways.upward here found (second (same_location nat_eq here task.root)
         (nat_eq here.node (mount_at looks here).root) top)
       where
@@ -42,7 +40,6 @@ module _ (looks : Looks ℕ) where
     pub entry-found : (here object : Location) (name : List ℕ) (is_found : Bool)
         → (is_found ≡ true → is_lost nat_eq looks (location_of here) ≡ false)
         → Some (location_of object) ≡ option_map (λ (n : ℕ). record { mount = counted here.mount.count; node = n })
-        (entry_named name (entries_in (looks.node (location_of here))))
-        → IsFound looks object is_found
+        (entry_named name (entries_in (looks.node (location_of here)))) → IsFound looks object is_found
     entry-found here object name is_found found entry known directory =
         ways.downward (location_of here) (location_of object) name (found known) (sym entry) directory

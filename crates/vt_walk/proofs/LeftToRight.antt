@@ -13,8 +13,7 @@ use Rattle.vt_walk.proofs.RefusalLemmas.{and_then-ok, and_then-and_then}
 
 -- a word walked, and then the link that it may lead to
 abbrev pub step : Looks ℕ → Task ℕ → Follow → Here ℕ → List ℕ → Result (Here ℕ) Deny
-step looks task follow here word =
-    and_then (word_walked looks task here (last_word word)) (λ next.
+step looks task follow here word = and_then (word_walked looks task here (last_word word)) (λ next.
     if_symlink next (symlink_text (looks.node next.location)) (follow here.location next))
 
 -- the walk by the words, of which the first comes first
@@ -45,8 +44,7 @@ module _ (looks : Looks ℕ) (task : Task ℕ) (follow : Follow) where
       (so_far : walked_on looks task follow here left ≡ walked_on looks task follow start words) where
     -- the walk ends with its words
     pub walk-ended : left ≡ [] → Ok here ≡ words_walked looks task follow start (reverse words)
-    walk-ended none =
-        ap (walked_on looks task follow here) (sym none) ∙ so_far ∙ sym (words_walked-reverse start words)
+    walk-ended none = ap (walked_on looks task follow here) (sym none) ∙ so_far ∙ sym (words_walked-reverse start words)
 
     module _ (word : List ℕ) (rest : List (List ℕ)) (first : left ≡ word ∷ rest) where
       by-word : (answer : Result (Here ℕ) Deny) → answer ≡ walked_on looks task follow here (word ∷ rest)
@@ -56,8 +54,7 @@ module _ (looks : Looks ℕ) (task : Task ℕ) (follow : Follow) where
       -- a word that is refused ends the walk
       pub word-refused : (deny : Deny) → Err deny ≡ word_walked looks task here (last_word word)
           → Err deny ≡ words_walked looks task follow start (reverse words)
-      word-refused deny refused =
-          by-word (Err deny) (ap (λ r. and_then
+      word-refused deny refused = by-word (Err deny) (ap (λ r. and_then
           (and_then r (λ next. if_symlink next (symlink_text (looks.node next.location))
           (follow here.location next))) (λ there. walked_on looks task follow there rest)) refused)
           ∙ sym (words_walked-reverse start words)
@@ -65,18 +62,15 @@ module _ (looks : Looks ℕ) (task : Task ℕ) (follow : Follow) where
       module _ (next : Here ℕ) (walked : Ok next ≡ word_walked looks task here (last_word word)) where
         by-place : (answer : Result (Here ℕ) Deny)
             → answer ≡ and_then (if_symlink next (symlink_text (looks.node next.location)) (follow here.location next))
-            (λ there. walked_on looks task follow there rest)
-            → answer ≡ walked_on looks task follow start words
-        by-place answer e =
-            by-word answer (e ∙ ap (λ r. and_then
+            (λ there. walked_on looks task follow there rest) → answer ≡ walked_on looks task follow start words
+        by-place answer e = by-word answer (e ∙ ap (λ r. and_then
             (and_then r (λ next. if_symlink next (symlink_text (looks.node next.location))
             (follow here.location next))) (λ there. walked_on looks task follow there rest)) walked)
 
         -- a word that leads to no link
         pub no-link : None ≡ symlink_text (looks.node next.location)
             → walked_on looks task follow next rest ≡ walked_on looks task follow start words
-        no-link none =
-            by-place (walked_on looks task follow next rest)
+        no-link none = by-place (walked_on looks task follow next rest)
             (ap (λ t. and_then (if_symlink next t (follow here.location next))
             (λ there. walked_on looks task follow there rest)) none)
 
@@ -88,8 +82,7 @@ module _ (looks : Looks ℕ) (task : Task ℕ) (follow : Follow) where
             (λ i. and_then (follow here.location next text) (λ there. words_walked-reverse there rest i))
             ∙ by-place (and_then (follow here.location next text) (λ there. walked_on looks task follow there rest))
             (ap (λ t. and_then (if_symlink next t (follow here.location next))
-            (λ there. walked_on looks task follow there rest)) link)
-            ∙ sym (words_walked-reverse start words)
+            (λ there. walked_on looks task follow there rest)) link) ∙ sym (words_walked-reverse start words)
 
 -- where a word leads, the links left are as before
 module _ (looks : Looks ℕ) (task : Task ℕ) (here : Here ℕ) (word : LastWord) where
@@ -98,6 +91,5 @@ module _ (looks : Looks ℕ) (task : Task ℕ) (here : Here ℕ) (word : LastWor
   led-refused deny e = ap (λ r. and_then r (λ reached. Ok (standing reached here.left))) e
 
   pub led-walked : (reached : Location ℕ) (next : Here ℕ) → Ok reached ≡ word_led looks task here.location word
-      → next ≡ standing reached here.left
-      → Ok next ≡ word_walked looks task here word
+      → next ≡ standing reached here.left → Ok next ≡ word_walked looks task here word
   led-walked reached next e is = ap (λ h. Ok h) is ∙ ap (λ r. and_then r (λ reached. Ok (standing reached here.left))) e

@@ -28,29 +28,25 @@ begun-left looks task directory link next text e =
     let some = some-left (mount_at looks link.location).flags.nosymfollow link.left _
     (symlink_start looks task directory link text) next e in
     let less : link.left - 1 ≡ next.left = ap (λ here. here.left)
-    (unless-answer (follow_rules nat_eq looks link text) (symlink_start looks task directory link text) next
-    (sym e)) in
+    (unless-answer (follow_rules nat_eq looks link text) (symlink_start looks task directory link text) next (sym e)) in
     omega arith
 
 module _ (looks : Looks ℕ) (task : Task ℕ) where
   -- the words of a text, with links inside no deeper than this
   abbrev pub inside_walked : ℕ → Here ℕ → List (List ℕ) → Result (Here ℕ) Deny
-  inside_walked depth start ws =
-      words_walked looks task (links_within depth looks task) start (reverse ws)
+  inside_walked depth start ws = words_walked looks task (links_within depth looks task) start (reverse ws)
 
   abbrev pub slash_checked : List ℕ → Here ℕ → Result (Here ℕ) Deny
   slash_checked text reached = unless (slash_rules nat_eq looks text reached.location) (Ok reached)
 
   abbrev pub link_followed : ℕ → Location ℕ → Here ℕ → List ℕ → Result (Here ℕ) Deny
-  link_followed depth directory link text =
-      unless (follow_rules nat_eq looks link text)
+  link_followed depth directory link text = unless (follow_rules nat_eq looks link text)
       (and_then (inside_walked depth (symlink_start looks task directory link text) (words text)) (slash_checked text))
 
   pub symlink_walked-deep : (depth : ℕ) (directory : Location ℕ) (link : Here ℕ) (text : List ℕ) → depth ≢ 0 →
       symlink_walked looks task depth directory link text ≡ link_followed (depth - 1) directory link text
   symlink_walked-deep zero directory link text deep = absurd (deep refl)
-  symlink_walked-deep (suc depth) directory link text deep =
-      ap (λ d. link_followed d directory link text) (omega arith)
+  symlink_walked-deep (suc depth) directory link text deep = ap (λ d. link_followed d directory link text) (omega arith)
 
   module _ (depth : ℕ) (directory : Location ℕ) (link : Here ℕ) (text : List ℕ) (deep : depth ≢ 0) where
     pub follow-refused : (deny : Deny) →
@@ -58,18 +54,15 @@ module _ (looks : Looks ℕ) (task : Task ℕ) where
         → Err deny ≡ symlink_walked looks task depth directory link text
     follow-refused deny refused =
         sym (unless-refused (follow_rules nat_eq looks link text) (symlink_start looks task directory link text) _ deny
-        (sym refused))
-        ∙ sym (symlink_walked-deep depth directory link text deep)
+        (sym refused)) ∙ sym (symlink_walked-deep depth directory link text deep)
 
     pub follow-begun : (start : Here ℕ) →
         Ok start ≡ unless (follow_rules nat_eq looks link text) (Ok (symlink_start looks task directory link text))
         → and_then (inside_walked (depth - 1) start (words text)) (slash_checked text)
         ≡ symlink_walked looks task depth directory link text
-    follow-begun start begun =
-        ap (λ s. and_then (inside_walked (depth - 1) s (words text)) (slash_checked text))
+    follow-begun start begun = ap (λ s. and_then (inside_walked (depth - 1) s (words text)) (slash_checked text))
         (sym (unless-answer (follow_rules nat_eq looks link text) (symlink_start looks task directory link text) start
-        (sym begun)))
-        ∙ sym (unless-passed (follow_rules nat_eq looks link text)
+        (sym begun))) ∙ sym (unless-passed (follow_rules nat_eq looks link text)
         (symlink_start looks task directory link text) start _ (sym begun))
         ∙ sym (symlink_walked-deep depth directory link text deep)
 

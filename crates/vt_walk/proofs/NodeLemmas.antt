@@ -37,8 +37,7 @@ symlink-alike (Some one) (Some other) e =
 -- the text of the symlink at a location, by what is lent for it
 pub text-there : (looks : Looks ℕ) (real : Location ℕ → Option (Node ℕ))
     → ((at : Location ℕ) → front (real at) ≡ front (looks.node at))
-    → (at : CodeLocation) (object : Option (Node ℕ)) → IsNodeAt real at object
-    → (here : CodeLocation) → here ≡ at
+    → (at : CodeLocation) (object : Option (Node ℕ)) → IsNodeAt real at object → (here : CodeLocation) → here ≡ at
     → symlink_text object ≡ symlink_text (looks.node (location_of here))
 text-there looks real alike at object there here same =
     ap symlink_text there ∙ symlink-alike (real (location_of at)) (looks.node (location_of at)) (alike (location_of at))

@@ -32,8 +32,7 @@ pub first-begun : (looks : Looks ℕ) (task : Task ℕ) (directory : Location �
     → Ok next ≡ unless (follow_rules nat_eq looks link inner) (Ok (symlink_start looks task directory link inner))
     → (left above : Pending) (once twice : List Pending) → once ≡ [] ++ left ∷ [] → twice ≡ once ++ above ∷ []
     → left.text.now ≡ [] → left.words ≡ behind → above.text.now ≡ inner → above.words ≡ words inner
-    → texts_walked looks task next (reverse twice)
-    ≡ and_then (symlink_walked looks task 41 directory link inner)
+    → texts_walked looks task next (reverse twice) ≡ and_then (symlink_walked looks task 41 directory link inner)
     (λ there. words_walked looks task (links_within 41 looks task) there (reverse behind))
 first-begun looks task directory link inner behind next begun left above once twice first second text rest inside all =
     ap (texts_walked looks task next)
@@ -85,15 +84,13 @@ module _ (looks : Looks ℕ) (task : Task ℕ) (whole : Result (Here ℕ) Deny) 
       pub slash-denied : (deny : Deny)
           → Err deny ≡ unless {A = Unit {0}} (slash_rules nat_eq looks top.text.now reached.location) (Ok tt)
           → Err deny ≡ whole
-      slash-denied deny refused =
-          unless-stopped (slash_rules nat_eq looks top.text.now reached.location)
+      slash-denied deny refused = unless-stopped (slash_rules nat_eq looks top.text.now reached.location)
           (texts_walked looks task reached (reverse others)) deny refused
           ∙ ap (λ r. and_then r others_walked) walked ∙ by-top
 
       pub top-ended : Ok tt ≡ unless {A = Unit {0}} (slash_rules nat_eq looks top.text.now reached.location) (Ok tt)
           → texts_walked looks task reached (reverse others) ≡ whole
-      top-ended passed =
-          sym (unless-let_through (slash_rules nat_eq looks top.text.now reached.location)
+      top-ended passed = sym (unless-let_through (slash_rules nat_eq looks top.text.now reached.location)
           (texts_walked looks task reached (reverse others)) passed)
           ∙ ap (λ r. and_then r others_walked) walked ∙ by-top
 
@@ -111,22 +108,18 @@ module _ (looks : Looks ℕ) (task : Task ℕ) (whole : Result (Here ℕ) Deny) 
 
         by-link : (answer : Result (Here ℕ) Deny)
             → answer ≡ and_then (symlink_walked looks task (41 - length (reverse others)) directory link inner)
-            (λ next. and_then (behind_walked next) others_walked)
-            → answer ≡ whole
-        by-link answer e =
-            e ∙ sym (and_then-and_then (symlink_walked looks task
+            (λ next. and_then (behind_walked next) others_walked) → answer ≡ whole
+        by-link answer e = e ∙ sym (and_then-and_then (symlink_walked looks task
             (41 - length (reverse others)) directory link inner) behind_walked others_walked)
             ∙ ap (λ r. and_then r others_walked) met ∙ by-top
 
-        pub link-denied : (deny : Deny)
-            → Err deny ≡ unless (follow_rules nat_eq looks link inner)
+        pub link-denied : (deny : Deny) → Err deny ≡ unless (follow_rules nat_eq looks link inner)
             (Ok (symlink_start looks task directory link inner)) → Err deny ≡ whole
         link-denied deny refused =
             by-link (Err deny) (ap (λ r. and_then r (λ next. and_then (behind_walked next) others_walked))
             (follow-refused looks task (41 - length (reverse others)) directory link inner deep deny refused))
 
-        pub link-begun : (next : Here ℕ)
-            → Ok next ≡ unless (follow_rules nat_eq looks link inner)
+        pub link-begun : (next : Here ℕ) → Ok next ≡ unless (follow_rules nat_eq looks link inner)
             (Ok (symlink_start looks task directory link inner))
             → (left above : Pending) → left.text.now ≡ top.text.now → left.words ≡ behind → above.text.now ≡ inner
             → above.words ≡ words inner
@@ -138,11 +131,8 @@ module _ (looks : Looks ℕ) (task : Task ℕ) (whole : Result (Here ℕ) Deny) 
             ∙ (λ i. and_then (words_walked looks task (links_within (less i) looks task) next (reverse (all i)))
             (λ reached. unless (slash_rules nat_eq looks (inside i) reached.location)
             (and_then (words_walked looks task (links_within (41 - length (reverse others)) looks task) reached
-            (reverse (rest i)))
-            (λ there. unless (slash_rules nat_eq looks (text i) there.location)
-            (texts_walked looks task there (reverse others))))))
-            ∙ by-link _
-            (begun-walked looks task (41 - length
+            (reverse (rest i))) (λ there. unless (slash_rules nat_eq looks (text i) there.location)
+            (texts_walked looks task there (reverse others)))))) ∙ by-link _ (begun-walked looks task (41 - length
             (reverse others)) directory link inner deep next begun behind others_walked)
           where
             less : 41 - length (left ∷ reverse others) ≡ 41 - length (reverse others) - 1

@@ -26,15 +26,13 @@ location-plain (Ok here) = refl
 location-plain (Err stop) = refl
 
 then-plain : (r : Result (Here ℕ) (Stop ℕ)) (next : Here ℕ → Result (Here ℕ) (Stop ℕ))
-    (after : Here ℕ → Result (Here ℕ) Deny)
-    → ((here : Here ℕ) → plain_end (next here) ≡ after (plain here))
+    (after : Here ℕ → Result (Here ℕ) Deny) → ((here : Here ℕ) → plain_end (next here) ≡ after (plain here))
     → plain_end (then_walk r next) ≡ and_then (plain_end r) after
 then-plain (Ok here) next after same = same here
 then-plain (Err stop) next after same = refl
 
 then-place : (r : Result (Here ℕ) (Stop ℕ)) (next : Here ℕ → Result (Place ℕ) (Stop ℕ))
-    (after : Here ℕ → Result (Place ℕ) Deny)
-    → ((here : Here ℕ) → place_end (walk_end (next here)) ≡ after (plain here))
+    (after : Here ℕ → Result (Place ℕ) Deny) → ((here : Here ℕ) → place_end (walk_end (next here)) ≡ after (plain here))
     → place_end (walk_end (then_walk r next)) ≡ and_then (plain_end r) after
 then-place (Ok here) next after same = same here
 then-place (Err stop) next after same = refl
@@ -83,8 +81,7 @@ location-checked (Ok here) rules further = sym
 location-checked (Err stop) rules further = refl
 
 if-link-plain : (here : Here ℕ) (text : Option (List ℕ)) (follow : List ℕ → Result (Here ℕ) (Stop ℕ))
-    (after : List ℕ → Result (Here ℕ) Deny)
-    → ((inner : List ℕ) → plain_end (follow inner) ≡ after inner)
+    (after : List ℕ → Result (Here ℕ) Deny) → ((inner : List ℕ) → plain_end (follow inner) ≡ after inner)
     → plain_end (Walking.if_symlink here text follow) ≡ if_symlink (plain here) text after
 if-link-plain here None follow after same = refl
 if-link-plain here (Some inner) follow after same = same inner
@@ -99,8 +96,7 @@ module _ (looks : Looks ℕ) (task : Task ℕ) where
 
   word-plain : (here : Here ℕ) (word : LastWord)
       → plain_end (Walking.word_walked nat_eq looks task here word) ≡ word_walked looks task (plain here) word
-  word-plain here word =
-      reached-plain (Walking.steps_with nat_eq looks task here word) here.left
+  word-plain here word = reached-plain (Walking.steps_with nat_eq looks task here word) here.left
       (unless (search_rules nat_eq looks task here.location) (stepped nat_eq looks task here.location word))
 
   last-plain : (here : Here ℕ) (word : LastWord)
@@ -112,13 +108,11 @@ module _ (looks : Looks ℕ) (task : Task ℕ) where
 
   -- links are followed alike
   abbrev FollowAlike : Walking.Follow ℕ → Follow → Type 0
-  FollowAlike follow after =
-      (directory : Location ℕ) (link : Here ℕ) (text : List ℕ)
+  FollowAlike follow after = (directory : Location ℕ) (link : Here ℕ) (text : List ℕ)
       → plain_end (follow directory link text) ≡ after directory (plain link) text
 
   words-plain : (follow : Walking.Follow ℕ) (after : Follow) → FollowAlike follow after
-      → (here : Here ℕ) (ws : List (List ℕ))
-      → plain_end (Walking.words_walked nat_eq looks task follow here ws)
+      → (here : Here ℕ) (ws : List (List ℕ)) → plain_end (Walking.words_walked nat_eq looks task follow here ws)
       ≡ words_walked looks task after (plain here) ws
   words-plain follow after alike here [] = refl
   words-plain follow after alike here (word ∷ front) =
@@ -128,11 +122,9 @@ module _ (looks : Looks ℕ) (task : Task ℕ) where
       (λ reached. then-plain (Walking.word_walked nat_eq looks task reached (last_word word)) _
       (λ next. if_symlink next (symlink_text (looks.node next.location)) (after reached.location next))
       (λ next. if-link-plain next (symlink_text (looks.node next.location)) (follow reached.location next)
-      (after reached.location (plain next)) (alike reached.location next))
-      ∙ ap (λ r. and_then r (λ next.
+      (after reached.location (plain next)) (alike reached.location next)) ∙ ap (λ r. and_then r (λ next.
       if_symlink next (symlink_text (looks.node next.location)) (after reached.location next)))
-      (word-plain reached (last_word word)))
-      ∙ ap (λ r. and_then r (λ reached.
+      (word-plain reached (last_word word))) ∙ ap (λ r. and_then r (λ reached.
       and_then (word_walked looks task reached (last_word word))
       (λ next. if_symlink next (symlink_text (looks.node next.location)) (after reached.location next))))
       (words-plain follow after alike here front)
@@ -205,13 +197,11 @@ module _ (looks : Looks ℕ) (task : Task ℕ) where
   pub placed-of-plain : (r : Result (Here ℕ) (Stop ℕ)) (word : LastWord) (slash : Bool)
       → place_end (walk_end (then_walk r (λ here. Walking.placed nat_eq looks task here word slash)))
       ≡ and_then (plain_end r) (λ here. placed looks task here.location word slash)
-  placed-of-plain r word slash =
-      then-place r (λ here. Walking.placed nat_eq looks task here word slash)
+  placed-of-plain r word slash = then-place r (λ here. Walking.placed nat_eq looks task here word slash)
       (λ here. placed looks task here.location word slash) (λ here. placed-plain here word slash)
 
   file-or-plain : (place : Place ℕ) (text : Option (List ℕ)) (follow : List ℕ → Result (Place ℕ) (Stop ℕ))
-      (after : List ℕ → Result (Place ℕ) Deny)
-      → ((inner : List ℕ) → place_end (walk_end (follow inner)) ≡ after inner)
+      (after : List ℕ → Result (Place ℕ) Deny) → ((inner : List ℕ) → place_end (walk_end (follow inner)) ≡ after inner)
       → place_end (walk_end (Walking.file_or_symlink nat_eq looks place text follow))
       ≡ file_or_symlink looks (without_steps place) text after
   file-or-plain place None follow after same = refl
@@ -219,8 +209,7 @@ module _ (looks : Looks ℕ) (task : Task ℕ) where
 
   -- what is done at a place of a file
   abbrev linked : ℕ → Here ℕ → Bool → Place ℕ → Result (Place ℕ) Deny
-  linked depth here slash place =
-      file_or_symlink looks place (symlink_there nat_eq looks place) (λ inner.
+  linked depth here slash place = file_or_symlink looks place (symlink_there nat_eq looks place) (λ inner.
       unless (follow_rules nat_eq looks (symlink_of here place) inner)
       (file_walked looks task depth (symlink_start looks task here.location (symlink_of here place) inner) inner slash))
 
@@ -236,12 +225,10 @@ module _ (looks : Looks ℕ) (task : Task ℕ) where
       then-place (Walking.prefix_walked nat_eq looks task (Walking.followed nat_eq looks task) start
       (reverse (words text))) _ put
       (λ here. place-then (Walking.placed nat_eq looks task here last wanted) _ (linked depth (plain here) wanted)
-      (λ place. file-or-plain place (symlink_there nat_eq looks place) _ _
-      (λ inner.
+      (λ place. file-or-plain place (symlink_there nat_eq looks place) _ _ (λ inner.
       then-place (walk_unless place.steps (follow_rules nat_eq looks (symlink_of here place) inner)
       (Walking.symlink_start nat_eq looks task here.location (symlink_of here place) inner)) _
-      (λ next. file_walked looks task depth next inner wanted)
-      (λ next. file-plain depth next inner wanted)
+      (λ next. file_walked looks task depth next inner wanted) (λ next. file-plain depth next inner wanted)
       ∙ ap (λ r. and_then r (λ next. file_walked looks task depth next inner wanted))
       (unless-plain place.steps (follow_rules nat_eq looks (symlink_of here place) inner)
       (Walking.symlink_start nat_eq looks task here.location (symlink_of here place) inner))

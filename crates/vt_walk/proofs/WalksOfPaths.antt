@@ -52,8 +52,7 @@ module _ (looks : Looks ℕ) (task : Task ℕ) where
   pub prefix_walked-split : (start : Here ℕ) (text : List ℕ) (front : List (List ℕ))
       → reverse front ≡ rest_of (reverse (words text))
       → walked_from start front ≡ prefix_walked looks task start (reverse (words text))
-  prefix_walked-split start text front split =
-      ap (words_walked looks task (followed looks task) start) split
+  prefix_walked-split start text front split = ap (words_walked looks task (followed looks task) start) split
       ∙ sym (prefix_walked-rest start (reverse (words text)))
 
   -- what is asked at the end of a walk
@@ -69,8 +68,7 @@ module _ (looks : Looks ℕ) (task : Task ℕ) where
   slash-refused path here deny e = unless-stopped (slash_rules nat_eq looks path here) (Ok here) deny e
 
   pub slash-passed : (path : List ℕ) (here : Location ℕ)
-      → Ok tt ≡ unless {A = Unit {0}} (slash_rules nat_eq looks path here) (Ok tt)
-      → Ok here ≡ slash_checked path here
+      → Ok tt ≡ unless {A = Unit {0}} (slash_rules nat_eq looks path here) (Ok tt) → Ok here ≡ slash_checked path here
   slash-passed path here e = sym (unless-let_through (slash_rules nat_eq looks path here) (Ok here) e)
 
   pub directory-refused : (here : Location ℕ) → is_directory_at looks here ≡ false
@@ -89,8 +87,7 @@ module _ (looks : Looks ℕ) (task : Task ℕ) where
     module _ (r : Result (Here ℕ) Deny) (ws : List (List ℕ)) (all : ws ≡ words path)
         (walked : r ≡ walked_from start ws) where
       path_walked-by : location_end r ≡ location_end (walk_end (path_walked nat_eq looks task path))
-      path_walked-by =
-          (λ i. location_end ((walked ∙ (λ j. walked_from (begun-path j) (all j))
+      path_walked-by = (λ i. location_end ((walked ∙ (λ j. walked_from (begun-path j) (all j))
           ∙ sym (all-plain looks task (walk_start task path) (reverse (words path)))) i))
           ∙ location-plain (Walking.words_walked nat_eq looks task (Walking.followed nat_eq looks task)
           (walk_start task path) (reverse (words path)))
@@ -100,14 +97,12 @@ module _ (looks : Looks ℕ) (task : Task ℕ) where
 
       pub object_walk-by : and_then (location_end r) (slash_checked bytes)
           ≡ location_end (walk_end (object_walk nat_eq looks task path))
-      object_walk-by =
-          (λ i. and_then (path_walked-by i) (slash_checked (same i)))
+      object_walk-by = (λ i. and_then (path_walked-by i) (slash_checked (same i)))
           ∙ location-checked (path_walked nat_eq looks task path) (slash_rules nat_eq looks path) (λ here. here)
 
       pub directory_walk-by : and_then (location_end r) directory_checked
           ≡ location_end (walk_end (directory_walk nat_eq looks task path))
-      directory_walk-by =
-          (λ i. and_then (path_walked-by i) directory_checked)
+      directory_walk-by = (λ i. and_then (path_walked-by i) directory_checked)
           ∙ location-checked (path_walked nat_eq looks task path) (λ here. (not (is_directory_at looks here), W3) ∷ [])
           (λ here. here)
 
@@ -124,11 +119,9 @@ module _ (looks : Looks ℕ) (task : Task ℕ) where
       pub symlink_walk-by : ends_in_slash path ≡ false
           → location_end (and_then r (λ here. last_walked looks task here last))
           ≡ location_end (walk_end (symlink_walk nat_eq looks task path))
-      symlink_walk-by no_slash =
-          (λ i. location_end (and_then ((prefix_walked-by
+      symlink_walk-by no_slash = (λ i. location_end (and_then ((prefix_walked-by
           ∙ sym (front-plain looks task (walk_start task path) (reverse (words path)))) i)
-          (λ here. last_walked looks task here (last-by i))))
-          ∙ ap location_end (sym (last-of-plain looks task
+          (λ here. last_walked looks task here (last-by i)))) ∙ ap location_end (sym (last-of-plain looks task
           (Walking.prefix_walked nat_eq looks task (Walking.followed nat_eq looks task) (walk_start task path)
           (reverse (words path))) (final_word (reverse (words path)))))
           ∙ location-plain (then_walk (Walking.prefix_walked nat_eq looks task (Walking.followed nat_eq looks task)
@@ -143,11 +136,9 @@ module _ (looks : Looks ℕ) (task : Task ℕ) where
 
       pub place_walk-by : and_then r (λ here. placed looks task here.location last (ends_in_slash path))
           ≡ place_end (walk_end (place_walk nat_eq looks task path))
-      place_walk-by =
-          (λ i. and_then ((prefix_walked-by
+      place_walk-by = (λ i. and_then ((prefix_walked-by
           ∙ sym (front-plain looks task (walk_start task path) (reverse (words path)))) i)
-          (λ here. placed looks task here.location (last-by i) (ends_in_slash path)))
-          ∙ sym (placed-of-plain looks task
+          (λ here. placed looks task here.location (last-by i) (ends_in_slash path))) ∙ sym (placed-of-plain looks task
           (Walking.prefix_walked nat_eq looks task (Walking.followed nat_eq looks task) (walk_start task path)
           (reverse (words path))) (final_word (reverse (words path))) (ends_in_slash path))
           ∙ sym (ap (λ r. place_end (walk_end (then_walk (stopped_by [] r) (λ text.
@@ -189,8 +180,6 @@ module _ (looks : Looks ℕ) (task : Task ℕ) where
 
     pub placed-searched : (r : Result (Option (Location ℕ)) Deny)
         → Ok tt ≡ unless {A = Unit {0}} (search_rules nat_eq looks task here) (Ok tt)
-        → r ≡ object_named nat_eq looks task here word
-        → place_named r ≡ placed looks task here word slash
-    placed-searched r searched e =
-        ap place_named (e ∙ sym (unless-let_through (search_rules nat_eq looks task here)
+        → r ≡ object_named nat_eq looks task here word → place_named r ≡ placed looks task here word slash
+    placed-searched r searched e = ap place_named (e ∙ sym (unless-let_through (search_rules nat_eq looks task here)
         (object_named nat_eq looks task here word) searched)) ∙ placed-by

@@ -22,14 +22,11 @@ module _ (old new : List ℕ) (object : ℕ) (differ : old ≢ new) where
       by true e = absurd (differ (sym ((bytes_decides q old).0 e) ∙ same))
       by false e = e
 
-  swapped : (q : List ℕ) (entries : Entries ℕ)
-      → entry_named q (without_entry old (with_entry new object entries))
+  swapped : (q : List ℕ) (entries : Entries ℕ) → entry_named q (without_entry old (with_entry new object entries))
       ≡ entry_named q (with_entry new object (without_entry old entries))
-  swapped q entries =
-      entry_named-without_entry q old (with_entry new object entries)
+  swapped q entries = entry_named-without_entry q old (with_entry new object entries)
       ∙ ap (λ found. cond (not (bytes_eq q old)) found None) (entry_named-with_entry q new object entries)
-      ∙ by (eq_by_cmp name_cmp q new) refl
-      ∙ ap (λ found. cond (eq_by_cmp name_cmp q new) (Some object) found)
+      ∙ by (eq_by_cmp name_cmp q new) refl ∙ ap (λ found. cond (eq_by_cmp name_cmp q new) (Some object) found)
       (sym (entry_named-without_entry q old entries))
       ∙ sym (entry_named-with_entry q new object (without_entry old entries))
     where
@@ -49,8 +46,7 @@ module _ (old new : List ℕ) (object : ℕ) (differ : old ≢ new) where
       (is_sorted-where_key name_cmp (λ x. not (bytes_eq x old)) (with_entry new object entries)
       (is_sorted-put name_cmp nat_list_cmp_total new object entries in_order))
       (is_sorted-put name_cmp nat_list_cmp_total new object (without_entry old entries)
-      (is_sorted-where_key name_cmp (λ x. not (bytes_eq x old)) entries in_order))
-      (λ q. swapped q entries)
+      (is_sorted-where_key name_cmp (λ x. not (bytes_eq x old)) entries in_order)) (λ q. swapped q entries)
 
   content_swapped : (content : Content ℕ) → is_sorted name_cmp (entries_of content) ≡ true
       → (let grown = with_entries content (with_entry new object (entries_of content)) in with_entries grown
@@ -85,8 +81,7 @@ module _ (inodes : Inodes ℕ) (f g : Option (Node ℕ) → Option (Node ℕ)) w
   by_g inode = inode_with_node (g (node_in inode)) inode
 
   -- of two inodes
-  changes_apart : (a b : ℕ) → a ≢ b
-      → with_changed nat_eq (with_changed nat_eq inodes a f) b g
+  changes_apart : (a b : ℕ) → a ≢ b → with_changed nat_eq (with_changed nat_eq inodes a f) b g
       ≡ with_changed nat_eq (with_changed nat_eq inodes b g) a f
   changes_apart a b differ = λ i. record { root = inodes.root; inode = λ other. at other i; count = inodes.count }
     where
@@ -98,15 +93,11 @@ module _ (inodes : Inodes ℕ) (f g : Option (Node ℕ) → Option (Node ℕ)) w
 
       at : (other : ℕ) → (with_changed nat_eq (with_changed nat_eq inodes a f) b g).inode other
           ≡ (with_changed nat_eq (with_changed nat_eq inodes b g) a f).inode other
-      at other =
-          ap (λ t. cond (nat_eq other b) (by_g (cond t (by_f (inodes.inode a)) (inodes.inode b)))
-          (cond (nat_eq other a) (by_f (inodes.inode a)) (inodes.inode other)))
-          (ne_eqb b a (λ same. differ (sym same)))
+      at other = ap (λ t. cond (nat_eq other b) (by_g (cond t (by_f (inodes.inode a)) (inodes.inode b)))
+          (cond (nat_eq other a) (by_f (inodes.inode a)) (inodes.inode other))) (ne_eqb b a (λ same. differ (sym same)))
           ∙ by other (nat_eq other b) (nat_eq other a) refl refl (by_g (inodes.inode b)) (by_f (inodes.inode a))
-          (inodes.inode other)
-          ∙ ap (λ t. cond (nat_eq other a) (by_f (cond t (by_g (inodes.inode b)) (inodes.inode a)))
-          (cond (nat_eq other b) (by_g (inodes.inode b)) (inodes.inode other)))
-          (sym (ne_eqb a b differ))
+          (inodes.inode other) ∙ ap (λ t. cond (nat_eq other a) (by_f (cond t (by_g (inodes.inode b)) (inodes.inode a)))
+          (cond (nat_eq other b) (by_g (inodes.inode b)) (inodes.inode other))) (sym (ne_eqb a b differ))
 
   -- of one inode, where they do not meet
   changes_at_one : (number : ℕ) → by_g (by_f (inodes.inode number)) ≡ by_f (by_g (inodes.inode number))
@@ -120,10 +111,8 @@ module _ (inodes : Inodes ℕ) (f g : Option (Node ℕ) → Option (Node ℕ)) w
 
       at : (other : ℕ) → (with_changed nat_eq (with_changed nat_eq inodes number f) number g).inode other
           ≡ (with_changed nat_eq (with_changed nat_eq inodes number g) number f).inode other
-      at other =
-          ap (λ t. cond (nat_eq other number) (by_g (cond t (by_f (inodes.inode number)) (inodes.inode number)))
-          (cond (nat_eq other number) (by_f (inodes.inode number)) (inodes.inode other)))
-          (eq-eqb number number refl)
+      at other = ap (λ t. cond (nat_eq other number) (by_g (cond t (by_f (inodes.inode number)) (inodes.inode number)))
+          (cond (nat_eq other number) (by_f (inodes.inode number)) (inodes.inode other))) (eq-eqb number number refl)
           ∙ ap (λ inode. cond (nat_eq other number) inode
           (cond (nat_eq other number) (by_f (inodes.inode number)) (inodes.inode other))) apart
           ∙ by (nat_eq other number) (by_f (by_g (inodes.inode number))) (by_f (inodes.inode number))
@@ -146,31 +135,22 @@ module _ (inodes : Inodes ℕ) (from : ℕ) (old : List ℕ) (to : ℕ) (new : L
   entries_either_way : with_changed nat_eq (with_changed nat_eq inodes to (node_with_entry new object)) from
       (node_without_entry old)
       ≡ with_changed nat_eq (with_changed nat_eq inodes from (node_without_entry old)) to (node_with_entry new object)
-  entries_either_way =
-      ⊎_elim
-      (λ same.
-      let names_differ : old ≢ new = λ alike.
-      replaced_other (ap (λ name. entry_at (tree_of inodes) to name) (sym alike)
+  entries_either_way = ⊎_elim (λ same.
+      let names_differ : old ≢ new = λ alike. replaced_other (ap (λ name. entry_at (tree_of inodes) to name) (sym alike)
       ∙ ap (λ d. entry_at (tree_of inodes) d old) (sym same.1) ∙ named) in
       subst
       (λ d. with_changed nat_eq (with_changed nat_eq inodes to (node_with_entry new object)) d (node_without_entry old)
       ≡ with_changed nat_eq (with_changed nat_eq inodes d (node_without_entry old)) to (node_with_entry new object))
-      (sym same.1)
-      (changes_at_one inodes (node_with_entry new object) (node_without_entry old) to
+      (sym same.1) (changes_at_one inodes (node_with_entry new object) (node_without_entry old) to
       (inode_swapped old new object names_differ (inodes.inode to) sorted)))
       (λ apart. changes_apart inodes (node_with_entry new object) (node_without_entry old) to from
-      (λ same. apart.1 (sym same)))
-      (eqb_tells from to)
+      (λ same. apart.1 (sym same))) (eqb_tells from to)
 
   -- and then the parent
-  pub moved : (entered left placed : Inodes ℕ)
-      → entered ≡ with_changed nat_eq inodes to (node_with_entry new object)
+  pub moved : (entered left placed : Inodes ℕ) → entered ≡ with_changed nat_eq inodes to (node_with_entry new object)
       → left ≡ with_changed nat_eq entered from (node_without_entry old)
-      → placed ≡ with_changed nat_eq left object (node_with_parent to)
-      → placed ≡ with_changed nat_eq
+      → placed ≡ with_changed nat_eq left object (node_with_parent to) → placed ≡ with_changed nat_eq
       (with_changed nat_eq (with_changed nat_eq inodes from (node_without_entry old)) to (node_with_entry new object))
       object (node_with_parent to)
-  moved entered left placed first second third =
-      third
-      ∙ ap (λ i. with_changed nat_eq i object (node_with_parent to))
+  moved entered left placed first second third = third ∙ ap (λ i. with_changed nat_eq i object (node_with_parent to))
       (second ∙ ap (λ i. with_changed nat_eq i from (node_without_entry old)) first ∙ entries_either_way)

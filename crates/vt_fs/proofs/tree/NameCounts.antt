@@ -38,8 +38,7 @@ is_less Equal e = cc
 is_less Greater e = cc
 
 below_less : (name other : List ℕ) (entries : Entries ℕ) → name_cmp name other ≡ Less
-    → below_all name_cmp other entries ≡ true
-    → below_all name_cmp name entries ≡ true
+    → below_all name_cmp other entries ≡ true → below_all name_cmp name entries ≡ true
 below_less name other [] less e = refl
 below_less name other (entry ∷ rest) less e =
     let parts = and_parts (is_lt (name_cmp other entry.0)) (below_all name_cmp other rest) e in
@@ -94,8 +93,7 @@ often_without number name (entry ∷ rest) =
 
 -- of a node that may be missing, or no directory
 pub put_in_node : (number : ℕ) (name : List ℕ) (object : ℕ) (node : Option (Node ℕ))
-    → is_sorted name_cmp (entries_in node) ≡ true
-    → how_often number (targets_in (node_with_entry name object node))
+    → is_sorted name_cmp (entries_in node) ≡ true → how_often number (targets_in (node_with_entry name object node))
     + one_if_some number (entry_named name (entries_in node))
     ≤ how_often number (targets_in node) + one_if number object
 put_in_node number name object None sorted = omega arith
@@ -113,8 +111,7 @@ put_in_node number name object (Some node) sorted = by node.content sorted
 
 pub taken_from_node : (number : ℕ) (name : List ℕ) (node : Option (Node ℕ))
     → how_often number (targets_in (node_without_entry name node))
-    + one_if_some number (entry_named name (entries_in node))
-    ≤ how_often number (targets_in node)
+    + one_if_some number (entry_named name (entries_in node)) ≤ how_often number (targets_in node)
 taken_from_node number name node =
     subst (λ entries. how_often number (targets entries) + one_if_some number (entry_named name (entries_in node))
     ≤ how_often number (targets_in node))
@@ -134,8 +131,7 @@ named_in_node name other object (Some node) named = by node.content named
     by : (content : Content ℕ) → entry_named name (entries_of content) ≡ Some object
         → entry_named name (entries_of (with_entries content (with_entry other object (entries_of content))))
         ≡ Some object
-    by (Directory parent entries opaque) e =
-        entry_named-with_entry name other object entries
+    by (Directory parent entries opaque) e = entry_named-with_entry name other object entries
         ∙ either (eq_by_cmp name_cmp name other) (entry_named name entries) e
     by (Regular bytes) e = e
     by (Symlink text) e = e
@@ -147,8 +143,7 @@ among_often number [] e = cc
 among_often number (other ∷ rest) e = by (nat_eq number other) e (among_often number rest)
   where
     by : (b : Bool) → (b || is_among nat_eq number rest) ≡ true
-        → (is_among nat_eq number rest ≡ true → 1 ≤ how_often number rest)
-        → 1 ≤ cond b 1 0 + how_often number rest
+        → (is_among nat_eq number rest ≡ true → 1 ≤ how_often number rest) → 1 ≤ cond b 1 0 + how_often number rest
     by true e later = omega arith
     by false e later = omega (arith, later e)
 
@@ -158,42 +153,35 @@ below_kept : (old new : Tree ℕ) (object bound : ℕ)
     → ((directory : ℕ) → directory < bound → names_at new object directory ≤ names_at old object directory)
     → names_below new object bound ≤ names_below old object bound
 below_kept old new object zero fewer = omega arith
-below_kept old new object (suc bound) fewer =
-    omega (
-      arith,
-      fewer bound (omega arith),
-      below_kept old new object bound (λ directory within. fewer directory (omega (arith, within))),
-    )
+below_kept old new object (suc bound) fewer = omega (
+  arith,
+  fewer bound (omega arith),
+  below_kept old new object bound (λ directory within. fewer directory (omega (arith, within))),
+)
 
 below_changed : (old new : Tree ℕ) (object place more less bound : ℕ) → place < bound
     → ((directory : ℕ) → directory ≢ place → names_at new object directory ≤ names_at old object directory)
     → names_at new object place + less ≤ names_at old object place + more
     → names_below new object bound + less ≤ names_below old object bound + more
 below_changed old new object place more less zero within others here = absurd (omega (arith, within))
-below_changed old new object place more less (suc bound) within others here =
-    ⊎_elim
-    (λ t. omega (
-      arith,
-      subst (λ n. names_at new object n + less ≤ names_at old object n + more) t.1 here,
-      below_kept old new object bound
-          (λ directory smaller. others directory (λ same. absurd (omega (arith, smaller, same, t.1)))),
-    ))
-    (λ t. omega (
-      arith,
-      others bound (λ same. t.1 (sym same)),
-      below_changed old new object place more less bound (omega (arith, within, t.1)) others here,
-    ))
-    (eqb_tells place bound)
+below_changed old new object place more less (suc bound) within others here = ⊎_elim (λ t. omega (
+  arith,
+  subst (λ n. names_at new object n + less ≤ names_at old object n + more) t.1 here,
+  below_kept old new object bound
+      (λ directory smaller. others directory (λ same. absurd (omega (arith, smaller, same, t.1)))),
+)) (λ t. omega (
+  arith,
+  others bound (λ same. t.1 (sym same)),
+  below_changed old new object place more less bound (omega (arith, within, t.1)) others here,
+)) (eqb_tells place bound)
 
 -- more directories have no fewer names
 below_grows : (tree : Tree ℕ) (object bound more : ℕ) → bound ≤ more
     → names_below tree object bound ≤ names_below tree object more
 below_grows tree object bound zero smaller =
     let none : bound ≡ 0 = omega (arith, smaller) in omega (arith, ap (names_below tree object) none)
-below_grows tree object bound (suc more) smaller =
-    ⊎_elim (λ t. omega (arith, ap (names_below tree object) t.1))
-    (λ t. omega (arith, below_grows tree object bound more (omega (arith, smaller, t.1))))
-    (eqb_tells bound (suc more))
+below_grows tree object bound (suc more) smaller = ⊎_elim (λ t. omega (arith, ap (names_below tree object) t.1))
+    (λ t. omega (arith, below_grows tree object bound more (omega (arith, smaller, t.1)))) (eqb_tells bound (suc more))
 
 -- a directory has no more of them than all
 at_below : (tree : Tree ℕ) (object directory bound : ℕ) → directory < bound
@@ -226,28 +214,23 @@ most_weaker tree most other counted fewer object bound = omega (arith, counted o
 not_both : (tree : Tree ℕ) (most : ℕ → ℕ) (object one other : ℕ) → NamesAtMost tree most → most object ≤ 1
     → is_among nat_eq object (targets_in (tree.node one)) ≡ true
     → is_among nat_eq object (targets_in (tree.node other)) ≡ true → other ≤ one
-not_both tree most object one other counted single first second =
-    ⊎_elim
-    (λ less. absurd (omega (
-      arith,
-      single,
-      counted object (suc other),
-      at_below tree object one other less,
-      among_often object (targets_in (tree.node one)) first,
-      among_often object (targets_in (tree.node other)) second,
-    )))
-    (λ not_less. not_less)
-    (cases_lt one other)
+not_both tree most object one other counted single first second = ⊎_elim (λ less. absurd (omega (
+  arith,
+  single,
+  counted object (suc other),
+  at_below tree object one other less,
+  among_often object (targets_in (tree.node one)) first,
+  among_often object (targets_in (tree.node other)) second,
+))) (λ not_less. not_less) (cases_lt one other)
 
 pub alone : (tree : Tree ℕ) (most : ℕ → ℕ) (object directory other : ℕ) → NamesAtMost tree most → most object ≤ 1
     → is_among nat_eq object (targets_in (tree.node directory)) ≡ true
     → is_among nat_eq object (targets_in (tree.node other)) ≡ true → other ≡ directory
-alone tree most object directory other counted single first second =
-    omega (
-      arith,
-      not_both tree most object directory other counted single first second,
-      not_both tree most object other directory counted single second first,
-    )
+alone tree most object directory other counted single first second = omega (
+  arith,
+  not_both tree most object directory other counted single first second,
+  not_both tree most object other directory counted single second first,
+)
 
 -- a name of a rank is an entry
 pub ranked_among : (all : Entries ℕ) (id rank : ℕ) (entries : Entries ℕ)
@@ -257,11 +240,9 @@ ranked_among all id rank [] some = absurd (true≢false (sym some))
 ranked_among all id rank (entry ∷ rest) some =
     by (nat_eq id entry.1) (nat_eq rank (rank_among all entry.0 id)) some (ranked_among all id rank rest)
   where
-    by : (b c : Bool)
-        → is_some (option_map (λ (entry : List ℕ × ℕ). entry.0)
+    by : (b c : Bool) → is_some (option_map (λ (entry : List ℕ × ℕ). entry.0)
         (cond (b && c) (Some entry) (find (has_rank all id rank) rest))) ≡ true
         → (is_some (option_map (λ (entry : List ℕ × ℕ). entry.0) (find (has_rank all id rank) rest)) ≡ true
-        → is_among nat_eq id (targets rest) ≡ true)
-        → (b || is_among nat_eq id (targets rest)) ≡ true
+        → is_among nat_eq id (targets rest) ≡ true) → (b || is_among nat_eq id (targets rest)) ≡ true
     by true c some later = refl
     by false c some later = later some

@@ -16,16 +16,10 @@ count_written : (all : List ℕ) (object value : ℕ) → object < length all
 count_written all object value within = λ i other. at other i
   where
     at : (other : ℕ) → count_of (slice_set all object value) other ≡ put_at (count_of all) object value other
-    at other =
-        ⊎_elim
-        (λ t.
-        ap (count_of (slice_set all object value)) t.1
-        ∙ get_or-set_same all object value 0 within
-        ∙ ap (λ b. cond b value (count_of all other)) (sym t.0))
-        (λ t.
-        get_or-set_other all object other value 0 t.1
-        ∙ ap (λ b. cond b value (count_of all other)) (sym t.0))
-        (eqb_tells other object)
+    at other = ⊎_elim (λ t.
+        ap (count_of (slice_set all object value)) t.1 ∙ get_or-set_same all object value 0 within
+        ∙ ap (λ b. cond b value (count_of all other)) (sym t.0)) (λ t. get_or-set_other all object other value 0 t.1
+        ∙ ap (λ b. cond b value (count_of all other)) (sym t.0)) (eqb_tells other object)
 
 -- where none is kept it is 0
 pub count_absent : (all : List ℕ) (object : ℕ) → length all ≤ object
@@ -36,12 +30,9 @@ count_absent all object past = λ i other. at other i
     none = let missing = get_or_past all object 0 past in omega (arith, missing)
 
     at : (other : ℕ) → count_of all other ≡ put_at (count_of all) object (count_of all object - 1) other
-    at other =
-        ⊎_elim
-        (λ t.
+    at other = ⊎_elim (λ t.
         ap (count_of all) t.1 ∙ none ∙ ap (λ b. cond b (count_of all object - 1) (count_of all other)) (sym t.0))
-        (λ t. ap (λ b. cond b (count_of all object - 1) (count_of all other)) (sym t.0))
-        (eqb_tells other object)
+        (λ t. ap (λ b. cond b (count_of all object - 1) (count_of all other)) (sym t.0)) (eqb_tells other object)
 
 -- room is made with counts of 0
 pub count_pushed : (items : List Named) (none : Named) → none.count ≡ 0
@@ -56,14 +47,10 @@ count_pushed items none empty = λ i object. at object i
     at_zero (suc place) = refl
 
     at : (object : ℕ) → count_of (counts (items ++ none ∷ [])) object ≡ count_of (counts items) object
-    at object =
-        ap (λ all. count_of all object) pushed
-        ∙ ⊎_elim
-        (λ within. get_or_append_left (counts items) (none.count ∷ []) 0 object within)
-        (λ past.
+    at object = ap (λ all. count_of all object) pushed ∙ ⊎_elim
+        (λ within. get_or_append_left (counts items) (none.count ∷ []) 0 object within) (λ past.
         get_or-append_right (counts items) (none.count ∷ []) (length (counts items)) object 0 refl past
-        ∙ at_zero (object - length (counts items))
-        ∙ sym (get_or_past (counts items) object 0 past))
+        ∙ at_zero (object - length (counts items)) ∙ sym (get_or_past (counts items) object 0 past))
         (cases_lt object (length (counts items)))
 
 -- the count of one object is another
@@ -80,7 +67,5 @@ count_changed items object slot count directory named change at within is change
     long = let same = length-map items (λ (named : Named). named.count) in omega (arith, same, within)
 
     kept : named.count ≡ count_of (counts items) object
-    kept =
-        ap (λ (named : Named). named.count) is
-        ∙ sym (get_or-map (λ (named : Named). named.count) items slot named 0 within)
-        ∙ ap (count_of (counts items)) at
+    kept = ap (λ (named : Named). named.count) is
+        ∙ sym (get_or-map (λ (named : Named). named.count) items slot named 0 within) ∙ ap (count_of (counts items)) at

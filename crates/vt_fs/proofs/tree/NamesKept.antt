@@ -23,8 +23,7 @@ counted_as inodes new most counts same counted_same counted =
 
 -- slots that change, or stay with an error
 pub either_counted : {V E : Type 0} (result : Result V E) (root : ℕ) (old new : Slots) (changed : Inodes ℕ)
-    (most : ℕ → ℕ)
-    → OnOk result (inodes_in root new ≡ changed) → OnErr result (new ≡ old)
+    (most : ℕ → ℕ) → OnOk result (inodes_in root new ≡ changed) → OnErr result (new ≡ old)
     → NamesAtMost (tree_of changed) most → NamesAtMost (tree_of (inodes_in root old)) most
     → NamesAtMost (tree_of (inodes_in root new)) most
 either_counted (Ok value) root old new changed most ok err then_counted counted =
@@ -59,12 +58,11 @@ module _ (inodes : Inodes ℕ) (place : ℕ) (inode : Option (Inode ℕ)) where
 
   apart : (object directory : ℕ) → directory ≢ place
       → names_at (tree_of with_it) object directory ≤ names_at (tree_of inodes) object directory
-  apart object directory differ =
-      omega (
-        arith,
-        ap (λ b. how_often object (targets_in (node_in (cond b inode (inodes.inode directory)))))
-            (ne_eqb directory place differ),
-      )
+  apart object directory differ = omega (
+    arith,
+    ap (λ b. how_often object (targets_in (node_in (cond b inode (inodes.inode directory)))))
+        (ne_eqb directory place differ),
+  )
 
   here : (object : ℕ) → names_at (tree_of with_it) object place ≡ how_often object (targets_in (node_in inode))
   here object =
@@ -83,8 +81,7 @@ module _ (inodes : Inodes ℕ) (place : ℕ) (inode : Option (Inode ℕ)) where
   pub inode_keeps : (most : ℕ → ℕ) → NamesAtMost (tree_of inodes) most
       → ((object : ℕ) → how_often object (targets_in (node_in inode)) ≤ names_at (tree_of inodes) object place)
       → NamesAtMost (tree_of with_it) most
-  inode_keeps most counted fewer =
-      most_weaker (tree_of with_it) _ most
+  inode_keeps most counted fewer = most_weaker (tree_of with_it) _ most
       (inode_changes most (λ object. 0) (λ object. 0) counted (λ object. omega (arith, fewer object)))
       (λ object. omega arith)
 
@@ -100,13 +97,11 @@ same_entries (Some node) (Some inode) same = same
 pub change_keeps : (inodes : Inodes ℕ) (place : ℕ) (change : Option (Node ℕ) → Option (Node ℕ)) (most : ℕ → ℕ)
     → ((node : Option (Node ℕ)) → entries_in (change node) ≡ entries_in node)
     → NamesAtMost (tree_of inodes) most → NamesAtMost (tree_of (with_changed nat_eq inodes place change)) most
-change_keeps inodes place change most same counted =
-    inode_keeps inodes place _ most counted
-    (λ object. omega (
-      arith,
-      ap (λ entries. how_often object (targets entries))
-          (same_entries (change (node_in (inodes.inode place))) (inodes.inode place) (same (node_in (inodes.inode place)))),
-    ))
+change_keeps inodes place change most same counted = inode_keeps inodes place _ most counted (λ object. omega (
+  arith,
+  ap (λ entries. how_often object (targets entries))
+      (same_entries (change (node_in (inodes.inode place))) (inodes.inode place) (same (node_in (inodes.inode place)))),
+))
 
 -- an entry more
 put_in_inode : (name : List ℕ) (object number : ℕ) (inode : Option (Inode ℕ))
@@ -118,8 +113,7 @@ put_in_inode name object number None sorted = omega arith
 put_in_inode name object number (Some inode) sorted = put_in_node number name object (Some inode.node) sorted
 
 pub entry_more : (inodes : Inodes ℕ) (directory : ℕ) (name : List ℕ) (object : ℕ) (most : ℕ → ℕ)
-    → is_sorted name_cmp (entries_in (node_in (inodes.inode directory))) ≡ true
-    → NamesAtMost (tree_of inodes) most
+    → is_sorted name_cmp (entries_in (node_in (inodes.inode directory))) ≡ true → NamesAtMost (tree_of inodes) most
     → NamesAtMost (tree_of (with_changed nat_eq inodes directory (node_with_entry name object)))
     (λ other. most other + one_if other object
     - one_if_some other (entry_named name (entries_in (node_in (inodes.inode directory)))))
@@ -129,14 +123,12 @@ entry_more inodes directory name object most sorted counted =
     (λ other. put_in_inode name object other (inodes.inode directory) sorted)
 
 pub name_more : (inodes : Inodes ℕ) (directory : ℕ) (name : List ℕ) (object : ℕ) (most : ℕ → ℕ)
-    → is_sorted name_cmp (entries_in (node_in (inodes.inode directory))) ≡ true
-    → NamesAtMost (tree_of inodes) most
+    → is_sorted name_cmp (entries_in (node_in (inodes.inode directory))) ≡ true → NamesAtMost (tree_of inodes) most
     → NamesAtMost (tree_of (with_changed nat_eq inodes directory (node_with_entry name object)))
     (put_at most object (most object + 1))
 name_more inodes directory name object most sorted counted =
     most_weaker (tree_of (with_changed nat_eq inodes directory (node_with_entry name object))) _ _
-    (entry_more inodes directory name object most sorted counted)
-    (λ other. more_counted most object _ other)
+    (entry_more inodes directory name object most sorted counted) (λ other. more_counted most object _ other)
 
 -- an entry less
 taken_from_inode : (name : List ℕ) (number : ℕ) (inode : Option (Inode ℕ))
@@ -147,8 +139,7 @@ taken_from_inode name number None = omega arith
 taken_from_inode name number (Some inode) = omega (arith, taken_from_node number name (Some inode.node))
 
 pub entry_less : (inodes : Inodes ℕ) (directory : ℕ) (name : List ℕ) (object : ℕ) (most : ℕ → ℕ)
-    → entry_named name (entries_in (node_in (inodes.inode directory))) ≡ Some object
-    → NamesAtMost (tree_of inodes) most
+    → entry_named name (entries_in (node_in (inodes.inode directory))) ≡ Some object → NamesAtMost (tree_of inodes) most
     → NamesAtMost (tree_of (with_changed nat_eq inodes directory (node_without_entry name)))
     (λ other. most other - one_if other object)
 entry_less inodes directory name object most named counted =
@@ -159,14 +150,12 @@ entry_less inodes directory name object most named counted =
     (λ other. omega (arith, ap (one_if_some other) named))
 
 pub name_less : (inodes : Inodes ℕ) (directory : ℕ) (name : List ℕ) (object : ℕ) (most : ℕ → ℕ)
-    → entry_named name (entries_in (node_in (inodes.inode directory))) ≡ Some object
-    → NamesAtMost (tree_of inodes) most
+    → entry_named name (entries_in (node_in (inodes.inode directory))) ≡ Some object → NamesAtMost (tree_of inodes) most
     → NamesAtMost (tree_of (with_changed nat_eq inodes directory (node_without_entry name)))
     (put_at most object (most object - 1))
 name_less inodes directory name object most named counted =
     most_weaker (tree_of (with_changed nat_eq inodes directory (node_without_entry name))) _ _
-    (entry_less inodes directory name object most named counted)
-    (λ other. less_counted most object other)
+    (entry_less inodes directory name object most named counted) (λ other. less_counted most object other)
 
 -- a name that an object keeps while it gets another
 named_inode : (name other : List ℕ) (object : ℕ) (inode : Option (Inode ℕ))
@@ -177,25 +166,21 @@ named_inode name other object None named = named
 named_inode name other object (Some inode) named = named_in_node name other object (Some inode.node) named
 
 named_still : (inodes : Inodes ℕ) (from to : ℕ) (name other : List ℕ) (object : ℕ)
-    → entry_named name (entries_in (node_in (inodes.inode from))) ≡ Some object
-    → entry_named name
+    → entry_named name (entries_in (node_in (inodes.inode from))) ≡ Some object → entry_named name
     (entries_in (node_in ((with_changed nat_eq inodes to (node_with_entry other object)).inode from))) ≡ Some object
 named_still inodes from to name other object named = by (nat_eq from to) (eqb-true from to)
   where
-    by : (b : Bool) → (b ≡ true → from ≡ to)
-        → entry_named name (entries_in (node_in (cond b (inode_with_node
+    by : (b : Bool) → (b ≡ true → from ≡ to) → entry_named name (entries_in (node_in (cond b (inode_with_node
         (node_with_entry other object (node_in (inodes.inode to))) (inodes.inode to)) (inodes.inode from))))
         ≡ Some object
-    by true same =
-        named_inode name other object (inodes.inode to)
+    by true same = named_inode name other object (inodes.inode to)
         (subst (λ n. entry_named name (entries_in (node_in (inodes.inode n))) ≡ Some object) (same refl) named)
     by false same = named
 
 -- an object with another name for one that it had, where another object may lose one
 pub name_moved : (inodes : Inodes ℕ) (from to : ℕ) (name other : List ℕ) (object : ℕ) (most : ℕ → ℕ)
     → is_sorted name_cmp (entries_in (node_in (inodes.inode to))) ≡ true
-    → entry_named name (entries_in (node_in (inodes.inode from))) ≡ Some object
-    → NamesAtMost (tree_of inodes) most
+    → entry_named name (entries_in (node_in (inodes.inode from))) ≡ Some object → NamesAtMost (tree_of inodes) most
     → NamesAtMost (tree_of (with_changed nat_eq
     (with_changed nat_eq (with_changed nat_eq inodes to (node_with_entry other object)) from (node_without_entry name))
     object (node_with_parent to)))
@@ -203,35 +188,29 @@ pub name_moved : (inodes : Inodes ℕ) (from to : ℕ) (name other : List ℕ) (
 name_moved inodes from to name other object most sorted named counted =
     let entered = with_changed nat_eq inodes to (node_with_entry other object) in
     let taken = with_changed nat_eq entered from (node_without_entry name) in
-    change_keeps taken object (node_with_parent to) _ (entries-node_with_parent to)
-    (most_weaker (tree_of taken) _ _
+    change_keeps taken object (node_with_parent to) _ (entries-node_with_parent to) (most_weaker (tree_of taken) _ _
     (entry_less entered from name object _ (named_still inodes from to name other object named)
-    (entry_more inodes to other object most sorted counted))
-    (λ number. omega arith))
+    (entry_more inodes to other object most sorted counted)) (λ number. omega arith))
 
 -- what had the new name has one less
 pub replaced_counted : (most : ℕ → ℕ) (found : Option ℕ) (other number : ℕ) → found ≡ Some other
     → most number - one_if_some number found ≤ put_at most other (most other - 1) number
-replaced_counted most found other number is =
-    omega (arith, ap (one_if_some number) is, less_counted most other number)
+replaced_counted most found other number is = omega (arith, ap (one_if_some number) is, less_counted most other number)
 
 -- uses alone
 pub pin_keeps : (inodes : Inodes ℕ) (object : ℕ) (most : ℕ → ℕ)
     → NamesAtMost (tree_of inodes) most → NamesAtMost (tree_of (pinned nat_eq inodes object)) most
-pin_keeps inodes object most counted =
-    inode_keeps inodes object (used_once_more (inodes.inode object)) most counted
+pin_keeps inodes object most counted = inode_keeps inodes object (used_once_more (inodes.inode object)) most counted
     (λ number. by number (inodes.inode object))
   where
-    by : (number : ℕ) (inode : Option (Inode ℕ))
-        → how_often number (targets_in (node_in (used_once_more inode)))
+    by : (number : ℕ) (inode : Option (Inode ℕ)) → how_often number (targets_in (node_in (used_once_more inode)))
         ≤ how_often number (targets_in (node_in inode))
     by number None = omega arith
     by number (Some inode) = omega arith
 
 pub unpin_keeps : (inodes : Inodes ℕ) (object : ℕ) (most : ℕ → ℕ)
     → NamesAtMost (tree_of inodes) most → NamesAtMost (tree_of (unpinned nat_eq inodes object)) most
-unpin_keeps inodes object most counted =
-    inode_keeps inodes object (used_once_less (inodes.inode object)) most counted
+unpin_keeps inodes object most counted = inode_keeps inodes object (used_once_less (inodes.inode object)) most counted
     (λ number. by number (inodes.inode object))
   where
     goes : (number : ℕ) (inode : Inode ℕ) (b : Bool)
@@ -240,8 +219,7 @@ unpin_keeps inodes object most counted =
     goes number inode true = omega arith
     goes number inode false = omega arith
 
-    by : (number : ℕ) (inode : Option (Inode ℕ))
-        → how_often number (targets_in (node_in (used_once_less inode)))
+    by : (number : ℕ) (inode : Option (Inode ℕ)) → how_often number (targets_in (node_in (used_once_less inode)))
         ≤ how_often number (targets_in (node_in inode))
     by number None = omega arith
     by number (Some inode) = goes number inode (nat_le inode.uses 1)
@@ -254,13 +232,11 @@ replaced_keeps inodes object most counted =
 
 -- a new inode without entries
 pub new_keeps : (inodes new : Inodes ℕ) (made : ℕ) (node : Node ℕ) (most : ℕ → ℕ)
-    → new.inode ≡ put_at inodes.inode made (Some (record { node = node; uses = 1 }))
-    → entries_of node.content ≡ []
+    → new.inode ≡ put_at inodes.inode made (Some (record { node = node; uses = 1 })) → entries_of node.content ≡ []
     → NamesAtMost (tree_of inodes) most → NamesAtMost (tree_of new) most
 new_keeps inodes new made node most inserted empty counted =
     subst (λ inode. NamesAtMost (tree_of (record { root = new.root; inode = inode; count = new.count })) most)
-    (sym inserted)
-    (inode_keeps inodes made (Some (record { node = node; uses = 1 })) most counted
+    (sym inserted) (inode_keeps inodes made (Some (record { node = node; uses = 1 })) most counted
     (λ object. omega (arith, ap (λ entries. how_often object (targets entries)) empty)))
 
 -- a tree without names

@@ -17,8 +17,7 @@ get-updates old new key slot updates = λ i other. at other i
       nat_tests,
       updates.changed,
       updates.others other,
-      λ (same : other ≡ key). ap
-          (get new) same,
+      λ (same : other ≡ key). ap (get new) same,
     )
 
 -- a node with one use at most goes with it

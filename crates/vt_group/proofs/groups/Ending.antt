@@ -20,15 +20,12 @@ module _ {V W : Type 0} (see : V → W) (change : ℕ → W → Option W) (old n
     ≡ then_some (option_map see (lookup (is_at (nat_cmp count)) old)) (change (counted count))) where
   at_number : (number : ℕ) → lookup (nat_eq number) (map (numbered see) new)
       ≡ then_some (lookup (nat_eq number) (map (numbered see) old)) (change number)
-  at_number number =
-      by (is_some (lookup (nat_eq number) (map (numbered see) new))) refl
+  at_number number = by (is_some (lookup (nat_eq number) (map (numbered see) new))) refl
       (is_some (lookup (nat_eq number) (map (numbered see) old))) refl
     where
-      at_one : (count : ℕ) → number ≡ counted count
-          → lookup (nat_eq number) (map (numbered see) new)
+      at_one : (count : ℕ) → number ≡ counted count → lookup (nat_eq number) (map (numbered see) new)
           ≡ then_some (lookup (nat_eq number) (map (numbered see) old)) (change number)
-      at_one count same =
-          ap (λ n. lookup (nat_eq n) (map (numbered see) new)) same
+      at_one count same = ap (λ n. lookup (nat_eq n) (map (numbered see) new)) same
           ∙ lookup-numbered see count new ∙ each count
           ∙ ap (λ found. then_some found (change (counted count))) (sym (lookup-numbered see count old))
           ∙ ap (λ n. then_some (lookup (nat_eq n) (map (numbered see) old)) (change n)) (sym same)
@@ -43,17 +40,13 @@ module _ {V W : Type 0} (see : V → W) (change : ℕ → W → Option W) (old n
           ≡ then_some (lookup (nat_eq number) (map (numbered see) old)) (change number)
       by true is b was = let at = found_count see number new is in at_one at.0 at.1
       by false is true was = let at = found_count see number old was in at_one at.0 at.1
-      by false is false was =
-          none _ is ∙ sym (ap (λ found. then_some found (change number)) (none _ was))
+      by false is false was = none _ is ∙ sym (ap (λ found. then_some found (change number)) (none _ was))
 
   -- the entries that are left are the changed ones
-  pub entries_ended : map (numbered see) new
-      ≡ filter_map (changed_entry change) (map (numbered see) old)
-  entries_ended =
-      same_entries (map (numbered see) new) (filter_map (changed_entry change) (map (numbered see) old))
+  pub entries_ended : map (numbered see) new ≡ filter_map (changed_entry change) (map (numbered see) old)
+  entries_ended = same_entries (map (numbered see) new) (filter_map (changed_entry change) (map (numbered see) old))
       (rising_numbers see new ordered_new)
-      (rising-changed change (map (numbered see) old) (rising_numbers see old ordered))
-      (λ number. at_number number
+      (rising-changed change (map (numbered see) old) (rising_numbers see old ordered)) (λ number. at_number number
       ∙ sym (lookup-changed change (map (numbered see) old) (rising_numbers see old ordered) number))
 
 -- what is found was found before it was handed
@@ -91,21 +84,16 @@ none_or false found next = refl
 
 -- the lost group has no master any longer
 pub removed_at : {V W : Type 0} (see : V → W) (next : W → Option W) (lost count : ℕ) (old mid new : Option V)
-    → new ≡ cond (is_at (nat_cmp lost) count) None mid
-    → option_map see mid ≡ then_some (option_map see old) next
+    → new ≡ cond (is_at (nat_cmp lost) count) None mid → option_map see mid ≡ then_some (option_map see old) next
     → option_map see new
     ≡ then_some (option_map see old) (λ value. if nat_eq (counted count) (counted lost) then None else next value)
-removed_at {V} see next lost count old mid new is each =
-    ap (option_map see) (is ∙ ap (λ b. cond b None mid)
-    (at_count lost count ∙ counted_test lost count))
-    ∙ by (nat_eq lost count) refl
+removed_at {V} see next lost count old mid new is each = ap (option_map see) (is ∙ ap (λ b. cond b None mid)
+    (at_count lost count ∙ counted_test lost count)) ∙ by (nat_eq lost count) refl
     ∙ sym (none_or (nat_eq (counted count) (counted lost)) (option_map see old) next)
   where
     by : (b : Bool) → nat_eq lost count ≡ b → option_map see (cond b None mid)
         ≡ (if nat_eq (counted count) (counted lost) then None else then_some (option_map see old) next)
-    by true same =
-        ap (λ b. if b then None else then_some (option_map see old) next)
+    by true same = ap (λ b. if b then None else then_some (option_map see old) next)
         (sym (counted_test count lost ∙ nat_eq-swapped lost count true same))
-    by false apart =
-        each ∙ ap (λ b. if b then None else then_some (option_map see old) next)
+    by false apart = each ∙ ap (λ b. if b then None else then_some (option_map see old) next)
         (sym (counted_test count lost ∙ nat_eq-swapped lost count false apart))

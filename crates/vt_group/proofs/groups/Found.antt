@@ -30,8 +30,7 @@ or_assoc false b c = refl
 -- a group is in two lists put together where it is in one of them
 pub in_both : (old more : List GroupId) (one : ℕ) → is_in (old ++ more) one ≡ (is_in old one || is_in more one)
 in_both [] more one = refl
-in_both (group ∷ old) more one =
-    ap (λ b. nat_eq one (group_number group) || b) (in_both old more one)
+in_both (group ∷ old) more one = ap (λ b. nat_eq one (group_number group) || b) (in_both old more one)
     ∙ or_assoc (nat_eq one (group_number group)) (is_in old one) (is_in more one)
 
 -- a group stays in a list that grows
@@ -89,8 +88,7 @@ module _ (keys new : List GroupId) (lower : GroupId) (is : new ≡ insert_key sa
       by : (b : Bool) → new ≡ (if b then keys else keys ++ lower ∷ [])
           → (is_in keys one ≡ true) ⊎ (one ≡ group_number lower)
       by true is = inl (ap (λ list. is_in list one) (sym is) ∙ inside)
-      by false is =
-          ⊎_elim (λ before. inl before) (λ same. inr (eqb-true one (group_number lower) same))
+      by false is = ⊎_elim (λ before. inl before) (λ same. inr (eqb-true one (group_number lower) same))
           (or_cases (is_in keys one) (nat_eq one (group_number lower))
           (sym (in_push keys lower one) ∙ ap (λ list. is_in list one) (sym is) ∙ inside))
 
@@ -101,8 +99,7 @@ module _ (keys new : List GroupId) (lower : GroupId) (is : new ≡ insert_key sa
       by : (b : Bool) → list_any (same_group lower) keys ≡ b → new ≡ (if b then keys else keys ++ lower ∷ [])
           → is_in new (group_number lower) ≡ true
       by true among is = ap (λ list. is_in list (group_number lower)) is ∙ groups_among lower keys ∙ among
-      by false among is =
-          ap (λ list. is_in list (group_number lower)) is ∙ in_push keys lower (group_number lower)
+      by false among is = ap (λ list. is_in list (group_number lower)) is ∙ in_push keys lower (group_number lower)
           ∙ ap (λ b. is_in keys (group_number lower) || b) (eq-eqb (group_number lower) (group_number lower) refl)
           ∙ or-true (is_in keys (group_number lower))
 
@@ -116,8 +113,7 @@ own_master (Some one) group same = ap (λ (g : GroupId). Some (group_number g)) 
 pub other_master : (found : Option GroupId) (group : GroupId) → option_eq same_group found (Some group) ≡ false
     → option_map group_number found ≡ Some (group_number group) → ⊥
 other_master None group apart is = absurd cc
-other_master (Some one) group apart is =
-    true≢false (sym (counted_same group.count one.count
+other_master (Some one) group apart is = true≢false (sym (counted_same group.count one.count
     (sym (Rattle.std.proofs.lemmas.Option.same_Some (group_number one) (group_number group) is))) ∙ apart)
 
 -- each group that is found is another, and has a master or is the first
@@ -194,8 +190,7 @@ source_more found more all either (Some group) = turned (more group) (found grou
 
 module _ (groups : Grouping) (group : ℕ) (keys new : List GroupId) (next : ℕ) (here : GroupId)
     (there : is_in keys (group_number here) ≡ true) (taken : take (next + 1) new ≡ take next keys ++ here ∷ [])
-    (longer : IsLonger keys new)
-    (below : (one : ℕ) → is_in new one ≡ true
+    (longer : IsLonger keys new) (below : (one : ℕ) → is_in new one ≡ true
     → (is_in keys one ≡ true) ⊎ (master_in groups one ≡ Some (group_number here))) where
   -- groups that are found are known, with those found more
   pub known_more : ((one : ℕ) → is_in keys one ≡ true → (one ≡ group) ⊎ (is_some (master_in groups one) ≡ true))
@@ -206,8 +201,7 @@ module _ (groups : Grouping) (group : ℕ) (keys new : List GroupId) (next : ℕ
   -- and reached from the first
   pub reaches_more : ((one : ℕ) → is_in keys one ≡ true → Reaches groups group one)
       → (one : ℕ) → is_in new one ≡ true → Reaches groups group one
-  reaches_more reaches one inside =
-      ⊎_elim (λ before. reaches one before)
+  reaches_more reaches one inside = ⊎_elim (λ before. reaches one before)
       (λ master. reaches_lower groups group one (group_number here) master (reaches (group_number here) there))
       (below one inside)
 
@@ -227,8 +221,7 @@ module _ (groups : Grouping) (group : ℕ) (keys new : List GroupId) (next : ℕ
   pub each_more : (source : Option ℕ)
       → (holds_of (nat_eq (group_number here)) source || holds_of (is_in (take next keys)) source)
       ≡ holds_of (is_in (take (next + 1) new)) source
-  each_more =
-      source_more (is_in (take next keys)) (nat_eq (group_number here)) (is_in (take (next + 1) new))
+  each_more = source_more (is_in (take next keys)) (nat_eq (group_number here)) (is_in (take (next + 1) new))
       (λ one. ap (λ list. is_in list one) taken ∙ in_push (take next keys) here one
       ∙ ap (λ b. is_in (take next keys) one || b)
       (sym (nat_eq-swapped one (group_number here) (nat_eq one (group_number here)) refl)))

@@ -22,8 +22,7 @@ module _ (old new : Index) (types : Numbered Propagation) (above : Numbered Grou
     pub lists_unlisted : ((mount : MountId) (kind : Propagation) → value_at types mount.count ≡ Some kind
         → is_listed old mount kind ≡ true → is_listed new mount kind ≡ true)
         → ((lower upper : GroupId) → value_at above lower.count ≡ Some upper → is_lower old lower upper ≡ true
-        → is_lower new lower upper ≡ true)
-        → Lists new types above
+        → is_lower new lower upper ≡ true) → Lists new types above
     lists_unlisted kept lower = record {
       listed = λ mount kind at. kept (mount_at mount) kind at (lists.listed mount kind at);
       lower = λ low up at. lower (group_at low) up at (lists.lower low up at);
@@ -41,8 +40,7 @@ module _ (old new : Index) (types : Numbered Propagation) (above : Numbered Grou
     -- groups with masters are found in an index that keeps what is listed
     pub found_lower : ((lower upper : GroupId) → is_lower old lower upper ≡ true → is_lower new lower upper ≡ true)
         → FoundLower new (map numbered_master above.entries)
-    found_lower lower low up at =
-        lower (group_at low) up (lists.lower low up (kept_master above.entries low up at))
+    found_lower lower low up at = lower (group_at low) up (lists.lower low up (kept_master above.entries low up at))
 
 -- an index in which all mounts and groups are found lists them
 pub lists_found : (index : Index) (types : Numbered Propagation) (above : Numbered GroupId)

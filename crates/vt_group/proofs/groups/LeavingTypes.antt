@@ -50,10 +50,8 @@ module _ (groups : Grouping) (mount : ℕ) where
   -- each mount then has the type that the definitions leave it
   pub types-left : are_rising (keys groups.peers) ≡ true → (other : ℕ)
       → type_once_ended without_mount (lost_group without_mount (group_of (propagation_in groups mount)))
-      (propagation_in without_mount other)
-      ≡ type_once_left groups mount other
-  types-left rising other =
-      (λ i. type_once_ended without_mount (lost_alone (group_of (propagation_in groups mount)) i)
+      (propagation_in without_mount other) ≡ type_once_left groups mount other
+  types-left rising other = (λ i. type_once_ended without_mount (lost_alone (group_of (propagation_in groups mount)) i)
       (unwrap_or (lookup-removed other mount groups.peers rising i) Private))
       ∙ by (nat_eq other mount) (lookup (nat_eq other) groups.peers)
     where
@@ -80,8 +78,7 @@ any-inserted group mount kind (e ∷ es) rising none =
         ((mount, kind) ∷ e ∷ es) ((e.0, kind) ∷ es) (e ∷ insert_entry nat_cmp es mount kind))
         ≡ list_any (is_member group) (cond same es (e ∷ remove_entry (nat_eq mount) es))
     by true l true s later = absurd (apart_less mount e.0 l s)
-    by true l false s later =
-        ap (λ b. b || (is_member group e || list_any (is_member group) es)) none
+    by true l false s later = ap (λ b. b || (is_member group e || list_any (is_member group) es)) none
         ∙ ap (λ rest. is_member group e || list_any (is_member group) rest)
         (sym (remove-absent mount es (lookup-low mount es (low_further mount e.0 es l (and_parts _ _ rising).0))))
     by false l true s later = ap (λ b. b || list_any (is_member group) es) none
@@ -102,8 +99,7 @@ module _ (groups : Grouping) (mount group : ℕ) (rising : are_rising (keys grou
 
   slave_type : (other : ℕ) → propagation_in as_its_slave other
       ≡ (if nat_eq other mount then as_slave (propagation_in groups mount) else propagation_in groups other)
-  slave_type other =
-      ap (λ o. unwrap_or o Private) (lookup-inserted other mount (Slave group) groups.peers)
+  slave_type other = ap (λ o. unwrap_or o Private) (lookup-inserted other mount (Slave group) groups.peers)
       ∙ by (nat_eq other mount)
       ∙ ap (λ kind. if nat_eq other mount then as_slave kind else propagation_in groups other) (sym shared)
     where
@@ -116,8 +112,7 @@ module _ (groups : Grouping) (mount group : ℕ) (rising : are_rising (keys grou
   pub types-slave : (other : ℕ) → type_once_retyped groups mount (Slave group) other ≡ type_once_slave groups mount other
   types-slave other =
       ap (λ kind. type_once_ended as_its_slave (lost_group as_its_slave (group_of kind)) (propagation_in as_its_slave other))
-      shared
-      ∙ (λ i. type_once_ended as_its_slave (slave_lost i) (slave_type other i))
+      shared ∙ (λ i. type_once_ended as_its_slave (slave_lost i) (slave_type other i))
       ∙ same_once_slave (if_lone groups mount (Some group))
       (if nat_eq other mount then as_slave (propagation_in groups mount) else propagation_in groups other)
       ∙ ap (λ kind. type_once_ended groups (if_lone groups mount (group_of kind))

@@ -33,8 +33,7 @@ found_any test key kind (e ∷ es) found passes = by (nat_eq key e.0) refl found
     by : (b : Bool) → nat_eq key e.0 ≡ b → cond b (Some e.1) (lookup (nat_eq key) es) ≡ Some kind
         → (lookup (nat_eq key) es ≡ Some kind → test (key, kind) ≡ true → list_any test es ≡ true)
         → list_any test (e ∷ es) ≡ true
-    by true same found later =
-        ap (λ b. b || list_any test es)
+    by true same found later = ap (λ b. b || list_any test es)
         ((λ i. test (sym (eqb-true key e.0 same) i, same_Some e.1 kind found i)) ∙ passes)
     by false apart found later = ap (λ b. test e || b) (later found passes) ∙ or_true (test e)
 

@@ -62,8 +62,7 @@ same_rest first number xs ys above above_too same = by (nat_eq number first) ref
         → list_any (nat_eq number) numbers ≡ false
     none numbers is all = ap (λ n. list_any (nat_eq n) numbers) (eqb-true number first is) ∙ none_above first numbers all
 
-    by : (b : Bool) → nat_eq number first ≡ b
-        → (b || list_any (nat_eq number) xs) ≡ (b || list_any (nat_eq number) ys)
+    by : (b : Bool) → nat_eq number first ≡ b → (b || list_any (nat_eq number) xs) ≡ (b || list_any (nat_eq number) ys)
         → list_any (nat_eq number) xs ≡ list_any (nat_eq number) ys
     by true is e = none xs is above ∙ sym (none ys is above_too)
     by false apart e = e
@@ -85,8 +84,7 @@ same_numbers (x ∷ xs) (y ∷ ys) rising rising_too same =
 
     by : (a : Bool) → nat_lt x y ≡ a → (b : Bool) → nat_lt y x ≡ b
         → (((number : ℕ) → list_any (nat_eq number) xs ≡ list_any (nat_eq number) ys) → xs ≡ ys) → x ∷ xs ≡ y ∷ ys
-    by true less b e later =
-        absurd (true≢false (sym (first_among x xs) ∙ same x ∙ none_lower x y ys less ry.0))
+    by true less b e later = absurd (true≢false (sym (first_among x xs) ∙ same x ∙ none_lower x y ys less ry.0))
     by false e true less later =
         absurd (true≢false (sym (first_among y ys) ∙ sym (same y) ∙ none_lower y x xs less rx.0))
     by false e false f later =
@@ -97,8 +95,7 @@ same_numbers (x ∷ xs) (y ∷ ys) rising rising_too same =
 
 rises : (numbers : List ℕ) → IsStrictlySortedBy nat_cmp numbers → are_rising numbers ≡ true
 rises [] sorted = refl
-rises (number ∷ numbers) sorted =
-    and_from _ _ (above numbers (sorted_head nat_cmp number numbers sorted))
+rises (number ∷ numbers) sorted = and_from _ _ (above numbers (sorted_head nat_cmp number numbers sorted))
     (rises numbers (sorted_tail nat_cmp number numbers sorted))
   where
     above : (others : List ℕ) → AllByRecursion (λ other. nat_cmp number other ≡ Less) others
@@ -167,16 +164,14 @@ module _ (found : ℕ → Bool) where
       (cond b (Some e.1) (lookup (is_at (nat_cmp count)) es))) MeansPrivate))) (sym (at_nat count e.0))
     where
       by : (b : Bool) → nat_eq count e.0 ≡ b → (r : Bool) → receives e.1 ≡ r
-          → list_all (nat_lt e.0) (counts_from es) ≡ true
-          → list_any (nat_eq count) (counts_from es)
+          → list_all (nat_lt e.0) (counts_from es) ≡ true → list_any (nat_eq count) (counts_from es)
           ≡ holds_of found (source_of (unwrap_or (option_map propagation_of
           (lookup (is_at (nat_cmp count)) es)) MeansPrivate))
           → list_any (nat_eq count) (cond r (e.0 ∷ counts_from es) (counts_from es))
           ≡ holds_of found (source_of (unwrap_or (option_map propagation_of
           (cond b (Some e.1) (lookup (is_at (nat_cmp count)) es))) MeansPrivate))
       by true is true r above rest = ap (λ b. b || list_any (nat_eq count) (counts_from es)) is ∙ sym r
-      by true is false r above rest =
-          ap (λ n. list_any (nat_eq n) (counts_from es)) (eqb-true count e.0 is)
+      by true is false r above rest = ap (λ n. list_any (nat_eq n) (counts_from es)) (eqb-true count e.0 is)
           ∙ none_above e.0 (counts_from es) above ∙ sym r
       by false apart true r above rest = ap (λ b. b || list_any (nat_eq count) (counts_from es)) apart ∙ rest
       by false apart false r above rest = rest
@@ -199,10 +194,8 @@ pub receivers_noted : (found : ℕ → Bool) (es : List (ℕ × Propagation)) (i
     → map (λ id. counted id.count) ids ≡ receivers_from found (map numbered_peer es)
 receivers_noted found es ids sorted sorted_too noted =
     let rising = rises (keys_of es) sorted in
-    counted_counts ids
-    ∙ ap (map counted) (same_numbers (map (λ id. id.count) ids) (counts_from found es)
+    counted_counts ids ∙ ap (map counted) (same_numbers (map (λ id. id.count) ids) (counts_from found es)
     (rises (map (λ id. id.count) ids) sorted_too) (counts_rise found es rising)
     (λ count. sym (noted_counts count ids) ∙ noted count
     ∙ ap (λ kind. holds_of found (source_of (unwrap_or kind MeansPrivate))) (lookup-numbered propagation_of count es)
-    ∙ sym (counts_found found count es rising)))
-    ∙ receivers_counted found es
+    ∙ sym (counts_found found count es rising))) ∙ receivers_counted found es

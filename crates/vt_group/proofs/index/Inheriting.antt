@@ -41,18 +41,15 @@ module _ (lost heir : GroupId) where
   by_handed P Q was upper own kept handed holds = by (same_group was lost) refl handed
     where
       by : (b : Bool) → same_group was lost ≡ b → (if b then Some heir else Some was) ≡ Some upper → P upper
-      by true same is =
-          Rattle.std.proofs.Common.subst P (same_Some heir upper is)
+      by true same is = Rattle.std.proofs.Common.subst P (same_Some heir upper is)
           (own (Rattle.std.proofs.Common.subst Q (sym (same_number was lost same)) holds))
-      by false differ is =
-          Rattle.std.proofs.Common.subst P (same_Some was upper is)
+      by false differ is = Rattle.std.proofs.Common.subst P (same_Some was upper is)
           (kept was (nat_eq-swapped was.count lost.count false differ) holds)
 
   -- a mount stays listed where its type is handed on
   pub handed_kind : (old new : Index) (mount : MountId)
       → ((group : GroupId) → same_group lost group ≡ false → is_relative old mount group ≡ true
-      → is_relative new mount group ≡ true)
-      → (is_relative old mount lost ≡ true → is_relative new mount heir ≡ true)
+      → is_relative new mount group ≡ true) → (is_relative old mount lost ≡ true → is_relative new mount heir ≡ true)
       → (was kind : Propagation) → (was ≡ Shared lost → ⊥) → kind_handed lost (Some heir) was ≡ Some kind
       → is_listed old mount was ≡ true → is_listed new mount kind ≡ true
   handed_kind old new mount kept own (Shared group) kind apart handed listed =
@@ -64,8 +61,7 @@ module _ (lost heir : GroupId) where
       slave : (found : Option GroupId) → group_handed lost (Some heir) master ≡ found
           → option_map Slave found ≡ Some kind → is_listed new mount kind ≡ true
       slave None at is = absurd (true≢false (sym (ap is_some is)))
-      slave (Some upper) at is =
-          ap (is_listed new mount) (sym (same_Some (Slave upper) kind is))
+      slave (Some upper) at is = ap (is_listed new mount) (sym (same_Some (Slave upper) kind is))
           ∙ by_handed (λ group. is_relative new mount group ≡ true) (λ group. is_relative old mount group ≡ true)
           master upper own kept at listed
   handed_kind old new mount kept own Private kind apart handed listed =
@@ -76,8 +72,7 @@ module _ (lost heir : GroupId) where
   -- and a group where its master is
   pub handed_group : (old new : Index) (lower : GroupId)
       → ((group : GroupId) → same_group lost group ≡ false → is_lower old lower group ≡ true
-      → is_lower new lower group ≡ true)
-      → (is_lower old lower lost ≡ true → is_lower new lower heir ≡ true)
+      → is_lower new lower group ≡ true) → (is_lower old lower lost ≡ true → is_lower new lower heir ≡ true)
       → (was upper : GroupId) → group_handed lost (Some heir) was ≡ Some upper
       → is_lower old lower was ≡ true → is_lower new lower upper ≡ true
   handed_group old new lower kept own was upper handed under =

@@ -68,8 +68,7 @@ pub count_written : (test : GroupId → Bool) (names : Named) (list now : List G
 count_written test [] list now is = absurd cc
 count_written test (entry ∷ names) list now is = by (test entry.0) (count_written test names list now) is
   where
-    by : (b : Bool)
-        → (lookup test names ≡ Some list
+    by : (b : Bool) → (lookup test names ≡ Some list
         → count_names (set_value test names now) + length list ≡ count_names names + length now)
         → cond b (Some entry.1) (lookup test names) ≡ Some list
         → count_names (cond b ((entry.0, now) ∷ names) (entry ∷ set_value test names now)) + length list
@@ -113,8 +112,7 @@ module _ (old new : Named) (group : GroupId) (found : Option (List GroupId))
   -- this group has what its new names have
   pub one_has : (test : GroupId → Bool) → list_any test (unwrap_or found []) ≡ true
       → list_any test (names_of new group) ≡ true
-  one_has test any =
-      ap (list_any test) (names_updated group
+  one_has test any = ap (list_any test) (names_updated group
       ∙ ap (λ b. cond b (unwrap_or found []) (names_of old group)) (Rattle.std.proofs.Common.eq-eqb group.count group.count refl))
       ∙ any
 
@@ -131,22 +129,18 @@ module _ (old mid : Named) (group : GroupId) (was now : List GroupId) (found : S
     (test : GroupId → Bool) (so : list_any test was ≡ true → list_any test now ≡ true) where
   -- what is named stays so where what is not used goes
   pub shorter_keeps : (at : GroupId) → list_any test (names_of old at) ≡ true → list_any test (names_of mid at) ≡ true
-  shorter_keeps at =
-      one_keeps old mid group (Some now) updates test at
+  shorter_keeps at = one_keeps old mid group (Some now) updates test at
       (λ any. so (ap (λ o. list_any test (unwrap_or o [])) found ∙ any))
 
   -- and where the entry of a group without names goes
-  pub empty_keeps : now ≡ [] → (new : Named)
-      → ((at : GroupId) (test : GroupId → Bool) → same_group group at ≡ false
+  pub empty_keeps : now ≡ [] → (new : Named) → ((at : GroupId) (test : GroupId → Bool) → same_group group at ≡ false
       → list_any test (names_of mid at) ≡ true → list_any test (names_of new at) ≡ true)
       → (at : GroupId) → list_any test (names_of old at) ≡ true → list_any test (names_of new at) ≡ true
   empty_keeps empty new others at any = by (same_group group at) refl
     where
       by : (b : Bool) → same_group group at ≡ b → list_any test (names_of new at) ≡ true
-      by true same =
-          none_kept (names_of mid at) (names_of new at) test
-          (names_updated old mid group (Some now) updates at
-          ∙ ap (λ b. cond b now (names_of old at)) same ∙ empty)
+      by true same = none_kept (names_of mid at) (names_of new at) test
+          (names_updated old mid group (Some now) updates at ∙ ap (λ b. cond b now (names_of old at)) same ∙ empty)
           (shorter_keeps at any)
       by false apart = others at test apart (shorter_keeps at any)
 

@@ -94,18 +94,16 @@ pub record KeepsAdded (value : WorldValue) (added : List (Mount ℕ)) (more less
       ≡ mount_uses (world_of value) entry.mount.number + times
       (λ location. nat_eq entry.mount.number location.mount) more
   pub writers : (entry : MountEntry) → Among entry k.mounts → entry.writers ≡ writes_of entry.mount.number value.tasks
-  pub filesystems : k.filesystems
-      ≡ map (λ (one : Shown). record one {
-        inodes = folded (pinned_if (counted one.count)) one.inodes gained;
-        mounts = one.mounts + times (λ (mount : Mount ℕ). nat_eq (counted one.count) mount.filesystem) added;
-      }) (shown value.filesystems)
+  pub filesystems : k.filesystems ≡ map (λ (one : Shown). record one {
+    inodes = folded (pinned_if (counted one.count)) one.inodes gained;
+    mounts = one.mounts + times (λ (mount : Mount ℕ). nat_eq (counted one.count) mount.filesystem) added;
+  }) (shown value.filesystems)
 
 module _ (value : WorldValue) (whole : IsHeld value) (added : List (Mount ℕ)) (tasks : Tasks)
     (more less : List (Location ℕ))
     (inside : Option ℕ → Bool) (nowhere_stays : inside None ≡ false) (namespaces : List (Namespace ℕ))
     (is : IsAdded value added tasks more less (λ mount. inside mount.namespace)) (gained : List Inode) (k : Kept)
-    (keeps : KeepsAdded value added more less gained k)
-    (uses_gained : (test : Inode → Bool)
+    (keeps : KeepsAdded value added more less gained k) (uses_gained : (test : Inode → Bool)
     → times test (map (inode_at (with_added value added tasks)) (places_of added)) ≡ times test gained)
     (gained_there : (was : FilesystemEntry) → Among was value.filesystems
     → AreThere (counted was.count) (inodes_seen was) gained) where
@@ -134,14 +132,12 @@ module _ (value : WorldValue) (whole : IsHeld value) (added : List (Mount ℕ)) 
   -- Mounts
 
   entry_mount : (entry : MountEntry) → Among entry k.mounts → Among entry.mount world.mounts ⊎ Among entry.mount added
-  entry_mount entry m =
-      among-append world.mounts added entry.mount
+  entry_mount entry m = among-append world.mounts added entry.mount
       (subst (Among entry.mount) keeps.mounts (among-map (λ (e : MountEntry). e.mount) k.mounts entry m))
 
   point_on : (mount : Mount ℕ) → Among mount world.mounts → (place : Location ℕ) → mount.mount_point ≡ Some place
       → is_among nat_eq place.mount (map (λ x. x.number) world.mounts) ≡ true
-  point_on mount m place e =
-      passes (is_on world.mounts) (all_locations world ++ places_of world.mounts) places place
+  point_on mount m place e = passes (is_on world.mounts) (all_locations world ++ places_of world.mounts) places place
       (among-append_right (all_locations world) (places_of world.mounts) place
       (among-append_right (map Rattle.vt_spec.specs.Machine.Mounts.root_of world.mounts) _ place
       (Rattle.vt_laws_mounts.proofs.letting_go.Lists.among-filter_map
@@ -155,19 +151,14 @@ module _ (value : WorldValue) (whole : IsHeld value) (added : List (Mount ℕ)) 
   pub parent_is : (mount : Mount ℕ) → Among mount base.mounts → goes mount ≡ false → (place : Location ℕ)
       → mount.mount_point ≡ Some place
       → (is_some (mount_at nat_eq base place).namespace ≡ true) × (goes (mount_at nat_eq base place) ≡ false)
-  parent_is mount m stays place e =
-      ⊎_elim
-      (λ old. (
-        ap (λ (x : Mount ℕ). is_some x.namespace) (same_parent mount old place e)
-            ∙ (and_parts (is_some (mount_at nat_eq world place).namespace) true
-            (sym (ap (λ o. list_all (λ at. is_some (mount_at nat_eq world at).namespace) (option_to_list o)) e)
-            ∙ passes (stands_on_attached world) world.mounts stand.on_attached mount old)).0,
-        ap goes (same_parent mount old place e)
-            ∙ Begins.parent_stays value whole value.tasks [] []
-            (nothing_moves value) inside nowhere_stays namespaces mount old stays place e,
-      ))
-      (λ new. is.parent mount new place e)
-      (among-append world.mounts added mount m)
+  parent_is mount m stays place e = ⊎_elim (λ old. (
+    ap (λ (x : Mount ℕ). is_some x.namespace) (same_parent mount old place e)
+        ∙ (and_parts (is_some (mount_at nat_eq world place).namespace) true
+        (sym (ap (λ o. list_all (λ at. is_some (mount_at nat_eq world at).namespace) (option_to_list o)) e)
+        ∙ passes (stands_on_attached world) world.mounts stand.on_attached mount old)).0,
+    ap goes (same_parent mount old place e) ∙ Begins.parent_stays value whole value.tasks [] []
+        (nothing_moves value) inside nowhere_stays namespaces mount old stays place e,
+  )) (λ new. is.parent mount new place e) (among-append world.mounts added mount m)
 
   stand_ended : MountsStand ended
   stand_ended = record {
@@ -189,8 +180,7 @@ module _ (value : WorldValue) (whole : IsHeld value) (added : List (Mount ℕ)) 
       numbers_one x [] = refl
       numbers_one x (y ∷ ys) = λ i. nat_eq (gone_number goes x i) (gone_number goes y i) || numbers_one x ys i
 
-      numbers : (xs : List (Mount ℕ))
-          → any_pair (λ (a b : Mount ℕ). nat_eq a.number b.number) (map (gone_if goes) xs)
+      numbers : (xs : List (Mount ℕ)) → any_pair (λ (a b : Mount ℕ). nat_eq a.number b.number) (map (gone_if goes) xs)
           ≡ any_pair (λ (a b : Mount ℕ). nat_eq a.number b.number) xs
       numbers [] = refl
       numbers (x ∷ xs) = λ i. numbers_one x xs i || numbers xs i
@@ -215,8 +205,7 @@ module _ (value : WorldValue) (whole : IsHeld value) (added : List (Mount ℕ)) 
       on x m false e = still x m e x.mount_point refl
 
   same_numbers : map (λ (x : Mount ℕ). x.number) ended.mounts ≡ map (λ (x : Mount ℕ). x.number) base.mounts
-  same_numbers =
-      map_twice (λ (x : Mount ℕ). x.number) (gone_if goes) base.mounts
+  same_numbers = map_twice (λ (x : Mount ℕ). x.number) (gone_if goes) base.mounts
       ∙ map_alike (λ (x : Mount ℕ). (gone_if goes x).number) (λ (x : Mount ℕ). x.number) base.mounts
       (λ x m. gone_number goes x)
 
@@ -224,11 +213,9 @@ module _ (value : WorldValue) (whole : IsHeld value) (added : List (Mount ℕ)) 
   located_ended =
       all_pass (λ location. is_among nat_eq location.mount (map (λ x. x.number) ended.mounts)) (all_locations base)
       (λ location m.
-      ap (is_among nat_eq location.mount) same_numbers
-      ∙ ⊎_elim
+      ap (is_among nat_eq location.mount) same_numbers ∙ ⊎_elim
       (λ f. old location (subst (λ all. Among location all) (sym is.was)
-      (among-append_left is.front (less ++ is.back) location f)))
-      (λ rest. ⊎_elim
+      (among-append_left is.front (less ++ is.back) location f))) (λ rest. ⊎_elim
       (λ come. passes (λ one. is_among nat_eq one.mount (map (λ x. x.number) base.mounts)) more is.there location come)
       (λ b. old location (subst (λ all. Among location all) (sym is.was)
       (among-append_right is.front (less ++ is.back) location (among-append_right less is.back location b))))
@@ -239,8 +226,7 @@ module _ (value : WorldValue) (whole : IsHeld value) (added : List (Mount ℕ)) 
           → is_among nat_eq location.mount (map (λ x. x.number) base.mounts) ≡ true
       old location m =
           let there = passes (λ location. is_among nat_eq location.mount (map (λ x. x.number) world.mounts))
-          (all_locations world)
-          (Roots.locations_of_worlds_stand world whole.in_world) location m in
+          (all_locations world) (Roots.locations_of_worlds_stand world whole.in_world) location m in
           ap (is_among nat_eq location.mount) (map-append (λ (x : Mount ℕ). x.number) world.mounts added)
           ∙ Rattle.vt_laws_mounts.proofs.letting_go.Lists.is_among_left location.mount
           (map (λ (x : Mount ℕ). x.number) world.mounts) (map (λ (x : Mount ℕ). x.number) added) there
@@ -297,8 +283,7 @@ module _ (value : WorldValue) (whole : IsHeld value) (added : List (Mount ℕ)) 
   -- Inodes
 
   points_alike : flat_map (point_left base goes) base.mounts ≡ points_left world goes k.mounts
-  points_alike =
-      flat_alike (point_left base goes) (point_left world goes) base.mounts (λ x m. by x m (goes x) refl)
+  points_alike = flat_alike (point_left base goes) (point_left world goes) base.mounts (λ x m. by x m (goes x) refl)
       ∙ ap (flat_map (point_left world goes)) (sym keeps.mounts)
     where
       same_inode : (x : Mount ℕ) → Among x world.mounts → (o : Option (Location ℕ)) → x.mount_point ≡ o
@@ -309,11 +294,8 @@ module _ (value : WorldValue) (whole : IsHeld value) (added : List (Mount ℕ)) 
       by : (x : Mount ℕ) → Among x base.mounts → (b : Bool) → goes x ≡ b
           → cond b (inodes_of_mount_point base x) [] ≡ cond b (inodes_of_mount_point world x) []
       by x m false e = refl
-      by x m true e =
-          ⊎_elim
-          (λ old. same_inode x old x.mount_point refl)
-          (λ new. absurd (true≢false (sym e ∙ is.stays x new)))
-          (among-append world.mounts added x m)
+      by x m true e = ⊎_elim (λ old. same_inode x old x.mount_point refl)
+          (λ new. absurd (true≢false (sym e ∙ is.stays x new))) (among-append world.mounts added x m)
 
   exchanges_are : (c : ℕ) → Exchanges gained (points_left world goes k.mounts) c world ended
   exchanges_are c =
@@ -359,11 +341,9 @@ module _ (value : WorldValue) (whole : IsHeld value) (added : List (Mount ℕ)) 
     uses = uses_are;
     writers = λ entry m. let counts = keeps.writers entry m in let same = is.writes entry.mount.number in omega
         (arith, counts, same);
-    well = λ entry m going. ⊎_elim
-        (λ old. Begins.point_is_located value whole value.tasks [] []
+    well = λ entry m going. ⊎_elim (λ old. Begins.point_is_located value whole value.tasks [] []
         (nothing_moves value) inside nowhere_stays namespaces entry.mount old entry.mount.mount_point refl)
-        (λ new. absurd (true≢false (sym going ∙ is.stays entry.mount new)))
-        (entry_mount entry m);
+        (λ new. absurd (true≢false (sym going ∙ is.stays entry.mount new))) (entry_mount entry m);
     shown = λ one m. let from = shown_was one m in subst (IsShown value ended gained []) (sym from.2)
         (shown_is from.0 from.1);
     exchanges = λ one m. exchanges_are (counted one.count);
@@ -381,11 +361,8 @@ module _ (value : WorldValue) (whole : IsHeld value) (added : List (Mount ℕ)) 
 
   -- a mount that is not attached is still located
   none_begins : NoneUnused k
-  none_begins entry m =
-      ⊎_elim
-      (λ old. by (is_some entry.mount.namespace) refl old)
-      (λ new. ap (λ b. not b && nat_eq entry.uses 0) (is.attached entry.mount new))
-      (entry_mount entry m)
+  none_begins entry m = ⊎_elim (λ old. by (is_some entry.mount.namespace) refl old)
+      (λ new. ap (λ b. not b && nat_eq entry.uses 0) (is.attached entry.mount new)) (entry_mount entry m)
     where
       still : is_some entry.mount.namespace ≡ false → Among entry.mount world.mounts
           → is_located nat_eq base entry.mount.number ≡ true
@@ -398,17 +375,13 @@ module _ (value : WorldValue) (whole : IsHeld value) (added : List (Mount ℕ)) 
           (λ (l : Location ℕ). nat_eq entry.mount.number l.mount) (all_locations base) t.0 n t.2 in
           ⊎_elim
           (λ f. there (subst (λ all. Among t.0 all) (sym is.is) (among-append_left is.front (more ++ is.back) t.0 f)))
-          (λ rest. ⊎_elim
-          (λ gone. ⊎_elim
-          (λ attached. absurd (true≢false (sym attached
+          (λ rest. ⊎_elim (λ gone. ⊎_elim (λ attached. absurd (true≢false (sym attached
           ∙ ap (λ n. is_some (mount_in nat_eq world.mounts n).namespace)
-          (sym (eqb-true entry.mount.number t.0.mount t.2))
-          ∙ ap (λ (x : Mount ℕ). is_some x.namespace)
+          (sym (eqb-true entry.mount.number t.0.mount t.2)) ∙ ap (λ (x : Mount ℕ). is_some x.namespace)
           (Rattle.vt_laws_mounts.proofs.letting_go.leaving.PlacesLeft.found_itself world.mounts stand.one_number entry.mount old) ∙ none)))
           (λ come. there (subst (λ all. Among t.0 all) (sym is.is)
           (among-append_right is.front (more ++ is.back) t.0 (among-append_left more is.back t.0 come))))
-          (is.left t.0 gone))
-          (λ b. there (subst (λ all. Among t.0 all) (sym is.is)
+          (is.left t.0 gone)) (λ b. there (subst (λ all. Among t.0 all) (sym is.is)
           (among-append_right is.front (more ++ is.back) t.0 (among-append_right more is.back t.0 b))))
           (among-append less is.back t.0 rest))
           (among-append is.front (less ++ is.back) t.0 (subst (λ all. Among t.0 all) is.was t.1))

@@ -53,11 +53,9 @@ with_mount_on mount one = record one {
 abbrev pinned_one : Inode → Shown → Shown
 pinned_one inode one = record one { inodes = pinned_if (counted one.count) one.inodes inode }
 
-mounted_one : (count : ℕ) (one : Shown)
-    → mounted_if (counted count) one
+mounted_one : (count : ℕ) (one : Shown) → mounted_if (counted count) one
     ≡ record one { mounts = one.mounts + (if nat_eq (counted one.count) (counted count) then 1 else 0) }
-mounted_one count one =
-    by (nat_eq (counted count) (counted one.count))
+mounted_one count one = by (nat_eq (counted count) (counted one.count))
     ∙ (λ i. record one { mounts = one.mounts + (if turned i then 1 else 0) })
   where
     turned : nat_eq (counted count) (counted one.count) ≡ nat_eq (counted one.count) (counted count)
@@ -72,8 +70,7 @@ mounted_one count one =
     by false = λ i. record one { mounts = none i }
 
 by_one : (mount : Mount) (all : List Shown) → shown_by all mount ≡ map (with_mount_on mount) all
-by_one mount all =
-    ap (map (mounted_if (counted mount.root.filesystem.count))) (pinned_both mount.mount_point)
+by_one mount all = ap (map (mounted_if (counted mount.root.filesystem.count))) (pinned_both mount.mount_point)
     ∙ map_twice (mounted_if (counted mount.root.filesystem.count)) pinned_so all
     ∙ map_alike (λ one. mounted_if (counted mount.root.filesystem.count) (pinned_so one)) (with_mount_on mount) all
     (λ one m. mounted_one mount.root.filesystem.count (pinned_so one))
@@ -86,8 +83,7 @@ by_one mount all =
 
     pinned_both : (point : Option Location) → pinned_at point (pinned_in (inode_of mount.root) all)
         ≡ map (λ (one : Shown). record one {
-          inodes = folded (pinned_if (counted one.count)) one.inodes
-              (inode_of mount.root ∷ inodes_of_point point);
+          inodes = folded (pinned_if (counted one.count)) one.inodes (inode_of mount.root ∷ inodes_of_point point);
         }) all
     pinned_both None = refl
     pinned_both (Some point) = map_twice (pinned_one (inode_of point.node)) (pinned_one (inode_of mount.root)) all
@@ -108,10 +104,8 @@ shown_by_all [] all = none all
     none : (list : List Shown) → list ≡ map (with_mounts_on []) list
     none [] = refl
     none (one ∷ rest) = λ i. one_more one i ∷ none rest i
-shown_by_all (mount ∷ new) all =
-    shown_by_all new (shown_by all mount)
-    ∙ ap (map (with_mounts_on new)) (by_one mount all)
-    ∙ map_twice (with_mounts_on new) (with_mount_on mount) all
+shown_by_all (mount ∷ new) all = shown_by_all new (shown_by all mount)
+    ∙ ap (map (with_mounts_on new)) (by_one mount all) ∙ map_twice (with_mounts_on new) (with_mount_on mount) all
     ∙ map_alike (λ one. with_mounts_on new (with_mount_on mount one)) (with_mounts_on (mount ∷ new)) all
     (λ one m. both one)
   where
@@ -139,8 +133,7 @@ module _ (after : World ℕ) where
 
   times_places : (test : Inode → Bool) (new : List Mount) → ((mount : Mount) → Among mount new → IsFoundIn mount)
       → times test (map (inode_at after) (map root_of (map mount_of new))) + times test
-      (map (inode_at after) (points_of new))
-      ≡ times test (gained_by new)
+      (map (inode_at after) (points_of new)) ≡ times test (gained_by new)
   times_places test [] found = refl
   times_places test (mount ∷ new) found = by mount.mount_point refl
       (times_places test new (λ other m. found other (inr m)))
@@ -151,8 +144,7 @@ module _ (after : World ℕ) where
 
       by : (o : Option Location) → mount.mount_point ≡ o
           → times test (map (inode_at after) (map root_of (map mount_of new))) + times test
-          (map (inode_at after) (points_of new))
-          ≡ times test (gained_by new)
+          (map (inode_at after) (points_of new)) ≡ times test (gained_by new)
           → (if test (inode_at after (root_of (mount_of mount))) then 1 else 0) + times test
           (map (inode_at after) (map root_of (map mount_of new)))
           + times test (map (inode_at after) (cons_option (option_map location_of o) (points_of new)))

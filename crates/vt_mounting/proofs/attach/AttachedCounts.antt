@@ -30,16 +30,14 @@ times_none test (x ∷ xs) none =
 
 writes_none : (number : ℕ) (tasks : List (Task ℕ))
     → ((location : meant.Location ℕ) → Among location (flat_map locations_of tasks)
-    → nat_eq number location.mount ≡ false)
-    → writes_of number tasks ≡ 0
+    → nat_eq number location.mount ≡ false) → writes_of number tasks ≡ 0
 writes_none number [] none = refl
 writes_none number (task ∷ tasks) none =
     let own = times_none (writes_on number) task.descriptors (λ descriptor m.
     not_written descriptor (none descriptor.location
     (among-append_left (locations_of task) (flat_map locations_of tasks) descriptor.location
     (inr (inr (among-map (λ (d : Descriptor ℕ). d.location) task.descriptors descriptor m)))))) in
-    let rest = writes_none number tasks
-    (λ location m. none location (among-append_right (locations_of task)
+    let rest = writes_none number tasks (λ location m. none location (among-append_right (locations_of task)
     (flat_map locations_of tasks) location m)) in
     (λ i. own i + rest i)
   where
@@ -56,8 +54,7 @@ module _ (value : WorldValue) (whole : IsBeside value) (new : List Mount)
     (ascending : are_ascending (mounts_in value.mounts ++ map mount_of new) ≡ true) where
   -- no location is on one of them
   not_on_new : (mount : Mount) → Among mount new → (location : meant.Location ℕ)
-      → Among location (all_locations (world_of value))
-      → nat_eq (counted mount.number.count) location.mount ≡ false
+      → Among location (all_locations (world_of value)) → nat_eq (counted mount.number.count) location.mount ≡ false
   not_on_new mount m location n =
       let on = among_numbers location.mount (map (λ (x : meant.Mount ℕ). x.number) (mounts_in value.mounts))
       (passes (λ location. is_among nat_eq location.mount

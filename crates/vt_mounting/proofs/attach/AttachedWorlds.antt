@@ -38,16 +38,14 @@ module _ (after : World ℕ) (is_world : IsUnderWay after) (front : List (meant.
     (after_mounts : after.mounts ≡ front ++ map mount_of new) (slots : list_all has_small_nodes new ≡ true)
     (own : All HasOwnNodes after.filesystems) where
   new_there : (mount : Mount) → Among mount new → Among (mount_of mount) after.mounts
-  new_there mount m =
-      subst (Among (mount_of mount)) (sym after_mounts)
+  new_there mount m = subst (Among (mount_of mount)) (sym after_mounts)
       (among-append_right front (map mount_of new) (mount_of mount) (among-map mount_of new mount m))
 
   roots : (mount : Mount) → Among mount new
       → (is_directory_node ((filesystem_numbered nat_eq after (counted mount.root.filesystem.count)).files.tree.node
       (number_of mount.root)) ≡ true)
       × (list_all (is_directory_at nat_eq after) (option_to_list (option_map location_of mount.mount_point)) ≡ true)
-  roots mount m =
-      and_parts _ _ (passes (has_its_root nat_eq after) after.mounts is_world.roots (mount_of mount)
+  roots mount m = and_parts _ _ (passes (has_its_root nat_eq after) after.mounts is_world.roots (mount_of mount)
       (new_there mount m))
 
   -- a mount point is in the filesystem that its mount shows
@@ -71,20 +69,17 @@ module _ (after : World ℕ) (is_world : IsUnderWay after) (front : List (meant.
 
   pub there_in : (entry : FilesystemEntry) → Among (filesystem_seen entry) after.filesystems → (node : NodeRef)
       → is_directory_node ((filesystem_numbered nat_eq after (counted node.filesystem.count)).files.tree.node
-      (number_of node)) ≡ true
-      → (not (nat_eq (counted entry.count) (counted node.filesystem.count))
+      (number_of node)) ≡ true → (not (nat_eq (counted entry.count) (counted node.filesystem.count))
       || is_some ((inodes_seen entry).inode (number_of node))) ≡ true
   there_in entry m node directory = by (nat_eq (counted entry.count) (counted node.filesystem.count)) refl
     where
       found : filesystem_numbered nat_eq after (counted entry.count) ≡ filesystem_seen entry
-      found = found_filesystem after.filesystems is_world.files.one_filesystem (filesystem_seen entry)
-          m
+      found = found_filesystem after.filesystems is_world.files.one_filesystem (filesystem_seen entry) m
 
       by : (b : Bool) → nat_eq (counted entry.count) (counted node.filesystem.count) ≡ b
           → (not b || is_some ((inodes_seen entry).inode (number_of node))) ≡ true
       by false e = refl
-      by true e =
-          inode_is_there ((inodes_seen entry).inode (number_of node))
+      by true e = inode_is_there ((inodes_seen entry).inode (number_of node))
           (directory_there (node_in ((inodes_seen entry).inode (number_of node)))
           (ap (λ (f : Filesystem ℕ). is_directory_node (f.files.tree.node (number_of node)))
           (sym found ∙ ap (filesystem_numbered nat_eq after) (eqb-true _ _ e)) ∙ directory))
@@ -101,8 +96,7 @@ module _ (after : World ℕ) (is_world : IsUnderWay after) (front : List (meant.
           let directory : is_directory_at nat_eq after (location_of point) ≡ true =
           (and_parts _ _ (subst (λ o. list_all (is_directory_at nat_eq after)
           (option_to_list (option_map location_of o)) ≡ true) is (roots mount n).1)).0 in
-          λ i. there_in entry m point.node
-          (ap (λ number. is_directory_node
+          λ i. there_in entry m point.node (ap (λ number. is_directory_node
           ((filesystem_numbered nat_eq after number).files.tree.node (number_of point.node)))
           (sym (point_shown mount n point is)) ∙ directory) i && true
 
@@ -115,10 +109,8 @@ module _ (after : World ℕ) (is_world : IsUnderWay after) (front : List (meant.
       each : (some : List Mount) → ((mount : Mount) → Among mount some → Among mount new)
           → AreThere (counted entry.count) (inodes_seen entry) (gained_by some)
       each [] within = refl
-      each (mount ∷ rest) within = λ i.
-          there_in entry m mount.root (roots mount (within mount (inl refl))).0 i
+      each (mount ∷ rest) within = λ i. there_in entry m mount.root (roots mount (within mount (inl refl))).0 i
           && both (λ (inode : Inode). not (nat_eq (counted entry.count) inode.0)
-          || is_some ((inodes_seen entry).inode inode.1))
-          (inodes_of_point mount.mount_point) (gained_by rest)
+          || is_some ((inodes_seen entry).inode inode.1)) (inodes_of_point mount.mount_point) (gained_by rest)
           (point_there mount (within mount (inl refl)) mount.mount_point refl)
           (each rest (λ other n. within other (inr n))) i

@@ -68,8 +68,7 @@ same_base value whole = record {
   in_use = (worlds_are_in_use (world_of value) whole.in_world).inodes;
   roots = whole.in_world.roots;
   rise = whole.overlays.all_rise;
-  inodes = λ entry m.
-      subst (λ f. IsCounted (world_of value) f (inodes_seen entry))
+  inodes = λ entry m. subst (λ f. IsCounted (world_of value) f (inodes_seen entry))
       (sym (found_plain_one value whole entry m))
       (among_from_all (CountsItsMounts (world_of value)) value.filesystems whole.filesystems entry m).inodes;
   mounts = λ entry m. (among_from_all
@@ -113,21 +112,18 @@ module _ (value : WorldValue) (whole : IsHeld value) (name : TaskName) (source :
   same_counts k = (λ i. counted (first i + step i * k)) ∙ omega arith
 
   tree_once : OneNumberAMount tree
-  tree_once =
-      subst OneNumberAMount (sym tree_is)
+  tree_once = subst OneNumberAMount (sym tree_is)
       (binds_take_each_once world (location_of source) recursive whole.in_world.mounts.one_number whole.in_world.mounts.standing)
 
   tree_some : 0 < length graft.tree.now
-  tree_some =
-      subst (λ n. 0 < n) (length-map graft.tree.now mount_of)
+  tree_some = subst (λ n. 0 < n) (length-map graft.tree.now mount_of)
       (subst (λ (list : List (meant.Mount ℕ)). 0 < length list) (sym tree_is)
       (bind_some world (location_of source) recursive))
 
   rising_then : are_ascending (mounts_in value.mounts) ≡ true
       → list_all (λ mount. mount.number % 4 == 1) (mounts_in value.mounts) ≡ true
       → are_ascending (mounts_in value.mounts ++ planned_copies world graft counts) ≡ true
-  rising_then ascending odd =
-      planned_ascend counts (subst (λ n. 0 < n) (sym step)
+  rising_then ascending odd = planned_ascend counts (subst (λ n. 0 < n) (sym step)
       (omega arith)) world graft binds whole.in_world.mounts.one_number tree_once tree_some
       (mounts_in value.mounts) ascending
       (λ mount m. subst (λ n. mount.number < counted n) (sym first) (lower_numbers value whole odd mount m))
@@ -149,9 +145,7 @@ module _ (value : WorldValue) (whole : IsHeld value) (name : TaskName) (source :
   tree_mount : (P : meant.Mount ℕ → Type 0) → ((mount : meant.Mount ℕ) → Among mount (mounts_in value.mounts) → P mount)
       → ((mount : meant.Mount ℕ) (root : ℕ) → P mount → P (record mount { root = root })) → (mount : meant.Mount ℕ)
       → Among mount tree → P mount
-  tree_mount P each other mount m =
-      ⊎_elim
-      (λ same. subst P (sym same)
+  tree_mount P each other mount m = ⊎_elim (λ same. subst P (sym same)
       (other (mount_at nat_eq world (location_of source)) (location_of source).node
       (each (mount_at nat_eq world (location_of source))
       (found_is_there (mounts_in value.mounts) (counted source.mount.count) (ap is_some names.1)))))
@@ -164,12 +158,9 @@ module _ (value : WorldValue) (whole : IsHeld value) (name : TaskName) (source :
       tree_mount (λ (x : meant.Mount ℕ). (group : ℕ) → group_of x.propagation ≡ Some group → HasGroup world group)
       (group_there (mounts_in value.mounts)) (λ mount root has. has) mount (among_from_contains tree mount contained)
 
-  named : KeepsTo (is_counted_before
-      (value.next + numbers_of_parts world (location_of graft.place)
-      (bind_tree nat_eq world (location_of source) recursive)))
-      (left_by value permits.task permit)
-  named =
-      binds_keep_to_numbers value.next world permits.task (location_of source)
+  named : KeepsTo (is_counted_before (value.next + numbers_of_parts world (location_of graft.place)
+      (bind_tree nat_eq world (location_of source) recursive))) (left_by value permits.task permit)
+  named = binds_keep_to_numbers value.next world permits.task (location_of source)
       (location_of graft.place) recursive permits.given.called whole.given
       (λ i. located_is_named value whole (location_of source) names.0.reached.there i
       && located_is_named value whole (location_of graft.place) names.2.directory.reached.there i)
@@ -184,20 +175,17 @@ module _ (value : WorldValue) (whole : IsHeld value) (name : TaskName) (source :
   bind_is_done mounts groups filesystems overlays next is ascending odd grows =
       let attaches = is.plan world (is_seen value whole) whole.in_world.mounts.one_child parts_are in
       let attach_is = plan_attaches world graft counts (map mount_of is.copies) (map new_group is.groups)
-      (map point_seen is.points) attaches binds
-      (counts_from value.next) same_counts in
+      (map point_seen is.points) attaches binds (counts_from value.next) same_counts in
       let rising = ap (λ list. are_ascending (mounts_in value.mounts ++ list)) attaches.copies_are
       ∙ rising_then ascending odd in
       let left_is = binds_keep_all (counts_from value.next) world permits.task (location_of source)
       (location_of graft.place) recursive
       (worlds_are_in_use world whole.in_world) (mounts_of_worlds_stand world whole.in_world)
-      (Roots.locations_of_worlds_stand world whole.in_world)
-      (ap is_some names.2.own)
+      (Roots.locations_of_worlds_stand world whole.in_world) (ap is_some names.2.own)
       ∙ ap (λ list. attach nat_eq world (counts_from value.next) (location_of graft.place) false list) (sym tree_is)
       ∙ attach_is in
       let sizes : numbers_of_parts world (location_of graft.place)
-      (bind_tree nat_eq world (location_of source) recursive)
-      ≡ 2 * (length graft.parts.now * length graft.tree.now) =
+      (bind_tree nat_eq world (location_of source) recursive) ≡ 2 * (length graft.parts.now * length graft.tree.now) =
       (λ i. 2 * (length (sym parts_are i) * length (sym tree_is i)))
       ∙ (λ i. 2 * (length-map graft.parts.now mount_of i * length-map graft.tree.now mount_of i)) in
       graft_is_done value (beside value whole) value.filesystems

@@ -25,8 +25,7 @@ use Rattle.vt_spec.proofs.Lists.{map_twice}
 use Rattle.vt_laws_mounts.specs.Mounts.Attaching.{OneNumberAMount}
 
 pub differs : (first : Mount ℕ) (rest : List (Mount ℕ)) → OneNumberAMount (first ∷ rest) → (mount : Mount ℕ)
-    → Among mount rest
-    → nat_eq mount.number first.number ≡ false
+    → Among mount rest → nat_eq mount.number first.number ≡ false
 differs first rest each mount m =
     let apart = fails (same_number first) rest
     (or_parts (list_any (same_number first) rest) (any_pair same_number rest) each).0 mount m in
@@ -37,8 +36,7 @@ place_in k all number = unwrap_or (index_from (λ (x : Mount ℕ). nat_eq number
 
 place_low : (k : ℕ) (all : List (Mount ℕ)) (mount : Mount ℕ) → Among mount all → k ≤ place_in k all mount.number
 place_low k [] mount m = absurd m
-place_low k (first ∷ rest) mount m =
-    ⊎_elim (λ same. by (nat_eq mount.number first.number)
+place_low k (first ∷ rest) mount m = ⊎_elim (λ same. by (nat_eq mount.number first.number)
     (eq-eqb mount.number first.number (ap (λ (x : Mount ℕ). x.number) same)))
     (λ later. low (nat_eq mount.number first.number) (place_low (k + 1) rest mount later)) m
   where
@@ -58,10 +56,8 @@ place_first k first rest =
     ap (λ b. unwrap_or (cond b (Some k) (index_from (λ (x : Mount ℕ). nat_eq first.number x.number) (k + 1) rest)) 0)
     (eq-eqb first.number first.number refl)
 
-pub place_later : (k : ℕ) (first : Mount ℕ) (rest : List (Mount ℕ)) → OneNumberAMount (first ∷ rest)
-    → (mount : Mount ℕ)
-    → Among mount rest
-    → place_in k (first ∷ rest) mount.number ≡ place_in (k + 1) rest mount.number
+pub place_later : (k : ℕ) (first : Mount ℕ) (rest : List (Mount ℕ)) → OneNumberAMount (first ∷ rest) → (mount : Mount ℕ)
+    → Among mount rest → place_in k (first ∷ rest) mount.number ≡ place_in (k + 1) rest mount.number
 place_later k first rest each mount m =
     ap (λ b. unwrap_or (cond b (Some k) (index_from (λ (x : Mount ℕ). nat_eq mount.number x.number) (k + 1) rest)) 0)
     (differs first rest each mount m)
@@ -72,8 +68,7 @@ module _ (number : ℕ → ℕ) (grows : (a b : ℕ) → a < b → number a < nu
       → ((mount : Mount ℕ) → Among mount all → (copy mount).number ≡ number (base + place_in k all mount.number))
       → are_ascending (map copy all) ≡ true
   row_ascends copy base k [] each is = refl
-  row_ascends copy base k (first ∷ rest) each is =
-      λ i. less i && row_ascends copy base (k + 1) rest
+  row_ascends copy base k (first ∷ rest) each is = λ i. less i && row_ascends copy base (k + 1) rest
       (or_parts (list_any (same_number first) rest) (any_pair same_number rest) each).1 is_later i
     where
       is_later : (mount : Mount ℕ) → Among mount rest
@@ -94,8 +89,7 @@ module _ (number : ℕ → ℕ) (grows : (a b : ℕ) → a < b → number a < nu
   module _ (tree : List (Mount ℕ)) (tree_once : OneNumberAMount tree) (some : 0 < length tree)
       (copy : Mount ℕ → Mount ℕ → Mount ℕ) where
     abbrev Places : ℕ → List (Mount ℕ) → Type 0
-    Places k parts = (part mount : Mount ℕ) → Among part parts → Among mount tree
-        → (copy part mount).number ≡ number
+    Places k parts = (part mount : Mount ℕ) → Among part parts → Among mount tree → (copy part mount).number ≡ number
         (place_in k parts part.number * length tree + index_of nat_eq tree mount.number)
 
     pub rows_ascend : (k : ℕ) (parts : List (Mount ℕ)) → OneNumberAMount parts → Places k parts
@@ -106,8 +100,7 @@ module _ (number : ℕ → ℕ) (grows : (a b : ℕ) → a < b → number a < nu
         (row_ascends (copy first) (place_in k (first ∷ rest) first.number * length tree) 0 tree tree_once
         (λ mount m. is first mount (inl refl) m))
         (rows_ascend (k + 1) rest (or_parts (list_any (same_number first) rest)
-        (any_pair same_number rest) each).1 later)
-        (λ a b m n.
+        (any_pair same_number rest) each).1 later) (λ a b m n.
         let from = among-from_map (copy first) tree a m in
         let part = among-from_flat_map (λ part. map (copy part) tree) rest b n in
         let to = among-from_map (copy part.0) tree b part.2 in
@@ -150,34 +143,25 @@ module _ (counts : Counts) (steps : 0 < counts.step) where
     parts = parts_of nat_eq world (location_of graft.place)
 
     abbrev copy : Mount ℕ → Mount ℕ → Mount ℕ
-    copy part mount =
-        copy_at nat_eq world (numbers_at world graft counts) (graft_in world graft counts)
-        (parts_of nat_eq world (location_of graft.place)) part
-        (twig_of (numbers_at world graft counts)
+    copy part mount = copy_at nat_eq world (numbers_at world graft counts) (graft_in world graft counts)
+        (parts_of nat_eq world (location_of graft.place)) part (twig_of (numbers_at world graft counts)
         (group_of (mount_at nat_eq world (location_of graft.place)).propagation) mount)
 
-    copy_number : (part mount : Mount ℕ)
-        → (copy part mount).number ≡ number_at
+    copy_number : (part mount : Mount ℕ) → (copy part mount).number ≡ number_at
         (index_of nat_eq parts part.number * length tree + index_of nat_eq tree mount.number)
     copy_number part mount =
         ap (λ b. if b && is_destination nat_eq (graft_in world graft counts) part.number then mount.number
         else (numbers_at world graft counts).copy part.number mount.number) binds
 
     by_rows : planned_copies world graft counts ≡ flat_map (λ part. map (copy part) tree) parts
-    by_rows =
-        flat_map_alike
-        (copies_at nat_eq world (numbers_at world graft counts) (graft_in world graft counts)
-        (parts_of nat_eq world (location_of graft.place)))
-        (λ part. map (copy part) tree) parts
-        (λ part m. map_twice
+    by_rows = flat_map_alike (copies_at nat_eq world (numbers_at world graft counts) (graft_in world graft counts)
+        (parts_of nat_eq world (location_of graft.place))) (λ part. map (copy part) tree) parts (λ part m. map_twice
         (copy_at nat_eq world (numbers_at world graft counts) (graft_in world graft counts)
-        (parts_of nat_eq world (location_of graft.place)) part)
-        (twig_of (numbers_at world graft counts)
+        (parts_of nat_eq world (location_of graft.place)) part) (twig_of (numbers_at world graft counts)
         (group_of (mount_at nat_eq world (location_of graft.place)).propagation)) tree)
 
     copies_ascend : are_ascending (flat_map (λ part. map (copy part) tree) parts) ≡ true
-    copies_ascend =
-        rows_ascend number_at numbers_grow tree tree_once
+    copies_ascend = rows_ascend number_at numbers_grow tree tree_once
         (subst (λ n. 0 < n) (sym (length-map graft.tree.now mount_of)) some) copy 0 parts
         (parts_apart world (location_of graft.place) one) (λ part mount m n. copy_number part mount)
 
@@ -185,8 +169,7 @@ module _ (counts : Counts) (steps : 0 < counts.step) where
     pub planned_ascend : (front : List (Mount ℕ)) → are_ascending front ≡ true
         → ((mount : Mount ℕ) → Among mount front → mount.number < counted counts.first)
         → are_ascending (front ++ planned_copies world graft counts) ≡ true
-    planned_ascend front rising less =
-        subst (λ list. are_ascending (front ++ list) ≡ true) (sym by_rows)
+    planned_ascend front rising less = subst (λ list. are_ascending (front ++ list) ≡ true) (sym by_rows)
         (ascending_joined front (flat_map (λ part. map (copy part) tree) parts) rising copies_ascend (λ a b m n.
         let part = among-from_flat_map (λ part. map (copy part) tree) parts b n in
         let from = among-from_map (copy part.0) tree b part.2 in

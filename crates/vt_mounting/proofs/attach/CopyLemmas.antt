@@ -8,8 +8,7 @@ use Rattle.vt_spec.specs.Machine.Mounts.{Mount, index_of}
 use Rattle.vt_mounting.specs.Attach.Copying.{copy_numbers}
 
 pub numbered_so : (next : ℕ) (id : MountId) (originals : List MountId) (place : ℕ)
-    → place ≡ unwrap_or (place_of id.count 0 originals) 0
-    → (all : List (Mount ℕ)) → AreOf originals all
+    → place ≡ unwrap_or (place_of id.count 0 originals) 0 → (all : List (Mount ℕ)) → AreOf originals all
     → counted (next + 2 * place + 1) ≡ copy_numbers next all (counted id.count)
 numbered_so next id originals place is all are =
     let same : place ≡ index_of nat_eq all (counted id.count) = is

@@ -10,8 +10,7 @@ use Rattle.vt_mount.proofs.EnteringLemmas.{at_index}
 use Rattle.vt_spec.specs.Machine.Mounts as meant
 
 pub among_at : (new : List Mount) (i : ℕ) (d : Mount) → i < length new → Among (get_or new i d) new
-among_at new i d less =
-    subst (Among (get_or new i d)) (sym (at_index new i d less))
+among_at new i d less = subst (Among (get_or new i d)) (sym (at_index new i d less))
     (among-append_right (take i new) (get_or new i d ∷ drop (i + 1) new) (get_or new i d) (inl refl))
 
 -- Mounts of two lists, one after the other
@@ -21,9 +20,7 @@ pub apart : (front back : List (meant.Mount ℕ)) → are_ascending (front ++ ba
 apart [] back is a b m n = absurd m
 apart (first ∷ front) back is a b m n =
     let parts = and_parts (list_all (λ later. nat_lt first.number later.number) (front ++ back)) _ is in
-    ⊎_elim
-    (λ same. ltb-true a.number b.number
-    (ap (λ (x : meant.Mount ℕ). nat_lt x.number b.number) same
+    ⊎_elim (λ same. ltb-true a.number b.number (ap (λ (x : meant.Mount ℕ). nat_lt x.number b.number) same
     ∙ passes (λ later. nat_lt first.number later.number) (front ++ back) parts.0 b (among-append_right front back b n)))
     (λ later. apart front back parts.1 a b later n) m
 

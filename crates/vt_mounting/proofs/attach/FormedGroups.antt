@@ -68,8 +68,7 @@ module _ (world : World ℕ) (new : Copies ℕ) (place : Location ℕ) (moves : 
   copy_in : (part : Mount ℕ) (twig : Twig ℕ) → Among part parts → Among twig graft.twigs → (group : ℕ)
       → group_of (type_at_part nat_eq world new graft parts part twig) ≡ Some group
       → has_members nat_eq (all_copies world new place moves tree) group ≡ true
-  copy_in part twig m t group is =
-      any_from_among (is_member_of nat_eq group) (all_copies world new place moves tree)
+  copy_in part twig m t group is = any_from_among (is_member_of nat_eq group) (all_copies world new place moves tree)
       (copy_at nat_eq world new graft parts part twig)
       (among-flat_map (copies_at nat_eq world new graft parts) parts part
       (copy_at nat_eq world new graft parts part twig) m
@@ -97,17 +96,14 @@ module _ (world : World ℕ) (new : Copies ℕ) (place : Location ℕ) (moves : 
       elsewhere : (kind : Propagation ℕ)
           → then_some (group_of kind) (λ group. when (not (is_member_of nat_eq group target))
           (image nat_eq new target twig group, nearest_image nat_eq world new parts target twig (world.master group)))
-          ≡ Some entry
-          → group_of (copy_type nat_eq world new parts target twig kind) ≡ Some entry.0
-      elsewhere (Shared group) e =
-          image_made group (not (is_member_of nat_eq group target))
+          ≡ Some entry → group_of (copy_type nat_eq world new parts target twig kind) ≡ Some entry.0
+      elsewhere (Shared group) e = image_made group (not (is_member_of nat_eq group target))
           (nearest_image nat_eq world new parts target twig (world.master group)) e
       elsewhere (Slave master) e = none_is_some entry e
       elsewhere Private e = none_is_some entry e
       elsewhere Unbindable e = none_is_some entry e
 
-      by : (b : Bool)
-          → cond b (twig_master twig) (then_some (group_of part.propagation)
+      by : (b : Bool) → cond b (twig_master twig) (then_some (group_of part.propagation)
           (λ group. when (not (is_member_of nat_eq group target))
           (image nat_eq new target twig group, nearest_image nat_eq world new parts target twig (world.master group))))
           ≡ Some entry
@@ -144,15 +140,12 @@ module _ (world : World ℕ) (new : Copies ℕ) (place : Location ℕ) (moves : 
             (sym (same_group new (group_of target.propagation) from.0
             (ap (λ (x : Mount ℕ). is_shared x.propagation) (sym origin) ∙ e))
             ∙ ap (λ (x : Twig ℕ). group_of x.propagation) (sym from.2) ∙ is))
-        by false e =
-            inr (made_in target twig (group, master_after twig.origin.propagation) (inl refl) t
+        by false e = inr (made_in target twig (group, master_after twig.origin.propagation) (inl refl) t
             ((λ i. cond (is_first i) (twig_master twig)
             (then_some (group_of target.propagation) (λ other. when (not (is_member_of nat_eq other target)) (
               image nat_eq new target twig other,
-              nearest_image nat_eq world new parts target twig
-                  (world.master other),
-            ))))
-            ∙ (λ i. cond (e i) None (option_map (λ other. (other, master_after twig.origin.propagation)) (is i)))))
+              nearest_image nat_eq world new parts target twig (world.master other),
+            )))) ∙ (λ i. cond (e i) None (option_map (λ other. (other, master_after twig.origin.propagation)) (is i)))))
 
     named_at : (part : Mount ℕ) (twig : Twig ℕ) → Among part parts → Among twig graft.twigs → (group : ℕ)
         → group_of (type_at_part nat_eq world new graft parts part twig) ≡ Some group → IsNamed group
@@ -163,8 +156,7 @@ module _ (world : World ℕ) (new : Copies ℕ) (place : Location ℕ) (moves : 
             → IsNamed group
         as_first own member is =
             let from = among-from_map (twig_of new (group_of target.propagation)) tree twig t in
-            at_destination twig t group
-            (some_given (group_of twig.propagation) (new.image own twig.origin.number)
+            at_destination twig t group (some_given (group_of twig.propagation) (new.image own twig.origin.number)
             (ap (λ (x : Twig ℕ). is_some (group_of x.propagation)) from.2
             ∙ has_group new (group_of target.propagation) from.0 (by_holds (group_of target.propagation) member)) ∙ is)
           where
@@ -180,26 +172,21 @@ module _ (world : World ℕ) (new : Copies ℕ) (place : Location ℕ) (moves : 
             above = nearest_image nat_eq world new parts target twig (world.master own)
 
             by_member : (b : Bool) → is_member_of nat_eq own target ≡ b → IsNamed group
-            by_member true e =
-                as_first own e
+            by_member true e = as_first own e
                 (ap (λ b. Some (cond b (unwrap_or (group_of twig.propagation) (new.image own twig.origin.number))
                 (new.image own twig.origin.number))) (sym e) ∙ is)
-            by_member false e =
-                subst IsNamed (ap (λ o. unwrap_or o group) is)
+            by_member false e = subst IsNamed (ap (λ o. unwrap_or o group) is)
                 (inr (made_in part twig (image nat_eq new target twig own, above) m t
                 ((λ i. cond (other i) (twig_master twig)
                 (then_some (group_of (kind i)) (λ one. when (not (is_member_of nat_eq one target)) (
                   image nat_eq new target twig one,
-                  nearest_image nat_eq world new parts target twig
-                      (world.master one),
-                ))))
-                ∙ ap (λ b. when (not b) (image nat_eq new target twig own, above)) e)))
+                  nearest_image nat_eq world new parts target twig (world.master one),
+                )))) ∙ ap (λ b. when (not b) (image nat_eq new target twig own, above)) e)))
 
         by_kind : (kind : Propagation ℕ) → part.propagation ≡ kind → is_destination nat_eq graft part.number ≡ false
             → group_of (copy_type nat_eq world new parts target twig kind) ≡ Some group → IsNamed group
         by_kind (Shared own) kind other is = elsewhere own kind other is
-        by_kind (Slave master) kind other is =
-            none_is_some group (sym (no_group_of_heir
+        by_kind (Slave master) kind other is = none_is_some group (sym (no_group_of_heir
             (nearest_image nat_eq world new parts target twig (Some master))) ∙ is)
         by_kind Private kind other is = none_is_some group is
         by_kind Unbindable kind other is = none_is_some group is

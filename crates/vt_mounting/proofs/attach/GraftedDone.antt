@@ -101,8 +101,7 @@ pub record IsBase (value : WorldValue) (base : Filesystems) : Type 0 where
   pub inodes : (entry : FilesystemEntry) → Among entry base
       → IsCounted (with_base value base) (filesystem_numbered nat_eq (with_base value base) (counted entry.count))
       (inodes_seen entry)
-  pub mounts : (entry : FilesystemEntry) → Among entry base
-      → entry.mounts
+  pub mounts : (entry : FilesystemEntry) → Among entry base → entry.mounts
       ≡ mounts_showing (world_of value) (counted entry.count) + layer_count (with_base value base) (counted entry.count)
 
 -- the code's world with mounts that were attached
@@ -145,16 +144,13 @@ pub plan_attaches : (world : World ℕ) (graft : Graft) (counts : Counts) (copie
     (new : List (ℕ × Option ℕ))
     (points : List (ℕ × meant.Location ℕ)) → AttachesBy world graft counts copies new points → graft.moves ≡ false
     → (fresh : Fresh ℕ) → ((k : ℕ) → planned.counts_from counts k ≡ fresh k)
-    → attach nat_eq world fresh (location_of graft.place) false (map mount_of graft.tree.now)
-    ≡ record world {
+    → attach nat_eq world fresh (location_of graft.place) false (map mount_of graft.tree.now) ≡ record world {
       mounts = map (moved_by points) world.mounts ++ copies;
       master = folded (masters_with nat_eq) world.master new;
     }
-plan_attaches world graft counts copies new points attaches binds fresh same =
-    (λ i. attached_by nat_eq world
+plan_attaches world graft counts copies new points attaches binds fresh same = (λ i. attached_by nat_eq world
     (copies_from nat_eq (λ k. sym (same k) i) (parts_of nat_eq world (location_of graft.place))
-    (map mount_of graft.tree.now))
-    (location_of graft.place) (sym binds i) (map mount_of graft.tree.now))
+    (map mount_of graft.tree.now)) (location_of graft.place) (sym binds i) (map mount_of graft.tree.now))
     ∙ attaches.bind binds
 
 -- a world has its invariants, whatever else may be left
@@ -186,8 +182,7 @@ typed_counts : (world : World ℕ) (types : List (ℕ × Propagation ℕ)) (entr
     → ((entry : MountEntry) → Among entry entries → CountsItsUses world entry)
     → (entry : MountEntry) → Among entry (typed_all types entries) → CountsItsUses world entry
 typed_counts world [] entries counts entry m = counts entry m
-typed_counts world (new ∷ types) entries counts entry m =
-    typed_counts world types (with_type_in entries new) (λ one n.
+typed_counts world (new ∷ types) entries counts entry m = typed_counts world types (with_type_in entries new) (λ one n.
     let from = among-from_map (λ (was : MountEntry). cond (nat_eq new.0 was.mount.number) (with_kind new.1 was) was)
     entries one n in
     subst (CountsItsUses world) (sym from.2)
@@ -201,9 +196,7 @@ typed_counts world (new ∷ types) entries counts entry m =
 module _ (value : WorldValue) (whole : IsBeside value) (base : Filesystems) (is_base : IsBase value base)
     (copies : List Mount) (points : List Point) (kinds : List (ℕ × Propagation ℕ)) (left : List Location)
     (formed : List (ℕ × Option ℕ)) (mounts : List MountEntry) (groups : Grouping) (filesystems : Filesystems)
-    (overlays : List Merged)
-    (next : ℕ)
-    (is : IsEntered value base copies points kinds left mounts filesystems overlays)
+    (overlays : List Merged) (next : ℕ) (is : IsEntered value base copies points kinds left mounts filesystems overlays)
     (ascending : are_ascending (mounts_in value.mounts ++ map mount_of copies) ≡ true) where
   abbrev new : WorldValue
   new = grafted_value value mounts groups filesystems overlays next
@@ -239,14 +232,12 @@ module _ (value : WorldValue) (whole : IsBeside value) (base : Filesystems) (is_
       let first = among-from_map shown_entry base from.0 from.1 in (
         first.0,
         first.1,
-        from.2 ∙ ap
-            (λ (one : Shown). exchanged_on gains losses (showing one.count copies) one) first.2,
+        from.2 ∙ ap (λ (one : Shown). exchanged_on gains losses (showing one.count copies) one) first.2,
       )
 
   pub same_numbers : map (λ (f : Filesystem ℕ). f.number) (filesystems_seen base)
       ≡ map (λ (entry : FilesystemEntry). counted entry.count) filesystems
-  same_numbers =
-      map_twice (λ (f : Filesystem ℕ). f.number) filesystem_seen base
+  same_numbers = map_twice (λ (f : Filesystem ℕ). f.number) filesystem_seen base
       ∙ sym (map_twice (λ (one : Shown). counted one.count) shown_entry base)
       ∙ sym (map_twice (λ (one : Shown). counted one.count)
       (λ (one : Shown). exchanged_on gains losses (showing one.count copies) one) (shown base))
@@ -269,8 +260,7 @@ module _ (value : WorldValue) (whole : IsBeside value) (base : Filesystems) (is_
 
   -- no overlay has an upper layer
   no_upper_then : OverlaysHaveNoUpper entered_world
-  no_upper_then =
-      woven_all IsReadOnly (filesystems_seen base) (overlays_seen value.overlays)
+  no_upper_then = woven_all IsReadOnly (filesystems_seen base) (overlays_seen value.overlays)
       (all_from_among IsReadOnly (filesystems_seen base) (λ f m. no_upper_of_plain f
       (among_from_all (λ (g : Filesystem ℕ). is_overlay g ≡ false) (filesystems_seen base) (files_are_plain base) f m)))
       whole.read_only
@@ -286,16 +276,12 @@ module _ (value : WorldValue) (whole : IsBeside value) (base : Filesystems) (is_
       (subst (λ (world : World ℕ). IsCounted world (filesystem_numbered nat_eq world (counted from.0.count))
       (exchanged (counted from.0.count) gains losses (inodes_seen from.0)))
       (nothing_goes value base master copies points kinds whole is_base.own
-      (under is_world) is_base.roots is.once left is.left_are is.left_small is.taken_small is.slots ascending
-      is_world)
+      (under is_world) is_base.roots is.once left is.left_are is.left_small is.taken_small is.slots ascending is_world)
       (uses_are_exchanged_beside_overlays (with_base value base) entered_world gains losses (counted from.0.count)
-      (inodes_seen from.0) is_base.trees is_base.in_use
-      (no_upper_is_in_any entered_world (counted from.0.count)
-      no_upper_then)
-      (exchanged_then value base master copies points kinds whole is_base.own
+      (inodes_seen from.0) is_base.trees is_base.in_use (no_upper_is_in_any entered_world (counted from.0.count)
+      no_upper_then) (exchanged_then value base master copies points kinds whole is_base.own
       (under is_world) is_base.roots is.once left is.left_are is.left_small is.taken_small is.slots ascending
-      (counted from.0.count))
-      (is_base.inodes from.0 from.1)
+      (counted from.0.count)) (is_base.inodes from.0 from.1)
       (gained_there value base master copies points kinds whole is_base.own
       (under is_world) is_base.roots is.once left is.left_are is.left_small is.taken_small is.slots ascending
       from.0 from.1))))
@@ -314,11 +300,9 @@ module _ (value : WorldValue) (whole : IsBeside value) (base : Filesystems) (is_
 
   -- What is counted beside inodes
 
-  showing_at : (n : ℕ) → mounts_showing (world_of new) n
-      ≡ mounts_showing (world_of value) n
+  showing_at : (n : ℕ) → mounts_showing (world_of new) n ≡ mounts_showing (world_of value) n
       + times (λ (mount : meant.Mount ℕ). nat_eq n mount.filesystem) (map mount_of copies)
-  showing_at n =
-      ap (times shows_it) is.seen
+  showing_at n = ap (times shows_it) is.seen
       ∙ times_append shows_it (map (changed_at points kinds) (mounts_in value.mounts)) (map mount_of copies)
       ∙ ap (λ m. m + times shows_it (map mount_of copies))
       (times_map shows_it (changed_at points kinds) (mounts_in value.mounts))
@@ -332,8 +316,7 @@ module _ (value : WorldValue) (whole : IsBeside value) (base : Filesystems) (is_
 
   counted_so : (entry : MountEntry) → Among entry (with_points points value.mounts ++ map unused_entry copies)
       → CountsItsUses (world_of new) entry
-  counted_so entry m =
-      ⊎_elim
+  counted_so entry m = ⊎_elim
       (λ old. let was = among_from_all (CountsItsUses (world_of value)) (with_points points value.mounts)
       (points_count (world_of value) points value.mounts whole.uses) entry old in
       record { uses = was.uses; writers = was.writers })
@@ -343,14 +326,11 @@ module _ (value : WorldValue) (whole : IsBeside value) (base : Filesystems) (is_
       (among-append (with_points points value.mounts) (map unused_entry copies) entry m)
 
   overlays_then : filter is_overlay (world_of new).filesystems ≡ filter is_overlay (with_base value base).filesystems
-  overlays_then =
-      woven_lists_are_passing is_overlay (filesystems_seen filesystems) (overlays_seen new.overlays)
+  overlays_then = woven_lists_are_passing is_overlay (filesystems_seen filesystems) (overlays_seen new.overlays)
       (record {
         fail = files_are_plain filesystems;
         pass = subst (All (λ filesystem. is_overlay filesystem ≡ true)) (sym same_overlays) whole.merged;
-      })
-      (ap are_rising same_overlays ∙ whole.overlays_rise)
-      ∙ same_overlays ∙ sym (base_overlays value whole base)
+      }) (ap are_rising same_overlays ∙ whole.overlays_rise) ∙ same_overlays ∙ sym (base_overlays value whole base)
 
   pub counts_then : CountsBeside new
   counts_then = record {
@@ -371,12 +351,10 @@ module _ (value : WorldValue) (whole : IsBeside value) (base : Filesystems) (is_
     overlays = all_from_among (IsMountedSoOften (world_of new)) new.overlays (λ entry m.
         among_from_all (IsMountedSoOften (record (world_of value) {
           mounts = mounts_in value.mounts ++ map mount_of copies;
-        })) new.overlays
-        (counted_more value whole.overlays_rise (map mount_of copies) overlays
+        })) new.overlays (counted_more value whole.overlays_rise (map mount_of copies) overlays
         (merged_are ∙ merged_by_all copies (map merged_seen value.overlays)) whole.overlays) entry m
         ∙ times_append (λ (mount : meant.Mount ℕ). nat_eq entry.number mount.filesystem) (mounts_in value.mounts)
-        (map mount_of copies)
-        ∙ sym (showing_at entry.number));
+        (map mount_of copies) ∙ sym (showing_at entry.number));
     namespaces = all_from_among (CountsWhatIsInIt (world_of new)) value.namespaces (λ entry m.
         let was = among_from_all (CountsWhatIsInIt (world_of value)) value.namespaces whole.namespaces entry m in
         record { tasks = was.tasks });
@@ -420,11 +398,9 @@ module _ (value : WorldValue) (whole : IsBeside value) (base : Filesystems) (is_
 
   -- so the event is done, where nothing goes
   pub entered_is_done : IsHeld value → Has entered_world groups → (name : TaskName) (permit : Permit ℕ)
-      (permits : Permits value name permit)
-      → TakesNumbers value name permit permits.task
+      (permits : Permits value name permit) → TakesNumbers value name permit permits.task
       → left_by value permits.task permit ≡ entered_world
-      → KeepsTo (is_counted_before next) (left_by value permits.task permit)
-      → IsDone value name permit new
+      → KeepsTo (is_counted_before next) (left_by value permits.task permit) → IsDone value name permit new
   entered_is_done held has name permit permits takes left_is keeps =
       let is_world = subst (IsWorld nat_eq) left_is (left_is_world value held name permit permits.task takes).0 in
       numbers_are_kept value held name permit permits.task takes new same_overlays
@@ -433,13 +409,11 @@ module _ (value : WorldValue) (whole : IsBeside value) (base : Filesystems) (is_
 -- Copies that were attached
 module _ (value : WorldValue) (whole : IsBeside value) (base : Filesystems) (is_base : IsBase value base)
     (graft : Graft) (counts : Counts) (mounts : List MountEntry) (groups : Grouping) (filesystems : Filesystems)
-    (overlays : List Merged)
-    (next : ℕ)
+    (overlays : List Merged) (next : ℕ)
     (is : IsGrafted graft counts (kept_with value.mounts base (map merged_seen value.overlays)) value.groups
     (kept_with mounts filesystems overlays) groups)
     (attaches : AttachesBy (with_base value base) graft counts (map mount_of is.copies) (map new_group is.groups)
-    (map point_seen is.points))
-    (there : HasGroupsOf (with_base value base) (map mount_of graft.tree.now))
+    (map point_seen is.points)) (there : HasGroupsOf (with_base value base) (map mount_of graft.tree.now))
     (ascending : are_ascending (mounts_in value.mounts ++ map mount_of is.copies) ≡ true) where
   abbrev pub attached_world : World ℕ
   attached_world = after value base
@@ -451,8 +425,7 @@ module _ (value : WorldValue) (whole : IsBeside value) (base : Filesystems) (is_
   mounts_are = ap (λ k. k.mounts) is.done
 
   mounts_seen : mounts_in mounts ≡ map (moved_at is.points) (mounts_in value.mounts) ++ map mount_of is.copies
-  mounts_seen =
-      ap mounts_in mounts_are ∙ mounts_entered (with_points is.points value.mounts) is.copies
+  mounts_seen = ap mounts_in mounts_are ∙ mounts_entered (with_points is.points value.mounts) is.copies
       ∙ ap (λ front. front ++ map mount_of is.copies) (points_are_moved value.mounts is.points)
 
   -- Groups
@@ -461,8 +434,7 @@ module _ (value : WorldValue) (whole : IsBeside value) (base : Filesystems) (is_
   types_are = map_twice type_of mount_of is.copies
 
   groups_then : Has attached_world groups
-  groups_then =
-      is.grows (world_of value) attached_world whole.groups
+  groups_then = is.grows (world_of value) attached_world whole.groups
       (subst (λ types. Grows (world_of value) attached_world types (map new_group is.groups)) types_are
       (attached_worlds_grow (world_of value) attached_world (moved_at is.points) (map mount_of is.copies)
       (map new_group is.groups) (record {
@@ -480,11 +452,8 @@ module _ (value : WorldValue) (whole : IsBeside value) (base : Filesystems) (is_
             (groups_formed (with_base value base) numbers (location_of graft.place) graft.moves
             (map mount_of graft.tree.now))
             (formed_groups_begin (with_base value base) numbers (location_of graft.place) graft.moves
-            (map mount_of graft.tree.now))
-            entry (subst (Among entry) attaches.groups_are m));
-        named = λ group has.
-            ⊎_elim inl
-            (λ among. inr (ap (λ list. is_among nat_eq group
+            (map mount_of graft.tree.now)) entry (subst (Among entry) attaches.groups_are m));
+        named = λ group has. ⊎_elim inl (λ among. inr (ap (λ list. is_among nat_eq group
             (map (λ (entry : ℕ × Option ℕ). entry.0) list)) attaches.groups_are ∙ among))
             (groups_of_copies_are_named (with_base value base) numbers (location_of graft.place) graft.moves
             (map mount_of graft.tree.now) there group
@@ -507,8 +476,7 @@ module _ (value : WorldValue) (whole : IsBeside value) (base : Filesystems) (is_
   }
 
   pub graft_is_done : IsHeld value → (name : TaskName) (permit : Permit ℕ) (permits : Permits value name permit)
-      → TakesNumbers value name permit permits.task
-      → left_by value permits.task permit ≡ attached_world
+      → TakesNumbers value name permit permits.task → left_by value permits.task permit ≡ attached_world
       → KeepsTo (is_counted_before next) (left_by value permits.task permit)
       → IsDone value name permit (grafted_value value mounts groups filesystems overlays next)
   graft_is_done held =

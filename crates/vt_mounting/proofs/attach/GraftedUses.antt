@@ -68,29 +68,24 @@ used_stays after is inode there f m =
         among_from_all (λ (g : Filesystem ℕ). ListsNumbers nat_eq g.files) after.filesystems is.files.numbers f m inode.1
         ∙ ap (λ (g : Filesystem ℕ). is_some (g.files.tree.node inode.1))
         (sym (found_filesystem after.filesystems is.files.one_filesystem f m))
-        ∙ ap (λ n. is_some ((filesystem_numbered nat_eq after n).files.tree.node inode.1))
-        (eqb-true f.number inode.0 e)
+        ∙ ap (λ n. is_some ((filesystem_numbered nat_eq after n).files.tree.node inode.1)) (eqb-true f.number inode.0 e)
         ∙ there
 
     used : nat_eq f.number inode.0 ≡ true → is_inode_used after f inode.1 ≡ true
-    used e =
-        passes (is_inode_used after f) f.files.numbers
+    used e = passes (is_inode_used after f) f.files.numbers
         (among_from_all (λ (g : Filesystem ℕ). list_all (is_inode_used after g) g.files.numbers
-        ≡ true) after.filesystems
-        (worlds_are_in_use after is).inodes f m)
+        ≡ true) after.filesystems (worlds_are_in_use after is).inodes f m)
         inode.1 (among_numbers inode.1 f.files.numbers (listed e))
 
     by : (b : Bool) → nat_eq f.number inode.0 ≡ b → (b && not (is_inode_used after f inode.1)) ≡ false
     by false e = refl
     by true e = ap not (used e)
 
-pub none_let_go : (after : World ℕ) → IsWorld nat_eq after → (lost : List Inode)
-    → ((inode : Inode) → Among inode lost
+pub none_let_go : (after : World ℕ) → IsWorld nat_eq after → (lost : List Inode) → ((inode : Inode) → Among inode lost
     → is_some ((filesystem_numbered nat_eq after inode.0).files.tree.node inode.1) ≡ true)
     → let_go_inodes after lost ≡ after
 none_let_go after is [] there = refl
-none_let_go after is (inode ∷ lost) there =
-    ap (λ (world : World ℕ). let_go_inodes world lost)
+none_let_go after is (inode ∷ lost) there = ap (λ (world : World ℕ). let_go_inodes world lost)
     (ap (λ filesystems. record after { filesystems = filesystems })
     (map_same (let_go_inode_of after inode) after.filesystems (used_stays after is inode (there inode (inl refl)))))
     ∙ none_let_go after is lost (λ other m. there other (inr m))
@@ -111,14 +106,12 @@ beside_overlays value base = woven (filesystems_seen base) (overlays_seen value.
 -- their inodes are their own
 pub own_beside : (value : WorldValue) → IsBeside value → (base : Filesystems) → All HasOwnInodes base
     → All HasOwnNodes (beside_overlays value base)
-own_beside value whole base own =
-    own_together base own (overlays_seen value.overlays) whole.own_nodes
+own_beside value whole base own = own_together base own (overlays_seen value.overlays) whole.own_nodes
 
 -- and each of them is among both
 base_among : (value : WorldValue) → IsBeside value → (base : Filesystems) (entry : FilesystemEntry) → Among entry base
     → Among (filesystem_seen entry) (beside_overlays value base)
-base_among value whole base entry m =
-    plain_one_among (record value { filesystems = base }) whole.merged entry m
+base_among value whole base entry m = plain_one_among (record value { filesystems = base }) whole.merged entry m
 
 -- Mounts that come behind others, which get other mount points
 
@@ -155,8 +148,7 @@ module _ (points : List Point) (kinds : List (ℕ × Propagation ℕ)) where
       by false later = later
 
   -- types are in the way of nothing
-  roots_alike : (mounts back : List (meant.Mount ℕ))
-      → map root_of (map (moved_at points) mounts ++ back) ≡ map root_of
+  roots_alike : (mounts back : List (meant.Mount ℕ)) → map root_of (map (moved_at points) mounts ++ back) ≡ map root_of
       (map (changed_at points kinds) mounts ++ back)
   roots_alike [] back = refl
   roots_alike (mount ∷ rest) back = ap (λ list. root_of mount ∷ list) (roots_alike rest back)
@@ -177,8 +169,7 @@ found_first number (mount ∷ rest) back there = by (nat_eq number mount.number)
         → (is_among nat_eq number (map number_of_mount rest) ≡ true
         → mount_in nat_eq (rest ++ back) number ≡ mount_in nat_eq rest number)
         → unwrap_or (cond b (Some mount) (find (λ (x : meant.Mount ℕ). nat_eq number x.number) (rest ++ back)))
-        (no_mount number)
-        ≡ unwrap_or (cond b (Some mount) (find (λ (x : meant.Mount ℕ). nat_eq number x.number) rest))
+        (no_mount number) ≡ unwrap_or (cond b (Some mount) (find (λ (x : meant.Mount ℕ). nat_eq number x.number) rest))
         (no_mount number)
     by true there later = refl
     by false there later = later there
@@ -208,8 +199,7 @@ module _ (value : WorldValue) (base : Filesystems) (master : ℕ → Option ℕ)
   abbrev come : World ℕ
   come = record (world_of value) {
     filesystems = beside_overlays value base;
-    mounts = mounts_in value.mounts
-        ++ map mount_of copies;
+    mounts = mounts_in value.mounts ++ map mount_of copies;
     master = master;
   }
 
@@ -228,13 +218,11 @@ module _ (value : WorldValue) (base : Filesystems) (master : ℕ → Option ℕ)
 
     all_stand : list_all (is_on (mounts_in value.mounts))
         (all_locations (world_of value) ++ places_of (mounts_in value.mounts)) ≡ true
-    all_stand =
-        places_stand (world_of value) whole.mounts_stand whole.locations_stand
+    all_stand = places_stand (world_of value) whole.mounts_stand whole.locations_stand
 
     come_as_after : inode_at come ≡ inode_at after
     come_as_after = λ i. λ location. (
-      sym (shows_alike points kinds location.mount (mounts_in value.mounts)
-          (map mount_of copies)) i,
+      sym (shows_alike points kinds location.mount (mounts_in value.mounts) (map mount_of copies)) i,
       location.node,
     )
 
@@ -253,27 +241,21 @@ module _ (value : WorldValue) (base : Filesystems) (master : ℕ → Option ℕ)
         let root = and_parts _ _ (passes (has_its_root nat_eq after) after.mounts is_world.roots
         (changed_at points kinds was.0)
         (among-append_left (map (changed_at points kinds) (mounts_in value.mounts)) (map mount_of copies)
-        (changed_at points kinds was.0)
-        (among-map (changed_at points kinds) (mounts_in value.mounts) was.0 was.1))) in
-        (and_parts _ _ (subst (λ o. list_all (is_directory_at nat_eq after) (option_to_list o)
-        ≡ true) at root.1)).0
+        (changed_at points kinds was.0) (among-map (changed_at points kinds) (mounts_in value.mounts) was.0 was.1))) in
+        (and_parts _ _ (subst (λ o. list_all (is_directory_at nat_eq after) (option_to_list o) ≡ true) at root.1)).0
 
     taken_inode : (point : Location) → Among point taken → inode_at come (location_of point) ≡ inode_of point.node
-    taken_inode point m =
-        (λ i. come_as_after i (location_of point))
-        ∙ (λ i. (
-          point_shown after (own_beside value whole base own) point (passes is_small taken taken_small point m)
-              (taken_directory point m) i,
-          number_of point.node,
-        ))
+    taken_inode point m = (λ i. come_as_after i (location_of point)) ∙ (λ i. (
+      point_shown after (own_beside value whole base own) point (passes is_small taken taken_small point m)
+          (taken_directory point m) i,
+      number_of point.node,
+    ))
 
     -- and at those that are left
 
-    left_stood : (point : Location) → Among point left
-        → (mount : meant.Mount ℕ) × Among mount (mounts_in value.mounts)
+    left_stood : (point : Location) → Among point left → (mount : meant.Mount ℕ) × Among mount (mounts_in value.mounts)
         × (mount.mount_point ≡ Some (location_of point))
-    left_stood point m =
-        stood value.mounts points once (location_of point)
+    left_stood point m = stood value.mounts points once (location_of point)
         (subst (Among (location_of point)) left_are (among-map location_of left point m))
 
     left_directory : (point : Location) → Among point left → is_directory_at nat_eq middle (location_of point) ≡ true
@@ -301,19 +283,16 @@ module _ (value : WorldValue) (base : Filesystems) (master : ℕ → Option ℕ)
         (left_directory point m)
 
     left_inode : (point : Location) → Among point left → inode_at come (location_of point) ≡ inode_of point.node
-    left_inode point m =
-        (λ i. (
-          (found_first (counted point.mount.count) (mounts_in value.mounts) (map mount_of copies)
-              (left_on point m) i).filesystem,
-          number_of point.node,
-        ))
-        ∙ (λ i. (left_shown point m i, number_of point.node))
+    left_inode point m = (λ i. (
+      (found_first (counted point.mount.count) (mounts_in value.mounts) (map mount_of copies)
+          (left_on point m) i).filesystem,
+      number_of point.node,
+    )) ∙ (λ i. (left_shown point m i, number_of point.node))
 
     -- what they use more and less
 
     gained_are : map (inode_at come) (map location_of (points_taken points entries)) ≡ inodes_of_points taken
-    gained_are =
-        ap (λ list. map (inode_at come) (map location_of list))
+    gained_are = ap (λ list. map (inode_at come) (map location_of list))
         (taken_with_more value.mounts points once (map unused_entry copies))
         ∙ map_twice (inode_at come) location_of taken
         ∙ map_alike (λ (point : Location). inode_at come (location_of point))
@@ -327,8 +306,7 @@ module _ (value : WorldValue) (base : Filesystems) (master : ℕ → Option ℕ)
         (λ (point : Location). inode_of point.node) left left_inode
 
     copies_stay : map (moved_at points) (map mount_of copies) ≡ map mount_of copies
-    copies_stay =
-        others_stay points (map mount_of copies) (λ mount m.
+    copies_stay = others_stay points (map mount_of copies) (λ mount m.
         none_passes (λ (point : Point). nat_eq mount.number (number_at point)) points (λ point n.
         let there = passes (λ (seen : ℕ × meant.Location ℕ). is_among nat_eq seen.0
         (map number_of_mount (mounts_in value.mounts))) (map point_seen points)
@@ -340,16 +318,13 @@ module _ (value : WorldValue) (base : Filesystems) (master : ℕ → Option ℕ)
         ne_eqb mount.number (number_at point) (λ same. absurd (omega (arith, less, is, same)))))
 
     mounts_then : mounts_in (with_points points entries) ≡ untyped.mounts
-    mounts_then =
-        points_are_moved entries points
-        ∙ ap (map (moved_at points)) (mounts_entered value.mounts copies)
+    mounts_then = points_are_moved entries points ∙ ap (map (moved_at points)) (mounts_entered value.mounts copies)
         ∙ map-append (moved_at points) (mounts_in value.mounts) (map mount_of copies)
         ∙ ap (λ back. map (moved_at points) (mounts_in value.mounts) ++ back) copies_stay
 
     -- each copy is found in the world that is left
     copies_found : (mount : Mount) → Among mount copies → IsFoundIn after mount
-    copies_found = new_found after is_world
-        (map (changed_at points kinds) (mounts_in value.mounts)) copies refl slots
+    copies_found = new_found after is_world (map (changed_at points kinds) (mounts_in value.mounts)) copies refl slots
         (own_beside value whole base own)
 
     found_come : (mount : Mount) → Among mount copies → IsFoundIn come mount
@@ -366,17 +341,13 @@ module _ (value : WorldValue) (base : Filesystems) (master : ℕ → Option ℕ)
 
     -- types are no uses
     used_typed : (f : Filesystem ℕ) → used_in nat_eq untyped f ≡ used_in nat_eq after f
-    used_typed f = λ i.
-        f.files.tree.root
-        ∷ (named_in f.files
-        ++ map (λ (location : meant.Location ℕ). location.node)
+    used_typed f = λ i. f.files.tree.root ∷ (named_in f.files ++ map (λ (location : meant.Location ℕ). location.node)
         (filter (λ (location : meant.Location ℕ). nat_eq f.number
         ((shows_alike points [] location.mount (mounts_in value.mounts) (map mount_of copies)
         ∙ sym (shows_alike points kinds location.mount (mounts_in value.mounts) (map mount_of copies))) i))
         (all_locations (world_of value) ++ roots_alike points kinds (mounts_in value.mounts) (map mount_of copies) i
         ++ points_alike points kinds (mounts_in value.mounts) (map mount_of copies) i))
-        ++ layers_in nat_eq after f.number
-        ++ flat_map (objects_of_overlay nat_eq f.number) after.filesystems)
+        ++ layers_in nat_eq after f.number ++ flat_map (objects_of_overlay nat_eq f.number) after.filesystems)
 
     pub exchanged_then : (filesystem : ℕ) → Exchanges gained lost filesystem middle after
     exchanged_then filesystem =
@@ -387,8 +358,7 @@ module _ (value : WorldValue) (base : Filesystems) (master : ℕ → Option ℕ)
         (map (inode_at come) (map location_of (points_taken points entries))) list filesystem come untyped) lost_are
         (subst (λ (mounts : List (meant.Mount ℕ)). Exchanges
         (map (inode_at come) (map location_of (points_taken points entries)))
-        (map (inode_at come) (points_left points entries)) filesystem
-        come (with_mounts come mounts)) mounts_then
+        (map (inode_at come) (points_left points entries)) filesystem come (with_mounts come mounts)) mounts_then
         (points_are_uses come entries points (mounts_entered value.mounts copies) one_come filesystem))) in
         let typing : Exchanges (inodes_of_points taken) lost filesystem come after = record {
           same = moving.same;
@@ -409,35 +379,29 @@ module _ (value : WorldValue) (base : Filesystems) (master : ℕ → Option ℕ)
 
     pub gained_there : (entry : FilesystemEntry) → Among entry base
         → AreThere (counted entry.count) (inodes_seen entry) gained
-    gained_there entry m =
-        list_all-append (λ (inode : Inode). not (nat_eq (counted entry.count) inode.0)
-        || is_some ((inodes_seen entry).inode inode.1))
-        (inodes_of_points taken) (gained_by copies)
+    gained_there entry m = list_all-append (λ (inode : Inode). not (nat_eq (counted entry.count) inode.0)
+        || is_some ((inodes_seen entry).inode inode.1)) (inodes_of_points taken) (gained_by copies)
         ∙ (λ i. taken_there i && new_uses_there after is_world
         (map (changed_at points kinds) (mounts_in value.mounts)) copies refl slots
         (own_beside value whole base own) entry (base_among value whole base entry m) i)
       where
         taken_there : list_all (λ (inode : Inode). not (nat_eq (counted entry.count) inode.0)
             || is_some ((inodes_seen entry).inode inode.1)) (inodes_of_points taken) ≡ true
-        taken_there =
-            all_pass (λ (inode : Inode). not (nat_eq (counted entry.count) inode.0)
+        taken_there = all_pass (λ (inode : Inode). not (nat_eq (counted entry.count) inode.0)
             || is_some ((inodes_seen entry).inode inode.1)) (inodes_of_points taken) (λ inode n.
             let from = among-from_map (λ (point : Location). inode_of point.node) taken inode n in
             let shown = point_shown after (own_beside value whole base own) from.0
-            (passes is_small taken taken_small from.0 from.1)
-            (taken_directory from.0 from.1) in
+            (passes is_small taken taken_small from.0 from.1) (taken_directory from.0 from.1) in
             ap (λ (one : Inode). not (nat_eq (counted entry.count) one.0)
             || is_some ((inodes_seen entry).inode one.1)) from.2
             ∙ there_in after is_world (map (changed_at points kinds)
             (mounts_in value.mounts)) copies refl slots (own_beside value whole base own) entry
-            (base_among value whole base entry m) from.0.node
-            (ap (λ number. is_directory_node
+            (base_among value whole base entry m) from.0.node (ap (λ number. is_directory_node
             ((filesystem_numbered nat_eq after number).files.tree.node (number_of from.0.node))) (sym shown)
             ∙ taken_directory from.0 from.1))
 
     pub nothing_goes : IsWorld nat_eq after → let_go_inodes after lost ≡ after
-    nothing_goes settled =
-        none_let_go after settled lost (λ inode n.
+    nothing_goes settled = none_let_go after settled lost (λ inode n.
         let from = among-from_map (λ (point : Location). inode_of point.node) left inode n in
         ap (λ (one : Inode). is_some ((filesystem_numbered nat_eq after one.0).files.tree.node one.1)) from.2
         ∙ ap (λ number. is_some ((filesystem_numbered nat_eq after number).files.tree.node (number_of from.0.node)))

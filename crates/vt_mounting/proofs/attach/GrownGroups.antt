@@ -40,8 +40,7 @@ insert_last number kind (mount ∷ rest) all = by (source_of mount.propagation) 
         ap (λ o. match_ordering o ((number, kind) ∷ (mount.number, mount.propagation) ∷ peers_of rest)
         ((mount.number, kind) ∷ peers_of rest)
         ((mount.number, mount.propagation) ∷ insert_entry nat_cmp (peers_of rest) number kind))
-        (cmp_greater number mount.number parts.0)
-        ∙ ap (λ list. (mount.number, mount.propagation) ∷ list) later
+        (cmp_greater number mount.number parts.0) ∙ ap (λ list. (mount.number, mount.propagation) ∷ list) later
 
 one_more : (front : List (Mount ℕ)) (copy : Mount ℕ)
     → peers_of (front ++ copy ∷ []) ≡ peers_of front ++ cons_option (peer_of copy) []
@@ -124,19 +123,16 @@ attached_worlds_grow world after change copies new come = record {
   stay = λ group has. members group ∙ (λ i. has i || has_members nat_eq copies group);
   begin = all_from_among (λ (entry : ℕ × Option ℕ). is_some entry.1 ≡ true → HasGroup after entry.0) new
       (λ entry m some.
-      members entry.0
-      ∙ or_right (has_members nat_eq world.mounts entry.0)
+      members entry.0 ∙ or_right (has_members nat_eq world.mounts entry.0)
       (among_from_all (λ (other : ℕ × Option ℕ). is_some other.1 ≡ true
       → has_members nat_eq copies other.0 ≡ true) new come.begin entry m some));
-  named = λ group lacks has.
-      ⊎_elim (λ there. absurd (true≢false (sym there ∙ lacks))) (λ named. named)
+  named = λ group lacks has. ⊎_elim (λ there. absurd (true≢false (sym there ∙ lacks))) (λ named. named)
       (come.named group ((λ i. sym lacks i || has_members nat_eq copies group) ∙ sym (members group) ∙ has));
 }
   where
     members : (group : ℕ) → has_members nat_eq after.mounts group
         ≡ (has_members nat_eq world.mounts group || has_members nat_eq copies group)
-    members group =
-        ap (λ mounts. has_members nat_eq mounts group) come.mounts
+    members group = ap (λ mounts. has_members nat_eq mounts group) come.mounts
         ∙ list_any-append (is_member_of nat_eq group) (map change world.mounts) copies
         ∙ ap (λ b. b || has_members nat_eq copies group)
         (members_stay change come.number come.kind copies group world.mounts)

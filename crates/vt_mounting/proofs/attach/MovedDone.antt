@@ -139,8 +139,7 @@ once_more {B} (pair ∷ rest) last once apart =
     λ i. behind rest parts.0 differ i || once_more rest last parts.1 others.1 i
   where
     behind : (some : List (ℕ × B)) → list_any (λ (b : ℕ × B). nat_eq pair.0 b.0) some ≡ false
-        → nat_eq pair.0 last.0 ≡ false
-        → list_any (λ (b : ℕ × B). nat_eq pair.0 b.0) (some ++ last ∷ []) ≡ false
+        → nat_eq pair.0 last.0 ≡ false → list_any (λ (b : ℕ × B). nat_eq pair.0 b.0) (some ++ last ∷ []) ≡ false
     behind [] none differ = λ i. differ i || false
     behind (one ∷ some) none differ =
         let both = or_parts (nat_eq pair.0 one.0) (list_any (λ (b : ℕ × B). nat_eq pair.0 b.0) some) none in
@@ -170,8 +169,7 @@ group_stays new group Private e = absurd (true≢false (sym (ap is_some e)))
 group_stays new group Unbindable e = absurd (true≢false (sym (ap is_some e)))
 
 module _ (value : WorldValue) (whole : IsHeld value) (name : TaskName) (number : ℕ) (graft : Graft) (counts : Counts)
-    (permits : Permits value name (ToMove number (location_of graft.place)))
-    (tree_is : map mount_of graft.tree.now
+    (permits : Permits value name (ToMove number (location_of graft.place))) (tree_is : map mount_of graft.tree.now
     ≡ mount_tree nat_eq (mounts_in value.mounts) (mount_numbered nat_eq (world_of value) number))
     (moves : graft.moves ≡ true)
     (parts_are : map mount_of graft.parts.now ≡ parts_of nat_eq (world_of value) (location_of graft.place))
@@ -210,13 +208,11 @@ module _ (value : WorldValue) (whole : IsHeld value) (name : TaskName) (number :
   -- the tree
 
   tree_once : OneNumberAMount tree
-  tree_once =
-      subst OneNumberAMount (sym tree_is)
+  tree_once = subst OneNumberAMount (sym tree_is)
       (trees_have_each_once world number whole.in_world.mounts.one_number whole.in_world.mounts.standing)
 
   tree_some : 0 < length graft.tree.now
-  tree_some =
-      subst (λ n. 0 < n) (length-map graft.tree.now mount_of)
+  tree_some = subst (λ n. 0 < n) (length-map graft.tree.now mount_of)
       (subst (λ (list : List (meant.Mount ℕ)). 0 < length list) (sym tree_is)
       (tree_is_some (length (mounts_in value.mounts)) (mounts_in value.mounts)
       (mount_numbered nat_eq (world_of value) number)))
@@ -242,8 +238,7 @@ module _ (value : WorldValue) (whole : IsHeld value) (name : TaskName) (number :
   beside mount m = (in_tree value whole number namespace may.own mount (of_tree mount m)).2 ∙ sym may.destination.own
 
   placed : (mount : meant.Mount ℕ) → Among mount tree → is_some mount.mount_point ≡ true
-  placed mount m =
-      tree_placed (length (mounts_in value.mounts)) (mounts_in value.mounts)
+  placed mount m = tree_placed (length (mounts_in value.mounts)) (mounts_in value.mounts)
       (mount_numbered nat_eq (world_of value) number) mount may.placed (of_tree mount m)
 
   -- the copies
@@ -266,8 +261,7 @@ module _ (value : WorldValue) (whole : IsHeld value) (name : TaskName) (number :
       → list_all (λ mount. mount.number % 4 == 1) (mounts_in value.mounts) ≡ true
       → are_ascending (mounts_in value.mounts ++ drop (length graft.tree.now) (planned_copies world graft counts))
       ≡ true
-  rising_then ascending odd =
-      ap (λ list. are_ascending (mounts_in value.mounts ++ list)) rest_dropped
+  rising_then ascending odd = ap (λ list. are_ascending (mounts_in value.mounts ++ list)) rest_dropped
       ∙ beside_ascend counts (subst (λ n. 0 < n) (sym step) (omega arith)) world graft one_number tree_once tree_some
       (mounts_in value.mounts) ascending
       (λ mount m. subst (λ n. mount.number < counted n) (sym first_is) (lower_numbers value whole odd mount m))
@@ -342,11 +336,9 @@ module _ (value : WorldValue) (whole : IsHeld value) (name : TaskName) (number :
     kinds_once : KindsOnce kinds
     kinds_once = kinds_are_once own own_once
 
-    own_from : (mount : meant.Mount ℕ) → Among mount own
-        → (origin : meant.Mount ℕ) × Among origin tree
+    own_from : (mount : meant.Mount ℕ) → Among mount own → (origin : meant.Mount ℕ) × Among origin tree
         × (mount ≡ Trees.copy world graft counts first others tree_now moves origin)
-    own_from mount m =
-        among-from_map (Trees.copy world graft counts first others tree_now moves) tree mount
+    own_from mount m = among-from_map (Trees.copy world graft counts first others tree_now moves) tree mount
         (subst (Among mount) (Trees.own_copies world graft counts first others tree_now moves) m)
 
     own_number : (mount : meant.Mount ℕ) → Among mount own
@@ -362,20 +354,16 @@ module _ (value : WorldValue) (whole : IsHeld value) (name : TaskName) (number :
     -- new mount points
 
     points_then : map point_seen points ≡ map point_seen is.pushed ++ (first_number, location_of graft.place) ∷ []
-    points_then =
-        map-append point_seen is.pushed (top_of graft.place graft.tree.now)
+    points_then = map-append point_seen is.pushed (top_of graft.place graft.tree.now)
         ∙ ap (λ (list : List Mount). map point_seen is.pushed ++ map point_seen (top_of graft.place list)) tree_now
 
     leaves : holds_of (nat_eq first_number) (leaver graft) ≡ true
-    leaves =
-        (λ i. holds_of (nat_eq first_number)
-        (if moves i then option_map (λ (top : Mount). counted top.number.count)
-        (first_of_list (tree_now i)) else None))
+    leaves = (λ i. holds_of (nat_eq first_number)
+        (if moves i then option_map (λ (top : Mount). counted top.number.count) (first_of_list (tree_now i)) else None))
         ∙ eq-eqb first_number first_number refl
 
     first_there : is_among nat_eq first_number (numbers_of (mounts_in value.mounts)) ≡ true
-    first_there =
-        is_among_numbers first_number (numbers_of (mounts_in value.mounts))
+    first_there = is_among_numbers first_number (numbers_of (mounts_in value.mounts))
         (among-map (λ (x : meant.Mount ℕ). x.number) (mounts_in value.mounts) (mount_of first)
         (tree_among (mount_of first) (subst (λ (list : List Mount). Among (mount_of first) (map mount_of list))
         (sym tree_now) (inl refl))))
@@ -389,8 +377,7 @@ module _ (value : WorldValue) (whole : IsHeld value) (name : TaskName) (number :
           (map (λ (mount : meant.Mount ℕ). mount.number) (mounts_in value.mounts))) list ≡ true) (sym points_then)
           (list_all-append (λ (point : ℕ × meant.Location ℕ). is_among nat_eq point.0
           (map (λ (mount : meant.Mount ℕ). mount.number) (mounts_in value.mounts))) (map point_seen is.pushed)
-          ((first_number, location_of graft.place) ∷ [])
-          ∙ (λ i. is.once.there i && (first_there i && true)));
+          ((first_number, location_of graft.place) ∷ []) ∙ (λ i. is.once.there i && (first_there i && true)));
     }
 
     -- mounts and their types
@@ -400,21 +387,18 @@ module _ (value : WorldValue) (whole : IsHeld value) (name : TaskName) (number :
 
     entries_seen : mounts_in (with_points points value.mounts ++ map unused_entry come)
         ≡ map (moved_at points) (mounts_in value.mounts) ++ map mount_of come
-    entries_seen =
-        mounts_entered (with_points points value.mounts) come
+    entries_seen = mounts_entered (with_points points value.mounts) come
         ∙ ap (λ front. front ++ map mount_of come) (points_are_moved value.mounts points)
 
     behind : OneNumberAMount (map (moved_at points) (mounts_in value.mounts) ++ map mount_of come)
-    behind =
-        one_number_by_numbers (mounts_in value.mounts ++ map mount_of come)
+    behind = one_number_by_numbers (mounts_in value.mounts ++ map mount_of come)
         (map (moved_at points) (mounts_in value.mounts) ++ map mount_of come)
         (moved_numbers points (mounts_in value.mounts) (map mount_of come))
         (ascending_once (mounts_in value.mounts ++ map mount_of come) rising)
 
     others_kinds : (mount : meant.Mount ℕ) → Among mount (map mount_of come)
         → list_any (λ (kind : Kind). nat_eq mount.number kind.0) (map type_of own) ≡ false
-    others_kinds mount m =
-        kinds_apart mount.number own
+    others_kinds mount m = kinds_apart mount.number own
         (none_passes (λ (b : meant.Mount ℕ). nat_eq mount.number b.number) own (λ b n.
         let from = own_number b n in
         let less = apart (mounts_in value.mounts) (map mount_of come) rising from.0 mount (tree_among from.0 from.1) m
@@ -424,13 +408,11 @@ module _ (value : WorldValue) (whole : IsHeld value) (name : TaskName) (number :
 
     -- the mounts that are left, as the definitions see them
     mounts_seen : mounts_in mounts ≡ map (changed_at points kinds) (mounts_in value.mounts) ++ map mount_of come
-    mounts_seen =
-        ap (λ k. mounts_in k.mounts) is.done
+    mounts_seen = ap (λ k. mounts_in k.mounts) is.done
         ∙ typed_seen (map typed is.copies) (with_points points value.mounts ++ map unused_entry come)
         ∙ (λ i. folded retyped_one (entries_seen i) (all_kinds i))
         ∙ typed_with_more (map (moved_at points) (mounts_in value.mounts)) (map mount_of come) own behind kinds_once
-        others_kinds
-        ∙ ap (λ front. front ++ map mount_of come)
+        others_kinds ∙ ap (λ front. front ++ map mount_of come)
         (map_twice (typed_at kinds) (moved_at points) (mounts_in value.mounts))
 
     entered : IsEntered value value.filesystems come points kinds is.left mounts filesystems overlays
@@ -450,10 +432,8 @@ module _ (value : WorldValue) (whole : IsHeld value) (name : TaskName) (number :
     kind_of_copy : (origin : meant.Mount ℕ)
         → (Trees.copy world graft counts first others tree_now moves origin).propagation
         ≡ type_on_shared ((numbers_at world graft counts).image
-        (some_from_is_some (group_of dest.propagation) shared).0 origin.number)
-        origin.propagation
-    kind_of_copy origin =
-        Trees.copy_kind_is world graft counts first others tree_now moves origin
+        (some_from_is_some (group_of dest.propagation) shared).0 origin.number) origin.propagation
+    kind_of_copy origin = Trees.copy_kind_is world graft counts first others tree_now moves origin
         ∙ ap (λ o. type_at (numbers_at world graft counts) o origin)
         (some_from_is_some (group_of dest.propagation) shared).1
 
@@ -469,16 +449,13 @@ module _ (value : WorldValue) (whole : IsHeld value) (name : TaskName) (number :
             let becomes = Trees.becomes world graft counts first others tree_now moves one_number own_once kinds_once
             tree_among beside placed mount m mine.0 mine.1 mine.3 in
             ap (λ o. group_of (unwrap_or o mount.propagation)) e ∙ ap group_of (sym mine.2)
-            ∙ ap (λ (x : meant.Mount ℕ). group_of x.propagation) becomes.1
-            ∙ ap group_of (kind_of_copy mount)
+            ∙ ap (λ (x : meant.Mount ℕ). group_of x.propagation) becomes.1 ∙ ap group_of (kind_of_copy mount)
             ∙ group_stays ((numbers_at world graft counts).image
-            (some_from_is_some (group_of dest.propagation) shared).0 mount.number)
-            group mount.propagation has
+            (some_from_is_some (group_of dest.propagation) shared).0 mount.number) group mount.propagation has
 
     groups_there : HasGroupsOf world tree
     groups_there mount contained group e =
-        group_there (mounts_in value.mounts) mount (tree_among mount (among_from_contains tree mount contained)) group
-        e
+        group_there (mounts_in value.mounts) mount (tree_among mount (among_from_contains tree mount contained)) group e
 
     grown : GrowBeside world then_world (changed_at points kinds) own (map mount_of come) formed
     grown = record {
@@ -495,8 +472,7 @@ module _ (value : WorldValue) (whole : IsHeld value) (name : TaskName) (number :
           let from = own_from mount m in
           ap (λ (x : meant.Mount ℕ). is_shared x.propagation) from.2 ∙ ap is_shared (kind_of_copy from.0)
           ∙ shared_there ((numbers_at world graft counts).image
-          (some_from_is_some (group_of dest.propagation) shared).0 from.0.number)
-          from.0.propagation;
+          (some_from_is_some (group_of dest.propagation) shared).0 from.0.number) from.0.propagation;
       stays = stays;
       order = sym (ascending_rises (mounts_in value.mounts ++ map mount_of come)) ∙ rising;
       master = λ group. refl;
@@ -504,23 +480,18 @@ module _ (value : WorldValue) (whole : IsHeld value) (name : TaskName) (number :
           → has_members nat_eq (own ++ map mount_of come) entry.0 ≡ true) formed (λ entry m some.
           ap (λ list. has_members nat_eq list entry.0) (sym all_are ∙ attaches.copies_are)
           ∙ among_from_all (λ (other : ℕ × Option ℕ). has_members nat_eq
-          (all_copies world (numbers_at world graft counts) (location_of graft.place) graft.moves tree) other.0
-          ≡ true)
+          (all_copies world (numbers_at world graft counts) (location_of graft.place) graft.moves tree) other.0 ≡ true)
           (groups_formed world (numbers_at world graft counts) (location_of graft.place) graft.moves tree)
           (formed_groups_begin world (numbers_at world graft counts) (location_of graft.place) graft.moves tree)
           entry (subst (Among entry) attaches.groups_are m));
-      named = λ group has.
-          ⊎_elim inl
-          (λ among. inr (ap (λ list. is_among nat_eq group
+      named = λ group has. ⊎_elim inl (λ among. inr (ap (λ list. is_among nat_eq group
           (map (λ (entry : ℕ × Option ℕ). entry.0) list)) attaches.groups_are ∙ among))
           (groups_of_copies_are_named world (numbers_at world graft counts) (location_of graft.place) graft.moves tree
-          groups_there group
-          (ap (λ list. has_members nat_eq list group) (sym attaches.copies_are ∙ all_are) ∙ has));
+          groups_there group (ap (λ list. has_members nat_eq list group) (sym attaches.copies_are ∙ all_are) ∙ has));
     }
 
     has_then : Has then_world groups
-    has_then =
-        is.grows world then_world whole.groups
+    has_then = is.grows world then_world whole.groups
         (subst (λ types. Grows world then_world types formed) (sym all_kinds)
         (grows_beside world then_world (changed_at points kinds) own (map mount_of come) formed grown
         whole.groups.order))
@@ -537,26 +508,20 @@ module _ (value : WorldValue) (whole : IsHeld value) (name : TaskName) (number :
 
     moved_is : attach nat_eq world (counts_from value.next) place true
         (mount_tree nat_eq (mounts_in value.mounts) (mount_numbered nat_eq (world_of value) number)) ≡ then_world
-    moved_is =
-        ap (λ list. attach nat_eq world (counts_from value.next) place true list) (sym tree_is)
+    moved_is = ap (λ list. attach nat_eq world (counts_from value.next) place true list) (sym tree_is)
         ∙ (λ i. attached_by nat_eq world
         (copies_from nat_eq (λ k. sym (same_counts k) i) (parts_of nat_eq world (location_of graft.place)) tree)
-        (location_of graft.place) (sym moves i) tree)
-        ∙ attaches.move moves is_moved
-        ∙ (λ i. record world {
+        (location_of graft.place) (sym moves i) tree) ∙ attaches.move moves is_moved ∙ (λ i. record world {
           mounts = map (moved_by (map point_seen is.pushed)) (folded (with_mount nat_eq) world.mounts
               ((ap (take (length graft.tree.now)) attaches.copies_are ∙ own_taken) i))
               ++ drop-map mount_of (length graft.tree.now) is.copies i;
           master = master;
-        })
-        ∙ ap (λ front. record world { mounts = front ++ map mount_of come; master = master })
+        }) ∙ ap (λ front. record world { mounts = front ++ map mount_of come; master = master })
         (Trees.all_moved world graft counts first others tree_now moves one_number own_once kinds_once tree_among
-        beside placed
-        is.pushed)
+        beside placed is.pushed)
 
     under : IsUnderWay then_world
-    under =
-        subst IsUnderWay moved_is
+    under = subst IsUnderWay moved_is
         (given_permits_are_under_way_without_upper world (counts_from value.next) permits.task permit whole.in_world
         whole.overlays.read_only permits.given).0
 
@@ -570,8 +535,7 @@ module _ (value : WorldValue) (whole : IsHeld value) (name : TaskName) (number :
     its mount m = tree_among mount (subst (Among mount) (sym (ap (map mount_of) tree_now)) m)
 
     living_is : in_use_of then_world ≡ then_world
-    living_is =
-        subst (λ (w : World ℕ). in_use_of w ≡ w) moved_is
+    living_is = subst (λ (w : World ℕ). in_use_of w ≡ w) moved_is
         (subst (λ list. in_use_of (attach nat_eq world (counts_from value.next) place true list)
         ≡ attach nat_eq world (counts_from value.next) place true list) tree_list
         (living_moved world (worlds_are_in_use world whole.in_world) (mounts_of_worlds_stand world whole.in_world)
@@ -581,8 +545,7 @@ module _ (value : WorldValue) (whole : IsHeld value) (name : TaskName) (number :
         (map mount_of others) its))
 
     lives : list_all (mount_lives nat_eq then_world) then_world.mounts ≡ true
-    lives =
-        subst (λ (w : World ℕ). list_all (mount_lives nat_eq w) w.mounts ≡ true) moved_is
+    lives = subst (λ (w : World ℕ). list_all (mount_lives nat_eq w) w.mounts ≡ true) moved_is
         (subst (λ list. list_all (mount_lives nat_eq (attach nat_eq world (counts_from value.next) place true list))
         (attach nat_eq world (counts_from value.next) place true list).mounts ≡ true) tree_list
         (mounts_live world (worlds_are_in_use world whole.in_world) (mounts_of_worlds_stand world whole.in_world)
@@ -593,8 +556,7 @@ module _ (value : WorldValue) (whole : IsHeld value) (name : TaskName) (number :
 
     -- what was mounted is mounted still
     overlays_mounted : AreStillMounted value then_world
-    overlays_mounted =
-        all_from_among (λ (overlay : Filesystem ℕ). is_mounted nat_eq then_world overlay.number ≡ true)
+    overlays_mounted = all_from_among (λ (overlay : Filesystem ℕ). is_mounted nat_eq then_world overlay.number ≡ true)
         (overlays_seen value.overlays) (λ f m.
         list_any-append (λ (mount : meant.Mount ℕ). nat_eq f.number mount.filesystem)
         (map (changed_at points kinds) (mounts_in value.mounts)) (map mount_of come)
@@ -606,8 +568,7 @@ module _ (value : WorldValue) (whole : IsHeld value) (name : TaskName) (number :
         (overlays_seen value.overlays) (still_mounted value whole world (λ number. refl)) f m))
 
     has_settled : Has (settled nat_eq then_world) groups
-    has_settled =
-        settled_has then_world groups has_then (λ mount m dead.
+    has_settled = settled_has then_world groups has_then (λ mount m dead.
         absurd (true≢false (sym (passes (mount_lives nat_eq then_world) then_world.mounts lives mount m) ∙ dead)))
 
     -- what is counted
@@ -619,8 +580,7 @@ module _ (value : WorldValue) (whole : IsHeld value) (name : TaskName) (number :
       overlays = overlays_same value (is_beside value whole) come overlays (ap (λ k. k.overlays) entered.done)
           ∙ all_shown value (in_use_of then_world) (subst (AreStillMounted value) (sym living_is) overlays_mounted);
       mounts = ap (λ (w : World ℕ). w.mounts) living_is ∙ sym mounts_seen;
-      numbers = ap (λ (w : World ℕ). map (λ (f : Filesystem ℕ). f.number) (filter is_plain_one w.filesystems))
-          living_is
+      numbers = ap (λ (w : World ℕ). map (λ (f : Filesystem ℕ). f.number) (filter is_plain_one w.filesystems)) living_is
           ∙ ap (map (λ (f : Filesystem ℕ). f.number)) (plain_ones_are value whole.overlays)
           ∙ same_numbers value (is_beside value whole) value.filesystems (same_base value whole) come points kinds is.left formed mounts
           groups filesystems overlays next entered rising;
@@ -646,24 +606,19 @@ module _ (value : WorldValue) (whole : IsHeld value) (name : TaskName) (number :
     }
 
     left_then : IsWorld nat_eq (settled nat_eq then_world)
-    left_then =
-        subst (λ (w : World ℕ). IsWorld nat_eq (settled nat_eq w)) moved_is
+    left_then = subst (λ (w : World ℕ). IsWorld nat_eq (settled nat_eq w)) moved_is
         (left_is_world value whole name permit permits.task takes).0
 
     shows_then : ShowsAs (settled nat_eq then_world) new
-    shows_then =
-        shows_left value whole then_world
+    shows_then = shows_left value whole then_world
         (inodes_of_points (points_taken points value.mounts) ++ gained_by come) (inodes_of_points is.left) new swept
         has_settled left_then
 
-    named : KeepsTo (is_counted_before
-        (value.next + numbers_of_parts world (location_of graft.place)
+    named : KeepsTo (is_counted_before (value.next + numbers_of_parts world (location_of graft.place)
         (mount_tree nat_eq (mounts_in value.mounts) (mount_numbered nat_eq (world_of value) number))))
         (left_by value permits.task permit)
-    named =
-        moves_keep_to_numbers value.next world permits.task number (location_of graft.place) permits.given.called
-        whole.given
-        (λ i. attached_named value whole number namespace may.own i
+    named = moves_keep_to_numbers value.next world permits.task number (location_of graft.place) permits.given.called
+        whole.given (λ i. attached_named value whole number namespace may.own i
         && located_is_named value whole (location_of graft.place) may.destination.directory.reached.there i)
 
     pub move_is_done : next ≡ value.next + 2 * (length graft.parts.now * length graft.tree.now)

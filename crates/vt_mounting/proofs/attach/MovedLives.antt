@@ -30,16 +30,13 @@ module _ (world : World ℕ) (in_use : AllInUse world) (stand : MountsStand worl
       (attached_loses world world.filesystems new place true first rest in_use stand located at_attached (λ e. its))
       (λ group among none.
       attached_groups world world.filesystems new place true first rest in_use stand located at_attached (λ e. its)
-      group none)
-      (record { kept = λ f m. m; new = λ f m. inl m }) in
+      group none) (record { kept = λ f m. m; new = λ f m. inl m }) in
       (all.mounts, all.filesystems)
 
   pub mounts_live : list_all (mount_lives nat_eq after) after.mounts ≡ true
   mounts_live = in_use_then.0
 
   pub living_moved : in_use_of after ≡ after
-  living_moved =
-      ap (without_dead_filesystems nat_eq) (mounts_go_one_by_one after [] in_use_then.0)
-      ∙ subst (λ (w : World ℕ). without_dead_filesystems nat_eq w ≡ w)
-      (mounts_go_one_by_one after [] in_use_then.0)
+  living_moved = ap (without_dead_filesystems nat_eq) (mounts_go_one_by_one after [] in_use_then.0)
+      ∙ subst (λ (w : World ℕ). without_dead_filesystems nat_eq w ≡ w) (mounts_go_one_by_one after [] in_use_then.0)
       (filesystems_go_one_by_one (without_dead_mounts nat_eq after) [] in_use_then.1)

@@ -37,15 +37,12 @@ none_moved (mount ∷ rest) = ap (λ list. mount ∷ list) (none_moved rest)
 -- of two for one mount the first one counts
 pub points_are_moved : PointsAreMoved
 points_are_moved entries [] = none_moved (mounts_in entries)
-points_are_moved entries (point ∷ rest) =
-    one_placed (counted point.mount.count) point.place (with_points rest entries)
+points_are_moved entries (point ∷ rest) = one_placed (counted point.mount.count) point.place (with_points rest entries)
     ∙ ap (map (placed_if (counted point.mount.count) point.place)) (points_are_moved entries rest)
     ∙ map_twice (placed_if (counted point.mount.count) point.place) (at_point (map point_seen rest)) (mounts_in entries)
     ∙ map_alike (λ mount. placed_if (counted point.mount.count) point.place (at_point (map point_seen rest) mount))
-    (at_point (map point_seen (point ∷ rest)))
-    (mounts_in entries) (λ mount m.
-    by mount (nat_eq (counted point.mount.count) mount.number)
-    ∙ ap (λ b. record mount {
+    (at_point (map point_seen (point ∷ rest))) (mounts_in entries) (λ mount m.
+    by mount (nat_eq (counted point.mount.count) mount.number) ∙ ap (λ b. record mount {
       mount_point = or_else (cond b (Some (location_of point.place))
           (lookup (nat_eq mount.number) (map point_seen rest))) mount.mount_point;
     }) (turned (counted point.mount.count) mount.number))
@@ -53,8 +50,7 @@ points_are_moved entries (point ∷ rest) =
     by : (mount : Mount ℕ) (b : Bool)
         → cond b (record mount { mount_point = Some (location_of point.place) }) (at_point (map point_seen rest) mount)
         ≡ record mount {
-          mount_point = or_else
-              (cond b (Some (location_of point.place))
+          mount_point = or_else (cond b (Some (location_of point.place))
               (lookup (nat_eq mount.number) (map point_seen rest))) mount.mount_point;
         }
     by mount true = refl

@@ -113,64 +113,52 @@ module _ (world : World ℕ) (graft : Graft) (counts : Counts) (first : Code) (o
   at_there = eq-eqb dest.number place.mount (number_found world.mounts place.mount)
 
   abbrev place_then : Bool → Mount ℕ → Location ℕ
-  place_then b mount =
-      if b then record {
-        mount = (mount_at nat_eq world (location_of graft.place)).number;
-        node =
-            (location_of graft.place).node;
-      }
-      else unwrap_or (option_map (λ (at : Location ℕ). record { mount = at.mount; node = at.node }) mount.mount_point)
+  place_then b mount = if b then record {
+    mount = (mount_at nat_eq world (location_of graft.place)).number;
+    node = (location_of graft.place).node;
+  } else unwrap_or (option_map (λ (at : Location ℕ). record { mount = at.mount; node = at.node }) mount.mount_point)
       (location_of graft.place)
 
-  pub copy_is : (mount : Mount ℕ) → copy mount
-      ≡ record mount {
-        number = mount.number;
-        namespace = dest.namespace;
-        mount_point = Some (place_then (nat_eq mount.number (counted first.number.count)) mount);
-        propagation = type_at (numbers_at world graft counts)
-            (group_of (mount_at nat_eq world (location_of graft.place)).propagation) mount;
-      }
-  copy_is mount =
-      (λ i. record mount {
-        number = if moves i && at_there i then mount.number else new.copy dest.number mount.number;
-        namespace = dest.namespace;
-        mount_point = Some
-            (if is_top nat_eq (graft_in world graft counts) mount.number
-            then record { mount = dest.number; node = place.node }
-            else unwrap_or (option_map
-            (λ (at : Location ℕ). record { mount = if moves i && at_there i then at.mount else new.copy dest.number at.mount; node = at.node }) mount.mount_point)
-            place);
-        propagation = if at_there i then type_at new (group_of dest.propagation) mount
-            else copy_type nat_eq world new parts dest (twig mount) dest.propagation;
-      })
-      ∙ (λ i. record mount {
-        number = mount.number;
-        namespace = dest.namespace;
-        mount_point = Some
-            (place_then (holds_of (λ (t : Twig ℕ). nat_eq mount.number t.origin.number)
-            (first_of_list (map twig (map mount_of (tree_now i))))) mount);
-        propagation = type_at new (group_of dest.propagation) mount;
-      })
+  pub copy_is : (mount : Mount ℕ) → copy mount ≡ record mount {
+    number = mount.number;
+    namespace = dest.namespace;
+    mount_point = Some (place_then (nat_eq mount.number (counted first.number.count)) mount);
+    propagation = type_at (numbers_at world graft counts)
+        (group_of (mount_at nat_eq world (location_of graft.place)).propagation) mount;
+  }
+  copy_is mount = (λ i. record mount {
+    number = if moves i && at_there i then mount.number else new.copy dest.number mount.number;
+    namespace = dest.namespace;
+    mount_point = Some (if is_top nat_eq (graft_in world graft counts) mount.number
+        then record { mount = dest.number; node = place.node } else unwrap_or (option_map
+        (λ (at : Location ℕ). record { mount = if moves i && at_there i then at.mount else new.copy dest.number at.mount; node = at.node }) mount.mount_point)
+        place);
+    propagation = if at_there i then type_at new (group_of dest.propagation) mount
+        else copy_type nat_eq world new parts dest (twig mount) dest.propagation;
+  }) ∙ (λ i. record mount {
+    number = mount.number;
+    namespace = dest.namespace;
+    mount_point = Some (place_then (holds_of (λ (t : Twig ℕ). nat_eq mount.number t.origin.number)
+        (first_of_list (map twig (map mount_of (tree_now i))))) mount);
+    propagation = type_at new (group_of dest.propagation) mount;
+  })
 
   pub copy_number_is : (mount : Mount ℕ) → (copy mount).number ≡ mount.number
   copy_number_is mount = ap (λ (x : Mount ℕ). x.number) (copy_is mount)
 
-  pub copy_kind_is : (mount : Mount ℕ) → (copy mount).propagation
-      ≡ type_at (numbers_at world graft counts)
+  pub copy_kind_is : (mount : Mount ℕ) → (copy mount).propagation ≡ type_at (numbers_at world graft counts)
       (group_of (mount_at nat_eq world (location_of graft.place)).propagation) mount
   copy_kind_is mount = ap (λ (x : Mount ℕ). x.propagation) (copy_is mount)
 
   pub own_copies : own ≡ map copy (map mount_of graft.tree.now)
-  own_copies = map_twice
-      (copy_at nat_eq world (numbers_at world graft counts) (graft_in world graft counts)
+  own_copies = map_twice (copy_at nat_eq world (numbers_at world graft counts) (graft_in world graft counts)
       (parts_of nat_eq world (location_of graft.place)) (mount_at nat_eq world (location_of graft.place)))
       (twig_of (numbers_at world graft counts)
       (group_of (mount_at nat_eq world (location_of graft.place)).propagation)) (map mount_of graft.tree.now)
 
   pub own_numbers : map (λ (mount : Mount ℕ). mount.number) own
       ≡ map (λ (mount : Mount ℕ). mount.number) (map mount_of graft.tree.now)
-  own_numbers =
-      ap (map (λ (mount : Mount ℕ). mount.number)) own_copies
+  own_numbers = ap (map (λ (mount : Mount ℕ). mount.number)) own_copies
       ∙ map_twice (λ (mount : Mount ℕ). mount.number) copy (map mount_of graft.tree.now)
       ∙ map_alike (λ mount. (copy mount).number) (λ (mount : Mount ℕ). mount.number) (map mount_of graft.tree.now)
       (λ mount m. copy_number_is mount)
@@ -181,8 +169,7 @@ module _ (world : World ℕ) (graft : Graft) (counts : Counts) (first : Code) (o
       (there : (mount : Mount ℕ) → Among mount (map mount_of graft.tree.now) → Among mount world.mounts)
       (beside : (mount : Mount ℕ) → Among mount (map mount_of graft.tree.now)
       → mount.namespace ≡ (mount_at nat_eq world (location_of graft.place)).namespace)
-      (placed : (mount : Mount ℕ) → Among mount (map mount_of graft.tree.now) → is_some mount.mount_point
-      ≡ true) where
+      (placed : (mount : Mount ℕ) → Among mount (map mount_of graft.tree.now) → is_some mount.mount_point ≡ true) where
     -- one of the own mounts is what the mount with its number becomes
     pub becomes : (mount : Mount ℕ) → Among mount world.mounts → (one : Mount ℕ) → Among one own
         → mount.number ≡ one.number → Among mount (map mount_of graft.tree.now) × (one ≡ copy mount)
@@ -198,8 +185,7 @@ module _ (world : World ℕ) (graft : Graft) (counts : Counts) (first : Code) (o
         (record { mount = number_found world.mounts place.mount i; node = place.node })
     point_then mount some false = by mount.mount_point some
       where
-        by : (o : Option (Location ℕ)) → is_some o ≡ true
-            → Some (unwrap_or (option_map
+        by : (o : Option (Location ℕ)) → is_some o ≡ true → Some (unwrap_or (option_map
             (λ (at : Location ℕ). record { mount = at.mount; node = at.node }) o) place) ≡ o
         by None e = absurd (true≢false (sym e))
         by (Some at) e = refl
@@ -232,14 +218,11 @@ module _ (world : World ℕ) (graft : Graft) (counts : Counts) (first : Code) (o
               (find (λ (x : Mount ℕ). nat_eq mount.number x.number) (map copy (map mount_of others)))
               (ap (find (λ (x : Mount ℕ). nat_eq mount.number x.number))
               (sym (own_copies ∙ ap (λ (tree : List Code). map copy (map mount_of tree)) tree_now)) ∙ e) in
-              ap (λ o. moved_by (map point_seen pushed) (unwrap_or o mount)) e
-              ∙ (λ i. record mount {
-                mount_point = or_else
-                    (sym (lookup_is mount.number
+              ap (λ o. moved_by (map point_seen pushed) (unwrap_or o mount)) e ∙ (λ i. record mount {
+                mount_point = or_else (sym (lookup_is mount.number
                     ∙ ap (λ b. or_else (lookup (nat_eq mount.number) (map point_seen pushed))
                     (cond b (Some (location_of graft.place)) None)) other
-                    ∙ none_else (lookup (nat_eq mount.number) (map point_seen pushed))) i)
-                    mount.mount_point;
+                    ∙ none_else (lookup (nat_eq mount.number) (map point_seen pushed))) i) mount.mount_point;
                 propagation = unwrap_or (sym (lookup_found mount.number own
                     ∙ ap (option_map (λ (one : Mount ℕ). one.propagation)) e) i) mount.propagation;
               })
@@ -251,17 +234,14 @@ module _ (world : World ℕ) (graft : Graft) (counts : Counts) (first : Code) (o
               let found = found_among mount.number own other e in
               let is = becomes mount m other found.0 found.1 in
               ap (λ o. moved_by (map point_seen pushed) (unwrap_or o mount)) e
-              ∙ ap (moved_by (map point_seen pushed)) (is.1 ∙ copy_is mount)
-              ∙ (λ i. record mount {
+              ∙ ap (moved_by (map point_seen pushed)) (is.1 ∙ copy_is mount) ∙ (λ i. record mount {
                 namespace = sym (beside mount is.0) i;
                 mount_point = (ap (or_else (lookup (nat_eq mount.number) (map point_seen pushed)))
                     (point_then mount (placed mount is.0) (nat_eq mount.number (counted first.number.count)))
                     ∙ sym (else_else (lookup (nat_eq mount.number) (map point_seen pushed))
                     (cond (nat_eq mount.number (counted first.number.count)) (Some (location_of graft.place)) None)
-                    mount.mount_point)
-                    ∙ ap (λ o. or_else o mount.mount_point) (sym (lookup_is mount.number))) i;
-                propagation = (sym (copy_kind_is mount)
-                    ∙ ap (λ (x : Mount ℕ). x.propagation) (sym is.1)
+                    mount.mount_point) ∙ ap (λ o. or_else o mount.mount_point) (sym (lookup_is mount.number))) i;
+                propagation = (sym (copy_kind_is mount) ∙ ap (λ (x : Mount ℕ). x.propagation) (sym is.1)
                     ∙ ap (λ o. unwrap_or o mount.propagation)
                     (sym (ap (λ n. lookup (nat_eq n) (map type_of own)) found.1
                     ∙ lookup_kind own kinds_once other found.0))) i;
@@ -270,8 +250,7 @@ module _ (world : World ℕ) (graft : Graft) (counts : Counts) (first : Code) (o
       -- all mounts of the world then
       pub all_moved : map (moved_by (map point_seen pushed)) (folded (with_mount nat_eq) world.mounts own)
           ≡ map (changed_at points (map type_of own)) world.mounts
-      all_moved =
-          ap (map (moved_by (map point_seen pushed))) (all_replaced own own_once world.mounts)
+      all_moved = ap (map (moved_by (map point_seen pushed))) (all_replaced own own_once world.mounts)
           ∙ map_twice (moved_by (map point_seen pushed)) (replaced_by own) world.mounts
           ∙ map_alike (λ mount. moved_by (map point_seen pushed) (replaced_by own mount))
           (changed_at points (map type_of own)) world.mounts one_moved

@@ -61,8 +61,7 @@ entry_is_moved from to was some = by (nat_eq from to) refl
     n = was.mount.number
 
     two : (c d : Bool) → nat_eq to n ≡ c → nat_eq from n ≡ d → one_if (nat_eq n from) ≡ one_if d
-        → one_if (nat_eq n to) ≡ one_if c
-        → IsMovedEntry from to was (released_at from (cond c (held false was) was))
+        → one_if (nat_eq n to) ≡ one_if c → IsMovedEntry from to was (released_at from (cond c (held false was) was))
     two true true e f g h = record {
       mount = ap (λ b. (cond b (released false (held false was)) (held false was)).mount) f;
       uses = ap (λ b. (cond b (released false (held false was)) (held false was)).uses + one_if (nat_eq n from)) f
@@ -89,8 +88,7 @@ entry_is_moved from to was some = by (nat_eq from to) refl
     by : (b : Bool) → nat_eq from to ≡ b → IsMovedEntry from to was (cond b was (released_at from (held_at to was)))
     by true e = record {
       mount = refl;
-      uses = ap (λ k. was.uses + one_if (nat_eq n k))
-          (eqb-true from to e);
+      uses = ap (λ k. was.uses + one_if (nat_eq n k)) (eqb-true from to e);
       writers = refl;
     }
     by false e = two (nat_eq to n) (nat_eq from n) refl refl (ap one_if (swap_eq n from)) (ap one_if (swap_eq n to))
@@ -103,8 +101,7 @@ apart_from [] ys one x y m n = absurd m
 apart_from (first ∷ xs) ys one x y m n =
     let parts = or_parts (list_any (λ b. nat_eq first.number b.number) (xs ++ ys))
     (any_pair (λ (a b : Mount ℕ). nat_eq a.number b.number) (xs ++ ys)) one in
-    ⊎_elim
-    (λ same. ap (λ (z : Mount ℕ). nat_eq y.number z.number) same ∙ swap_eq y.number first.number
+    ⊎_elim (λ same. ap (λ (z : Mount ℕ). nat_eq y.number z.number) same ∙ swap_eq y.number first.number
     ∙ fails (λ b. nat_eq first.number b.number) (xs ++ ys) parts.0 y (among-append_right xs ys y n))
     (λ later. apart_from xs ys parts.1 x y later n) m
 
@@ -162,16 +159,14 @@ module _ (value : WorldValue) (whole : IsHeld value) (copies : List Attached) (t
     pub writers : entry.writers ≡ writes_of entry.mount.number value.tasks
 
   starts : (entry : MountEntry) → Among entry attached_entries → StartsAs entry
-  starts entry m =
-      ⊎_elim
+  starts entry m = ⊎_elim
       (λ old. let counts = among_from_all (CountsItsUses world) value.mounts whole.mounts entry old in record { uses = counts.uses; writers = counts.writers })
       (λ new.
       let from = among-from_map unused_entry copies entry new in
       let none : mount_uses world (mount_of from.0).number
       ≡ 0 = none_on (mount_of from.0).number (all_locations world) (λ location n.
       let there = passes (λ (l : Location ℕ). is_among nat_eq l.mount (map (λ x. x.number) world.mounts))
-      (all_locations world)
-      (Roots.locations_of_worlds_stand world whole.in_world) location n in
+      (all_locations world) (Roots.locations_of_worlds_stand world whole.in_world) location n in
       let mount = among-from_map (λ (x : Mount ℕ). x.number) world.mounts location.mount
       (among_numbers location.mount (map (λ (x : Mount ℕ). x.number) world.mounts) there) in
       ap (nat_eq (mount_of from.0).number) mount.2
@@ -191,8 +186,7 @@ module _ (value : WorldValue) (whole : IsHeld value) (copies : List Attached) (t
   pub record EndsAs (was entry : MountEntry) : Type 0 where
     pub mount : entry.mount ≡ was.mount
     pub uses : entry.uses + times (λ (location : Location ℕ). nat_eq entry.mount.number location.mount)
-        (root ∷ directory ∷ [])
-        ≡ mount_uses world entry.mount.number + times
+        (root ∷ directory ∷ []) ≡ mount_uses world entry.mount.number + times
         (λ (location : Location ℕ). nat_eq entry.mount.number location.mount) (new_root ∷ new_directory ∷ [])
     pub writers : entry.writers ≡ writes_of entry.mount.number value.tasks
 
@@ -234,8 +228,7 @@ module _ (value : WorldValue) (whole : IsHeld value) (copies : List Attached) (t
       (from.0, subst (EndsAs from.0) (sym from.2) (ends from.0 (starts from.0 from.1)))
 
   pub moved_mounts : mounts_in moved_entries ≡ world.mounts ++ map mount_of copies
-  moved_mounts =
-      ap mounts_in entries_each ∙ map_twice (λ (entry : MountEntry). entry.mount) both attached_entries
+  moved_mounts = ap mounts_in entries_each ∙ map_twice (λ (entry : MountEntry). entry.mount) both attached_entries
       ∙ map_alike (λ entry. (both entry).mount) (λ entry. entry.mount) attached_entries
       (λ entry m. (ends entry (starts entry m)).mount)
       ∙ map-append (λ (entry : MountEntry). entry.mount) value.mounts (map unused_entry copies)

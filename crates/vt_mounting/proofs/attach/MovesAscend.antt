@@ -33,16 +33,13 @@ ascending_once (first ∷ rest) rising =
     ne_eqb first.number later.number (λ same.
     let less = ltb-true first.number later.number
     (passes (λ (x : Mount ℕ). nat_lt first.number x.number) rest parts.0 later m) in
-    absurd (omega (arith, less, same)))) i
-    || ascending_once rest parts.1 i
+    absurd (omega (arith, less, same)))) i || ascending_once rest parts.1 i
 
 -- the copies at all parts but the first
 abbrev pub copies_beside : World ℕ → Graft → Counts → List (Mount ℕ)
-copies_beside world graft counts =
-    flat_map
+copies_beside world graft counts = flat_map
     (copies_at nat_eq world (numbers_at world graft counts) (graft_in world graft counts)
-    (parts_of nat_eq world (location_of graft.place)))
-    (rest_of (parts_of nat_eq world (location_of graft.place)))
+    (parts_of nat_eq world (location_of graft.place))) (rest_of (parts_of nat_eq world (location_of graft.place)))
 
 module _ (counts : Counts) (steps : 0 < counts.step) (world : World ℕ) (graft : Graft)
     (one : OneNumberAMount world.mounts)
@@ -58,19 +55,15 @@ module _ (counts : Counts) (steps : 0 < counts.step) (world : World ℕ) (graft 
       (receivers_of nat_eq world (mount_at nat_eq world (location_of graft.place)))
 
   abbrev copy : Mount ℕ → Mount ℕ → Mount ℕ
-  copy part mount =
-      copy_at nat_eq world (numbers_at world graft counts) (graft_in world graft counts)
-      (parts_of nat_eq world (location_of graft.place)) part
-      (twig_of (numbers_at world graft counts)
+  copy part mount = copy_at nat_eq world (numbers_at world graft counts) (graft_in world graft counts)
+      (parts_of nat_eq world (location_of graft.place)) part (twig_of (numbers_at world graft counts)
       (group_of (mount_at nat_eq world (location_of graft.place)).propagation) mount)
 
-  copy_number : (part mount : Mount ℕ) → Among part rest
-      → (copy part mount).number ≡ number_at counts steps
+  copy_number : (part mount : Mount ℕ) → Among part rest → (copy part mount).number ≡ number_at counts steps
       (index_of nat_eq parts part.number * length tree + index_of nat_eq tree mount.number)
   copy_number part mount m =
       ap (λ b. if graft.moves && b then mount.number else (numbers_at world graft counts).copy part.number mount.number)
-      (receivers_apart world (location_of graft.place) part m)
-      ∙ by graft.moves
+      (receivers_apart world (location_of graft.place) part m) ∙ by graft.moves
     where
       by : (b : Bool) → (if b && false then mount.number
           else (numbers_at world graft counts).copy part.number mount.number)
@@ -84,37 +77,28 @@ module _ (counts : Counts) (steps : 0 < counts.step) (world : World ℕ) (graft 
   places : (part mount : Mount ℕ) → Among part rest → Among mount tree
       → (copy part mount).number ≡ number_at counts steps
       (place_in 1 rest part.number * length tree + index_of nat_eq tree mount.number)
-  places part mount m n =
-      copy_number part mount m
+  places part mount m n = copy_number part mount m
       ∙ ap (λ p. number_at counts steps (p * length tree + index_of nat_eq tree mount.number))
       (place_later 0 (mount_at nat_eq world (location_of graft.place)) rest parts_once part m)
 
   by_rows : copies_beside world graft counts ≡ flat_map (λ part. map (copy part) tree) rest
-  by_rows =
-      flat_map_alike
-      (copies_at nat_eq world (numbers_at world graft counts) (graft_in world graft counts)
-      (parts_of nat_eq world (location_of graft.place)))
-      (λ part. map (copy part) tree) rest
-      (λ part m. map_twice
+  by_rows = flat_map_alike (copies_at nat_eq world (numbers_at world graft counts) (graft_in world graft counts)
+      (parts_of nat_eq world (location_of graft.place))) (λ part. map (copy part) tree) rest (λ part m. map_twice
       (copy_at nat_eq world (numbers_at world graft counts) (graft_in world graft counts)
-      (parts_of nat_eq world (location_of graft.place)) part)
-      (twig_of (numbers_at world graft counts)
+      (parts_of nat_eq world (location_of graft.place)) part) (twig_of (numbers_at world graft counts)
       (group_of (mount_at nat_eq world (location_of graft.place)).propagation)) tree)
 
   rows_rise : are_ascending (flat_map (λ part. map (copy part) tree) rest) ≡ true
-  rows_rise =
-      rows_ascend (number_at counts steps) (numbers_grow counts steps) tree tree_once
+  rows_rise = rows_ascend (number_at counts steps) (numbers_grow counts steps) tree tree_once
       (subst (λ n. 0 < n) (sym (length-map graft.tree.now mount_of)) some) copy 1 rest
       (or_parts (list_any (λ (b : Mount ℕ). nat_eq (mount_at nat_eq world (location_of graft.place)).number b.number)
-      rest) _ parts_once).1
-      places
+      rest) _ parts_once).1 places
 
   -- behind mounts with lower numbers than the first count
   pub beside_ascend : (front : List (Mount ℕ)) → are_ascending front ≡ true
       → ((mount : Mount ℕ) → Among mount front → mount.number < counted counts.first)
       → are_ascending (front ++ copies_beside world graft counts) ≡ true
-  beside_ascend front rising less =
-      subst (λ list. are_ascending (front ++ list) ≡ true) (sym by_rows)
+  beside_ascend front rising less = subst (λ list. are_ascending (front ++ list) ≡ true) (sym by_rows)
       (ascending_joined front (flat_map (λ part. map (copy part) tree) rest) rising rows_rise (λ a b m n.
       let part = among-from_flat_map (λ part. map (copy part) tree) rest b n in
       let from = among-from_map (copy part.0) tree b part.2 in

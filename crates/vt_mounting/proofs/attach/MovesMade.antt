@@ -32,10 +32,8 @@ taken-moves (point ∷ rest) entries =
     map-append place_taken (all_moves rest entries) (moves_by point (with_points rest entries))
     ∙ (λ i. taken-moves rest entries i ++ one (entry_numbered (with_points rest entries) (counted point.mount.count)) i)
   where
-    one : (found : Option MountEntry)
-        → map place_taken (option_to_list (option_map (λ (entry : MountEntry).
-        (entry.mount.number, entry.mount.mount_point, point.place)) found))
-        ≡ cond (is_some found) (point.place ∷ []) []
+    one : (found : Option MountEntry) → map place_taken (option_to_list (option_map (λ (entry : MountEntry).
+        (entry.mount.number, entry.mount.mount_point, point.place)) found)) ≡ cond (is_some found) (point.place ∷ []) []
     one None = refl
     one (Some entry) = refl
 
@@ -47,8 +45,7 @@ left-moves (point ∷ rest) entries =
     (all_moves rest entries) (moves_by point (with_points rest entries))
     ∙ (λ i. left-moves rest entries i ++ one (entry_numbered (with_points rest entries) (counted point.mount.count)) i)
   where
-    one : (found : Option MountEntry)
-        → places_left (option_to_list (option_map (λ (entry : MountEntry).
+    one : (found : Option MountEntry) → places_left (option_to_list (option_map (λ (entry : MountEntry).
         (entry.mount.number, entry.mount.mount_point, point.place)) found))
         ≡ option_to_list (option_and_then (λ (entry : MountEntry). entry.mount.mount_point) found)
     one None = refl
@@ -60,8 +57,7 @@ taken-moved (one ∷ rest) = ap (λ places. one.to ∷ places) (taken-moved rest
 
 left-moved : (moved : List Moved) → map location_of (left_of moved) ≡ places_left (map move_of moved)
 left-moved [] = refl
-left-moved (one ∷ rest) =
-    map-append location_of (option_to_list one.from) (left_of rest)
+left-moved (one ∷ rest) = map-append location_of (option_to_list one.from) (left_of rest)
     ∙ (λ i. mapped_points one.from i ++ left-moved rest i)
 
 small-taken : (moved : List Moved) → list_all has_small_points moved ≡ true → list_all is_small (taken_of moved) ≡ true

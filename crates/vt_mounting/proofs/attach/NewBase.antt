@@ -74,8 +74,7 @@ found_before (first ∷ rest) added number other = ap (λ o. cond (nat_eq number
     (found_before rest added number other)
 
 pub flat_before : {B : Type 0} (g : Filesystem ℕ → List B) (filesystems : List (Filesystem ℕ)) (added : Filesystem ℕ)
-    → g added ≡ []
-    → flat_map g (filesystems ++ added ∷ []) ≡ flat_map g filesystems
+    → g added ≡ [] → flat_map g (filesystems ++ added ∷ []) ≡ flat_map g filesystems
 flat_before g [] added none = λ i. none i ++ []
 flat_before g (first ∷ rest) added none = ap (λ list. g first ++ list) (flat_before g rest added none)
 
@@ -94,8 +93,7 @@ rising_last (first ∷ rest) added rising lower =
     let parts = and_parts (list_all (λ (f : Filesystem ℕ). nat_lt first.number f.number) rest) _ rising in
     let low = and_parts (nat_lt first.number added.number) _ lower in
     λ i. (list_all-append (λ (f : Filesystem ℕ). nat_lt first.number f.number) rest (added ∷ [])
-    ∙ (λ j. parts.0 j && (low.0 j && true))) i
-    && rising_last rest added parts.1 low.1 i
+    ∙ (λ j. parts.0 j && (low.0 j && true))) i && rising_last rest added parts.1 low.1 i
 
 -- and behind those that are woven it is woven
 pub put_before : (overlay added : Filesystem ℕ) → nat_lt added.number overlay.number ≡ false
@@ -149,8 +147,7 @@ module _ (value : WorldValue) (whole : IsHeld value) (name : TaskName) (place : 
 
   pub left_attached : left_by value permits.task (ToMountPlain place flags)
       ≡ attach nat_eq middle (odds fresh) place false tree
-  left_attached =
-      new_mounts_of_trees_keep_all fresh world permits.task place flags
+  left_attached = new_mounts_of_trees_keep_all fresh world permits.task place flags
       (worlds_are_in_use world whole.in_world) (mounts_of_worlds_stand world whole.in_world)
       (Roots.locations_of_worlds_stand world whole.in_world)
       (ap is_some (permit_fits value whole name (ToMountPlain place flags) permits).names.own)
@@ -161,8 +158,7 @@ module _ (value : WorldValue) (whole : IsHeld value) (name : TaskName) (place : 
 
   left_world : IsWorld nat_eq (attach nat_eq middle (odds fresh) place false tree)
       × OverlaysHaveNoUpper (attach nat_eq middle (odds fresh) place false tree)
-  left_world =
-      subst (λ (w : World ℕ). IsWorld nat_eq w × OverlaysHaveNoUpper w) left_attached
+  left_world = subst (λ (w : World ℕ). IsWorld nat_eq w × OverlaysHaveNoUpper w) left_attached
       (left_is_world value whole name (ToMountPlain place flags) permits.task takes)
 
   -- No mount and no location is in the new filesystem
@@ -191,10 +187,8 @@ module _ (value : WorldValue) (whole : IsHeld value) (name : TaskName) (place : 
       ∙ others_elsewhere from.0 from.1
 
   point_on : (mount : meant.Mount ℕ) → Among mount (mounts_in value.mounts) → (location : Location ℕ)
-      → mount.mount_point ≡ Some location
-      → is_on (mounts_in value.mounts) location ≡ true
-  point_on mount m location is =
-      passes (is_on (mounts_in value.mounts))
+      → mount.mount_point ≡ Some location → is_on (mounts_in value.mounts) location ≡ true
+  point_on mount m location is = passes (is_on (mounts_in value.mounts))
       (all_locations world ++ places_of (mounts_in value.mounts)) all_stand location
       (among-append_right (all_locations world) (places_of (mounts_in value.mounts)) location
       (among-append_right (map (meant.root_of {N = ℕ}) (mounts_in value.mounts))
@@ -203,25 +197,19 @@ module _ (value : WorldValue) (whole : IsHeld value) (name : TaskName) (place : 
 
   all_outside : list_all (is_outside middle (counted value.next))
       (all_locations world ++ filter_map (λ (x : meant.Mount ℕ). x.mount_point) (mounts_in value.mounts)) ≡ true
-  all_outside =
-      all_pass (is_outside middle (counted value.next))
-      (all_locations world ++ filter_map (λ (x : meant.Mount ℕ). x.mount_point) (mounts_in value.mounts))
-      (λ location m.
-      ⊎_elim
-      (λ own. ap not (on_elsewhere location
-      (passes (is_on (mounts_in value.mounts))
+  all_outside = all_pass (is_outside middle (counted value.next))
+      (all_locations world ++ filter_map (λ (x : meant.Mount ℕ). x.mount_point) (mounts_in value.mounts)) (λ location m.
+      ⊎_elim (λ own. ap not (on_elsewhere location (passes (is_on (mounts_in value.mounts))
       (all_locations world ++ places_of (mounts_in value.mounts)) all_stand location
       (among-append_left (all_locations world) (places_of (mounts_in value.mounts)) location own))))
       (λ point. let from = among-from_filter_map (λ (x : meant.Mount ℕ). x.mount_point)
       (mounts_in value.mounts) location point in
-      ap not (on_elsewhere location (point_on from.0 from.1 location from.2)))
-      (among-append (all_locations world)
+      ap not (on_elsewhere location (point_on from.0 from.1 location from.2))) (among-append (all_locations world)
       (filter_map (λ (x : meant.Mount ℕ). x.mount_point) (mounts_in value.mounts)) location m))
 
   roots_elsewhere : list_all (λ (x : meant.Mount ℕ). not (nat_eq (counted value.next) x.filesystem)
       || nat_eq (inode_number value.next 0) x.root) (mounts_in value.mounts) ≡ true
-  roots_elsewhere =
-      all_pass (λ (x : meant.Mount ℕ). not (nat_eq (counted value.next) x.filesystem)
+  roots_elsewhere = all_pass (λ (x : meant.Mount ℕ). not (nat_eq (counted value.next) x.filesystem)
       || nat_eq (inode_number value.next 0) x.root) (mounts_in value.mounts)
       (λ x m. ap (λ b. not b || nat_eq (inode_number value.next 0) x.root) (others_elsewhere x m))
 
@@ -233,54 +221,42 @@ module _ (value : WorldValue) (whole : IsHeld value) (name : TaskName) (place : 
 
   files_kept : (number : ℕ) → nat_eq (counted value.next) number ≡ false
       → filesystem_numbered nat_eq middle number ≡ filesystem_numbered nat_eq world number
-  files_kept number other =
-      ap (λ found. unwrap_or found (no_filesystem number))
+  files_kept number other = ap (λ found. unwrap_or found (no_filesystem number))
       (found_before world.filesystems added number (turned number (counted value.next) ∙ other))
 
   roots_kept : list_all (has_its_root nat_eq middle) (mounts_in value.mounts) ≡ true
-  roots_kept =
-      all_pass (has_its_root nat_eq middle) (mounts_in value.mounts) (λ mount m.
+  roots_kept = all_pass (has_its_root nat_eq middle) (mounts_in value.mounts) (λ mount m.
       (λ i. is_directory_node ((files_kept mount.filesystem (others_elsewhere mount m) i).files.tree.node mount.root)
       && points mount m mount.mount_point refl i)
       ∙ passes (has_its_root nat_eq world) (mounts_in value.mounts) whole.in_world.roots mount m)
     where
       points : (mount : meant.Mount ℕ) → Among mount (mounts_in value.mounts) → (o : Option (Location ℕ))
-          → mount.mount_point ≡ o
-          → list_all (is_directory_at nat_eq middle) (option_to_list o)
+          → mount.mount_point ≡ o → list_all (is_directory_at nat_eq middle) (option_to_list o)
           ≡ list_all (is_directory_at nat_eq world) (option_to_list o)
       points mount m None is = refl
       points mount m (Some location) is = λ i.
           is_directory_node ((files_kept (mount_at nat_eq world location).filesystem
-          (on_elsewhere location (point_on mount m location is)) i).files.tree.node location.node)
-          && true
+          (on_elsewhere location (point_on mount m location is)) i).files.tree.node location.node) && true
 
   used_same : (f : Filesystem ℕ) → used_in nat_eq middle f ≡ used_in nat_eq world f
-  used_same f = λ i.
-      f.files.tree.root ∷ (named_in f.files ++ located_in nat_eq world f.number
-      ++ map (λ layer. layer.directory)
-      (filter (λ layer. nat_eq f.number layer.filesystem)
+  used_same f = λ i. f.files.tree.root ∷ (named_in f.files ++ located_in nat_eq world f.number
+      ++ map (λ layer. layer.directory) (filter (λ layer. nat_eq f.number layer.filesystem)
       (flat_before (of_overlay [] layers_of) world.filesystems added refl i))
       ++ flat_before (objects_of_overlay nat_eq f.number) world.filesystems added refl i)
 
   in_use_then : InodesInUse middle
-  in_use_then =
-      all_from_among (λ (f : Filesystem ℕ). list_all (is_inode_used middle f) f.files.numbers ≡ true)
+  in_use_then = all_from_among (λ (f : Filesystem ℕ). list_all (is_inode_used middle f) f.files.numbers ≡ true)
       (world.filesystems ++ added ∷ []) (λ f m.
-      ⊎_elim
-      (λ old. ap (λ used. list_all (λ n. is_among nat_eq n used) f.files.numbers) (used_same f)
-      ∙ among_from_all (λ (g : Filesystem ℕ). list_all (is_inode_used world g) g.files.numbers ≡ true)
-      world.filesystems
-      (worlds_are_in_use world whole.in_world).inodes f old)
-      (λ last. ⊎_elim
+      ⊎_elim (λ old. ap (λ used. list_all (λ n. is_among nat_eq n used) f.files.numbers) (used_same f)
+      ∙ among_from_all (λ (g : Filesystem ℕ). list_all (is_inode_used world g) g.files.numbers ≡ true) world.filesystems
+      (worlds_are_in_use world whole.in_world).inodes f old) (λ last. ⊎_elim
       (λ same. subst (λ (g : Filesystem ℕ). list_all (is_inode_used middle g) g.files.numbers ≡ true) (sym same)
       (λ i. (eq-eqb (inode_number value.next 0) (inode_number value.next 0) refl i
-      || is_among nat_eq (inode_number value.next 0) (rest_used)) && true))
-      (λ none. absurd none) last)
+      || is_among nat_eq (inode_number value.next 0) (rest_used)) && true)) (λ none. absurd none) last)
       (among-append world.filesystems (added ∷ []) f m))
     where
       rest_used : List ℕ
-      rest_used =
-          named_in added.files ++ located_in nat_eq middle added.number ++ layers_in nat_eq middle added.number
+      rest_used = named_in added.files ++ located_in nat_eq middle added.number ++ layers_in nat_eq middle added.number
           ++ flat_map (objects_of_overlay nat_eq added.number) middle.filesystems
 
   module _ (entry : FilesystemEntry) (is_new : IsNew value.next root_attr entry) where
@@ -288,8 +264,7 @@ module _ (value : WorldValue) (whole : IsHeld value) (name : TaskName) (place : 
     base = value.filesystems ++ entry ∷ []
 
     seen_base : beside_overlays value (value.filesystems ++ entry ∷ []) ≡ world.filesystems ++ added ∷ []
-    seen_base =
-        ap (λ list. woven list (overlays_seen value.overlays))
+    seen_base = ap (λ list. woven list (overlays_seen value.overlays))
         (map-append filesystem_seen value.filesystems (entry ∷ [])
         ∙ ap (λ filesystem. filesystems_seen value.filesystems ++ filesystem ∷ []) is_new.seen)
         ∙ woven_last (filesystems_seen value.filesystems) (overlays_seen value.overlays) added (λ overlay m.
@@ -305,27 +280,21 @@ module _ (value : WorldValue) (whole : IsHeld value) (name : TaskName) (place : 
 
     old_counted : (was : FilesystemEntry) → Among was value.filesystems
         → IsCounted middle (filesystem_numbered nat_eq middle (counted was.count)) (inodes_seen was)
-    old_counted was m =
-        uses_are_exchanged_beside_overlays world middle [] [] (counted was.count) (inodes_seen was)
-        (worlds_have_trees world whole.in_world)
-        (worlds_are_in_use world whole.in_world).inodes
+    old_counted was m = uses_are_exchanged_beside_overlays world middle [] [] (counted was.count) (inodes_seen was)
+        (worlds_have_trees world whole.in_world) (worlds_are_in_use world whole.in_world).inodes
         (no_upper_is_in_any middle (counted was.count) left_world.1)
         (plain_ones_use_nothing world middle (counted was.count) refl refl
-        (overlays_before world.filesystems added refl)
-        (files_kept (counted was.count)
+        (overlays_before world.filesystems added refl) (files_kept (counted was.count)
         (let low = filesystem_counted value whole was m in ne_eqb (counted value.next) (counted was.count)
-        (λ same. absurd (omega (arith, low, same))))))
-        (subst (λ f. IsCounted world f (inodes_seen was))
+        (λ same. absurd (omega (arith, low, same)))))) (subst (λ f. IsCounted world f (inodes_seen was))
         (sym (found_plain_one value whole was m))
-        (among_from_all (CountsItsMounts world) value.filesystems whole.filesystems was m).inodes)
-        refl
+        (among_from_all (CountsItsMounts world) value.filesystems whole.filesystems was m).inodes) refl
 
     -- no overlay has a layer in the new one
     no_layer : All (λ merged. has_layer_on nat_eq (counted value.next) merged ≡ false) middle.filesystems
     no_layer =
         all_from_among (λ merged. has_layer_on nat_eq (counted value.next) merged ≡ false) middle.filesystems (λ f m.
-        ⊎_elim
-        (λ old. none_by f.overlay (passes (of_overlay true (λ overlay. list_all (is_plain_layer nat_eq world)
+        ⊎_elim (λ old. none_by f.overlay (passes (of_overlay true (λ overlay. list_all (is_plain_layer nat_eq world)
         (layers_of overlay))) world.filesystems whole.in_world.overlays.plain_layers f old))
         (λ last. ⊎_elim (λ same. ap (has_layer_on nat_eq (counted value.next)) same) (λ none. absurd none) last)
         (among-append world.filesystems (added ∷ []) f m))
@@ -354,9 +323,7 @@ module _ (value : WorldValue) (whole : IsHeld value) (name : TaskName) (place : 
     base_overlays = ap (filter is_overlay) seen_base ∙ overlays_before world.filesystems added refl
 
     none_layered : layer_count (with_base value (value.filesystems ++ entry ∷ [])) (counted value.next) ≡ 0
-    none_layered =
-        ap (λ list. layers_among (counted value.next) list) seen_base
-        ∙ none_in middle.filesystems no_layer
+    none_layered = ap (λ list. layers_among (counted value.next) list) seen_base ∙ none_in middle.filesystems no_layer
       where
         none_of : (f : Filesystem ℕ) → has_layer_on nat_eq (counted value.next) f ≡ false → (o : Option (Overlay ℕ))
             → f.overlay ≡ o
@@ -372,8 +339,7 @@ module _ (value : WorldValue) (whole : IsHeld value) (name : TaskName) (place : 
             → All (λ merged. has_layer_on nat_eq (counted value.next) merged ≡ false) list
             → layers_among (counted value.next) list ≡ 0
         none_in [] all = refl
-        none_in (first ∷ rest) all =
-            times_append (λ (layer : Layer ℕ). nat_eq (counted value.next) layer.filesystem)
+        none_in (first ∷ rest) all = times_append (λ (layer : Layer ℕ). nat_eq (counted value.next) layer.filesystem)
             (of_overlay [] layers_of first) (flat_map (of_overlay [] layers_of) rest)
             ∙ (λ i. none_of first (All-head (λ merged. has_layer_on nat_eq (counted value.next) merged ≡ false) first
             rest all) first.overlay refl i
@@ -381,15 +347,13 @@ module _ (value : WorldValue) (whole : IsHeld value) (name : TaskName) (place : 
 
     -- all others have lower numbers
     all_lower : list_all (λ (f : Filesystem ℕ). nat_lt f.number added.number) world.filesystems ≡ true
-    all_lower =
-        all_pass (λ (f : Filesystem ℕ). nat_lt f.number (counted value.next)) world.filesystems
+    all_lower = all_pass (λ (f : Filesystem ℕ). nat_lt f.number (counted value.next)) world.filesystems
         (λ f m. lt-ltb f.number (counted value.next) (number_below value whole f m))
 
     new_counted : IsCounted middle (filesystem_numbered nat_eq middle (counted entry.count)) (inodes_seen entry)
     new_counted =
         subst (λ count. IsCounted middle (filesystem_numbered nat_eq middle (counted count)) (inodes_seen entry))
-        (sym is_new.counts)
-        (subst (λ f. IsCounted middle f (inodes_seen entry))
+        (sym is_new.counts) (subst (λ f. IsCounted middle f (inodes_seen entry))
         (sym (found_filesystem middle.filesystems left_world.0.files.one_filesystem added
         (among-append_right world.filesystems (added ∷ []) added (inl refl))))
         (subst (IsCounted middle added) (sym is_new.inodes)
@@ -405,31 +369,24 @@ module _ (value : WorldValue) (whole : IsHeld value) (name : TaskName) (place : 
       roots = subst (λ (w : World ℕ). list_all (has_its_root nat_eq w) (mounts_in value.mounts)
           ≡ true) base_is roots_kept;
       rise = ap are_rising seen_base ∙ rising_last world.filesystems added whole.overlays.all_rise all_lower;
-      inodes = λ was m.
-          subst (λ (w : World ℕ). IsCounted w (filesystem_numbered nat_eq w (counted was.count))
-          (inodes_seen was)) base_is
-          (⊎_elim (old_counted was)
+      inodes = λ was m. subst (λ (w : World ℕ). IsCounted w (filesystem_numbered nat_eq w (counted was.count))
+          (inodes_seen was)) base_is (⊎_elim (old_counted was)
           (λ last. subst (λ (one : FilesystemEntry). IsCounted middle
           (filesystem_numbered nat_eq middle (counted one.count)) (inodes_seen one)) (sym last) new_counted)
           (from_base was m));
-      mounts = λ was m.
-          ⊎_elim
+      mounts = λ was m. ⊎_elim
           (λ old. (among_from_all (CountsItsMounts world) value.filesystems whole.filesystems was old).mounts
           ∙ ap (λ n. mounts_showing world (counted was.count) + n)
           (sym (layers_alike world (with_base value (value.filesystems ++ entry ∷ [])) base_overlays
-          (counted was.count))))
-          (λ last. ap (λ (one : FilesystemEntry). one.mounts) last ∙ is_new.unmounted
-          ∙ (λ i. sym none_showing i + sym none_layered i)
-          ∙ ap (λ count. mounts_showing world (counted count)
+          (counted was.count)))) (λ last. ap (λ (one : FilesystemEntry). one.mounts) last ∙ is_new.unmounted
+          ∙ (λ i. sym none_showing i + sym none_layered i) ∙ ap (λ count. mounts_showing world (counted count)
           + layer_count (with_base value (value.filesystems ++ entry ∷ [])) (counted count))
-          (sym (ap (λ (one : FilesystemEntry). one.count) last ∙ is_new.counts)))
-          (from_base was m);
+          (sym (ap (λ (one : FilesystemEntry). one.count) last ∙ is_new.counts))) (from_base was m);
     }
 
   -- it has the same parts
   pub same_parts : parts_of nat_eq middle place ≡ parts_of nat_eq world place
-  same_parts =
-      ap (λ list. mount_at nat_eq world place ∷ list)
+  same_parts = ap (λ list. mount_at nat_eq world place ∷ list)
       (filter_alike (takes_part nat_eq middle place) (takes_part nat_eq world place)
       (receivers_of nat_eq world (mount_at nat_eq world place)) (λ mount m.
       λ i. not (nat_eq place.mount mount.number) && is_some mount.namespace
@@ -440,8 +397,7 @@ module _ (value : WorldValue) (whole : IsHeld value) (name : TaskName) (place : 
       by : (o : Option ℕ) (mount : meant.Mount ℕ) → Among mount (unwrap_or (option_map (receivers nat_eq world) o) [])
           → Among mount (mounts_in value.mounts)
       by None mount m = absurd m
-      by (Some group) mount m =
-          (among-from_filter (receives nat_eq world group) (mounts_in value.mounts) mount m).0
+      by (Some group) mount m = (among-from_filter (receives nat_eq world group) (mounts_in value.mounts) mount m).0
 
       receiver_there : (mount : meant.Mount ℕ) → Among mount (receivers_of nat_eq world (mount_at nat_eq world place))
           → Among mount (mounts_in value.mounts)

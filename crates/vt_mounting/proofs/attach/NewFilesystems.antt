@@ -42,8 +42,7 @@ pub number_named : (value : WorldValue) → IsHeld value → (filesystem : Files
     → Among filesystem (world_of value).filesystems → is_counted_before value.next filesystem.number ≡ true
 number_named value whole filesystem m =
     used_numbers_are_named (is_counted_before value.next) (world_of value) whole.given (leaves_two value.next)
-    filesystem.number
-    (is_among_numbers filesystem.number (mounts_used ++ files_used ++ namespaces_used)
+    filesystem.number (is_among_numbers filesystem.number (mounts_used ++ files_used ++ namespaces_used)
     (among-append_left (mounts_used ++ files_used) namespaces_used filesystem.number
     (among-append_right mounts_used files_used filesystem.number
     (among-flat_map used_by_filesystem (world_of value).filesystems filesystem filesystem.number m (inl refl)))))
@@ -59,8 +58,7 @@ number_named value whole filesystem m =
 
 pub filesystem_counted : (value : WorldValue) → IsHeld value → (entry : FilesystemEntry) → Among entry value.filesystems
     → entry.count < value.next
-filesystem_counted value whole entry m =
-    counted_before value.next entry.count
+filesystem_counted value whole entry m = counted_before value.next entry.count
     (number_named value whole (filesystem_seen entry) (plain_one_among value whole.overlays.merged entry m))
 
 -- so it is below that of the next one
@@ -68,8 +66,7 @@ pub number_below : (value : WorldValue) → IsHeld value → (filesystem : Files
     → Among filesystem (world_of value).filesystems → filesystem.number < counted value.next
 number_below value whole filesystem m =
     let root = among_from_all HasOwnNodes (world_of value).filesystems (own_nodes value whole) filesystem m
-    filesystem.files.tree.root
-    (directory_there (filesystem.files.tree.node filesystem.files.tree.root)
+    filesystem.files.tree.root (directory_there (filesystem.files.tree.node filesystem.files.tree.root)
     (among_from_all (λ (f : Filesystem ℕ). IsTree f.files.tree) (world_of value).filesystems
     whole.in_world.files.trees filesystem m).root_directory) in
     let number = root.2 in
@@ -82,8 +79,7 @@ pub found_below : (value : WorldValue) → IsHeld value → (number inode : ℕ)
     → is_some ((filesystem_numbered nat_eq (world_of value) number).files.tree.node inode) ≡ true
     → number < counted value.next
 found_below value whole number inode there =
-    let found = ⊎_elim (λ low. low)
-    (λ missing. absurd (true≢false (sym there
+    let found = ⊎_elim (λ low. low) (λ missing. absurd (true≢false (sym there
     ∙ ap (λ (f : Filesystem ℕ). is_some (f.files.tree.node inode)) missing.0)))
     (numbered_all (λ (f : Filesystem ℕ). f.number < counted value.next) number (world_of value).filesystems
     (all_from_among (λ (f : Filesystem ℕ). f.number < counted value.next) (world_of value).filesystems
@@ -120,18 +116,14 @@ new_is_own count entry small is number other = ap (λ (all : Inodes ℕ). all.in
   where
     by : (b : Bool) → nat_eq number (inode_number count 0) ≡ b
         → cond b (Some (root_counted (inode_number count 0) 1)) None ≡ None
-    by true e =
-        absurd (true≢false (sym (is_own count 0 small (omega arith))
+    by true e = absurd (true≢false (sym (is_own count 0 small (omega arith))
         ∙ ap (is_own_number count) (sym (eqb-true number (inode_number count 0) e))
         ∙ ap (λ c. is_own_number c number) (sym is.counts) ∙ other))
     by false e = refl
 
 pub all_own : (value : WorldValue) → IsHeld value → (entry : FilesystemEntry) → value.next < 18446744073709551616
-    → IsNew value.next root_attr entry
-    → All HasOwnInodes (value.filesystems ++ entry ∷ [])
-all_own value whole entry small is =
-    all_from_among HasOwnInodes (value.filesystems ++ entry ∷ []) (λ one m.
-    ⊎_elim
-    (λ old. among_from_all HasOwnInodes value.filesystems whole.own_inodes one old)
+    → IsNew value.next root_attr entry → All HasOwnInodes (value.filesystems ++ entry ∷ [])
+all_own value whole entry small is = all_from_among HasOwnInodes (value.filesystems ++ entry ∷ []) (λ one m.
+    ⊎_elim (λ old. among_from_all HasOwnInodes value.filesystems whole.own_inodes one old)
     (λ last. ⊎_elim (λ same. subst HasOwnInodes (sym same) (new_is_own value.next entry small is)) (λ none. absurd none) last)
     (among-append value.filesystems (entry ∷ []) one m))

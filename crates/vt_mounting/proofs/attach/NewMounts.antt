@@ -81,8 +81,7 @@ module _ (value : WorldValue) (whole : IsHeld value) (name : TaskName) (graft : 
   tree_once = subst OneNumberAMount (sym tree_is) refl
 
   tree_some : 0 < length graft.tree.now
-  tree_some =
-      subst (λ n. 0 < n) (length-map graft.tree.now mount_of)
+  tree_some = subst (λ n. 0 < n) (length-map graft.tree.now mount_of)
       (subst (λ (list : List (meant.Mount ℕ)). 0 < length list) (sym tree_is) (omega arith))
 
   module _ (ascending : are_ascending (mounts_in value.mounts) ≡ true)
@@ -91,8 +90,7 @@ module _ (value : WorldValue) (whole : IsHeld value) (name : TaskName) (graft : 
         → are_ascending (mounts_in value.mounts ++ planned_copies other graft counts) ≡ true
     rising_in other one =
         planned_ascend counts (subst (λ n. 0 < n) (sym step) (omega arith)) other graft binds one tree_once tree_some
-        (mounts_in value.mounts) ascending
-        (λ mount m. subst (λ n. mount.number < counted n) (sym first)
+        (mounts_in value.mounts) ascending (λ mount m. subst (λ n. mount.number < counted n) (sym first)
         (let low = lower_numbers value whole odd mount m in omega (arith, low)))
 
     pub may_mount : MayGraft value.mounts value.groups graft counts
@@ -120,18 +118,14 @@ module _ (value : WorldValue) (whole : IsHeld value) (name : TaskName) (graft : 
 
       parts_then : map mount_of graft.parts.now
           ≡ parts_of nat_eq (with_base value (value.filesystems ++ entry ∷ [])) (location_of graft.place)
-      parts_then =
-          parts_are ∙ sym (same_parts value whole name place flags permits)
+      parts_then = parts_are ∙ sym (same_parts value whole name place flags permits)
           ∙ ap (λ (w : World ℕ). parts_of nat_eq w (location_of graft.place))
           (base_is value whole name place flags permits entry is_new)
 
       -- the groups of the new mounts are there
       groups_there : HasGroupsOf (with_base value (value.filesystems ++ entry ∷ [])) (map mount_of graft.tree.now)
-      groups_there mount contained group e =
-          ⊎_elim
-          (λ same. absurd (true≢false (sym
-          (ap is_some (sym (ap (λ (x : meant.Mount ℕ). group_of x.propagation) same) ∙ e)))))
-          (λ none. absurd none)
+      groups_there mount contained group e = ⊎_elim (λ same. absurd (true≢false (sym
+          (ap is_some (sym (ap (λ (x : meant.Mount ℕ). group_of x.propagation) same) ∙ e))))) (λ none. absurd none)
           (subst (Among mount) tree_is (among_from_contains tree mount contained))
 
       sizes : numbers_of_new_mount (with_new_filesystem world (plain_filesystem nat_eq fresh)) place
@@ -142,31 +136,25 @@ module _ (value : WorldValue) (whole : IsHeld value) (name : TaskName) (graft : 
           let all : 2 * (2 * length (map mount_of graft.parts.now))
           ≡ 2 * (length graft.parts.now * 2) = omega (arith, many) in
           ap (λ filesystem. 2 * (2 * length (parts_of nat_eq (with_new_filesystem world filesystem) place)))
-          (plain_is value whole name place flags permits)
-          ∙ ap (λ (list : List (meant.Mount ℕ)). 2 * (2 * length list))
-          (same_parts value whole name place flags permits ∙ sym parts_are)
-          ∙ all
+          (plain_is value whole name place flags permits) ∙ ap (λ (list : List (meant.Mount ℕ)). 2 * (2 * length list))
+          (same_parts value whole name place flags permits ∙ sym parts_are) ∙ all
 
       pub new_mount_is_done : (mounts : List MountEntry) (groups : Grouping) (filesystems : Filesystems)
-          (overlays : List Merged) (next : ℕ)
-          → IsGrafted graft counts
+          (overlays : List Merged) (next : ℕ) → IsGrafted graft counts
           (kept_with value.mounts (value.filesystems ++ entry ∷ []) (map merged_seen value.overlays)) value.groups
-          (kept_with mounts filesystems overlays) groups
-          → next ≡ value.next + 2 * (length graft.parts.now * 2)
+          (kept_with mounts filesystems overlays) groups → next ≡ value.next + 2 * (length graft.parts.now * 2)
           → IsDone value name permit (grafted_value value mounts groups filesystems overlays next)
       new_mount_is_done mounts groups filesystems overlays next is grows =
           let attaches = is.plan (with_base value base) seen_then whole.in_world.mounts.one_child parts_then in
           let attach_is = plan_attaches (with_base value base) graft counts (map mount_of is.copies)
-          (map new_group is.groups) (map point_seen is.points) attaches binds
-          (odds fresh) same_counts in
+          (map new_group is.groups) (map point_seen is.points) attaches binds (odds fresh) same_counts in
           let rising = ap (λ list. are_ascending (mounts_in value.mounts ++ list)) attaches.copies_are
           ∙ rising_in (with_base value base) whole.in_world.mounts.one_number in
           let left_is = left_attached value whole name place flags permits
           ∙ ap (λ (w : World ℕ). attach nat_eq w (odds fresh) place false
           (new_mount (counted value.next) (inode_number value.next 0) flags ∷ []))
           (base_is value whole name place flags permits entry is_new)
-          ∙ ap (λ list. attach nat_eq (with_base value base) (odds fresh) place false list) (sym tree_is)
-          ∙ attach_is in
+          ∙ ap (λ list. attach nat_eq (with_base value base) (odds fresh) place false list) (sym tree_is) ∙ attach_is in
           graft_is_done value (beside value whole) base (new_base value whole name place flags permits entry is_new small) graft counts
           mounts groups filesystems overlays next is attaches groups_there
           rising whole name permit permits (takes value whole name place flags permits) left_is

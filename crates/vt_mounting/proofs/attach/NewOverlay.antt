@@ -40,10 +40,8 @@ next_is_shown_by_none value whole =
 
 -- what holds of all in a list and of one more
 pub all_last : {A : Type 0} (P : A → Type 0) (list : List A) (last : A) → All P list → P last → All P (list ++ last ∷ [])
-all_last {A = A} P list last all is =
-    all_from_among P (list ++ last ∷ []) (λ one m.
-    ⊎_elim (among_from_all P list all one)
-    (λ n. ⊎_elim (λ same. subst P (sym same) is) (λ none. absurd none) n)
+all_last {A = A} P list last all is = all_from_among P (list ++ last ∷ []) (λ one m.
+    ⊎_elim (among_from_all P list all one) (λ n. ⊎_elim (λ same. subst P (sym same) is) (λ none. absurd none) n)
     (among-append list (last ∷ []) one m))
 
 module _ (value : WorldValue) (whole : IsHeld value) (trees : Filesystems) (entry : stored.OverlayEntry)
@@ -65,8 +63,7 @@ module _ (value : WorldValue) (whole : IsHeld value) (trees : Filesystems) (entr
       subst (All P) (sym seen_last) (all_last P (overlays_seen value.overlays) (overlay_seen over) all is)
 
   rises : are_rising (overlays_seen (value.overlays ++ over ∷ [])) ≡ true
-  rises =
-      ap are_rising seen_last
+  rises = ap are_rising seen_last
       ∙ rising_last (overlays_seen value.overlays) (overlay_seen over) whole.overlays.overlays_rise
       (all_pass (λ (f : Filesystem ℕ). nat_lt f.number (counted entry.count)) (overlays_seen value.overlays) (λ f m.
       let low = number_below value whole f (overlay_among value whole.overlays f m).0 in

@@ -37,8 +37,7 @@ module _ (value : WorldValue) (whole : IsHeld value) (base : Filesystems) (entry
   }
 
   -- what one of them was
-  pub was_before : (one : FilesystemEntry) → Among one base
-      → (was : FilesystemEntry) × Among was value.filesystems
+  pub was_before : (one : FilesystemEntry) → Among one base → (was : FilesystemEntry) × Among was value.filesystems
       × (shown_entry one ≡ held_by (map layer_of entry.overlay.lowers) (shown_entry was))
   was_before one m =
       let from = among-from_map (held_by layers) (shown value.filesystems) (shown_entry one)
@@ -50,8 +49,7 @@ module _ (value : WorldValue) (whole : IsHeld value) (base : Filesystems) (entry
       )
 
   pub own_when_held : All HasOwnInodes base
-  own_when_held =
-      all_from_among HasOwnInodes base (λ one m.
+  own_when_held = all_from_among HasOwnInodes base (λ one m.
       let from = was_before one m in
       subst (λ count. IsOwn count (inodes_seen one)) (sym (ap (λ (s : Shown). s.count) from.2))
       (subst (IsOwn from.0.count) (sym (ap (λ (s : Shown). s.inodes) from.2))
@@ -75,8 +73,7 @@ module _ (value : WorldValue) (whole : IsHeld value) (base : Filesystems) (entry
   -- all stand in order
   pub rising_when_held : are_rising (woven (filesystems_seen base)
       (overlays_seen (value.overlays ++ overlay_of_store base entry ∷ []))) ≡ true
-  rising_when_held =
-      same_files_rise (overlay_last value base entry).filesystems over_base.filesystems
+  rising_when_held = same_files_rise (overlay_last value base entry).filesystems over_base.filesystems
       (same_with_layers_held value whole base entry layers count_is held).filesystems
       (rising_last (world_of value).filesystems (overlay_seen (overlay_of_store base entry)) whole.overlays.all_rise
       (all_pass (λ (f : Filesystem ℕ). nat_lt f.number (counted entry.count)) (world_of value).filesystems (λ f m.

@@ -91,16 +91,13 @@ use Rattle.vt_mounting.proofs.attach.OverlaysNew.{layers_more}
 
 -- where trees have their numbers in another order, a place has the same parts
 parts_alike : (world : World ℕ) (others : List (Filesystem ℕ)) → SameFilesystems world.filesystems others
-    → (place : Location ℕ)
-    → parts_of nat_eq world place ≡ parts_of nat_eq (record world { filesystems = others }) place
-parts_alike world others same place = λ i.
-    mount_at nat_eq world place
+    → (place : Location ℕ) → parts_of nat_eq world place ≡ parts_of nat_eq (record world { filesystems = others }) place
+parts_alike world others same place = λ i. mount_at nat_eq world place
     ∷ filter (λ mount. takes mount i) (receivers_of nat_eq world (mount_at nat_eq world place))
   where
     takes : (mount : meant.Mount ℕ)
         → takes_part nat_eq world place mount ≡ takes_part nat_eq (record world { filesystems = others }) place mount
-    takes mount =
-        ap (λ b. not (nat_eq place.mount mount.number) && is_some mount.namespace
+    takes mount = ap (λ b. not (nat_eq place.mount mount.number) && is_some mount.namespace
         && nat_eq (mount_at nat_eq world place).filesystem mount.filesystem && b)
         (directory_under_same _ _ (found_same mount.filesystem world.filesystems others same).files mount.root
         place.node)
@@ -121,8 +118,7 @@ module _ (value : WorldValue) (whole : IsHeld value) (task : Task ℕ) (graft : 
     task (ToMountOverlay (location_of graft.place) overlay flags))
     (lower : overlay.upper ≡ None) (workless : overlay.work ≡ None) (unmade : overlay.real ≡ (λ number. None))
     (entry : stored.OverlayEntry) (overlay_is : entry.overlay ≡ overlay_kept value.next overlay)
-    (count_is : entry.count ≡ value.next) (none : entry.mounts ≡ 0)
-    (binds : graft.moves ≡ false)
+    (count_is : entry.count ≡ value.next) (none : entry.mounts ≡ 0) (binds : graft.moves ≡ false)
     (tree_is : map mount_of graft.tree.now
     ≡ new_mount (counted value.next) (overlay_of_store value.filesystems entry).root flags ∷ [])
     (parts_are : map mount_of graft.parts.now ≡ parts_of nat_eq (world_of value) (location_of graft.place))
@@ -158,16 +154,14 @@ module _ (value : WorldValue) (whole : IsHeld value) (task : Task ℕ) (graft : 
   tree_once = subst OneNumberAMount (sym tree_is) refl
 
   tree_some : 0 < length graft.tree.now
-  tree_some =
-      subst (λ n. 0 < n) (length-map graft.tree.now mount_of)
+  tree_some = subst (λ n. 0 < n) (length-map graft.tree.now mount_of)
       (subst (λ (list : List (meant.Mount ℕ)). 0 < length list) (sym tree_is) (omega arith))
 
   rising_in : (other : World ℕ) → OneNumberAMount other.mounts
       → are_ascending (mounts_in value.mounts ++ planned_copies other graft counts) ≡ true
   rising_in other one =
       planned_ascend counts (subst (λ n. 0 < n) (sym step) (omega arith)) other graft binds one tree_once tree_some
-      (mounts_in value.mounts) ascending
-      (λ mount m. subst (λ n. mount.number < counted n) (sym first)
+      (mounts_in value.mounts) ascending (λ mount m. subst (λ n. mount.number < counted n) (sym first)
       (let low = lower_numbers value whole odd mount m in omega (arith, low)))
 
   pub may_mount_overlay : MayGraft value.mounts value.groups graft counts
@@ -190,8 +184,7 @@ module _ (value : WorldValue) (whole : IsHeld value) (task : Task ℕ) (graft : 
   again = seen_again value whole task place overlay flags given lower entry overlay_is count_is workless unmade
 
   few : length entry.overlay.lowers ≤ 128
-  few =
-      subst (λ (o : OverlayValue). length o.lowers ≤ 128) (sym overlay_is)
+  few = subst (λ (o : OverlayValue). length o.lowers ≤ 128) (sym overlay_is)
       (kept_few value whole overlay lower names.layers names.fit)
 
   place_named : location_named (is_counted_before value.next) (location_of graft.place) ≡ true
@@ -212,17 +205,14 @@ module _ (value : WorldValue) (whole : IsHeld value) (task : Task ℕ) (graft : 
     }
 
     held_so : shown base ≡ map (held_by (map layer_of entry.overlay.lowers)) (shown value.filesystems)
-    held_so =
-        held ∙ layers_more entry.overlay.lowers (shown value.filesystems)
+    held_so = held ∙ layers_more entry.overlay.lowers (shown value.filesystems)
         ∙ held_each (map layer_of entry.overlay.lowers) (shown value.filesystems)
 
     stays : overlay_of_store base entry ≡ overlay_of_store value.filesystems entry
-    stays =
-        overlay_stays_when_held value.filesystems base entry shows.are (map layer_of entry.overlay.lowers) held_so
+    stays = overlay_stays_when_held value.filesystems base entry shows.are (map layer_of entry.overlay.lowers) held_so
 
     beside_it : IsBeside (record value { overlays = value.overlays ++ overlay_of_store base entry ∷ [] })
-    beside_it =
-        subst (λ one. IsBeside (record value { overlays = value.overlays ++ one ∷ [] })) (sym stays)
+    beside_it = subst (λ one. IsBeside (record value { overlays = value.overlays ++ one ∷ [] })) (sym stays)
         (new_is_beside value whole value.filesystems entry shows.are few
         (ap (λ (o : OverlayValue). o.number.count) overlay_is ∙ sym count_is) count_is small none)
 
@@ -243,8 +233,7 @@ module _ (value : WorldValue) (whole : IsHeld value) (task : Task ℕ) (graft : 
     all_named : OverlaysAreNamed (record (world_of value) {
       filesystems = woven (filesystems_seen base) (overlays_seen (value.overlays ++ overlay_of_store base entry ∷ []));
     })
-    all_named =
-        each_holds SameFilesystem IsNamed IsNamed
+    all_named = each_holds SameFilesystem IsNamed IsNamed
         (λ a b same holds seen. sym (named_same a b same) ∙ holds (ap is_some same.overlay ∙ seen))
         (overlay_last value base entry).filesystems over_base.filesystems
         (alike_from_same (overlay_last value base entry) over_base same_last).filesystems
@@ -253,10 +242,8 @@ module _ (value : WorldValue) (whole : IsHeld value) (task : Task ℕ) (graft : 
     -- the place has the same parts
     parts_same : parts_of nat_eq (record (world_of value) {
       filesystems = woven (filesystems_seen base) (overlays_seen (value.overlays ++ overlay_of_store base entry ∷ []));
-    }) (location_of graft.place)
-        ≡ parts_of nat_eq (world_of value) (location_of graft.place)
-    parts_same =
-        sym (parts_alike (overlay_last value base entry) over_base.filesystems same_last.filesystems place)
+    }) (location_of graft.place) ≡ parts_of nat_eq (world_of value) (location_of graft.place)
+    parts_same = sym (parts_alike (overlay_last value base entry) over_base.filesystems same_last.filesystems place)
         ∙ Kept.same_parts world whole.in_world over place
 
     tree_then : map mount_of graft.tree.now
@@ -276,16 +263,12 @@ module _ (value : WorldValue) (whole : IsHeld value) (task : Task ℕ) (graft : 
     groups_there : HasGroupsOf (record (world_of value) {
       filesystems = woven (filesystems_seen base) (overlays_seen (value.overlays ++ overlay_of_store base entry ∷ []));
     }) (map mount_of graft.tree.now)
-    groups_there mount contained group e =
-        ⊎_elim
-        (λ same. absurd (true≢false (sym
-        (ap is_some (sym (ap (λ (x : meant.Mount ℕ). group_of x.propagation) same) ∙ e)))))
-        (λ none. absurd none)
+    groups_there mount contained group e = ⊎_elim (λ same. absurd (true≢false (sym
+        (ap is_some (sym (ap (λ (x : meant.Mount ℕ). group_of x.propagation) same) ∙ e))))) (λ none. absurd none)
         (subst (Among mount) tree_then (among_from_contains tree mount contained))
 
     module _ (mounts : List MountEntry) (groups : Grouping) (filesystems : Filesystems) (overlays : List Merged)
-        (next : ℕ)
-        (is : IsGrafted graft counts
+        (next : ℕ) (is : IsGrafted graft counts
         (kept_with value.mounts base (map merged_seen (value.overlays ++ overlay_of_store base entry ∷ []))) value.groups
         (kept_with mounts filesystems overlays) groups)
         (grows : next ≡ value.next + 2 * (length graft.parts.now * 2)) where
@@ -301,26 +284,21 @@ module _ (value : WorldValue) (whole : IsHeld value) (task : Task ℕ) (graft : 
       attaches = is.plan over_base seen_then whole.in_world.mounts.one_child (parts_are ∙ sym parts_same)
 
       attached_is : attach nat_eq over_base (odds fresh) place false
-          (new_mount (counted value.next) (overlay_of_store base entry).root flags ∷ [])
-          ≡ entered
-      attached_is =
-          ap (λ list. attach nat_eq over_base (odds fresh) place false list) (sym tree_then)
+          (new_mount (counted value.next) (overlay_of_store base entry).root flags ∷ []) ≡ entered
+      attached_is = ap (λ list. attach nat_eq over_base (odds fresh) place false list) (sym tree_then)
           ∙ plan_attaches over_base graft counts (map mount_of is.copies) (map new_group is.groups)
           (map point_seen is.points) attaches binds (odds fresh) same_counts
 
       left_same : SameWorlds (left_by value task permit) entered
-      left_same =
-          subst (SameWorlds (left_by value task permit)) attached_is
+      left_same = subst (SameWorlds (left_by value task permit)) attached_is
           (overlay_left value whole task place overlay flags given lower entry overlay_is count_is again base held_so)
 
       entered_is_world : IsWorld nat_eq entered
-      entered_is_world =
-          any_same_worlds_are_worlds (left_by value task permit) entered left_same
+      entered_is_world = any_same_worlds_are_worlds (left_by value task permit) entered left_same
           (given_permits_leave_every_world world fresh task permit whole.in_world given)
 
       writers : WritersHaveLayers entered
-      writers =
-          same_worlds_have_layers_alike (left_by value task permit) entered left_same
+      writers = same_worlds_have_layers_alike (left_by value task permit) entered left_same
           (permits_keep_writers world fresh task permit whole.in_world whole.overlays.writers given).1
 
       is_base : IsBase with_it base
@@ -345,8 +323,7 @@ module _ (value : WorldValue) (whole : IsHeld value) (task : Task ℕ) (graft : 
       many = 4 * length (parts_of nat_eq (world_of value) (location_of graft.place))
 
       over_among : Among over entered.filesystems
-      over_among =
-          (among-from_filter is_overlay entered.filesystems over
+      over_among = (among-from_filter is_overlay entered.filesystems over
           (subst (Among over) (sym (base_overlays with_it beside_it base ∙ map-append overlay_seen value.overlays
           (overlay_of_store base entry ∷ [])))
           (among-append_right (overlays_seen value.overlays) (over ∷ []) over (inl refl)))).0
@@ -364,16 +341,13 @@ module _ (value : WorldValue) (whole : IsHeld value) (task : Task ℕ) (graft : 
       files_named f m =
           let from = each_among SameFilesystem (overlay_last value base entry).filesystems over_base.filesystems
           (alike_from_same (overlay_last value base entry) over_base same_last).filesystems f m in
-          ap (is_counted_before (value.next + many)) (sym from.2.number)
-          ∙ ⊎_elim
+          ap (is_counted_before (value.next + many)) (sym from.2.number) ∙ ⊎_elim
           (λ old. counted_later value.next (value.next + many) from.0.number (omega arith)
-          (number_named value whole from.0 old))
-          (λ last. ⊎_elim
+          (number_named value whole from.0 old)) (λ last. ⊎_elim
           (λ same. ap (λ (g : Filesystem ℕ). is_counted_before (value.next + many) g.number) same
           ∙ ap (λ n. is_counted_before (value.next + many) (counted n)) count_is
           ∙ own_number_named value whole place flags (overlay_of_store base entry).root (odds fresh) odd_counts
-          (and_parts _ _ place_named).0 (and_parts _ _ place_named).1 root_named)
-          (λ none. absurd none) last)
+          (and_parts _ _ place_named).0 (and_parts _ _ place_named).1 root_named) (λ none. absurd none) last)
           (among-append world.filesystems (over ∷ []) from.0 from.1)
 
       keeps : KeepsTo (is_counted_before next) entered
@@ -394,8 +368,7 @@ module _ (value : WorldValue) (whole : IsHeld value) (task : Task ℕ) (graft : 
       }) mounts groups filesystems overlays next)
           × SameWorlds (left_by value task (ToMountOverlay (location_of graft.place) overlay flags))
           (world_of (grafted_value (record value { overlays = value.overlays ++ overlay_of_store base entry ∷ [] })
-          mounts groups filesystems overlays next))
-          × SameFilesystems
+          mounts groups filesystems overlays next)) × SameFilesystems
           (woven (filesystems_seen base) (overlays_seen (value.overlays ++ overlay_of_store base entry ∷ [])))
           (world_of (grafted_value (record value { overlays = value.overlays ++ overlay_of_store base entry ∷ [] })
           mounts groups filesystems overlays next)).filesystems

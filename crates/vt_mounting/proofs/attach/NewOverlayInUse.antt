@@ -53,16 +53,14 @@ use Rattle.vt_mounting.proofs.attach.NewOverlayUses.{held_by, layers_more_there,
 module _ (one other : World ℕ) (same : SameWorlds one other) where
   -- overlays have as many layers in each filesystem
   same_worlds_count_layers_alike : (number : ℕ) → layer_count one number ≡ layer_count other number
-  same_worlds_count_layers_alike number =
-      ap (times (λ (layer : Layer ℕ). nat_eq number layer.filesystem))
+  same_worlds_count_layers_alike number = ap (times (λ (layer : Layer ℕ). nat_eq number layer.filesystem))
       (each_flat SameFilesystem (of_overlay [] layers_of) (of_overlay [] layers_of)
       (λ first second known. ap (overlay_or [] layers_of) known.overlay)
       one.filesystems other.filesystems (alike_from_same one other same).filesystems)
 
   -- where all inodes of one are in use, so are those of the other
   same_worlds_use_inodes_alike : InodesInUse one → InodesInUse other
-  same_worlds_use_inodes_alike =
-      each_holds SameFilesystem (λ f. list_all (is_inode_used one f) f.files.numbers ≡ true)
+  same_worlds_use_inodes_alike = each_holds SameFilesystem (λ f. list_all (is_inode_used one f) f.files.numbers ≡ true)
       (λ f. list_all (is_inode_used other f) f.files.numbers ≡ true)
       (λ a b alike is. sym (used_alike a b alike) ∙ is) one.filesystems other.filesystems
       (alike_from_same one other same).filesystems
@@ -108,32 +106,26 @@ module _ (value : WorldValue) (whole : IsHeld value) (base : Filesystems) (entry
 
   -- Mounts and layers are counted
 
-  layers_when_held : (number : ℕ)
-      → layer_count over_base number
+  layers_when_held : (number : ℕ) → layer_count over_base number
       ≡ layer_count world number + times (λ (inode : Inode). nat_eq inode.0 number) layers
-  layers_when_held number =
-      sym (same_worlds_count_layers_alike last over_base same_when_held number)
+  layers_when_held number = sym (same_worlds_count_layers_alike last over_base same_when_held number)
       ∙ layers_more_there world over (map layer_seen entry.overlay.lowers) refl (λ n. refl) number
       ∙ ap (λ n. layer_count world number + n) (held_there number entry.overlay.lowers)
 
-  pub mounts_when_held : (one : FilesystemEntry) → Among one base
-      → one.mounts
-      ≡ mounts_showing (world_of value) (counted one.count)
-      + layer_count (record (world_of value) {
+  pub mounts_when_held : (one : FilesystemEntry) → Among one base → one.mounts
+      ≡ mounts_showing (world_of value) (counted one.count) + layer_count (record (world_of value) {
         filesystems = woven (filesystems_seen base) (overlays_seen (value.overlays ++ overlay_of_store base entry ∷ []));
       }) (counted one.count)
   mounts_when_held one m =
       let from = was_before value whole base entry are count_is held one m in
-      let kept : one.mounts
-      ≡ from.0.mounts + times (λ (inode : Inode). nat_eq inode.0 (counted from.0.count)) layers =
+      let kept : one.mounts ≡ from.0.mounts + times (λ (inode : Inode). nat_eq inode.0 (counted from.0.count)) layers =
       ap (λ (s : Shown). s.mounts) from.2 in
       let counts = (among_from_all (CountsItsMounts world) value.filesystems whole.filesystems from.0 from.1).mounts in
       let more = layers_when_held (counted from.0.count) in
       let sum : one.mounts
       ≡ mounts_showing world (counted from.0.count) + layer_count over_base (counted from.0.count) =
       omega (arith, kept, counts, more) in
-      sum
-      ∙ ap (λ count. mounts_showing world (counted count) + layer_count over_base (counted count))
+      sum ∙ ap (λ count. mounts_showing world (counted count) + layer_count over_base (counted count))
       (sym (ap (λ (s : Shown). s.count) from.2))
 
   -- Mounts show directories
@@ -148,12 +140,10 @@ module _ (value : WorldValue) (whole : IsHeld value) (base : Filesystems) (entry
       ap (λ (found : Option (Filesystem ℕ)).
       is_directory_node ((unwrap_or found (no_filesystem number)).files.tree.node inode))
       (found_before world.filesystems over number
-      (ne_eqb number (counted entry.count) (λ same. absurd (omega (arith, low, same, count_is)))))
-      ∙ is
+      (ne_eqb number (counted entry.count) (λ same. absurd (omega (arith, low, same, count_is))))) ∙ is
 
   roots_last : list_all (has_its_root nat_eq last) (mounts_in value.mounts) ≡ true
-  roots_last =
-      all_pass (has_its_root nat_eq last) (mounts_in value.mounts) (λ mount m.
+  roots_last = all_pass (has_its_root nat_eq last) (mounts_in value.mounts) (λ mount m.
       let parts = and_parts _ _ (passes (has_its_root nat_eq world) (mounts_in value.mounts) whole.in_world.roots mount
       m) in
       and_from _ _ (stays mount.filesystem mount.root parts.0) (by mount.mount_point parts.1))
@@ -181,10 +171,8 @@ module _ (value : WorldValue) (whole : IsHeld value) (base : Filesystems) (entry
 
   -- what has a name is used
   named_used : (f : Filesystem ℕ) → has_only_named f ≡ true → list_all (is_inode_used last f) f.files.numbers ≡ true
-  named_used f named =
-      all_pass (is_inode_used last f) f.files.numbers (λ number m.
-      ⊎_elim
-      (λ root. or_first (nat_eq number f.files.tree.root) (is_among nat_eq number others) root)
+  named_used f named = all_pass (is_inode_used last f) f.files.numbers (λ number m.
+      ⊎_elim (λ root. or_first (nat_eq number f.files.tree.root) (is_among nat_eq number others) root)
       (λ name. or_second (nat_eq number f.files.tree.root) (is_among nat_eq number others)
       (is_among_left number (named_in f.files ++ located_in nat_eq last f.number ++ layers_in nat_eq last f.number)
       (flat_map (objects_of_overlay nat_eq f.number) last.filesystems)
@@ -194,8 +182,7 @@ module _ (value : WorldValue) (whole : IsHeld value) (base : Filesystems) (entry
       (passes (λ n. nat_eq n f.files.tree.root || is_among nat_eq n (named_in f.files)) f.files.numbers named number m)))
     where
       others : List ℕ
-      others =
-          named_in f.files ++ located_in nat_eq last f.number ++ layers_in nat_eq last f.number
+      others = named_in f.files ++ located_in nat_eq last f.number ++ layers_in nat_eq last f.number
           ++ flat_map (objects_of_overlay nat_eq f.number) last.filesystems
 
   in_use_last : has_only_named over ≡ true → InodesInUse last
@@ -205,8 +192,7 @@ module _ (value : WorldValue) (whole : IsHeld value) (base : Filesystems) (entry
       (λ f. list_all (is_inode_used last f) f.files.numbers ≡ true)
       (λ f used. all_pass (is_inode_used last f) f.files.numbers (λ number m.
       used_still f number (passes (is_inode_used world f) f.files.numbers used number m)))
-      world.filesystems (worlds_are_in_use world whole.in_world).inodes)
-      (named_used over named)
+      world.filesystems (worlds_are_in_use world whole.in_world).inodes) (named_used over named)
 
   pub in_use_when_held : has_only_named (overlay_seen (overlay_of_store base entry)) ≡ true
       → InodesInUse (record (world_of value) {

@@ -81,12 +81,10 @@ module _ (value : WorldValue) (whole : IsHeld value) (place : Location ℕ) (fla
       sym (commutes_nat Handed World named_handed named_world
       (λ A eq handed. attach eq handed.1 handed.0 handed.2 false (new_mount handed.3 handed.4 flags ∷ [])) renaming
       (fresh, world_of value, place, counted value.next, root))
-      ∙ (λ i. attach nat_eq (whole.given renaming old i) (λ k. renaming.there (fresh k))
-      (record {
+      ∙ (λ i. attach nat_eq (whole.given renaming old i) (λ k. renaming.there (fresh k)) (record {
         mount = old place.mount mount_is_named i;
         node = old place.node node_is_named i;
-      }) false
-      (new_mount (leaves (counted value.next) own_number_named i) (old root root_is_named i) flags ∷ []))
+      }) false (new_mount (leaves (counted value.next) own_number_named i) (old root root_is_named i) flags ∷ []))
       ∙ attach_same (world_of value) place false tree (omega arith) (λ k. renaming.there (fresh k)) fresh
       (λ k low. leaves (fresh k) (subst (λ n. is_counted_before (value.next + taken) n ≡ true) (sym (counts k))
       (counted_here value.next taken (2 * k + 1) (omega (arith, low)))))
@@ -95,18 +93,15 @@ module _ (value : WorldValue) (whole : IsHeld value) (place : Location ℕ) (fla
   module _ (entered : World ℕ) (is_world : IsWorld nat_eq entered)
       (mounts_are : entered.mounts ≡ (attach nat_eq (world_of value) fresh place false
       (new_mount (counted value.next) root flags ∷ [])).mounts)
-      (namespaces_are : entered.namespaces ≡ (world_of value).namespaces)
-      (own : All HasOwnNodes entered.filesystems)
+      (namespaces_are : entered.namespaces ≡ (world_of value).namespaces) (own : All HasOwnNodes entered.filesystems)
       (files_named : (f : Filesystem ℕ) → Among f entered.filesystems
       → is_counted_before (value.next + 4 * length (parts_of nat_eq (world_of value) place)) f.number ≡ true) where
     abbrev named : ℕ → Type 0
     named number = is_counted_before (value.next + taken) number ≡ true
 
     mounts_named : (number : ℕ) → Among number (flat_map used_by_mount entered.mounts) → named number
-    mounts_named number m =
-        used_numbers_are_named (is_counted_before (value.next + taken)) attached_there keeps_there
-        (leaves_two (value.next + taken)) number
-        (is_among_numbers number (mounts_used ++ files_used ++ namespaces_used)
+    mounts_named number m = used_numbers_are_named (is_counted_before (value.next + taken)) attached_there keeps_there
+        (leaves_two (value.next + taken)) number (is_among_numbers number (mounts_used ++ files_used ++ namespaces_used)
         (among-append_left (mounts_used ++ files_used) namespaces_used number
         (among-append_left mounts_used files_used number
         (subst (λ list. Among number (flat_map used_by_mount list)) mounts_are m))))
@@ -130,11 +125,9 @@ module _ (value : WorldValue) (whole : IsHeld value) (place : Location ℕ) (fla
 
     namespaces_named : (number : ℕ)
         → Among number (map (λ (namespace : Namespace ℕ). namespace.number) entered.namespaces) → named number
-    namespaces_named number m =
-        later number
+    namespaces_named number m = later number
         (used_numbers_are_named (is_counted_before value.next) (world_of value) whole.given (leaves_two value.next)
-        number
-        (is_among_numbers number ((flat_map used_by_mount (world_of value).mounts
+        number (is_among_numbers number ((flat_map used_by_mount (world_of value).mounts
         ++ flat_map used_by_filesystem (world_of value).filesystems) ++ numbers)
         (among-append_right (flat_map used_by_mount (world_of value).mounts
         ++ flat_map used_by_filesystem (world_of value).filesystems) numbers number
@@ -147,13 +140,11 @@ module _ (value : WorldValue) (whole : IsHeld value) (place : Location ℕ) (fla
         entered
     entered_keeps =
         any_worlds_keep_to_numbers_in_use (is_counted_before (value.next + taken)) entered is_world (λ number used.
-        ⊎_elim
-        (λ front. ⊎_elim (mounts_named number)
+        ⊎_elim (λ front. ⊎_elim (mounts_named number)
         (λ file. let from = among-from_flat_map used_by_filesystem entered.filesystems number file in
         ⊎_elim (λ same. subst named (sym same) (files_named from.0 from.1)) (inodes_named from.0 from.1 number) from.2)
         (among-append (flat_map used_by_mount entered.mounts) (flat_map used_by_filesystem entered.filesystems) number
-        front))
-        (namespaces_named number)
+        front)) (namespaces_named number)
         (among-append (flat_map used_by_mount entered.mounts ++ flat_map used_by_filesystem entered.filesystems)
         (map (λ (namespace : Namespace ℕ). namespace.number) entered.namespaces) number
         (among_numbers number ((flat_map used_by_mount entered.mounts

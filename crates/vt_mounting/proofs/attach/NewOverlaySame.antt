@@ -105,15 +105,13 @@ all_same_when_held layers (was ∷ old) (entry ∷ new) is =
 -- so the worlds are
 pub same_with_layers_held : (value : WorldValue) → IsHeld value → (base : Filesystems) (entry : stored.OverlayEntry)
     (layers : List Inode) → entry.count ≡ value.next → shown base ≡ map (held_by layers) (shown value.filesystems)
-    → SameWorlds (overlay_last value base entry)
-    (record (world_of value) {
+    → SameWorlds (overlay_last value base entry) (record (world_of value) {
       filesystems = woven (filesystems_seen base) (overlays_seen (value.overlays ++ overlay_of_store base entry ∷ []));
     })
 same_with_layers_held value whole base entry layers count_is is = record {
   mounts = refl;
   master = refl;
-  filesystems =
-      subst (λ list. SameFilesystems list (woven (filesystems_seen base)
+  filesystems = subst (λ list. SameFilesystems list (woven (filesystems_seen base)
       (overlays_seen (value.overlays ++ overlay_of_store base entry ∷ []))))
       (ap (woven (filesystems_seen value.filesystems))
       (map-append overlay_seen value.overlays (overlay_of_store base entry ∷ []))

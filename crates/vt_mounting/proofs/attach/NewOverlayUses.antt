@@ -61,8 +61,7 @@ layers_use filesystem number (first ∷ rest) = by (nat_eq filesystem first.file
     others : List (Layer ℕ)
     others = filter (λ (layer : Layer ℕ). nat_eq filesystem layer.filesystem) rest
 
-    by : (b : Bool)
-        → times (nat_eq number) (map (λ (layer : Layer ℕ). layer.directory)
+    by : (b : Bool) → times (nat_eq number) (map (λ (layer : Layer ℕ). layer.directory)
         (filter (λ (layer : Layer ℕ). nat_eq filesystem layer.filesystem) rest))
         ≡ times (is_inode filesystem number) (map directory_in rest)
         → times (nat_eq number) (map (λ (layer : Layer ℕ). layer.directory) (cond b (first ∷ others) others))
@@ -96,19 +95,15 @@ module _ (world : World ℕ) (added : Filesystem ℕ) (layers : List (Layer ℕ)
   abbrev pub with_added_last : World ℕ
   with_added_last = record world { filesystems = world.filesystems ++ added ∷ [] }
 
-  layers_then : (number : ℕ)
-      → layers_in nat_eq with_added_last number
-      ≡ layers_in nat_eq world number
+  layers_then : (number : ℕ) → layers_in nat_eq with_added_last number ≡ layers_in nat_eq world number
       ++ map (λ (layer : Layer ℕ). layer.directory) (filter (λ (layer : Layer ℕ). nat_eq number layer.filesystem) layers)
-  layers_then number =
-      ap (λ list. map (λ (layer : Layer ℕ). layer.directory)
+  layers_then number = ap (λ list. map (λ (layer : Layer ℕ). layer.directory)
       (filter (λ (layer : Layer ℕ). nat_eq number layer.filesystem) list))
       (flat_last (of_overlay [] layers_of) world.filesystems added
       ∙ ap (λ list. flat_map (of_overlay [] layers_of) world.filesystems ++ list) layers_are)
       ∙ ap (map (λ (layer : Layer ℕ). layer.directory))
       (filter_both (λ (layer : Layer ℕ). nat_eq number layer.filesystem)
-      (flat_map (of_overlay [] layers_of) world.filesystems) layers)
-      ∙ map-append (λ (layer : Layer ℕ). layer.directory)
+      (flat_map (of_overlay [] layers_of) world.filesystems) layers) ∙ map-append (λ (layer : Layer ℕ). layer.directory)
       (filter (λ (layer : Layer ℕ). nat_eq number layer.filesystem)
       (flat_map (of_overlay [] layers_of) world.filesystems))
       (filter (λ (layer : Layer ℕ). nat_eq number layer.filesystem) layers)
@@ -134,8 +129,7 @@ module _ (world : World ℕ) (added : Filesystem ℕ) (layers : List (Layer ℕ)
       + times (is_inode f.number number) (map directory_in layers)
       ≡ cond (test f.files.tree.root) 1 0 + times test ((front ++ (old ++ own)) ++ objects) =
       omega (arith, one, two, three, four, five, six) in
-      sum
-      ∙ (λ i. cond (test f.files.tree.root) 1 0 + times test ((front ++ sym (layers_then f.number) i)
+      sum ∙ (λ i. cond (test f.files.tree.root) 1 0 + times test ((front ++ sym (layers_then f.number) i)
       ++ sym (flat_before (objects_of_overlay nat_eq f.number) world.filesystems added (no_objects f.number)) i))
 
   pub layers_are_gained : (number : ℕ) → nat_eq number added.number ≡ false
@@ -153,19 +147,16 @@ module _ (world : World ℕ) (added : Filesystem ℕ) (layers : List (Layer ℕ)
         ≡ inode_uses with_added_last (filesystem_numbered nat_eq world number) n) at gained in
         let zero : inode_uses with_added_last (filesystem_numbered nat_eq world number) n
         ≡ inode_uses with_added_last (filesystem_numbered nat_eq world number) n + 0 = omega arith in
-        first ∙ zero
-        ∙ ap (λ f. inode_uses with_added_last f n + 0) (sym same);
+        first ∙ zero ∙ ap (λ f. inode_uses with_added_last f n + 0) (sym same);
   }
     where
       same : filesystem_numbered nat_eq with_added_last number ≡ filesystem_numbered nat_eq world number
       same = ap (λ found. unwrap_or found (no_filesystem number)) (found_before world.filesystems added number other)
 
   -- and a filesystem as many layers more
-  pub layers_more_there : (number : ℕ)
-      → layer_count with_added_last number
+  pub layers_more_there : (number : ℕ) → layer_count with_added_last number
       ≡ layer_count world number + times (λ (layer : Layer ℕ). nat_eq number layer.filesystem) layers
-  layers_more_there number =
-      ap (times (λ (layer : Layer ℕ). nat_eq number layer.filesystem))
+  layers_more_there number = ap (times (λ (layer : Layer ℕ). nat_eq number layer.filesystem))
       (flat_last (of_overlay [] layers_of) world.filesystems added
       ∙ ap (λ list. flat_map (of_overlay [] layers_of) world.filesystems ++ list) layers_are)
       ∙ times_append (λ (layer : Layer ℕ). nat_eq number layer.filesystem)
@@ -174,8 +165,7 @@ module _ (world : World ℕ) (added : Filesystem ℕ) (layers : List (Layer ℕ)
 among_place : (list : List LayerRef) (layer : LayerRef) → Among layer list
     → (place : ℕ) × (slice_get list place ≡ Some layer)
 among_place [] layer m = absurd m
-among_place (first ∷ rest) layer m =
-    ⊎_elim (λ same. (0, ap Some (sym same)))
+among_place (first ∷ rest) layer m = ⊎_elim (λ same. (0, ap Some (sym same)))
     (λ later. let there = among_place rest layer later in (suc there.0, there.1)) m
 
 -- The code's world with a new overlay behind all other filesystems
@@ -211,8 +201,7 @@ module _ (value : WorldValue) (whole : IsHeld value) (base : Filesystems) (entry
   -- each layer is there
   pub layers_there : (was : FilesystemEntry) → Among was value.filesystems
       → AreThere (counted was.count) (inodes_seen was) (map layer_of entry.overlay.lowers)
-  layers_there was m =
-      all_pass test layers (λ inode n.
+  layers_there was m = all_pass test layers (λ inode n.
       let from = among-from_map layer_of entry.overlay.lowers inode n in
       ap test from.2 ∙ by from.0 from.1 (nat_eq (counted was.count) (counted from.0.directory.filesystem.count)) refl)
     where
@@ -232,8 +221,7 @@ module _ (value : WorldValue) (whole : IsHeld value) (base : Filesystems) (entry
           (ap (λ (o : Option FilesystemEntry). is_directory_node (node_in ((inodes_seen (unwrap_or o
           (no_entry layer.directory.filesystem.count))).inode (inode_number_of layer.directory))))
           (sym (ap (entry_of value.filesystems) (sym same)
-          ∙ one_entry value.filesystems (plain_ones_apart value whole) was m))
-          ∙ (are at.0 layer at.1).directory))
+          ∙ one_entry value.filesystems (plain_ones_apart value whole) was m)) ∙ (are at.0 layer at.1).directory))
 
   -- and counted as a use
   pub counted_with_layers : (was : FilesystemEntry) → Among was value.filesystems
@@ -241,15 +229,13 @@ module _ (value : WorldValue) (whole : IsHeld value) (base : Filesystems) (entry
       (exchanged (counted was.count) (map layer_of entry.overlay.lowers) [] (inodes_seen was))
   counted_with_layers was m =
       uses_are_exchanged_beside_overlays world (overlay_last value base entry) layers [] (counted was.count) (inodes_seen was)
-      (worlds_have_trees world whole.in_world)
-      (worlds_are_in_use world whole.in_world).inodes
+      (worlds_have_trees world whole.in_world) (worlds_are_in_use world whole.in_world).inodes
       (no_upper_is_in_any (overlay_last value base entry) (counted was.count) no_upper_with_it)
       (subst (λ (list : List Inode). Exchanges list [] (counted was.count) world (overlay_last value base entry)) gained_are
       (layers_are_gained world over (map layer_seen entry.overlay.lowers) refl (λ number. refl) (counted was.count)
       (apart_from_it was m)))
       (subst (λ f. IsCounted world f (inodes_seen was)) (sym (found_plain_one value whole was m))
-      (among_from_all (CountsItsMounts world) value.filesystems whole.filesystems was m).inodes)
-      (layers_there was m)
+      (among_from_all (CountsItsMounts world) value.filesystems whole.filesystems was m).inodes) (layers_there was m)
 
 -- What a store keeps of plain filesystems once the layers are held
 abbrev pub held_by : List Inode → Shown → Shown
@@ -259,14 +245,12 @@ held_by layers one = record one {
 }
 
 pub held_each : (layers : List Inode) (all : List Shown) → folded with_layer all layers ≡ map (held_by layers) all
-held_each [] all =
-    map_itself all
+held_each [] all = map_itself all
     ∙ map_alike (λ (one : Shown). one) (held_by []) all (λ one m. λ i. record one { mounts = same one.mounts i })
   where
     same : (n : ℕ) → n ≡ n + 0
     same n = omega arith
-held_each (inode ∷ rest) all =
-    held_each rest (with_layer all inode)
+held_each (inode ∷ rest) all = held_each rest (with_layer all inode)
     ∙ ap (map (held_by rest)) (map_twice (mounted_if inode.0) pin all)
     ∙ map_twice (held_by rest) (λ (one : Shown). mounted_if inode.0 (pin one)) all
     ∙ map_alike (λ (one : Shown). held_by rest (mounted_if inode.0 (pin one))) (held_by (inode ∷ rest)) all
@@ -275,8 +259,7 @@ held_each (inode ∷ rest) all =
     pin : Shown → Shown
     pin one = record one { inodes = pinned_if (counted one.count) one.inodes inode }
 
-    by : (one : Shown) (b : Bool)
-        → held_by rest (cond b (record (pin one) { mounts = one.mounts + 1 }) (pin one))
+    by : (one : Shown) (b : Bool) → held_by rest (cond b (record (pin one) { mounts = one.mounts + 1 }) (pin one))
         ≡ record one {
           inodes = folded (pinned_if (counted one.count)) (pinned_if (counted one.count) one.inodes inode) rest;
           mounts = one.mounts + (cond b 1 0 + times (λ (other : Inode). nat_eq other.0 (counted one.count)) rest);

@@ -55,8 +55,7 @@ module _ (parts tree : List (Mount ℕ)) (some_parts : 0 < length parts) (some :
       same (2 * index_in_rows (length tree) (index_of nat_eq parts part) (index_of nat_eq tree origin)) (omega
       (arith, less))
 
-  image_same : (group origin : ℕ)
-      → (copies_from nat_eq fresh parts tree).image group origin
+  image_same : (group origin : ℕ) → (copies_from nat_eq fresh parts tree).image group origin
       ≡ (copies_from nat_eq again parts tree).image group origin
   image_same group origin =
       let low = place_bound (is_member_of nat_eq group) 0 parts (omega (arith, some_parts)) in
@@ -69,8 +68,7 @@ module _ (parts tree : List (Mount ℕ)) (some_parts : 0 < length parts) (some :
   copies_same = λ i. record { copy = λ part origin. copy_same part origin i; image = λ group origin. image_same group origin i }
 
 pub attach_same : (world : World ℕ) (place : Location ℕ) (moves : Bool) (tree : List (Mount ℕ)) → 0 < length tree
-    → (fresh again : Fresh ℕ)
-    → ((k : ℕ) → k < numbers_of_parts world place tree → fresh k ≡ again k)
+    → (fresh again : Fresh ℕ) → ((k : ℕ) → k < numbers_of_parts world place tree → fresh k ≡ again k)
     → attach nat_eq world fresh place moves tree ≡ attach nat_eq world again place moves tree
 attach_same world place moves tree some fresh again same =
     ap (λ (new : Copies ℕ). attached_by nat_eq world new place moves tree)
@@ -95,8 +93,7 @@ module _ (next taken : ℕ) (world : World ℕ) (task : Task ℕ) (permit : Perm
 pub binds_keep_to_numbers : BindsKeepToNumbers
 binds_keep_to_numbers next world task source place recursive called keeps named =
     keeps_to_first next (numbers_of_parts world place (bind_tree nat_eq world source recursive)) world task
-    (ToBind source place recursive)
-    (counts_from next) called keeps named
+    (ToBind source place recursive) (counts_from next) called keeps named
     (counted_here next (numbers_of_parts world place (bind_tree nat_eq world source recursive)))
     (λ again same. ap (settled nat_eq)
     (attach_same world place false (bind_tree nat_eq world source recursive) (bind_some world source recursive) again
@@ -107,16 +104,13 @@ moves_keep_to_numbers next world task mount place called keeps named =
     let tree = mount_tree nat_eq world.mounts (mount_numbered nat_eq world mount) in
     keeps_to_first next (numbers_of_parts world place tree) world task (ToMove mount place)
     (counts_from next) called keeps named (counted_here next (numbers_of_parts world place tree))
-    (λ again same. ap (settled nat_eq)
-    (attach_same world place true tree
+    (λ again same. ap (settled nat_eq) (attach_same world place true tree
     (tree_some (length world.mounts) world.mounts (mount_numbered nat_eq world mount)) again (counts_from next) same))
 
 pub new_mounts_keep_to_numbers : NewMountsKeepToNumbers
 new_mounts_keep_to_numbers next inode even world task place flags called keeps named =
-    keeps_to_first next taken world task (ToMountPlain place flags) supply called keeps named
-    counts
-    (λ again same. ap (settled nat_eq)
-    ((λ i. mounted nat_eq (odds again) world place
+    keeps_to_first next taken world task (ToMountPlain place flags) supply called keeps named counts
+    (λ again same. ap (settled nat_eq) ((λ i. mounted nat_eq (odds again) world place
     (new_plain nat_eq (same 0 (omega arith) i) (same 2 (omega arith) i)) flags)
     ∙ attach_same middle place false tree (omega arith) (odds again) (odds supply)
     (λ k low. same (2 * k + 1) (omega (arith, low)))))
@@ -149,8 +143,7 @@ own_some world task whole called =
     let listed : is_listed nat_eq world task.namespace ≡ true =
     among_from_list_all (λ (t : Task ℕ). is_listed nat_eq world t.namespace) world.tasks
     whole.namespaces.tasks_listed task (task_among world whole task called) in
-    let found =
-    among-from_map (λ (namespace : Namespace ℕ). namespace.number) world.namespaces task.namespace
+    let found = among-from_map (λ (namespace : Namespace ℕ). namespace.number) world.namespaces task.namespace
     (among_numbers (map (λ (namespace : Namespace ℕ). namespace.number) world.namespaces) task.namespace listed) in
     subst (λ number. 0 < length (mounts_of nat_eq world number)) (sym found.2)
     (nonempty (mounts_of nat_eq world found.0.number)
@@ -161,9 +154,7 @@ unshares_keep_to_numbers next world task whole called keeps =
     let own = mounts_of nat_eq world task.namespace in
     let some = own_some world task whole called in
     keeps_to_first next (2 * length own) world task ToUnshare (counts_from next) called keeps refl
-    (counted_here next (2 * length own))
-    (λ again same. ap (settled nat_eq)
-    (λ i. namespaces_ended nat_eq
+    (counted_here next (2 * length own)) (λ again same. ap (settled nat_eq) (λ i. namespaces_ended nat_eq
     (unshared_by nat_eq world
     (numbers_same own some (odds again) (odds (counts_from next)) (λ k low. same (2 * k + 1) (omega (arith, low))) i)
     (same 0 (omega (arith, some)) i) task)))

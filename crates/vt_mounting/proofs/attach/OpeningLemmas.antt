@@ -53,8 +53,7 @@ pinned_once root uses = λ i. record { root = root; inode = λ other. each (nat_
         ≡ Some (root_counted root (uses + 1))
     here = ap (λ b. used_once_more (if b then Some (root_counted root uses) else None)) (eq-eqb root root refl)
 
-    each : (b : Bool)
-        → (if b then used_once_more (if nat_eq root root then Some (root_counted root uses) else None)
+    each : (b : Bool) → (if b then used_once_more (if nat_eq root root then Some (root_counted root uses) else None)
         else (if b then Some (root_counted root uses) else None))
         ≡ (if b then Some (root_counted root (uses + 1)) else None)
     each true = here
@@ -74,36 +73,30 @@ module _ (count : ℕ) where
       changes.changed ∙ ap (shown_with count (λ inodes. pinned nat_eq inodes root_number)) is
       ∙ ap (λ b. cond b (record {
         count = count;
-        inodes = pinned nat_eq
-            (one_counted root_number uses) root_number;
+        inodes = pinned nat_eq (one_counted root_number uses) root_number;
         mounts = 1;
-      })
-      (record { count = count; inodes = one_counted root_number uses; mounts = 1 }) ∷ []) (eq-eqb count count refl)
+      }) (record { count = count; inodes = one_counted root_number uses; mounts = 1 }) ∷ []) (eq-eqb count count refl)
       ∙ (λ i. record { count = count; inodes = pinned_once root_number uses i; mounts = 1 } ∷ [])
 
   mounted : (entry : FilesystemEntry) (old new : Filesystems) (attr : Attr) → attr ≡ root_attr → old ≡ entry ∷ []
       → IsNew count attr entry
       → new ≡ with_changed count (λ (entry : FilesystemEntry). record entry { mounts = entry.mounts + 1 }) old
       → shown new ≡ so_used 1 1
-  mounted entry old new attr is_attr is made changed =
-      ap shown (changed ∙ ap (with_changed count
+  mounted entry old new attr is_attr is made changed = ap shown (changed ∙ ap (with_changed count
       (λ (entry : FilesystemEntry). record entry { mounts = entry.mounts + 1 })) is)
       ∙ ap (λ b. shown_entry (cond b (record entry { mounts = entry.mounts + 1 }) entry) ∷ [])
-      (eq-eqb count entry.count (sym made.counts))
-      ∙ (λ i. record {
+      (eq-eqb count entry.count (sym made.counts)) ∙ (λ i. record {
         count = made.counts i;
         inodes = (made.inodes ∙ ap (one_directory nat_eq root_number) is_attr) i;
         mounts = ap (λ n. n + 1) made.unmounted i;
       } ∷ [])
 
   pub first_made : (entry : FilesystemEntry) (attr : Attr) (none added held one two three : Filesystems)
-      → attr ≡ root_attr
-      → none ≡ [] → added ≡ none ++ entry ∷ [] → IsNew count attr entry
+      → attr ≡ root_attr → none ≡ [] → added ≡ none ++ entry ∷ [] → IsNew count attr entry
       → held ≡ with_changed count (λ (entry : FilesystemEntry). record entry { mounts = entry.mounts + 1 }) added
       → ChangesInodes count (λ inodes. pinned nat_eq inodes root_number) held one
       → ChangesInodes count (λ inodes. pinned nat_eq inodes root_number) one two
-      → ChangesInodes count (λ inodes. pinned nat_eq inodes root_number) two three
-      → shown three ≡ first_shown count
+      → ChangesInodes count (λ inodes. pinned nat_eq inodes root_number) two three → shown three ≡ first_shown count
   first_made entry attr none added held one two three is_attr empty is made changed first second third =
       once_more two three 3 third (once_more one two 2 second (once_more held one 1 first
       (mounted entry added held attr is_attr (is ∙ ap (λ l. l ++ entry ∷ []) empty) made changed)))
@@ -119,14 +112,13 @@ record IsFirst (filesystems : Filesystems) : Type 0 where
 is_first : (filesystems : Filesystems) → shown filesystems ≡ first_shown 2 → IsFirst filesystems
 is_first [] is = absurd cc
 is_first (x ∷ y ∷ rest) is = absurd cc
-is_first (x ∷ []) is =
-    record {
-      entry = x;
-      alone = refl;
-      counts = ap (λ (one : Shown). one.count) same;
-      inodes = ap (λ (one : Shown). one.inodes) same;
-      mounts = ap (λ (one : Shown). one.mounts) same;
-    }
+is_first (x ∷ []) is = record {
+  entry = x;
+  alone = refl;
+  counts = ap (λ (one : Shown). one.count) same;
+  inodes = ap (λ (one : Shown). one.inodes) same;
+  mounts = ap (λ (one : Shown). one.mounts) same;
+}
   where
     same : shown_entry x ≡ record { count = 2; inodes = one_counted (inode_number 2 0) 4; mounts = 1 }
     same = cc
@@ -150,8 +142,7 @@ module _ (entry : FilesystemEntry) (counts : entry.count ≡ 2)
       let tree : tree_of (inodes_seen entry) ≡ tree_of_root nat_eq root root_attr =
       ap tree_of inodes ∙ (λ i. record { root = root; node = λ other. node_of (nat_eq other root) i }) in
       λ i. record {
-        number = counted
-            (counts i);
+        number = counted (counts i);
         files = record { tree = tree i; numbers = numbers i };
         overlay = None;
         change = 0;
@@ -186,17 +177,15 @@ abbrev first_tasks : List (meant.Task ℕ)
 first_tasks = first_task nat_eq opening_numbers ∷ []
 
 abbrev first_value : FilesystemEntry → WorldValue
-first_value entry =
-    record {
-      mounts = first_mount_entries;
-      groups = no_groups;
-      filesystems = entry
-          ∷ [];
-      overlays = [];
-      namespaces = first_namespace_entries;
-      tasks = first_tasks;
-      next = 3;
-    }
+first_value entry = record {
+  mounts = first_mount_entries;
+  groups = no_groups;
+  filesystems = entry ∷ [];
+  overlays = [];
+  namespaces = first_namespace_entries;
+  tasks = first_tasks;
+  next = 3;
+}
 
 module _ (entry : FilesystemEntry) (counts : entry.count ≡ 2)
     (inodes : inodes_seen entry ≡ one_counted (inode_number 2 0) 4) (mounts : entry.mounts ≡ 1) where
@@ -204,60 +193,55 @@ module _ (entry : FilesystemEntry) (counts : entry.count ≡ 2)
   seen = first_seen entry counts inodes
 
   first_world : world_of (first_value entry) ≡ opening nat_eq opening_numbers
-  first_world =
-      λ i. record {
-        mounts = mounts_in first_mount_entries;
-        master = λ group. None;
-        filesystems = seen i ∷ [];
-        namespaces = map namespace_of first_namespace_entries;
-        tasks = first_tasks;
-        change = 0;
-      }
+  first_world = λ i. record {
+    mounts = mounts_in first_mount_entries;
+    master = λ group. None;
+    filesystems = seen i ∷ [];
+    namespaces = map namespace_of first_namespace_entries;
+    tasks = first_tasks;
+    change = 0;
+  }
 
   first_held : IsHeld (first_value entry)
-  first_held =
-      record {
-        in_world = subst (IsWorld nat_eq) (sym first_world) (opening_is_a_world opening_numbers numbers_apart).0;
-        groups = subst (λ world. Has world no_groups) (sym first_world) (opening_has_no_groups opening_numbers);
-        given = subst (KeepsTo (is_counted_before 3)) (sym first_world)
-            (opening_keeps_to_four (is_counted_before 3) opening_numbers refl refl refl refl);
-        mounts = subst (λ world. All (CountsItsUses world) first_mount_entries) (sym first_world)
-            (All-cons (CountsItsUses (opening nat_eq opening_numbers)) _ [] (record { uses = refl; writers = refl })
-            (All-nil _));
-        filesystems = subst (λ world. All (CountsItsMounts world) (entry ∷ [])) (sym first_world)
-            (All-cons (CountsItsMounts (opening nat_eq opening_numbers)) entry [] (record {
-              mounts = mounts ∙ ap (λ count. mounts_showing (opening nat_eq opening_numbers) (counted count)
-                  + layer_count (opening nat_eq opening_numbers) (counted count))
-                  (sym counts);
-              inodes = subst (λ (all : Inodes ℕ). IsCounted (opening nat_eq opening_numbers)
-                  (filesystem_seen entry) all) (sym inodes)
-                  (subst (λ (filesystem : Filesystem ℕ). IsCounted (opening nat_eq opening_numbers) filesystem
-                  (one_counted (inode_number 2 0) 4)) (sym seen)
-                  (opening_is_counted opening_numbers));
-            }) (All-nil _));
-        own_inodes = All-cons HasOwnInodes entry [] (own entry counts inodes) (All-nil _);
-        overlays = record {
-          merged = All-nil _;
-          read_only = All-cons (λ (filesystem : Filesystem ℕ).
-              of_overlay false (λ overlay. is_some overlay.upper) filesystem ≡ false) (filesystem_seen entry) [] refl
-              (All-nil _);
-          writers = refl;
-          named = All-cons (λ (filesystem : Filesystem ℕ). is_overlay filesystem ≡ true
-              → has_only_named filesystem ≡ true) (filesystem_seen entry) []
-              (λ e. absurd (true≢false (sym e))) (All-nil _);
-          overlays_rise = refl;
-          all_rise = refl;
-          mounts = All-nil _;
-          own_nodes = All-nil _;
-        };
-        namespaces = subst (λ world. All (CountsWhatIsInIt world) first_namespace_entries) (sym first_world)
-            (All-cons (CountsWhatIsInIt (opening nat_eq opening_numbers)) _ [] (record { tasks = refl }) (All-nil _));
-      }
+  first_held = record {
+    in_world = subst (IsWorld nat_eq) (sym first_world) (opening_is_a_world opening_numbers numbers_apart).0;
+    groups = subst (λ world. Has world no_groups) (sym first_world) (opening_has_no_groups opening_numbers);
+    given = subst (KeepsTo (is_counted_before 3)) (sym first_world)
+        (opening_keeps_to_four (is_counted_before 3) opening_numbers refl refl refl refl);
+    mounts = subst (λ world. All (CountsItsUses world) first_mount_entries) (sym first_world)
+        (All-cons (CountsItsUses (opening nat_eq opening_numbers)) _ [] (record { uses = refl; writers = refl })
+        (All-nil _));
+    filesystems = subst (λ world. All (CountsItsMounts world) (entry ∷ [])) (sym first_world)
+        (All-cons (CountsItsMounts (opening nat_eq opening_numbers)) entry [] (record {
+          mounts = mounts ∙ ap (λ count. mounts_showing (opening nat_eq opening_numbers) (counted count)
+              + layer_count (opening nat_eq opening_numbers) (counted count)) (sym counts);
+          inodes = subst (λ (all : Inodes ℕ). IsCounted (opening nat_eq opening_numbers)
+              (filesystem_seen entry) all) (sym inodes)
+              (subst (λ (filesystem : Filesystem ℕ). IsCounted (opening nat_eq opening_numbers) filesystem
+              (one_counted (inode_number 2 0) 4)) (sym seen) (opening_is_counted opening_numbers));
+        }) (All-nil _));
+    own_inodes = All-cons HasOwnInodes entry [] (own entry counts inodes) (All-nil _);
+    overlays = record {
+      merged = All-nil _;
+      read_only = All-cons (λ (filesystem : Filesystem ℕ).
+          of_overlay false (λ overlay. is_some overlay.upper) filesystem ≡ false) (filesystem_seen entry) [] refl
+          (All-nil _);
+      writers = refl;
+      named = All-cons (λ (filesystem : Filesystem ℕ). is_overlay filesystem ≡ true
+          → has_only_named filesystem ≡ true) (filesystem_seen entry) []
+          (λ e. absurd (true≢false (sym e))) (All-nil _);
+      overlays_rise = refl;
+      all_rise = refl;
+      mounts = All-nil _;
+      own_nodes = All-nil _;
+    };
+    namespaces = subst (λ world. All (CountsWhatIsInIt world) first_namespace_entries) (sym first_world)
+        (All-cons (CountsWhatIsInIt (opening nat_eq opening_numbers)) _ [] (record { tasks = refl }) (All-nil _));
+  }
 
 -- what is made for the opening world is held, and is seen as that
 module _ (mounts : List MountEntry) (groups : Grouping) (filesystems : Filesystems) (namespaces : List NamespaceEntry)
-    (tasks : List (meant.Task ℕ))
-    (mounts_are : mounts ≡ first_mount_entries) (groups_are : groups ≡ no_groups)
+    (tasks : List (meant.Task ℕ)) (mounts_are : mounts ≡ first_mount_entries) (groups_are : groups ≡ no_groups)
     (filesystems_are : shown filesystems ≡ first_shown 2)
     (namespaces_are : namespaces ≡ first_namespace_entries) (tasks_are : tasks ≡ first_tasks) where
   abbrev made : WorldValue
@@ -310,26 +294,24 @@ module _ (number : MountId) (namespace : NamespaceId) (filesystem : FilesystemId
     uses = 2;
     writers = 0;
   } ∷ [] ≡ first_mount_entries
-  mounts_made =
-      λ i. record {
-        mount = record {
-          number = counted (number_is i).count;
-          namespace = Some (counted (namespace_is i).count);
-          mount_point = None;
-          filesystem = counted (filesystem_is i).count;
-          root = inode_number (filesystem_is i).count 0;
-          flags = flags_are i;
-          propagation = IsPrivate;
-        };
-        uses = 2;
-        writers = 0;
-      } ∷ []
+  mounts_made = λ i. record {
+    mount = record {
+      number = counted (number_is i).count;
+      namespace = Some (counted (namespace_is i).count);
+      mount_point = None;
+      filesystem = counted (filesystem_is i).count;
+      root = inode_number (filesystem_is i).count 0;
+      flags = flags_are i;
+      propagation = IsPrivate;
+    };
+    uses = 2;
+    writers = 0;
+  } ∷ []
 
   pub namespaces_made : record { count = namespace.count; tasks = 1 } ∷ [] ≡ first_namespace_entries
   namespaces_made = λ i. record { count = (namespace_is i).count; tasks = 1 } ∷ []
 
   pub tasks_made : first_task_at (counted namespace.count) (location_of (record { mount = number; node = root_place }))
       ∷ [] ≡ first_tasks
-  tasks_made =
-      λ i. first_task_at (counted (namespace_is i).count)
+  tasks_made = λ i. first_task_at (counted (namespace_is i).count)
       (record { mount = counted (number_is i).count; node = inode_number (filesystem_is i).count 0 }) ∷ []

@@ -29,8 +29,7 @@ merged_found : (count : ℕ) (all : Overlays)
 merged_found count [] = refl
 merged_found count (entry ∷ rest) =
     ap (λ b. cond b (Some (merged_of entry)) (merged_at (counted count) (map merged_of rest)))
-    (counted_test count entry.count)
-    ∙ by (nat_eq count entry.count) (merged_found count rest)
+    (counted_test count entry.count) ∙ by (nat_eq count entry.count) (merged_found count rest)
   where
     by : (b : Bool) → merged_at (counted count) (map merged_of rest) ≡ option_map merged_of (entry_kept rest count)
         → cond b (Some (merged_of entry)) (merged_at (counted count) (map merged_of rest))
@@ -43,11 +42,9 @@ merged_held : (count : ℕ) (all : Overlays)
     → map merged_of (with_overlay_changed count (λ one. record one { mounts = one.mounts + 1 }) all)
     ≡ mounted_merged (counted count) (map merged_of all)
 merged_held count [] = refl
-merged_held count (entry ∷ rest) =
-    λ i. (by (nat_eq count entry.count)
+merged_held count (entry ∷ rest) = λ i. (by (nat_eq count entry.count)
     ∙ ap (λ b. cond b (record (merged_of entry) { mounts = entry.mounts + 1 }) (merged_of entry))
-    (sym (counted_test count entry.count))) i
-    ∷ merged_held count rest i
+    (sym (counted_test count entry.count))) i ∷ merged_held count rest i
   where
     by : (b : Bool) → merged_of (cond b (record entry { mounts = entry.mounts + 1 }) entry)
         ≡ cond b (record (merged_of entry) { mounts = entry.mounts + 1 }) (merged_of entry)
@@ -67,8 +64,7 @@ none_held count (entry ∷ rest) none = by (nat_eq count entry.count) refl none 
     by true e found later = absurd (true≢false found)
     by false e found later =
         λ i. ap (λ b. cond b (record (merged_of entry) { mounts = entry.mounts + 1 }) (merged_of entry))
-        (counted_test count entry.count ∙ e) i
-        ∷ later found i
+        (counted_test count entry.count ∙ e) i ∷ later found i
 
 module _ (store : StoreValue) (count : ℕ) where
   -- whether a filesystem is an overlay
@@ -82,12 +78,10 @@ module _ (store : StoreValue) (count : ℕ) where
 
   pub mounts_are_merged : is_some (entry_in store count) ≡ true
       → mounts_in store count ≡ mounts_merged (counted count) (map merged_of store.overlays)
-  mounts_are_merged there =
-      by (entry_in store count) there
+  mounts_are_merged there = by (entry_in store count) there
       ∙ ap (λ o. unwrap_or (option_map (λ (one : Merged). one.mounts) o) 0) (sym (merged_found count store.overlays))
     where
-      by : (o : Option OverlayEntry) → is_some o ≡ true
-          → mounts_by store.plain count o
+      by : (o : Option OverlayEntry) → is_some o ≡ true → mounts_by store.plain count o
           ≡ unwrap_or (option_map (λ (one : Merged). one.mounts) (option_map merged_of o)) 0
       by None there = absurd cc
       by (Some entry) there = refl
@@ -105,8 +99,7 @@ module _ (store : StoreValue) (count : ℕ) where
 
   -- one mount more of an overlay
   pub held_over : is_some (entry_in store count) ≡ true → (new : StoreValue)
-      → new ≡ with_mounts count (λ mounts. mounts + 1) store
-      → (new.plain ≡ store.plain)
+      → new ≡ with_mounts count (λ mounts. mounts + 1) store → (new.plain ≡ store.plain)
       × (map merged_of new.overlays ≡ mounted_merged (counted count) (map merged_of store.overlays))
   held_over there new is = by (entry_in store count) there is
     where
@@ -131,8 +124,7 @@ more_merged number other [] = omega arith
 more_merged number other (one ∷ rest) =
     subst (λ n. mounts_of (cond (nat_eq other n) (Some (more one)) (merged_at other (mounted_merged number rest)))
     ≤ mounts_of (cond (nat_eq other one.number) (Some one) (merged_at other rest)) + 1)
-    (sym (same_number (nat_eq number one.number)))
-    (by (nat_eq other one.number) (more_merged number other rest))
+    (sym (same_number (nat_eq number one.number))) (by (nat_eq other one.number) (more_merged number other rest))
   where
     mounts_of : Option Merged → ℕ
     mounts_of o = unwrap_or (option_map (λ (found : Merged). found.mounts) o) 0

@@ -75,8 +75,7 @@ none_left a (first ∷ list) = by (nat_eq a first) refl (none_left a list)
 
 once_apart : (list : List ℕ) → any_pair nat_eq (each_once nat_eq list) ≡ false
 once_apart [] = refl
-once_apart (a ∷ rest) =
-    ap (λ b. b || any_pair nat_eq (filter (λ b. not (nat_eq a b)) (each_once nat_eq rest)))
+once_apart (a ∷ rest) = ap (λ b. b || any_pair nat_eq (filter (λ b. not (nat_eq a b)) (each_once nat_eq rest)))
     (none_left a (each_once nat_eq rest))
     ∙ pair-filter nat_eq (λ b. not (nat_eq a b)) (each_once nat_eq rest) (once_apart rest)
 
@@ -101,13 +100,11 @@ named_same a b same =
     ∙ (λ i. list_all (λ n. nat_eq n (same.files.tree i).root || among n i) b.files.numbers)
   where
     among : (n : ℕ) → is_among nat_eq n (named_in a.files) ≡ is_among nat_eq n (named_in b.files)
-    among n =
-        list_any-IsPermutation (nat_eq n)
+    among n = list_any-IsPermutation (nat_eq n)
         (flat_map (λ directory. targets_in (a.files.tree.node directory)) a.files.numbers)
         (flat_map (λ directory. targets_in (a.files.tree.node directory)) b.files.numbers)
         (IsPermutation-flat_map (λ directory. targets_in (a.files.tree.node directory)) a.files.numbers b.files.numbers
-        same.files.numbers)
-        ∙ (λ i. list_any (nat_eq n)
+        same.files.numbers) ∙ (λ i. list_any (nat_eq n)
         (flat_map (λ directory. targets_in ((same.files.tree i).node directory)) b.files.numbers))
 
 -- An overlay is shown as it was, once its layers are held.
@@ -119,18 +116,15 @@ module _ (old base : Filesystems) (entry : stored.OverlayEntry) (are : AreLayers
       let alike = found_same (counted count) (filesystems_seen old) (filesystems_seen base)
       (all_same_when_held layers old base held) in
       record {
-        tree =
-            ap (λ (f : Filesystem ℕ). f.files.tree) (sym (found_by_number base count)) ∙ sym alike.files.tree
+        tree = ap (λ (f : Filesystem ℕ). f.files.tree) (sym (found_by_number base count)) ∙ sym alike.files.tree
             ∙ ap (λ (f : Filesystem ℕ). f.files.tree) (found_by_number old count);
-        numbers =
-            ap (λ (f : Filesystem ℕ). length f.files.numbers) (sym (found_by_number base count))
+        numbers = ap (λ (f : Filesystem ℕ). length f.files.numbers) (sym (found_by_number base count))
             ∙ length_permutation _ _ alike.files.numbers
             ∙ ap (λ (f : Filesystem ℕ). length f.files.numbers) (found_by_number old count);
       }
 
   filesystem_stays : store.overlay_filesystem base entry ≡ store.overlay_filesystem old entry
-  filesystem_stays =
-      overlays_stay_with_layers old base entry are
+  filesystem_stays = overlays_stay_with_layers old base entry are
       (all_from_among (IsSameLayer old base) entry.overlay.lowers (λ layer m. same_layer layer))
 
   shown_when_held : IsShownAlike old base entry.overlay
@@ -148,8 +142,7 @@ module _ (old base : Filesystems) (entry : stored.OverlayEntry) (are : AreLayers
 module _ (value : WorldValue) (whole : IsHeld value) (task : Task ℕ) (place : Location ℕ) (overlay : Overlay ℕ)
     (flags : MountFlags)
     (given : IsGivenToTask (supply_of value (ToMountOverlay place overlay flags)) (world_of value) task
-    (ToMountOverlay place overlay flags))
-    (lower : overlay.upper ≡ None) where
+    (ToMountOverlay place overlay flags)) (lower : overlay.upper ≡ None) where
   abbrev world : World ℕ
   world = world_of value
 
@@ -168,8 +161,7 @@ module _ (value : WorldValue) (whole : IsHeld value) (task : Task ℕ) (place : 
   made = overlay_filesystem nat_eq (evens fresh) world overlay
 
   abbrev made_inodes : List (MergedInode ℕ)
-  made_inodes =
-      merged_inodes nat_eq (odds (evens fresh)) (is_some overlay.upper)
+  made_inodes = merged_inodes nat_eq (odds (evens fresh)) (is_some overlay.upper)
       (map (open_layer nat_eq world) (shown_layers overlay))
       (merged_objects (map (open_layer nat_eq world) (shown_layers overlay)) (inode_count world))
 
@@ -212,8 +204,7 @@ module _ (value : WorldValue) (whole : IsHeld value) (task : Task ℕ) (place : 
       supply_is = ap (handed_in world value.filesystems) (sym kept)
 
       made_as_shown : SameFilesystem made (overlay_shown value.filesystems entry.overlay)
-      made_as_shown =
-          subst (λ (f : Filesystem ℕ). SameFilesystem f (overlay_shown value.filesystems entry.overlay))
+      made_as_shown = subst (λ (f : Filesystem ℕ). SameFilesystem f (overlay_shown value.filesystems entry.overlay))
           (λ i. overlay_filesystem nat_eq (evens (sym supply_is i)) world (sym seen i))
           (made_overlays_are_same world value.filesystems entry.overlay whole.in_world
           (subst (mounted.AreLayers world) seen names_layers.layers) shows_layers
@@ -226,11 +217,9 @@ module _ (value : WorldValue) (whole : IsHeld value) (task : Task ℕ) (place : 
         files = same_inodes (odds (evens fresh) 0) (overlay_of_store value.filesystems entry).root made_inodes
             (inodes_kept value.filesystems entry.overlay)
             (made_as_shown.files.tree ∙ sym (inodes_are_the_tree value.filesystems entry.overlay));
-        overlay =
-            made_as_shown.overlay
-            ∙ (λ i. Some (record (with_objects value.filesystems entry.overlay) {
-              real = sym (inodes_have_their_objects value.filesystems entry.overlay shows_layers.are) i;
-            }));
+        overlay = made_as_shown.overlay ∙ (λ i. Some (record (with_objects value.filesystems entry.overlay) {
+          real = sym (inodes_have_their_objects value.filesystems entry.overlay shows_layers.are) i;
+        }));
       }
 
       module _ (base : Filesystems)
@@ -245,33 +234,27 @@ module _ (value : WorldValue) (whole : IsHeld value) (task : Task ℕ) (place : 
         }
 
         over_same : SameFilesystem made over
-        over_same =
-            subst (λ one. SameFilesystem made (overlay_seen one))
+        over_same = subst (λ one. SameFilesystem made (overlay_seen one))
             (sym (overlay_stays_when_held value.filesystems base entry shows_layers.are (map layer_of entry.overlay.lowers)
-            held))
-            made_same
+            held)) made_same
 
         -- each of its inodes has a name
         pub new_overlay_is_named : has_only_named (overlay_seen (overlay_of_store base entry)) ≡ true
-        new_overlay_is_named =
-            sym (named_same made over over_same)
+        new_overlay_is_named = sym (named_same made over over_same)
             ∙ new_overlays_are_named (evens fresh) world overlay whole.in_world names_layers.layers
             (evens-distinct fresh distinct)
 
         worlds_alike : Alike (with_new_filesystem world made) over_base
         worlds_alike =
             let itself = alike_from_same world world (sameness_is_an_equivalence.itself world) in
-            alike_onward (with_new_filesystem world made) (overlay_last value base entry) over_base
-            (record {
+            alike_onward (with_new_filesystem world made) (overlay_last value base entry) over_base (record {
               mounts = refl;
               master = refl;
-              filesystems =
-                  each_append SameFilesystem world.filesystems world.filesystems (made ∷ []) (over ∷ [])
+              filesystems = each_append SameFilesystem world.filesystems world.filesystems (made ∷ []) (over ∷ [])
                   itself.filesystems (over_same, tt);
               namespaces = itself.namespaces;
               tasks = itself.tasks;
-            })
-            (alike_from_same (overlay_last value base entry) over_base
+            }) (alike_from_same (overlay_last value base entry) over_base
             (same_with_layers_held value whole base entry (map layer_of entry.overlay.lowers) count_is held))
 
         -- so with its mount the world is what the permit leaves
@@ -281,8 +264,7 @@ module _ (value : WorldValue) (whole : IsHeld value) (task : Task ℕ) (place : 
                   woven (filesystems_seen base) (overlays_seen (value.overlays ++ overlay_of_store base entry ∷ []));
             }) (odds (supply_of value (ToMountOverlay place overlay flags))) place false
             (new_mount (counted value.next) (overlay_seen (overlay_of_store base entry)).files.tree.root flags ∷ []))
-        overlay_left =
-            subst (λ (w : World ℕ). SameWorlds w (attach nat_eq over_base (odds fresh) place false
+        overlay_left = subst (λ (w : World ℕ). SameWorlds w (attach nat_eq over_base (odds fresh) place false
             (new_mount (counted value.next) over.files.tree.root flags ∷ []))) (sym left_is)
             (subst (λ (tree : List (meant.Mount ℕ)). SameWorlds (attached_made) (attach nat_eq over_base (odds fresh) place
             false tree))

@@ -38,46 +38,37 @@ use Rattle.vt_mounting.proofs.attach.OverlaysNew.{layers_more}
 -- the overlays of a store, as they are counted
 merged_are : (plain : Filesystems) (overlays : Overlays)
     → map merged_of overlays ≡ map merged_seen (map (overlay_of_store plain) overlays)
-merged_are plain overlays =
-    map_alike merged_of (λ entry. merged_seen (overlay_of_store plain entry)) overlays
+merged_are plain overlays = map_alike merged_of (λ entry. merged_seen (overlay_of_store plain entry)) overlays
     (λ entry m. ap (λ layers. record (merged_of entry) { layers = layers })
     (sym (map_twice (λ (layer : Layer ℕ). (layer.filesystem, layer.directory)) layer_seen entry.overlay.lowers)))
     ∙ sym (map_twice merged_seen (overlay_of_store plain) overlays)
 
 module _ (base : WorldValue) (old held new : StoreValue) (whole : IsHeld (with_store old base)) (task : Task ℕ)
-    (graft : Graft) (counts : Counts)
-    (overlay : Overlay ℕ) (flags : MountFlags)
+    (graft : Graft) (counts : Counts) (overlay : Overlay ℕ) (flags : MountFlags)
     (given : IsGivenToTask (supply_of (with_store old base) (ToMountOverlay (location_of graft.place) overlay flags))
     (world_of (with_store old base)) task (ToMountOverlay (location_of graft.place) overlay flags))
     (lower : overlay.upper ≡ None) (workless : overlay.work ≡ None) (unmade : overlay.real ≡ (λ number. None))
     (entry : stored.OverlayEntry) (overlay_is : entry.overlay ≡ overlay_kept base.next overlay)
-    (count_is : entry.count ≡ base.next) (none : entry.mounts ≡ 0)
-    (are : AreLayers old.plain entry.overlay.lowers)
-    (small : base.next < 18446744073709551616)
-    (binds : graft.moves ≡ false)
-    (tree_is : map mount_of graft.tree.now
+    (count_is : entry.count ≡ base.next) (none : entry.mounts ≡ 0) (are : AreLayers old.plain entry.overlay.lowers)
+    (small : base.next < 18446744073709551616) (binds : graft.moves ≡ false) (tree_is : map mount_of graft.tree.now
     ≡ new_mount (counted base.next) (overlay_of_store old.plain entry).root flags ∷ [])
     (parts_are : map mount_of graft.parts.now
     ≡ parts_of nat_eq (world_of (with_store old base)) (location_of graft.place))
     (first : counts.first ≡ base.next + 1) (step : counts.step ≡ 2)
     (ascending : are_ascending (mounts_in base.mounts) ≡ true)
     (odd : list_all (λ mount. mount.number % 4 == 1) (mounts_in base.mounts) ≡ true)
-    (with_overlay : IsWithOverlay entry old held)
-    (stay : OverlaysStay (old.overlays ++ entry ∷ []) new.overlays) where
+    (with_overlay : IsWithOverlay entry old held) (stay : OverlaysStay (old.overlays ++ entry ∷ []) new.overlays) where
   abbrev value : WorldValue
   value = with_store old base
 
   merged_held : map merged_of held.overlays
       ≡ map merged_seen (overlays_of_store old ++ overlay_of_store held.plain entry ∷ [])
-  merged_held =
-      ap (map merged_of) with_overlay.overlays
-      ∙ map-append merged_of old.overlays (entry ∷ [])
+  merged_held = ap (map merged_of) with_overlay.overlays ∙ map-append merged_of old.overlays (entry ∷ [])
       ∙ (λ i. merged_are old.plain old.overlays i ++ merged_are held.plain (entry ∷ []) i)
       ∙ sym (map-append merged_seen (overlays_of_store old) (overlay_of_store held.plain entry ∷ []))
 
   layers_held : shown held.plain ≡ map (held_by (map layer_of entry.overlay.lowers)) (shown old.plain)
-  layers_held =
-      with_overlay.layers ∙ layers_more entry.overlay.lowers (shown old.plain)
+  layers_held = with_overlay.layers ∙ layers_more entry.overlay.lowers (shown old.plain)
       ∙ held_each (map layer_of entry.overlay.lowers) (shown old.plain)
 
   -- the world then is the one that the permit leaves

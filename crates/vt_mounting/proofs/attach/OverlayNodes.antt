@@ -28,8 +28,7 @@ small_births (Below layer directory rank) small =
 
 -- a node with small parts
 pub small_node : (node : NodeRef) → IsSmall node → is_small_node node ≡ true
-small_node node small =
-    λ i. lt-ltb node.filesystem.count 18446744073709551616 small.filesystem i
+small_node node small = λ i. lt-ltb node.filesystem.count 18446744073709551616 small.filesystem i
     && (lt-ltb node.slot 18446744073709551616 small.slot i && small_births node.birth small.birth i)
 
 module _ (trees : Filesystems) (entry : stored.OverlayEntry) (are : AreLayers trees entry.overlay.lowers)
@@ -51,16 +50,14 @@ module _ (trees : Filesystems) (entry : stored.OverlayEntry) (are : AreLayers tr
       })
 
   pub new_overlay_has_own : HasOwnNodes (worlds.overlay_seen (overlay_of_store trees entry))
-  new_overlay_has_own number there =
-      by (path_at trees overlay number) refl
+  new_overlay_has_own number there = by (path_at trees overlay number) refl
       (ap (λ (tree : Tree ℕ). is_some (tree.node number)) (sym (inodes_are_the_tree trees overlay)) ∙ there)
     where
       by : (o : Option (List (List ℕ))) → path_at trees overlay number ≡ o
           → is_some ((merged_tree trees overlay).node number) ≡ true
           → (node : NodeRef) × (is_small_node node ≡ true) × (counted entry.count ≡ counted node.filesystem.count)
           × (number ≡ number_of node)
-      by None e some =
-          absurd (true≢false (sym some
+      by None e some = absurd (true≢false (sym some
           ∙ ap (λ o. is_some (node_by (real_number trees overlay) (λ n. None) (longest trees overlay.lowers)
           (plain_world trees) (overlay_seen overlay) number o)) e))
       by (Some path) e some =

@@ -63,11 +63,10 @@ same_layer_twice old middle new layer first second =
 
 shown_still : (old new : Filesystems) (entry : stored.OverlayEntry) → AreLayers old entry.overlay.lowers
     → ((layer : LayerRef) → IsSameLayer old new layer) → overlay_of_store old entry ≡ overlay_of_store new entry
-shown_still old new entry are same =
-    λ i. record (overlay_of_store old entry) {
-      root = (sym alike.tree i).root;
-      inodes = sym (inodes_stay old new entry.overlay alike) i;
-    }
+shown_still old new entry are same = λ i. record (overlay_of_store old entry) {
+  root = (sym alike.tree i).root;
+  inodes = sym (inodes_stay old new entry.overlay alike) i;
+}
   where
     still : overlay_filesystem new entry ≡ overlay_filesystem old entry
     still = overlays_stay_with_layers old new entry are
@@ -148,8 +147,7 @@ module _ (base new_base : WorldValue) (old new : StoreValue) (entry : stored.Ove
   all_over = map-append (overlay_of_store old.plain) old.overlays (entry ∷ [])
 
   apart : AreApart old.plain (old.overlays ++ entry ∷ [])
-  apart =
-      rising_apart (overlays_seen (map (overlay_of_store old.plain) (old.overlays ++ entry ∷ [])))
+  apart = rising_apart (overlays_seen (map (overlay_of_store old.plain) (old.overlays ++ entry ∷ [])))
       (ap are_rising (ap overlays_seen all_over
       ∙ map-append overlay_seen (overlays_of_store old) (overlay_of_store old.plain entry ∷ []))
       ∙ rising_last (overlays_seen (overlays_of_store old)) (overlay_seen (overlay_of_store old.plain entry))
@@ -171,21 +169,17 @@ module _ (base new_base : WorldValue) (old new : StoreValue) (entry : stored.Ove
   stood one m =
       let was = were_there (old.overlays ++ entry ∷ []) new.overlays
       (left_still (old.overlays ++ entry ∷ []) new.overlays stay) one m in
-      subst (λ (overlay : OverlayValue). AreLayers old.plain overlay.lowers) was.3
-      (⊎_elim
+      subst (λ (overlay : OverlayValue). AreLayers old.plain overlay.lowers) was.3 (⊎_elim
       (λ among. (layers_shown_well (with_store old base) held (overlay_of_store old.plain was.0)
       (among-map (overlay_of_store old.plain) old.overlays was.0 among) was.0.overlay.lowers refl).0)
       (λ last. ⊎_elim (λ same. subst (λ (e : stored.OverlayEntry). AreLayers old.plain e.overlay.lowers) (sym same) are)
-      (λ none. absurd none) last)
-      (among-append old.overlays (entry ∷ []) was.0 was.1))
+      (λ none. absurd none) last) (among-append old.overlays (entry ∷ []) was.0 was.1))
 
   -- then the world is the one that holds the store
-  pub overlay_stored : IsHeld value_mounted
-      → SameFilesystems (woven (filesystems_seen plain)
+  pub overlay_stored : IsHeld value_mounted → SameFilesystems (woven (filesystems_seen plain)
       (overlays_seen (overlays_of_store old ++ overlay_of_store plain entry ∷ []))) (world_of value_mounted).filesystems
       → value_mounted ≡ with_store new new_base
-  overlay_stored there same =
-      ap (λ overlays. record new_base { filesystems = new.plain; overlays = overlays })
+  overlay_stored there same = ap (λ overlays. record new_base { filesystems = new.plain; overlays = overlays })
       (listed ∙ map_alike (overlay_of_store old.plain) (overlay_of_store new.plain) new.overlays (λ one m.
       shown_still old.plain new.plain one (stood one m) (λ layer.
       same_layer_twice old.plain plain new.plain layer (same_layer old.plain plain held_same layer)
@@ -193,21 +187,18 @@ module _ (base new_base : WorldValue) (old new : StoreValue) (entry : stored.Ove
     where
       merged_before : All (λ filesystem. is_overlay filesystem ≡ true)
           (overlays_seen (overlays_of_store old ++ overlay_of_store plain entry ∷ []))
-      merged_before =
-          subst (All (λ filesystem. is_overlay filesystem ≡ true))
+      merged_before = subst (All (λ filesystem. is_overlay filesystem ≡ true))
           (sym (map-append overlay_seen (overlays_of_store old) (overlay_of_store plain entry ∷ [])))
           (all_last (λ filesystem. is_overlay filesystem ≡ true) (overlays_seen (overlays_of_store old))
           (overlay_seen (overlay_of_store plain entry)) held.overlays.merged refl)
 
       plain_then : SameFilesystems (filesystems_seen plain) (filesystems_seen new.plain)
-      plain_then =
-          subst (SameFilesystems (filesystems_seen plain))
+      plain_then = subst (SameFilesystems (filesystems_seen plain))
           (woven_lists_are_failing is_overlay (filesystems_seen new.plain) (overlays_seen overlays_mounted)
           (record { fail = files_are_plain new.plain; pass = there.overlays.merged }))
           (subst (λ list. SameFilesystems list (filter is_plain_one (world_of value_mounted).filesystems))
           (woven_lists_are_failing is_overlay (filesystems_seen plain)
           (overlays_seen (overlays_of_store old ++ overlay_of_store plain entry ∷ []))
-          (record { fail = files_are_plain plain; pass = merged_before }))
-          (plain_same
+          (record { fail = files_are_plain plain; pass = merged_before })) (plain_same
           (woven (filesystems_seen plain) (overlays_seen (overlays_of_store old ++ overlay_of_store plain entry ∷ [])))
           (world_of value_mounted).filesystems same))

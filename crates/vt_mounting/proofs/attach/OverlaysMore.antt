@@ -34,15 +34,12 @@ mounted_more added one =
 -- each mount that comes is one more of its overlay
 pub merged_by_all : (copies : List Attached) (all : List Merged)
     → folded merged_by all copies ≡ map (mounted_more (map mount_of copies)) all
-merged_by_all [] all =
-    map_itself all
+merged_by_all [] all = map_itself all
     ∙ map_alike (λ (one : Merged). one) (mounted_more []) all (λ one m. λ i. record one { mounts = same one.mounts i })
   where
     same : (n : ℕ) → n ≡ n + 0
     same n = omega arith
-merged_by_all (copy ∷ rest) all =
-    merged_by_all rest (merged_by all copy)
-    ∙ map_twice (mounted_more later) step all
+merged_by_all (copy ∷ rest) all = merged_by_all rest (merged_by all copy) ∙ map_twice (mounted_more later) step all
     ∙ map_alike (λ (one : Merged). mounted_more later (step one)) (mounted_more (mount_of copy ∷ later)) all
     (λ one m. by one (nat_eq (counted copy.root.filesystem.count) one.number)
     ∙ ap (λ b. record one { mounts = one.mounts + (cond b 1 0 + showing one) })
@@ -59,8 +56,7 @@ merged_by_all (copy ∷ rest) all =
         one
 
     by : (one : Merged) (b : Bool)
-        → mounted_more (map mount_of rest) (cond b (record one { mounts = one.mounts + 1 }) one)
-        ≡ record one {
+        → mounted_more (map mount_of rest) (cond b (record one { mounts = one.mounts + 1 }) one) ≡ record one {
           mounts = one.mounts + (cond b 1 0
               + times (λ (mount : Mount ℕ). nat_eq one.number mount.filesystem) (map mount_of rest));
         }
@@ -91,11 +87,9 @@ module _ (value : WorldValue) (whole : IsHeld value) (added : List (Mount ℕ)) 
   more_shown n = sym (times_append (λ (mount : Mount ℕ). nat_eq n mount.filesystem) world.mounts added)
 
   still_shown : AreStillMounted value grown
-  still_shown =
-      all_from_among (λ (overlay : Filesystem ℕ). is_mounted nat_eq grown overlay.number ≡ true)
+  still_shown = all_from_among (λ (overlay : Filesystem ℕ). is_mounted nat_eq grown overlay.number ≡ true)
       (overlays_seen value.overlays) (λ overlay m.
-      mounted_while_counted grown overlay.number
-      ∙ ap (nat_lt 0) (sym (more_shown overlay.number))
+      mounted_while_counted grown overlay.number ∙ ap (nat_lt 0) (sym (more_shown overlay.number))
       ∙ sym (some_of_both (mounts_showing world overlay.number)
       (times (λ (mount : Mount ℕ). nat_eq overlay.number mount.filesystem) added))
       ∙ ap (λ b. b || nat_lt 0 (times (λ (mount : Mount ℕ). nat_eq overlay.number mount.filesystem) added))
@@ -111,12 +105,10 @@ module _ (value : WorldValue) (whole : IsHeld value) (added : List (Mount ℕ)) 
 
   pub merged_grown : map (mounted_more added) (map merged_seen value.overlays)
       ≡ map (merged_in grown) (filter is_overlay grown.filesystems)
-  merged_grown =
-      ap (map (mounted_more added)) (merged_at_first value whole)
+  merged_grown = ap (map (mounted_more added)) (merged_at_first value whole)
       ∙ map_twice (mounted_more added) (merged_in world) (filter is_overlay world.filesystems)
       ∙ map_alike (λ overlay. mounted_more added (merged_in world overlay)) (merged_in grown)
-      (filter is_overlay world.filesystems)
-      (λ overlay m. λ i. record {
+      (filter is_overlay world.filesystems) (λ overlay m. λ i. record {
         number = overlay.number;
         mounts = more_shown overlay.number i;
         layers = layers_used overlay;
@@ -135,8 +127,7 @@ more added entry = record entry {
 -- each is found again, with the mounts that came
 kept_more : (added : List (Mount ℕ)) (front back : List OverlayEntry)
     → ((entry : OverlayEntry) → Among entry back → (other : OverlayEntry) → Among other front
-    → nat_eq entry.number other.number ≡ false)
-    → are_rising (overlays_seen back) ≡ true
+    → nat_eq entry.number other.number ≡ false) → are_rising (overlays_seen back) ≡ true
     → overlays_kept (map (mounted_more added) (map merged_seen (front ++ back))) back ≡ map (more added) back
 kept_more added front [] apart rising = refl
 kept_more added front (entry ∷ rest) apart rising =
@@ -150,8 +141,7 @@ kept_more added front (entry ∷ rest) apart rising =
     ∙ (let less = ltb-true entry.number other.number (passes (λ (f : Filesystem ℕ). nat_lt entry.number f.number)
     (overlays_seen rest) parts.0 (overlay_seen other) (among-map overlay_seen rest other m)) in
     ne_eqb other.number entry.number (λ e. absurd (omega (arith, less, e))))) (λ none. absurd none) last)
-    (among-append front (entry ∷ []) one n))
-    parts.1)
+    (among-append front (entry ∷ []) one n)) parts.1)
   where
     parts : (list_all (λ (f : Filesystem ℕ). nat_lt entry.number f.number) (overlays_seen rest) ≡ true)
         × (are_rising (overlays_seen rest) ≡ true)
@@ -162,15 +152,12 @@ kept_more added front (entry ∷ rest) apart rising =
         → ((other : OverlayEntry) → Among other list → nat_eq entry.number other.number ≡ false)
         → merged_at entry.number (map (mounted_more added) (map merged_seen (list ++ entry ∷ rest)))
         ≡ Some (mounted_more added (merged_seen entry))
-    found [] apart =
-        ap (λ b. cond b (Some (mounted_more added (merged_seen entry)))
+    found [] apart = ap (λ b. cond b (Some (mounted_more added (merged_seen entry)))
         (merged_at entry.number (map (mounted_more added) (map merged_seen rest))))
         (eq-eqb entry.number entry.number refl)
-    found (first ∷ list) apart =
-        ap (λ b. cond b (Some (mounted_more added (merged_seen first)))
+    found (first ∷ list) apart = ap (λ b. cond b (Some (mounted_more added (merged_seen first)))
         (merged_at entry.number (map (mounted_more added) (map merged_seen (list ++ entry ∷ rest)))))
-        (apart first (inl refl))
-        ∙ found list (λ other m. apart other (inr m))
+        (apart first (inl refl)) ∙ found list (λ other m. apart other (inr m))
 
 more_seen : (added : List (Mount ℕ)) (list : List OverlayEntry)
     → overlays_seen (map (more added) list) ≡ overlays_seen list
@@ -180,8 +167,7 @@ more_seen added (entry ∷ rest) = ap (λ all. overlay_seen entry ∷ all) (more
 module _ (value : WorldValue) (rise : are_rising (overlays_seen value.overlays) ≡ true) (added : List (Mount ℕ))
     (overlays : List Merged) (are : overlays ≡ map (mounted_more added) (map merged_seen value.overlays)) where
   all_more : overlays_kept overlays value.overlays ≡ map (more added) value.overlays
-  all_more =
-      ap (λ list. overlays_kept list value.overlays) are
+  all_more = ap (λ list. overlays_kept list value.overlays) are
       ∙ kept_more added [] value.overlays (λ entry m other none. absurd none) rise
 
   -- the overlays of before are kept,
@@ -192,8 +178,7 @@ module _ (value : WorldValue) (rise : are_rising (overlays_seen value.overlays) 
   pub counted_more : All (IsMountedSoOften (world_of value)) value.overlays
       → All (IsMountedSoOften (record (world_of value) { mounts = (world_of value).mounts ++ added }))
       (overlays_kept overlays value.overlays)
-  counted_more counts =
-      subst (All (IsMountedSoOften after)) (sym all_more)
+  counted_more counts = subst (All (IsMountedSoOften after)) (sym all_more)
       (all_from_among (IsMountedSoOften after) (map (more added) value.overlays) (λ entry m.
       let from = among-from_map (more added) value.overlays entry m in
       subst (IsMountedSoOften after) (sym from.2)

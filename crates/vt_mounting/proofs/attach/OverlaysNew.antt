@@ -34,8 +34,7 @@ with_layer all inode = mounted_in inode.0 (pinned_in inode all)
 
 pinned_shown : (count number : ℕ) (all : List Shown)
     → shown_with count (λ inodes. pinned nat_eq inodes number) all ≡ pinned_in (counted count, number) all
-pinned_shown count number all =
-    changed_inodes count (λ inodes. pinned nat_eq inodes number)
+pinned_shown count number all = changed_inodes count (λ inodes. pinned nat_eq inodes number)
     (λ filesystem inodes. pinned_if filesystem inodes (counted count, number))
     (λ other inodes. ap (λ b. cond b (pinned nat_eq inodes number) inodes) (counted_eq_back other count)) all
 
@@ -56,8 +55,7 @@ layer_more all layer =
 pub layers_more : (layers : List LayerRef) (all : List Shown)
     → with_layers layers all ≡ folded with_layer all (map layer_of layers)
 layers_more [] all = refl
-layers_more (layer ∷ rest) all =
-    layers_more rest (Stored.with_layer all layer)
+layers_more (layer ∷ rest) all = layers_more rest (Stored.with_layer all layer)
     ∙ ap (λ more. folded with_layer more (map layer_of rest)) (layer_more all layer)
 
 -- one use more of an inode, and one mount of a filesystem, for each at the most
@@ -112,8 +110,7 @@ module _ (layers : List Inode) (all : List Shown) (less most : ℕ) (fits : less
   -- the copies have room with the layers,
   pub copies_fit : (copies : List Mount) → list_all (has_room less all) copies ≡ true
       → list_all (has_room most (folded with_layer all layers)) copies ≡ true
-  copies_fit copies room =
-      all_pass (has_room most (folded with_layer all layers)) copies (λ mount m.
+  copies_fit copies room = all_pass (has_room most (folded with_layer all layers)) copies (λ mount m.
       mount_fits mount (passes (has_room less all) copies room mount m))
 
   -- and so have mount points
@@ -150,8 +147,7 @@ same_mounts number (first ∷ rest) one none = by (nat_eq number first.number) (
 pub overlays_fit : (most : ℕ) (all : List Merged) (one : Merged) → one.mounts ≡ 0 → (copies : List Mount)
     → list_all (merged_has_room most all) copies ≡ true
     → list_all (merged_has_room most (all ++ one ∷ [])) copies ≡ true
-overlays_fit most all one none copies room =
-    all_pass (merged_has_room most (all ++ one ∷ [])) copies (λ mount m.
+overlays_fit most all one none copies room = all_pass (merged_has_room most (all ++ one ∷ [])) copies (λ mount m.
     ap (λ n. nat_le n most) (same_mounts (counted mount.root.filesystem.count) all one none)
     ∙ passes (merged_has_room most all) copies room mount m)
 
@@ -165,8 +161,7 @@ found_new (first ∷ rest) entry above =
     (list_all (λ (other : OverlayEntry). nat_lt other.count entry.count) rest) above in
     let low = ltb-true first.count entry.count parts.0 in
     ap (λ b. cond b (Some first) (entry_kept (rest ++ entry ∷ []) entry.count))
-    (ne_eqb entry.count first.count (λ same. absurd (omega (arith, low, same))))
-    ∙ found_new rest entry parts.1
+    (ne_eqb entry.count first.count (λ same. absurd (omega (arith, low, same)))) ∙ found_new rest entry parts.1
 
 pub lowers_new : (store : StoreValue) (entry : OverlayEntry)
     → list_all (λ (other : OverlayEntry). nat_lt other.count entry.count) store.overlays ≡ true
@@ -179,8 +174,7 @@ lowers_new store entry above =
 pub withdrawn : (overlays : Overlays) (entry : OverlayEntry)
     → list_all (λ (other : OverlayEntry). nat_lt other.count entry.count) overlays ≡ true
     → without_overlay entry.count (overlays ++ entry ∷ []) ≡ overlays
-withdrawn [] entry above =
-    filter_skip (λ (other : OverlayEntry). not (nat_eq entry.count other.count)) entry []
+withdrawn [] entry above = filter_skip (λ (other : OverlayEntry). not (nat_eq entry.count other.count)) entry []
     (ap not (eq-eqb entry.count entry.count refl))
 withdrawn (first ∷ rest) entry above =
     let parts = and_parts (nat_lt first.count entry.count)

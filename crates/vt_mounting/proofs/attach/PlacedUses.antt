@@ -76,11 +76,10 @@ module _ (number : ℕ) (place : Location) where
         is = λ i. cond (e i) (placed_entry place first) first ∷ split.is i;
         found = ap (λ b. cond b (Some first) (entry_numbered rest number)) e ∙ split.found;
       })
-      by false e (inr absent) =
-          inr (
-            (λ i. cond (e i) (placed_entry place first) first ∷ absent.0 i),
-            ap (λ b. cond b (Some first) (entry_numbered rest number)) e ∙ absent.1,
-          )
+      by false e (inr absent) = inr (
+        (λ i. cond (e i) (placed_entry place first) first ∷ absent.0 i),
+        ap (λ b. cond b (Some first) (entry_numbered rest number)) e ∙ absent.1,
+      )
 
   -- numbers and filesystems stay
 
@@ -98,8 +97,7 @@ module _ (number : ℕ) (place : Location) where
     where
       either : (mount_in nat_eq (mounts_in (changed number (placed_entry place) rest)) other).filesystem
           ≡ (mount_in nat_eq (mounts_in rest) other).filesystem
-          → (c : Bool) (mount : Mount ℕ) → mount.filesystem ≡ entry.mount.filesystem
-          → (unwrap_or (cond c (Some mount)
+          → (c : Bool) (mount : Mount ℕ) → mount.filesystem ≡ entry.mount.filesystem → (unwrap_or (cond c (Some mount)
           (find (λ (x : Mount ℕ). nat_eq other x.number) (mounts_in (changed number (placed_entry place) rest))))
           (no_mount other)).filesystem
           ≡ (unwrap_or (cond c (Some entry.mount) (find (λ (x : Mount ℕ). nat_eq other x.number) (mounts_in rest)))
@@ -108,8 +106,7 @@ module _ (number : ℕ) (place : Location) where
       either later false mount same = later
 
       by : (mount_in nat_eq (mounts_in (changed number (placed_entry place) rest)) other).filesystem
-          ≡ (mount_in nat_eq (mounts_in rest) other).filesystem
-          → (b : Bool) → (mount_in nat_eq
+          ≡ (mount_in nat_eq (mounts_in rest) other).filesystem → (b : Bool) → (mount_in nat_eq
           ((cond b (placed_entry place entry) entry).mount
           ∷ mounts_in (changed number (placed_entry place) rest)) other).filesystem
           ≡ (mount_in nat_eq (entry.mount ∷ mounts_in rest) other).filesystem
@@ -157,33 +154,24 @@ one_exchanged world entries point are one filesystem = by
     by : IsSplit (counted point.mount.count) point.place entries
         ⊎ IsAbsent (counted point.mount.count) point.place entries
         → Uses (entry_numbered entries (counted point.mount.count))
-    by (inl split) =
-        subst Uses (sym split.found)
+    by (inl split) = subst Uses (sym split.found)
         (mount_is_placed world after (mounts_in split.front) (mounts_in split.back) split.entry.mount
-        (placed_entry point.place split.entry).mount
-        refl refl
-        (sym are ∙ ap mounts_in split.was
+        (placed_entry point.place split.entry).mount refl refl (sym are ∙ ap mounts_in split.was
         ∙ map-append (λ (entry : MountEntry). entry.mount) split.front (split.entry ∷ split.back))
         (ap mounts_in split.is ∙ map-append (λ (entry : MountEntry). entry.mount) split.front
-        (placed_entry point.place split.entry ∷ split.back))
-        refl refl refl filesystem)
-    by (inr absent) =
-        subst Uses (sym absent.1)
-        (nothing_exchanged world (mounts_in (moved_to point entries))
+        (placed_entry point.place split.entry ∷ split.back)) refl refl refl filesystem)
+    by (inr absent) = subst Uses (sym absent.1) (nothing_exchanged world (mounts_in (moved_to point entries))
         (sym are ∙ ap mounts_in (sym absent.0)) filesystem)
 
 pub points_are_uses : PointsAreUses
 points_are_uses world entries [] are one filesystem = nothing_exchanged world (mounts_in entries) (sym are) filesystem
-points_are_uses world entries (point ∷ rest) are one filesystem =
-    subst (λ (gained : List Inode). Exchanges gained
+points_are_uses world entries (point ∷ rest) are one filesystem = subst (λ (gained : List Inode). Exchanges gained
     (map (inode_at world) (points_left (point ∷ rest) entries)) filesystem world after)
     (sym (ap (map (inode_at world)) (map-append location_of (points_taken rest entries) taken)
     ∙ map-append (inode_at world) (map location_of (points_taken rest entries)) (map location_of taken)))
-    (subst (λ (lost : List Inode). Exchanges
-    (map (inode_at world) (map location_of (points_taken rest entries))
+    (subst (λ (lost : List Inode). Exchanges (map (inode_at world) (map location_of (points_taken rest entries))
     ++ map (inode_at world) (map location_of taken)) lost filesystem world after)
-    (sym (map-append (inode_at world) (points_left rest entries) left))
-    (exchanges_follow world between after
+    (sym (map-append (inode_at world) (points_left rest entries) left)) (exchanges_follow world between after
     (map (inode_at world) (map location_of (points_taken rest entries)))
     (map (inode_at world) (points_left rest entries))
     (map (inode_at world) (map location_of taken)) (map (inode_at world) left) filesystem
@@ -205,8 +193,7 @@ points_are_uses world entries (point ∷ rest) are one filesystem =
     left = left_at point (with_points rest entries)
 
     one_later : any_pair same_number (mounts_in (with_points rest entries)) ≡ false
-    one_later =
-        one_number_by_numbers world.mounts (mounts_in (with_points rest entries))
+    one_later = one_number_by_numbers world.mounts (mounts_in (with_points rest entries))
         (numbers_stay rest entries ∙ ap (map (λ (mount : Mount ℕ). mount.number)) are) one
 
     same_places : inode_at between ≡ inode_at world

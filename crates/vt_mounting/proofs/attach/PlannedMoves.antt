@@ -122,8 +122,7 @@ module _ (points : List Location) (all : List Shown) (less most : ℕ) (fits : l
       let more = pins_more points (inode_of mount.root) all in
       let same = pins_mounts points (counted mount.root.filesystem.count) all in
       λ i. le-leb (uses_shown (inode_of mount.root) (folded pinned_by all points)) most
-      (omega (arith, root, more, fits)) i
-      && point_room_then mount.mount_point second.1 i
+      (omega (arith, root, more, fits)) i && point_room_then mount.mount_point second.1 i
       && le-leb (mounts_shown (counted mount.root.filesystem.count) (folded pinned_by all points)) most
       (omega (arith, shows, same, fits)) i
 
@@ -137,13 +136,10 @@ module _ (points : List Location) (all : List Shown) (less most : ℕ) (fits : l
 -- One step of a loop
 
 pub pinned_next : (moved : List Moved) (old : List Shown) (before after : Filesystems) (i : ℕ) (d : Moved)
-    → i < length moved
-    → length moved ≤ most_counted
+    → i < length moved → length moved ≤ most_counted
     → list_all (λ (point : Location). point_has_room (most_counted - length moved) old (Some point)) (taken_of moved)
-    ≡ true
-    → shown before ≡ folded pinned_by old (taken_of (take i moved)) → {E : Type 0} (result : Result ⊤ E)
-    → (IsErr result
-    → uses_in ((inodes_at before (get_or moved i d).to.node.filesystem.count).inode
+    ≡ true → shown before ≡ folded pinned_by old (taken_of (take i moved)) → {E : Type 0} (result : Result ⊤ E)
+    → (IsErr result → uses_in ((inodes_at before (get_or moved i d).to.node.filesystem.count).inode
     (number_of (get_or moved i d).to.node)) ≡ most_counted)
     → OnOk result (ChangesInodes (get_or moved i d).to.node.filesystem.count
     (λ inodes. pinned nat_eq inodes (number_of (get_or moved i d).to.node)) before after)
@@ -158,12 +154,10 @@ pinned_next moved old before after i d less fits room so_far result limit ok =
     (passes (λ (other : Location). point_has_room (most_counted - length moved) old (Some other)) (taken_of moved) room
     point (among-map place moved (get_or moved i d) (at moved i less))) so_far in
     let same = uses_are_shown node.filesystem.count (number_of node) before in
-    pins node.filesystem.count (number_of node) before after
-    (not_refused result (ChangesInodes node.filesystem.count
+    pins node.filesystem.count (number_of node) before after (not_refused result (ChangesInodes node.filesystem.count
     (λ inodes. pinned nat_eq inodes (number_of node)) before after)
     (uses_in ((inodes_at before node.filesystem.count).inode (number_of node)) ≡ most_counted) limit ok
-    (λ full. omega (arith, full, few, same)))
-    ∙ ap (λ all. pinned_by all point) so_far
+    (λ full. omega (arith, full, few, same))) ∙ ap (λ all. pinned_by all point) so_far
     ∙ sym (ap (folded pinned_by old) (map_more place moved i d less)
     ∙ folded_more pinned_by (taken_of (take i moved)) point old)
   where
@@ -171,8 +165,7 @@ pinned_next moved old before after i d less fits room so_far result limit ok =
     place one = one.to
 
     at : (list : List Moved) (k : ℕ) → k < length list → Among (get_or list k d) list
-    at list k low =
-        subst (Among (get_or list k d)) (take-append-drop (k + 1) list)
+    at list k low = subst (Among (get_or list k d)) (take-append-drop (k + 1) list)
         (among-append_left (take (k + 1) list) (drop (k + 1) list) (get_or list k d)
         (subst (Among (get_or list k d)) (sym (take_more list k d low))
         (among-append_right (take k list) (get_or list k d ∷ []) (get_or list k d) (inl refl))))
@@ -190,8 +183,7 @@ unpinned_next moved old before after i d less so_far step =
 
 pub place_next : (most : ℕ) (filesystems : Filesystems) (points : List Point) (i : ℕ) (d : Point) → i < length points
     → list_all (λ (point : Point). point_has_room most (shown filesystems) (Some point.place)) (take i points) ≡ true
-    → (n : ℕ)
-    → n ≡ uses_in ((inodes_at filesystems (get_or points i d).place.node.filesystem.count).inode
+    → (n : ℕ) → n ≡ uses_in ((inodes_at filesystems (get_or points i d).place.node.filesystem.count).inode
     (number_of (get_or points i d).place.node)) → n ≤ most
     → list_all (λ (point : Point). point_has_room most (shown filesystems) (Some point.place)) (take (i + 1) points)
     ≡ true

@@ -85,8 +85,7 @@ once_parts point rest once =
     let parts = or_parts (list_any (λ (b : ℕ × meant.Location ℕ). nat_eq (number_at point) b.0)
     (map point_seen rest)) _ once in (
       sym (any-map (λ (b : ℕ × meant.Location ℕ). nat_eq (number_at point) b.0) {q = λ (other : Point). nat_eq
-          (number_at point) (number_at other)} point_seen rest (λ other. refl))
-          ∙ parts.0,
+          (number_at point) (number_at other)} point_seen rest (λ other. refl)) ∙ parts.0,
       parts.1,
     )
 
@@ -122,26 +121,22 @@ left_is (point ∷ rest) entries once =
 taken_first : (points : List Point) (front back : List MountEntry) → Here points front
     → taken_now points (front ++ back) ≡ taken_now points front
 taken_first [] front back here = refl
-taken_first (point ∷ rest) front back here = λ i.
-    taken_first rest front back (λ other m. here other (inr m)) i
+taken_first (point ∷ rest) front back here = λ i. taken_first rest front back (λ other m. here other (inr m)) i
     ++ cond (is_some (found-among_first (number_at point) front back (here point (inl refl)) i)) (point.place ∷ []) []
 
 left_first : (points : List Point) (front back : List MountEntry) → Here points front
     → left_now points (front ++ back) ≡ left_now points front
 left_first [] front back here = refl
-left_first (point ∷ rest) front back here = λ i.
-    left_first rest front back (λ other m. here other (inr m)) i
+left_first (point ∷ rest) front back here = λ i. left_first rest front back (λ other m. here other (inr m)) i
     ++ option_to_list (option_and_then (λ (entry : MountEntry). entry.mount.mount_point)
     (found-among_first (number_at point) front back (here point (inl refl)) i))
 
 -- Where they come from
 
 taken_from : (points : List Point) (entries : List MountEntry) (place : Location)
-    → Among place (taken_now points entries)
-    → (point : Point) × Among point points × (place ≡ point.place)
+    → Among place (taken_now points entries) → (point : Point) × Among point points × (place ≡ point.place)
 taken_from [] entries place m = absurd m
-taken_from (point ∷ rest) entries place m =
-    ⊎_elim
+taken_from (point ∷ rest) entries place m = ⊎_elim
     (λ early. let from = taken_from rest entries place early in (from.0, inr from.1, from.2))
     (λ last. by (is_some (entry_numbered entries (number_at point))) last)
     (among-append (taken_now rest entries) (taken_at point entries) place m)
@@ -166,25 +161,21 @@ found_entry number (first ∷ rest) entry e = by (nat_eq number first.mount.numb
     by true is e later =
         let same = same_Some first entry e in (
           inl (sym same),
-          ap (λ (x : MountEntry). x.mount.number) (sym same)
-              ∙ sym (eqb-true number first.mount.number is),
+          ap (λ (x : MountEntry). x.mount.number) (sym same) ∙ sym (eqb-true number first.mount.number is),
         )
     by false is e later = let found = later e in (inr found.0, found.1)
 
 left_from : (points : List Point) (entries : List MountEntry) (place : meant.Location ℕ)
     → Among place (left_now points entries) → StoodAt entries place
 left_from [] entries place m = absurd m
-left_from (point ∷ rest) entries place m =
-    ⊎_elim
-    (λ early. left_from rest entries place early)
+left_from (point ∷ rest) entries place m = ⊎_elim (λ early. left_from rest entries place early)
     (λ last. by (entry_numbered entries (number_at point)) refl last)
     (among-append (left_now rest entries) (left_at point entries) place m)
   where
     stood : (entry : MountEntry) → Among entry entries → (o : Option (meant.Location ℕ)) → entry.mount.mount_point ≡ o
         → Among place (option_to_list o) → StoodAt entries place
     stood entry n None e last = absurd last
-    stood entry n (Some at) e last =
-        ⊎_elim
+    stood entry n (Some at) e last = ⊎_elim
         (λ same. (entry.mount, among-map (λ (x : MountEntry). x.mount) entries entry n, e ∙ ap Some (sym same)))
         (λ none. absurd none) last
 
@@ -220,8 +211,7 @@ lookup_is (first ∷ rest) once point m =
     (eq-eqb (number_at point) (number_at first) (ap number_at same))
     ∙ ap (λ (x : Point). Some (location_of x.place)) (sym same))
     (λ later. ap (λ b. cond b (Some (location_of first.place))
-    (lookup (nat_eq (number_at point)) (map point_seen rest)))
-    (ne_eqb (number_at point) (number_at first) (λ same.
+    (lookup (nat_eq (number_at point)) (map point_seen rest))) (ne_eqb (number_at point) (number_at first) (λ same.
     true≢false (sym (eq-eqb (number_at first) (number_at point) (sym same))
     ∙ fails (λ (other : Point). nat_eq (number_at first) (number_at other)) rest parts.0 point later)))
     ∙ lookup_is rest parts.1 point later) m
@@ -237,12 +227,10 @@ lookup_none number (point ∷ rest) apart =
     ∙ lookup_none number rest parts.1
 
 -- mounts with other numbers stay where they are
-pub others_stay : (points : List Point) (mounts : List (Mount ℕ))
-    → ((mount : Mount ℕ) → Among mount mounts
+pub others_stay : (points : List Point) (mounts : List (Mount ℕ)) → ((mount : Mount ℕ) → Among mount mounts
     → list_any (λ (point : Point). nat_eq mount.number (number_at point)) points ≡ false)
     → map (moved_at points) mounts ≡ mounts
-others_stay points mounts apart =
-    map_same (moved_at points) mounts (λ mount m.
+others_stay points mounts apart = map_same (moved_at points) mounts (λ mount m.
     ap (λ o. record mount { mount_point = or_else o mount.mount_point })
     (lookup_none mount.number points (apart mount m)))
 
@@ -250,8 +238,7 @@ module _ (entries : List MountEntry) (points : List Point)
     (once : MovesOnce (mounts_in entries) (map point_seen points)) where
   -- each mount that gets a new mount point has an entry
   points_entered : Here points entries
-  points_entered point m =
-      entry_some (number_at point) entries
+  points_entered point m = entry_some (number_at point) entries
       (passes (λ (seen : ℕ × meant.Location ℕ). is_among nat_eq seen.0
       (map (λ (mount : Mount ℕ). mount.number) (mounts_in entries)))
       (map point_seen points) once.there (point_seen point) (among-map point_seen points point m))

@@ -23,8 +23,7 @@ use Rattle.vt_location.proofs.NumberLemmas.{counted_test}
 pub uses_are_shown : (count number : ℕ) (filesystems : Filesystems)
     → uses_in ((inodes_at filesystems count).inode number) ≡ uses_shown (counted count, number) (shown filesystems)
 uses_are_shown count number [] = refl
-uses_are_shown count number (entry ∷ rest) =
-    by (nat_eq count entry.count) (uses_are_shown count number rest)
+uses_are_shown count number (entry ∷ rest) = by (nat_eq count entry.count) (uses_are_shown count number rest)
     ∙ ap (λ b. unwrap_or (option_map (λ one. uses_in (one.inodes.inode number))
     (cond b (Some (shown_entry entry)) (find (λ one. nat_eq (counted count) (counted one.count)) (shown rest)))) 0)
     (sym (counted_test count entry.count))
@@ -120,8 +119,7 @@ pub mounted_uses : (filesystem : ℕ) (other : Inode) (all : List Shown)
 mounted_uses filesystem other [] = refl
 mounted_uses filesystem other (one ∷ rest) =
     ap (λ count. use_of (cond (nat_eq other.0 (counted count)) (Some (mounted_if filesystem one))
-    (find (λ found. nat_eq other.0 (counted found.count)) (mounted_in filesystem rest))))
-    (mounted_count filesystem one)
+    (find (λ found. nat_eq other.0 (counted found.count)) (mounted_in filesystem rest)))) (mounted_count filesystem one)
     ∙ by (nat_eq other.0 (counted one.count)) (mounted_uses filesystem other rest)
   where
     use_of : Option Shown → ℕ
@@ -223,8 +221,7 @@ module _ (before : List Mount) (size : ℕ) (all : List Shown) (few : length bef
       (most_counted - 2 * size) first.1 in
       let mounts_more = mounts_by_all before (counted mount.root.filesystem.count) all in
       λ i. le-leb (uses_shown (inode_of mount.root) (folded shown_by all before)) (most_counted - 2)
-      (omega (arith, root, root_more, few, fits)) i
-      && point_later mount.mount_point second.1 i
+      (omega (arith, root, root_more, few, fits)) i && point_later mount.mount_point second.1 i
       && le-leb (mounts_shown (counted mount.root.filesystem.count) (folded shown_by all before)) (most_counted - 2)
       (omega (arith, mounts, mounts_more, few, fits)) i
 
@@ -250,11 +247,9 @@ pub holds : (count : ℕ) (old : Filesystems)
     → shown (with_changed count (λ entry. record entry { mounts = entry.mounts + 1 }) old)
     ≡ mounted_in (counted count) (shown old)
 holds count [] = refl
-holds count (entry ∷ rest) =
-    λ i. (by (nat_eq count entry.count)
+holds count (entry ∷ rest) = λ i. (by (nat_eq count entry.count)
     ∙ ap (λ b. cond b (record (shown_entry entry) { mounts = entry.mounts + 1 }) (shown_entry entry))
-    (sym (counted_test count entry.count))) i
-    ∷ holds count rest i
+    (sym (counted_test count entry.count))) i ∷ holds count rest i
   where
     by : (b : Bool) → shown_entry (cond b (record entry { mounts = entry.mounts + 1 }) entry)
         ≡ cond b (record (shown_entry entry) { mounts = entry.mounts + 1 }) (shown_entry entry)
@@ -262,8 +257,7 @@ holds count (entry ∷ rest) =
     by false = refl
 
 -- what is refused at the most alone is not refused below
-pub not_refused : {E : Type 0} (result : Result ⊤ E) (P Q : Type 0) → (IsErr result → Q)
-    → OnOk result P → (Q → ⊥) → P
+pub not_refused : {E : Type 0} (result : Result ⊤ E) (P Q : Type 0) → (IsErr result → Q) → OnOk result P → (Q → ⊥) → P
 not_refused (Ok value) P Q limit ok less = ok
 not_refused (Err refused) P Q limit ok less = absurd (less (limit refl))
 
@@ -280,15 +274,13 @@ root_has_room most filesystems mount room =
 
 pub filesystem_has_room : (most : ℕ) (all : List Shown) (mount : Mount) → has_room most all mount ≡ true
     → mounts_shown (counted mount.root.filesystem.count) all ≤ most
-filesystem_has_room most all mount room =
-    leb-true _ most (and_parts (nat_le (uses_shown (inode_of mount.root) all) most
+filesystem_has_room most all mount room = leb-true _ most (and_parts (nat_le (uses_shown (inode_of mount.root) all) most
     && point_has_room most all mount.mount_point) _ room).1
 
 -- one use more leaves room for one less
 pub point_room_left : (all : List Shown) (mount : Mount) → has_room (most_counted - 2) all mount ≡ true
     → point_has_room (most_counted - 1) (pinned_in (inode_of mount.root) all) mount.mount_point ≡ true
-point_room_left all mount room =
-    by mount.mount_point
+point_room_left all mount room = by mount.mount_point
     (and_parts (nat_le (uses_shown (inode_of mount.root) all) (most_counted - 2)) _
     (and_parts (nat_le (uses_shown (inode_of mount.root) all) (most_counted - 2)
     && point_has_room (most_counted - 2) all mount.mount_point) _ room).0).1

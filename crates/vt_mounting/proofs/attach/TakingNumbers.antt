@@ -40,8 +40,7 @@ module _ (value : WorldValue) (whole : IsHeld value) (name : TaskName) (permit :
     (takes : TakesNumbers value name permit task) where
   -- what is left is a world
   pub left_is_world : IsWorld nat_eq (left_by value task permit) × OverlaysHaveNoUpper (left_by value task permit)
-  left_is_world =
-      given_permits_give_no_upper (world_of value) (supply_of value permit) task permit whole.in_world
+  left_is_world = given_permits_give_no_upper (world_of value) (supply_of value permit) task permit whole.in_world
       whole.overlays.read_only takes.given
 
   -- what is left keeps to the counts before the next one, whatever numbers were taken
@@ -66,9 +65,7 @@ module _ (value : WorldValue) (whole : IsHeld value) (name : TaskName) (permit :
           own_inodes = all_from_among HasOwnInodes new.filesystems own;
           overlays = overlays_hold_still value new whole.overlays same_overlays
               (same_files_rise (left_by value task permit).filesystems (world_of new).filesystems same.filesystems
-              shows.rise)
-              counts.overlays
-              (same_worlds_have_layers_alike (left_by value task permit) (world_of new) same
+              shows.rise) counts.overlays (same_worlds_have_layers_alike (left_by value task permit) (world_of new) same
               (left_writers value whole task permit takes.given));
           namespaces = counts.namespaces;
         };

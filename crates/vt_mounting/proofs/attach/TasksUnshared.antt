@@ -43,8 +43,7 @@ pub record IsUnshared (value : WorldValue) (name : TaskName) (own : Own) (root d
       (with_use_moved (counted own.root.mount.count) (counted root.mount.count) mounts)
   pub entered : namespaces ≡ value.namespaces ++ (record { count = value.next; tasks = 1 } ∷ [])
   pub left : MountsAreLeft (counted own.namespace.count) (namespace_entry own.namespace.count namespaces)
-      (kept_with moved filesystems overlays) grown
-      (kept_with new.mounts new.filesystems left_overlays) new.groups
+      (kept_with moved filesystems overlays) grown (kept_with new.mounts new.filesystems left_overlays) new.groups
   pub namespaces_left : new.namespaces ≡ with_one_task_less own.namespace.count namespaces
   pub tasks : new.tasks ≡ changed_called name
       (λ task. record task { namespace = counted value.next; root = location_of root; directory = location_of directory }) value.tasks
@@ -53,16 +52,14 @@ pub record IsUnshared (value : WorldValue) (name : TaskName) (own : Own) (root d
   pub same_overlays : new.overlays ≡ overlays_kept left_overlays value.overlays
 
 pub task_is_unshared : (value : WorldValue) → IsHeld value → (name : TaskName) → Permits value name ToUnshare
-    → (own : Own)
-    → Some (task_of own) ≡ called name value.tasks → (root directory : Location)
+    → (own : Own) → Some (task_of own) ≡ called name value.tasks → (root directory : Location)
     → (mounts : List MountEntry) (grown : Grouping) (filesystems : Filesystems) (overlays : List Merged)
     (moved : List MountEntry) (left_overlays : List Merged) (namespaces : List NamespaceEntry) (new : WorldValue)
     → IsUnshared value name own root directory mounts grown filesystems overlays moved left_overlays namespaces new
     → IsDone value name ToUnshare new
 task_is_unshared value whole name permits own is root directory mounts grown filesystems overlays moved left_overlays namespaces new facts =
     Done.unshared_done value whole name permits own.namespace.count in_namespace facts.made.added copied_so mounts
-    filesystems overlays facts.made.attached
-    (copies_gain value whole name permits.task permits.called
+    filesystems overlays facts.made.attached (copies_gain value whole name permits.task permits.called
     (counts_from value.next) permits.given.serves facts.made.added same_copies facts.made.slots)
     (copies_there value whole name permits.task permits.called
     (counts_from value.next) permits.given.serves facts.made.added same_copies facts.made.slots)
@@ -71,8 +68,7 @@ task_is_unshared value whole name permits own is root directory mounts grown fil
     (kept_with moved_entries filesystems overlays) grown (kept_with new.mounts new.filesystems left_overlays) new.groups) facts.entered
     (subst (λ all. MountsAreLeft (counted own.namespace.count) (namespace_entry own.namespace.count namespaces)
     (kept_with all filesystems overlays) grown (kept_with new.mounts new.filesystems left_overlays) new.groups) uses_are facts.left))
-    (facts.namespaces_left ∙ ap (with_one_task_less own.namespace.count) facts.entered)
-    tasks_are
+    (facts.namespaces_left ∙ ap (with_one_task_less own.namespace.count) facts.entered) tasks_are
     (facts.next ∙ ap (λ n. value.next + 2 * length (attached_in n value.mounts)) in_namespace)
     facts.before facts.same_overlays
   where
@@ -107,18 +103,14 @@ task_is_unshared value whole name permits own is root directory mounts grown fil
         ∙ (λ i. moved_in value.next (attached_in (in_namespace i) value.mounts) (own_is i).directory)
 
     uses_are : moved ≡ moved_entries
-    uses_are =
-        facts.uses
-        ∙ (λ i. with_use_moved (own_is i).directory.mount (directory_goes i).mount
+    uses_are = facts.uses ∙ (λ i. with_use_moved (own_is i).directory.mount (directory_goes i).mount
         (with_use_moved (own_is i).root.mount (root_goes i).mount (ap (λ k. k.mounts) facts.made.attached i)))
 
     tasks_are : new.tasks ≡ Done.tasks value whole name permits own.namespace.count in_namespace facts.made.added
         copied_so mounts filesystems overlays facts.made.attached
-    tasks_are =
-        facts.tasks
+    tasks_are = facts.tasks
         ∙ ap (changed_by (λ task. record task { namespace = counted value.next; root = location_of root; directory = location_of directory }) value.tasks) permits.called
-        ∙ ap (λ (task : Task ℕ). replaced task value.tasks)
-        (λ i. record permits.task {
+        ∙ ap (λ (task : Task ℕ). replaced task value.tasks) (λ i. record permits.task {
           namespace = new_is value whole name permits.task permits.called permits.given.serves own.namespace.count in_namespace i;
           root = root_goes i;
           directory = directory_goes i;

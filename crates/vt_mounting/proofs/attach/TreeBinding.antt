@@ -69,23 +69,19 @@ module _ (value : WorldValue) (whole : IsHeld value) (source : Place) (recursive
   rest_differs mount m = differs top rest (subst OneNumberAMount tree_is each_once) mount m
 
   in_world : (mount : Mount ℕ) → Among mount rest → Among mount mounts_now
-  in_world mount m =
-      ⊎_elim
+  in_world mount m = ⊎_elim
       (λ same. absurd (true≢false (sym (eq-eqb mount.number top.number (ap (λ (x : Mount ℕ). x.number) same))
-      ∙ rest_differs mount m)))
-      (λ later. later)
+      ∙ rest_differs mount m))) (λ later. later)
       (bind_there_or_source world (location_of source) recursive mount (subst (Among mount) (sym tree_is) (inr m)))
 
   source_found : find (λ (mount : Mount ℕ). nat_eq (counted source.mount.count) mount.number) mounts_now
       ≡ Some (mount_at nat_eq world (location_of source))
-  source_found =
-      some_of (find (λ (mount : Mount ℕ). nat_eq (counted source.mount.count) mount.number) mounts_now)
+  source_found = some_of (find (λ (mount : Mount ℕ). nat_eq (counted source.mount.count) mount.number) mounts_now)
       (no_mount (counted source.mount.count))
       (found_some (counted source.mount.count) mounts_now (and_parts _ _ there).0)
 
   top_rooted : rooted_at source (mount_at nat_eq world (location_of source)) ≡ top
-  top_rooted =
-      ap (λ b. cond b (record (mount_at nat_eq world
+  top_rooted = ap (λ b. cond b (record (mount_at nat_eq world
       (location_of source)) { filesystem = counted source.node.filesystem.count; root = number_of source.node })
       (mount_at nat_eq world (location_of source))) (eq-eqb top.number (counted source.mount.count) top_number)
       ∙ (λ i. record top { filesystem = sym (seen_where_located value whole source small there) i })
@@ -113,5 +109,4 @@ module _ (value : WorldValue) (whole : IsHeld value) (source : Place) (recursive
           ap (λ o. cons_option (option_map (rooted_at source) o) (bound_mounts source mounts_now ids))
           (ap (λ number. find (λ (x : Mount ℕ). nat_eq number x.number) mounts_now) (here ∙ top_number) ∙ source_found)
           ∙ (λ i. top_rooted i ∷ (picked (rooted_at source) mounts_now rest ids later
-          (λ mount m. ascending_found mounts_now ascending mount (in_world mount m))
-          ∙ all_rooted rest below_rooted) i)
+          (λ mount m. ascending_found mounts_now ascending mount (in_world mount m)) ∙ all_rooted rest below_rooted) i)

@@ -46,8 +46,7 @@ one_typed number kind (entry ∷ rest) = λ i. by (nat_eq number entry.mount.num
 pub typed_seen : (types : List Kind) (entries : List MountEntry)
     → mounts_in (typed_all types entries) ≡ folded retyped_one (mounts_in entries) types
 typed_seen [] entries = refl
-typed_seen (new ∷ types) entries =
-    typed_seen types (with_type_in entries new)
+typed_seen (new ∷ types) entries = typed_seen types (with_type_in entries new)
     ∙ ap (λ mounts. folded retyped_one mounts types) (one_typed new.0 new.1 entries)
 
 -- All at once
@@ -68,31 +67,23 @@ pub all_typed : (kinds : List Kind) → KindsOnce kinds → (mounts : List (Moun
 all_typed [] once mounts = same_mounts mounts
 all_typed (kind ∷ rest) once mounts =
     let parts = or_parts (list_any (λ (b : Kind). nat_eq kind.0 b.0) rest) _ once in
-    all_typed rest parts.1 (retyped_one mounts kind)
-    ∙ map_twice (typed_at rest) (retyped_if kind.0 kind.1) mounts
+    all_typed rest parts.1 (retyped_one mounts kind) ∙ map_twice (typed_at rest) (retyped_if kind.0 kind.1) mounts
     ∙ map_alike (λ mount. typed_at rest (retyped_if kind.0 kind.1 mount)) (typed_at (kind ∷ rest)) mounts
     (λ mount m. by parts.0 mount (nat_eq kind.0 mount.number) refl)
   where
     by : list_any (λ (b : Kind). nat_eq kind.0 b.0) rest ≡ false → (mount : Mount ℕ) (b : Bool)
         → nat_eq kind.0 mount.number ≡ b
         → typed_at rest (cond b (record mount { propagation = kind.1 }) mount) ≡ typed_at (kind ∷ rest) mount
-    by apart mount true e =
-        ap (λ o. record mount { propagation = unwrap_or o kind.1 })
-        (lookup_fails mount.number rest
+    by apart mount true e = ap (λ o. record mount { propagation = unwrap_or o kind.1 }) (lookup_fails mount.number rest
         (ap (λ n. list_any (λ (b : Kind). nat_eq n b.0) rest) (sym (eqb-true kind.0 mount.number e)) ∙ apart))
         ∙ (λ i. record mount {
-          propagation = unwrap_or
-              (cond (sym (nat_eq-swapped kind.0 mount.number true e) i) (Some kind.1)
-              (lookup (nat_eq mount.number) rest))
-              mount.propagation;
+          propagation = unwrap_or (cond (sym (nat_eq-swapped kind.0 mount.number true e) i) (Some kind.1)
+              (lookup (nat_eq mount.number) rest)) mount.propagation;
         })
-    by apart mount false e =
-        λ i. record mount {
-          propagation = unwrap_or
-              (cond (sym (nat_eq-swapped kind.0 mount.number false e) i) (Some kind.1)
-              (lookup (nat_eq mount.number) rest))
-              mount.propagation;
-        }
+    by apart mount false e = λ i. record mount {
+      propagation = unwrap_or (cond (sym (nat_eq-swapped kind.0 mount.number false e) i) (Some kind.1)
+          (lookup (nat_eq mount.number) rest)) mount.propagation;
+    }
 
 -- Mounts that have their types already
 
@@ -100,16 +91,14 @@ module _ (mounts : List (Mount ℕ)) (one : any_pair (λ (a b : Mount ℕ). nat_
   -- two of one number are the same
   pub same_numbered : (mount other : Mount ℕ) → Among mount mounts → Among other mounts → mount.number ≡ other.number
       → mount ≡ other
-  same_numbered mount other m n same =
-      sym (found_itself mounts one mount m)
+  same_numbered mount other m n same = sym (found_itself mounts one mount m)
       ∙ ap (λ k. unwrap_or (find (λ (x : Mount ℕ). nat_eq k x.number) mounts) (no_mount k)) same
       ∙ found_itself mounts one other n
 
   pub typed_already : (some : List (Mount ℕ)) → ((mount : Mount ℕ) → Among mount some → Among mount mounts)
       → folded retyped_one mounts (map type_of some) ≡ mounts
   typed_already [] there = refl
-  typed_already (mount ∷ some) there =
-      ap (λ list. folded retyped_one list (map type_of some))
+  typed_already (mount ∷ some) there = ap (λ list. folded retyped_one list (map type_of some))
       (map_same (retyped_if mount.number mount.propagation) mounts
       (λ other n. by other n (nat_eq mount.number other.number) refl))
       ∙ typed_already some (λ other m. there other (inr m))
@@ -117,20 +106,16 @@ module _ (mounts : List (Mount ℕ)) (one : any_pair (λ (a b : Mount ℕ). nat_
       by : (other : Mount ℕ) → Among other mounts → (b : Bool) → nat_eq mount.number other.number ≡ b
           → cond b (record other { propagation = mount.propagation }) other ≡ other
       by other n false e = refl
-      by other n true e =
-          ap (λ kind. record other { propagation = kind })
-          (ap (λ (x : Mount ℕ). x.propagation)
+      by other n true e = ap (λ kind. record other { propagation = kind }) (ap (λ (x : Mount ℕ). x.propagation)
           (same_numbered mount other (there mount (inl refl)) n (eqb-true mount.number other.number e)))
 
 -- Some mounts of a list get types, and others stand behind it with theirs.
 module _ (front come own : List (Mount ℕ))
     (one : any_pair (λ (a b : Mount ℕ). nat_eq a.number b.number) (front ++ come) ≡ false)
-    (once : KindsOnce (map type_of own))
-    (apart : (mount : Mount ℕ) → Among mount come
+    (once : KindsOnce (map type_of own)) (apart : (mount : Mount ℕ) → Among mount come
     → list_any (λ (kind : Kind). nat_eq mount.number kind.0) (map type_of own) ≡ false) where
   typed_front : map (typed_at (map type_of own)) (front ++ come) ≡ map (typed_at (map type_of own)) front ++ come
-  typed_front =
-      map-append (typed_at (map type_of own)) front come
+  typed_front = map-append (typed_at (map type_of own)) front come
       ∙ ap (λ back. map (typed_at (map type_of own)) front ++ back)
       (map_same (typed_at (map type_of own)) come (λ mount m.
       ap (λ o. record mount { propagation = unwrap_or o mount.propagation })
@@ -144,8 +129,7 @@ module _ (front come own : List (Mount ℕ))
 
   pub typed_with_more : folded retyped_one (front ++ come) (map type_of (own ++ come))
       ≡ map (typed_at (map type_of own)) front ++ come
-  typed_with_more =
-      ap (folded retyped_one (front ++ come)) (map-append type_of own come)
+  typed_with_more = ap (folded retyped_one (front ++ come)) (map-append type_of own come)
       ∙ folded_append retyped_one (front ++ come) (map type_of own) (map type_of come)
       ∙ ap (λ list. folded retyped_one list (map type_of come))
       (all_typed (map type_of own) once (front ++ come) ∙ typed_front)
@@ -168,8 +152,7 @@ none_replaced : (mounts : List (Mount ℕ)) → mounts ≡ map (replaced_by []) 
 none_replaced [] = refl
 none_replaced (mount ∷ rest) = ap (λ list. mount ∷ list) (none_replaced rest)
 
-found_none : (number : ℕ) (own : List (Mount ℕ))
-    → list_any (λ (one : Mount ℕ). nat_eq number one.number) own ≡ false
+found_none : (number : ℕ) (own : List (Mount ℕ)) → list_any (λ (one : Mount ℕ). nat_eq number one.number) own ≡ false
     → find (λ (one : Mount ℕ). nat_eq number one.number) own ≡ None
 found_none number [] none = refl
 found_none number (first ∷ rest) none =
@@ -191,8 +174,7 @@ all_replaced (first ∷ rest) once mounts =
     by : list_any (λ (b : Mount ℕ). nat_eq first.number b.number) rest ≡ false → (mount : Mount ℕ) (b : Bool)
         → nat_eq first.number mount.number ≡ b
         → replaced_by rest (cond b first mount) ≡ replaced_by (first ∷ rest) mount
-    by apart mount true e =
-        ap (λ o. unwrap_or o first) (found_none first.number rest apart)
+    by apart mount true e = ap (λ o. unwrap_or o first) (found_none first.number rest apart)
         ∙ (λ i. unwrap_or (cond (sym (nat_eq-swapped first.number mount.number true e) i) (Some first)
         (find (λ (one : Mount ℕ). nat_eq mount.number one.number) rest)) mount)
     by apart mount false e =
@@ -206,29 +188,24 @@ pub lookup_kind : (own : List (Mount ℕ)) → KindsOnce (map type_of own) → (
 lookup_kind [] once mount m = absurd m
 lookup_kind (first ∷ rest) once mount m =
     let parts = or_parts (list_any (λ (b : Kind). nat_eq first.number b.0) (map type_of rest)) _ once in
-    ⊎_elim
-    (λ same. ap (λ b. cond b (Some first.propagation) (lookup (nat_eq mount.number) (map type_of rest)))
+    ⊎_elim (λ same. ap (λ b. cond b (Some first.propagation) (lookup (nat_eq mount.number) (map type_of rest)))
     (eq-eqb mount.number first.number (ap (λ (x : Mount ℕ). x.number) same))
     ∙ ap (λ (x : Mount ℕ). Some x.propagation) (sym same))
     (λ later. ap (λ b. cond b (Some first.propagation) (lookup (nat_eq mount.number) (map type_of rest)))
     (ne_eqb mount.number first.number (λ same.
     true≢false (sym (eq-eqb first.number mount.number (sym same))
     ∙ fails (λ (b : Kind). nat_eq first.number b.0) (map type_of rest) parts.0 (type_of mount)
-    (among-map type_of rest mount later))))
-    ∙ lookup_kind rest parts.1 mount later) m
+    (among-map type_of rest mount later)))) ∙ lookup_kind rest parts.1 mount later) m
 
 pub looked_up_kind : (number : ℕ) (own : List (Mount ℕ)) (kind : Propagation ℕ)
     → lookup (nat_eq number) (map type_of own) ≡ Some kind
     → (mount : Mount ℕ) × Among mount own × (mount.propagation ≡ kind) × (number ≡ mount.number)
 looked_up_kind number [] kind e = absurd (true≢false (sym (ap is_some e)))
-looked_up_kind number (first ∷ rest) kind e =
-    by (nat_eq number first.number) refl e (looked_up_kind number rest kind)
+looked_up_kind number (first ∷ rest) kind e = by (nat_eq number first.number) refl e (looked_up_kind number rest kind)
   where
     by : (b : Bool) → nat_eq number first.number ≡ b → cond b (Some first.propagation)
-        (lookup (nat_eq number) (map type_of rest)) ≡ Some kind
-        → (lookup (nat_eq number) (map type_of rest) ≡ Some kind
+        (lookup (nat_eq number) (map type_of rest)) ≡ Some kind → (lookup (nat_eq number) (map type_of rest) ≡ Some kind
         → (mount : Mount ℕ) × Among mount rest × (mount.propagation ≡ kind) × (number ≡ mount.number))
         → (mount : Mount ℕ) × Among mount (first ∷ rest) × (mount.propagation ≡ kind) × (number ≡ mount.number)
-    by true is f later =
-        (first, inl refl, same_Some first.propagation kind f, eqb-true number first.number is)
+    by true is f later = (first, inl refl, same_Some first.propagation kind f, eqb-true number first.number is)
     by false is f later = let found = later f in (found.0, inr found.1, found.2, found.3)

@@ -52,8 +52,7 @@ set_shared number Unbindable is mounts rising there = absurd (true≢false (sym 
 all_set : (own mounts : List (Mount ℕ)) → are_rising (numbers_of mounts) ≡ true
     → ((mount : Mount ℕ) → Among mount own → is_among nat_eq mount.number (numbers_of mounts) ≡ true)
     → ((mount : Mount ℕ) → Among mount own → is_shared mount.propagation ≡ true)
-    → folded with_type_of (peers_of mounts) (map type_of own)
-    ≡ peers_of (folded retyped_one mounts (map type_of own))
+    → folded with_type_of (peers_of mounts) (map type_of own) ≡ peers_of (folded retyped_one mounts (map type_of own))
 all_set [] mounts rising there shared = refl
 all_set (mount ∷ own) mounts rising there shared =
     let same = numbers-retyped mount.number mount.propagation mounts in
@@ -99,8 +98,7 @@ module _ (world after : World ℕ) (change : Mount ℕ → Mount ℕ) (own come 
       cons_option (option_map (λ source. (is.number mount i, is.kind mount i)) (source_of (is.kind mount i)))
       (peers_alike rest i)
 
-  numbers_alike : (mounts : List (Mount ℕ))
-      → numbers_of (map change mounts ++ come) ≡ numbers_of (mounts ++ come)
+  numbers_alike : (mounts : List (Mount ℕ)) → numbers_of (map change mounts ++ come) ≡ numbers_of (mounts ++ come)
   numbers_alike [] = refl
   numbers_alike (mount ∷ rest) = λ i. is.number mount i ∷ numbers_alike rest i
 
@@ -109,14 +107,11 @@ module _ (world after : World ℕ) (change : Mount ℕ → Mount ℕ) (own come 
   typed_numbers [] = refl
   typed_numbers (mount ∷ rest) = ap (λ numbers. mount.number ∷ numbers) (typed_numbers rest)
 
-  peers_then : peers_of after.mounts
-      ≡ folded with_type_of (peers_of world.mounts) (map type_of (own ++ come))
-  peers_then =
-      ap peers_of is.mounts ∙ peers_alike world.mounts
+  peers_then : peers_of after.mounts ≡ folded with_type_of (peers_of world.mounts) (map type_of (own ++ come))
+  peers_then = ap peers_of is.mounts ∙ peers_alike world.mounts
       ∙ sym (ap (folded with_type_of (peers_of world.mounts)) (map-append type_of own come)
       ∙ folded_append with_type_of (peers_of world.mounts) (map type_of own) (map type_of come)
-      ∙ ap (λ peers. folded with_type_of peers (map type_of come))
-      (all_set own world.mounts rising is.there is.shared
+      ∙ ap (λ peers. folded with_type_of peers (map type_of come)) (all_set own world.mounts rising is.there is.shared
       ∙ ap peers_of (all_typed (map type_of own) is.once world.mounts))
       ∙ all_entered (map (typed_at (map type_of own)) world.mounts) come
       (ap are_rising (typed_numbers world.mounts) ∙ is.order))
@@ -124,9 +119,7 @@ module _ (world after : World ℕ) (change : Mount ℕ → Mount ℕ) (own come 
   -- a mount that was there, and one that came
   old_member : (mount : Mount ℕ) → Among mount world.mounts → (group : ℕ)
       → group_of (typed_at (map type_of own) mount).propagation ≡ Some group → HasGroup after group
-  old_member mount m group e =
-      member_is group after.mounts (change mount)
-      (subst (Among (change mount)) (sym is.mounts)
+  old_member mount m group e = member_is group after.mounts (change mount) (subst (Among (change mount)) (sym is.mounts)
       (among-append_left (map change world.mounts) come (change mount) (among-map change world.mounts mount m)))
       (ap group_of (is.kind mount) ∙ e)
 
@@ -138,15 +131,12 @@ module _ (world after : World ℕ) (change : Mount ℕ → Mount ℕ) (own come 
   all_members : (group : ℕ) → has_members nat_eq (own ++ come) group ≡ true → HasGroup after group
   all_members group has =
       let member = the_member group (own ++ come) has in
-      ⊎_elim
-      (λ mine. let old = spec.among-from_map (λ (mount : Mount ℕ). mount.number) world.mounts member.0.number
+      ⊎_elim (λ mine. let old = spec.among-from_map (λ (mount : Mount ℕ). mount.number) world.mounts member.0.number
       (spec.among_numbers (numbers_of world.mounts) member.0.number (is.there member.0 mine)) in
       old_member old.0 old.1 group
       (ap (λ n. group_of (unwrap_or (lookup (nat_eq n) (map type_of own)) old.0.propagation)) (sym old.2)
-      ∙ ap (λ o. group_of (unwrap_or o old.0.propagation)) (lookup_kind own is.once member.0 mine)
-      ∙ member.2))
-      (λ other. member_is group after.mounts member.0
-      (subst (Among member.0) (sym is.mounts)
+      ∙ ap (λ o. group_of (unwrap_or o old.0.propagation)) (lookup_kind own is.once member.0 mine) ∙ member.2))
+      (λ other. member_is group after.mounts member.0 (subst (Among member.0) (sym is.mounts)
       (among-append_right (map change world.mounts) come member.0 other)) member.2)
       (among-append own come member.0 member.1)
 
@@ -154,13 +144,10 @@ module _ (world after : World ℕ) (change : Mount ℕ → Mount ℕ) (own come 
       → is_among nat_eq group (map (λ (entry : ℕ × Option ℕ). entry.0) new) ≡ true
   named_there group lacks has =
       let member = the_member group after.mounts has in
-      ⊎_elim (λ there. absurd (true≢false (sym there ∙ lacks))) (λ named. named)
-      (is.named group
-      (⊎_elim
+      ⊎_elim (λ there. absurd (true≢false (sym there ∙ lacks))) (λ named. named) (is.named group (⊎_elim
       (λ old. let was = among-from_map change world.mounts member.0 old in
       by was.0 was.1 (lookup (nat_eq was.0.number) (map type_of own)) refl
-      (sym (ap group_of (is.kind was.0)) ∙ ap (λ (mount : Mount ℕ). group_of mount.propagation) (sym was.2)
-      ∙ member.2))
+      (sym (ap group_of (is.kind was.0)) ∙ ap (λ (mount : Mount ℕ). group_of mount.propagation) (sym was.2) ∙ member.2))
       (λ other. member_is group (own ++ come) member.0 (among-append_right own come member.0 other) member.2)
       (among-append (map change world.mounts) come member.0 (subst (Among member.0) is.mounts member.1))))
     where
@@ -168,8 +155,7 @@ module _ (world after : World ℕ) (change : Mount ℕ → Mount ℕ) (own come 
           → lookup (nat_eq was.number) (map type_of own) ≡ o
           → group_of (unwrap_or (lookup (nat_eq was.number) (map type_of own)) was.propagation) ≡ Some group
           → has_members nat_eq (own ++ come) group ≡ true
-      by was m None e is_so =
-          absurd (true≢false (sym (member_is group world.mounts was m
+      by was m None e is_so = absurd (true≢false (sym (member_is group world.mounts was m
           (ap (λ o. group_of (unwrap_or o was.propagation)) (sym e) ∙ is_so)) ∙ lacks))
       by was m (Some kind) e is_so =
           let mine = looked_up_kind was.number own kind e in
@@ -184,8 +170,7 @@ module _ (world after : World ℕ) (change : Mount ℕ → Mount ℕ) (own come 
     master = is.master;
     stay = stays_there;
     begin = all_from_among (λ (entry : ℕ × Option ℕ). is_some entry.1 ≡ true → HasGroup after entry.0) new
-        (λ entry m some. all_members entry.0
-        (among_from_all (λ (other : ℕ × Option ℕ). is_some other.1 ≡ true
+        (λ entry m some. all_members entry.0 (among_from_all (λ (other : ℕ × Option ℕ). is_some other.1 ≡ true
         → has_members nat_eq (own ++ come) other.0 ≡ true) new is.begin entry m some));
     named = named_there;
   }

@@ -95,9 +95,7 @@ module _ (value : WorldValue) (whole : IsHeld value) (name : TaskName) (permits 
   gone_from = task.root ∷ task.directory ∷ []
 
   pub same_copies : added ≡ Worlds.copies value whole name task permits.called permits.given.serves count in_namespace
-  same_copies =
-      copied_so
-      ∙ ap (λ n. map (copied_mount (Tasks.copy value whole name task permits.called
+  same_copies = copied_so ∙ ap (λ n. map (copied_mount (Tasks.copy value whole name task permits.called
       (counts_from value.next) permits.given.serves) n) (mounts_of nat_eq world task.namespace))
       (Worlds.new_is value whole name task permits.called permits.given.serves count in_namespace)
 
@@ -107,8 +105,7 @@ module _ (value : WorldValue) (whole : IsHeld value) (name : TaskName) (permits 
 
   -- the mounts, with the root and the working directory on the copies
   abbrev pub moved_entries : List MountEntry
-  moved_entries =
-      Moved.moved_entries value whole copies tasks
+  moved_entries = Moved.moved_entries value whole copies tasks
       (λ mount. inside mount.namespace) task.root task.directory moved_task.root moved_task.directory is_added
 
   keeps : KeepsAdded value added come_to gone_from (gained_by copies) (kept_with moved_entries filesystems overlays)
@@ -161,16 +158,14 @@ module _ (value : WorldValue) (whole : IsHeld value) (name : TaskName) (permits 
 
     stays : (mount : Mount ℕ) → Among mount base.mounts → goes mount ≡ false → (place : Location ℕ)
         → mount.mount_point ≡ Some place → goes (mount_at nat_eq base place) ≡ false
-    stays mount m still place at =
-        (Begins.parent_is value whole added tasks come_to gone_from inside
+    stays mount m still place at = (Begins.parent_is value whole added tasks come_to gone_from inside
         (Worlds.nowhere_stays value whole name task permits.called permits.given.serves count in_namespace)
         remaining is_added (gained_by copies) (kept_with moved_entries filesystems overlays) keeps uses_gained gained_there
         mount m still place at).1
 
     -- the copies come after all mounts, in the order of those that they are of
     rising : are_rising (numbers_of (world.mounts ++ added)) ≡ true
-    rising =
-        ap (λ all. are_rising (numbers_of (world.mounts ++ all))) copied_so
+    rising = ap (λ all. are_rising (numbers_of (world.mounts ++ all))) copied_so
         ∙ sym (ascending_rises (world.mounts ++ copies_of value.next (attached_in task.namespace value.mounts)))
         ∙ copies_ascend value.next world.mounts (attached_in task.namespace value.mounts) ascending before
         (ascending_filter (λ mount. holds_of (nat_eq task.namespace) mount.namespace) world.mounts ascending)
@@ -210,22 +205,17 @@ module _ (value : WorldValue) (whole : IsHeld value) (name : TaskName) (permits 
     untyped = record new { mounts = ended_is_left.entries }
 
     swept : IsSwept value ended (gained_by copies) ended_is_left.reached.lost untyped
-    swept =
-        reached_swept value ended (gained_by copies) goes
+    swept = reached_swept value ended (gained_by copies) goes
         (kept_with ended_is_left.entries new.filesystems left_overlays) ended_is_left.reached ended_is_left.all_gone
-        untyped left_overlays refl
-        (sym tasks_are) overlays_are
+        untyped left_overlays refl (sym tasks_are) overlays_are
         (same_files_keep value world ended refl (keeps_itself value whole.overlays))
         (ap (map (λ (n : Namespace ℕ). record n { change = 0 })) (ap (map namespace_of) (sym namespaces_are)))
 
     counts : CountsBeside untyped
-    counts =
-        reached_counted value ended (gained_by copies) goes
+    counts = reached_counted value ended (gained_by copies) goes
         (kept_with ended_is_left.entries new.filesystems left_overlays) ended_is_left.reached ended_is_left.all_gone
-        untyped left_overlays refl
-        (sym tasks_are) overlays_are
-        (subst (All (CountsWhatIsInIt (world_of untyped))) (sym namespaces_are)
-        (left_counted count tasks entries
+        untyped left_overlays refl (sym tasks_are) overlays_are
+        (subst (All (CountsWhatIsInIt (world_of untyped))) (sym namespaces_are) (left_counted count tasks entries
         (Worlds.entries_count value whole name task permits.called permits.given.serves count in_namespace)
         (world_of untyped) tasks_are))
 
@@ -238,11 +228,9 @@ module _ (value : WorldValue) (whole : IsHeld value) (name : TaskName) (permits 
     typed_new = typed_value new.groups untyped
 
     typed_left : left_by value task ToUnshare ≡ settled nat_eq typed_ended
-    typed_left =
-        ap (settled nat_eq)
+    typed_left = ap (settled nat_eq)
         (Worlds.ended_is value whole name task permits.called permits.given.serves count in_namespace added same_copies
-        stays)
-        ∙ settled_typed ended new.groups ended_is_left.has
+        stays) ∙ settled_typed ended new.groups ended_is_left.has
 
     takes : TakesNumbers value name ToUnshare task
     takes = record { called = permits.called; given = permits.given; inode = 0; even = refl; supply = refl }
@@ -263,12 +251,10 @@ module _ (value : WorldValue) (whole : IsHeld value) (name : TaskName) (permits 
     -- the settled world is code's but for change numbers
     settled_same : SameWorlds (settled nat_eq typed_ended) (world_of typed_new)
     settled_same = swept_is_same value whole typed_ended (gained_by copies) ended_is_left.reached.lost typed_new
-        typed_swept typed_has
-        world_left
+        typed_swept typed_has world_left
 
     keeps_numbers : KeepsTo (is_counted_before new.next) (world_of typed_new)
-    keeps_numbers =
-        subst (λ next. KeepsTo (is_counted_before next) (world_of typed_new)) (sym next_is)
+    keeps_numbers = subst (λ next. KeepsTo (is_counted_before next) (world_of typed_new)) (sym next_is)
         (any_same_worlds_keep_to_numbers (is_counted_before
         (value.next + 2 * length (attached_in task.namespace value.mounts))) (settled nat_eq typed_ended)
         (world_of typed_new) settled_same

@@ -48,8 +48,7 @@ module _ (value : WorldValue) (whole : IsHeld value) (name : TaskName) (task : T
       (ap (λ kind. holds_of (nat_eq group) (group_of kind)) (sym from.3) ∙ member.2)
 
   pub base_has : Has base grown
-  base_has =
-      grows world base whole.groups
+  base_has = grows world base whole.groups
       (subst (λ types. Grows world base types []) (map_twice type_of mount_of copies)
       (attached_worlds_grow world base (λ mount. mount) (map mount_of copies) [] (record {
         mounts = ap (λ front. front ++ map mount_of copies)

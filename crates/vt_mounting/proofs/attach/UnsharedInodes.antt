@@ -91,8 +91,7 @@ module _ (value : WorldValue) (whole : IsHeld value) (name : TaskName) (task : T
     pub there : is_there nat_eq world (counted point.node.filesystem.count) (number_of point.node) ≡ true
 
   point_is : (x : meant.Mount ℕ) → Among x originals → (o : Option (meant.Location ℕ)) → x.mount_point ≡ o
-      → (point : Location)
-      → Some (location_of point) ≡ option_map (location_on_copy number_of_copy) o
+      → (point : Location) → Some (location_of point) ≡ option_map (location_on_copy number_of_copy) o
       → is_small_node point.node ≡ true → IsPointOf point
   point_is x m None e point at small = absurd cc
   point_is x m (Some place) e point at small =
@@ -112,8 +111,7 @@ module _ (value : WorldValue) (whole : IsHeld value) (name : TaskName) (task : T
       ∙ ap (λ n. (mount_numbered nat_eq base (number_of_copy n)).filesystem) (sym parent.number)
       ∙ ap (λ (y : meant.Mount ℕ). y.filesystem) (copy_is value whole name task found fresh serves parent.parent inside)
       ∙ ap (λ (y : meant.Mount ℕ). y.filesystem) (sym found_parent) in
-      let well : is_located_well nat_eq world place ≡ true =
-      (and_parts (is_located_well nat_eq world place) true
+      let well : is_located_well nat_eq world place ≡ true = (and_parts (is_located_well nat_eq world place) true
       (point_is_located value whole value.tasks [] [] (nothing_moves value) (λ o. false) refl [] x was.0
       (Some place) e)).0 in
       let there : is_there nat_eq world (mount_at nat_eq world place).filesystem (number_of point.node) ≡ true =
@@ -144,15 +142,12 @@ module _ (value : WorldValue) (whole : IsHeld value) (name : TaskName) (task : T
     point = λ point e. ap (λ f. (f, number_of point.node)) (point_of_copy mount m point e).shown;
   }
 
-  pub copies_gain : (test : Inode → Bool)
-      → times test (map (inode_at (with_added value (map mount_of copies)
+  pub copies_gain : (test : Inode → Bool) → times test (map (inode_at (with_added value (map mount_of copies)
       (tasks_moved value whole name task found fresh serves))) (places_of (map mount_of copies)))
       ≡ times test (gained_by copies)
-  copies_gain test =
-      ap (λ all. times test (map (inode_at
+  copies_gain test = ap (λ all. times test (map (inode_at
       (with_added value all (tasks_moved value whole name task found fresh serves)))
-      (places_of (map mount_of copies)))) same
-      ∙ gained_uses base test copies copy_found
+      (places_of (map mount_of copies)))) same ∙ gained_uses base test copies copy_found
 
   -- each is there
 
@@ -169,11 +164,9 @@ module _ (value : WorldValue) (whole : IsHeld value) (name : TaskName) (task : T
       by : (b : Bool) → nat_eq (counted was.count) (counted node.filesystem.count) ≡ b
           → (not b || is_some ((inodes_seen was).inode (number_of node))) ≡ true
       by false e = refl
-      by true e =
-          some_inode ((inodes_seen was).inode (number_of node))
+      by true e = some_inode ((inodes_seen was).inode (number_of node))
           (ap (λ (f : Filesystem ℕ). is_some (f.files.tree.node (number_of node)))
-          (sym (found_plain_one value whole was m)
-          ∙ ap (filesystem_numbered nat_eq world) (eqb-true _ _ e)) ∙ there)
+          (sym (found_plain_one value whole was m) ∙ ap (filesystem_numbered nat_eq world) (eqb-true _ _ e)) ∙ there)
 
   pub copies_there : (was : FilesystemEntry) → Among was value.filesystems
       → AreThere (counted was.count) (inodes_seen was) (gained_by copies)
@@ -195,8 +188,7 @@ module _ (value : WorldValue) (whole : IsHeld value) (name : TaskName) (task : T
       each : (some : List Mount) → ((mount : Mount) → Among mount some → Among mount copies)
           → AreThere (counted was.count) (inodes_seen was) (gained_by some)
       each [] within = refl
-      each (mount ∷ rest) within = λ i.
-          there_in was m mount.root (root_there mount (within mount (inl refl))) i
+      each (mount ∷ rest) within = λ i. there_in was m mount.root (root_there mount (within mount (inl refl))) i
           && both (inodes_of_point mount.mount_point) (gained_by rest)
           (points mount (within mount (inl refl)) mount.mount_point refl)
           (each rest (λ other n. within other (inr n))) i

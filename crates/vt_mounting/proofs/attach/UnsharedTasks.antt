@@ -121,8 +121,7 @@ module _ (value : WorldValue) (whole : IsHeld value) (name : TaskName) (task : T
           ap (λ n. mount_numbered nat_eq base (copy n)) same ∙ copy_is one.0 one.1 in
           record {
             inode = λ i. (
-              (ap (λ (x : Mount ℕ). x.filesystem) new
-                  ∙ sym (ap (λ (x : Mount ℕ). x.filesystem) old)) i,
+              (ap (λ (x : Mount ℕ). x.filesystem) new ∙ sym (ap (λ (x : Mount ℕ). x.filesystem) old)) i,
               location.node,
             );
             there = is_among_numbers (copy location.mount) (map (λ (x : Mount ℕ). x.number) base.mounts)
@@ -130,16 +129,14 @@ module _ (value : WorldValue) (whole : IsHeld value) (name : TaskName) (task : T
                 (among-map (λ (x : Mount ℕ). x.number) base.mounts (copied_mount copy new_namespace one.0)
                 (among-append_right world.mounts added (copied_mount copy new_namespace one.0)
                 (among-map (copied_mount copy new_namespace) copied one.0 one.1))));
-            left = inl (ap (λ (x : Mount ℕ). is_some x.namespace)
-                (ap (mount_in nat_eq world.mounts) same
+            left = inl (ap (λ (x : Mount ℕ). is_some x.namespace) (ap (mount_in nat_eq world.mounts) same
                 ∙ found_itself world.mounts whole.in_world.mounts.one_number one.0 was.0)
                 ∙ is_own one.0.namespace was.1);
           }
 
   stands : (location : Location ℕ) → Among location (locations_of task)
       → is_among nat_eq location.mount (map (λ mount. mount.number) world.mounts) ≡ true
-  stands location m =
-      (and_parts (is_among nat_eq location.mount (map (λ mount. mount.number) world.mounts)) _
+  stands location m = (and_parts (is_among nat_eq location.mount (map (λ mount. mount.number) world.mounts)) _
       (passes (is_located_well nat_eq world) (all_locations world) whole.in_world.tasks.locations_live location
       (subst (λ all. Among location all)
       (sym (ap locations_in split.was ∙ locations_around split.front task split.back))
@@ -165,12 +162,10 @@ module _ (value : WorldValue) (whole : IsHeld value) (name : TaskName) (task : T
       by true e =
           let listed = among_numbers task.namespace (map (λ (n : Namespace ℕ). n.number) world.namespaces)
           (passes (λ (one : Task ℕ). is_listed nat_eq world one.namespace) world.tasks whole.in_world.namespaces.tasks_listed task among_tasks) in
-          absurd (true≢false
-          (sym (is_among_numbers new_namespace (numbers_in_use world)
+          absurd (true≢false (sym (is_among_numbers new_namespace (numbers_in_use world)
           (subst (λ n. Among n (numbers_in_use world)) (eqb-true task.namespace new_namespace e)
           (among-append_right (flat_map used_by_mount world.mounts ++ flat_map used_by_filesystem world.filesystems)
-          (map (λ (n : Namespace ℕ). n.number) world.namespaces) task.namespace listed)))
-          ∙ serves.unused 0))
+          (map (λ (n : Namespace ℕ). n.number) world.namespaces) task.namespace listed))) ∙ serves.unused 0))
 
   module _ (goes : Option ℕ → Bool) (new_stays : goes (Some new_namespace) ≡ false) where
     from_copied : (mount : Mount ℕ) → Among mount added
@@ -215,10 +210,8 @@ module _ (value : WorldValue) (whole : IsHeld value) (name : TaskName) (task : T
           parent_is from.0 from.1 from.0.mount_point refl place (ap (λ (x : Mount ℕ). x.mount_point) (sym from.2) ∙ e);
       left = λ location m. ⊎_elim
           (λ root. subst (λ l. (is_some (mount_at nat_eq world l).namespace ≡ true) ⊎ Among l come_to) (sym root)
-          (⊎_elim (λ attached. inl attached) (λ same. inr (inl same)) root_goes.left))
-          (λ rest. ⊎_elim
+          (⊎_elim (λ attached. inl attached) (λ same. inr (inl same)) root_goes.left)) (λ rest. ⊎_elim
           (λ directory. subst (λ l. (is_some (mount_at nat_eq world l).namespace ≡ true) ⊎ Among l come_to)
-          (sym directory)
-          (⊎_elim (λ attached. inl attached) (λ same. inr (inr (inl same))) directory_goes.left))
+          (sym directory) (⊎_elim (λ attached. inl attached) (λ same. inr (inr (inl same))) directory_goes.left))
           (λ none. absurd none) rest) m;
     }

@@ -61,13 +61,10 @@ module _ (value : WorldValue) (whole : IsHeld value) (name : TaskName) (task : T
     where
       by : (b : Bool) → nat_eq number new ≡ b → b ≡ false
       by false e = refl
-      by true e =
-          absurd (true≢false
-          (sym (is_among_numbers new (numbers_in_use world)
+      by true e = absurd (true≢false (sym (is_among_numbers new (numbers_in_use world)
           (subst (λ n. Among n (numbers_in_use world)) (eqb-true number new e)
           (among-append_right (flat_map used_by_mount world.mounts ++ flat_map used_by_filesystem world.filesystems)
-          (map (λ (n : Namespace ℕ). n.number) world.namespaces) number listed)))
-          ∙ serves.unused 0))
+          (map (λ (n : Namespace ℕ). n.number) world.namespaces) number listed))) ∙ serves.unused 0))
 
   -- no task is in the new one
   none_in_new : (tasks : Tasks) → ((one : Task ℕ) → Among one tasks → nat_eq new one.namespace ≡ false)
@@ -79,8 +76,7 @@ module _ (value : WorldValue) (whole : IsHeld value) (name : TaskName) (task : T
       omega (arith, rest, here)
 
   listed_task : (one : Task ℕ) → Among one value.tasks → nat_eq new one.namespace ≡ false
-  listed_task one m =
-      swap_eq new one.namespace
+  listed_task one m = swap_eq new one.namespace
       ∙ not_new one.namespace (among_numbers one.namespace (map (λ (n : Namespace ℕ). n.number) world.namespaces)
       (passes (λ (other : Task ℕ). is_listed nat_eq world other.namespace) world.tasks whole.in_world.namespaces.tasks_listed one m))
 
@@ -88,9 +84,7 @@ module _ (value : WorldValue) (whole : IsHeld value) (name : TaskName) (task : T
   inside_of number one = nat_eq number one.namespace
 
   pub entries_count : (entry : NamespaceEntry) → Among entry entries → CountsOneMore count moved entry
-  entries_count entry m =
-      ⊎_elim
-      (λ old.
+  entries_count entry m = ⊎_elim (λ old.
       let was = (among_from_all (CountsWhatIsInIt world) value.namespaces whole.namespaces entry old).tasks in
       let number = among-map namespace_of value.namespaces entry old in
       let other = not_new (counted entry.count)
@@ -104,12 +98,10 @@ module _ (value : WorldValue) (whole : IsHeld value) (name : TaskName) (task : T
       let none : one_if (nat_eq (counted entry.count) new) ≡ 0 = ap one_if other in
       record {
         inside = omega (arith, was, all, mine, none);
-        some = ap (λ n. nat_eq n 0) was
-            ∙ tasks_counted (counted entry.count) value.tasks
+        some = ap (λ n. nat_eq n 0) was ∙ tasks_counted (counted entry.count) value.tasks
             (passes (has_tasks nat_eq world) world.namespaces whole.in_world.namespaces.namespaces_live
             (namespace_of entry) number);
-      })
-      (λ rest. ⊎_elim (λ last. subst (CountsOneMore count moved) (sym last) new_counts) (λ none. absurd none) rest)
+      }) (λ rest. ⊎_elim (λ last. subst (CountsOneMore count moved) (sym last) new_counts) (λ none. absurd none) rest)
       (among-append value.namespaces (record { count = value.next; tasks = 1 } ∷ []) entry m)
     where
       new_counts : CountsOneMore count moved (record { count = value.next; tasks = 1 })
@@ -139,8 +131,7 @@ module _ (value : WorldValue) (whole : IsHeld value) (name : TaskName) (task : T
   nowhere_stays = nothing_goes_with (ends count moved entries entries_count)
 
   pub new_stays : inside (Some new) ≡ false
-  new_stays =
-      ap (λ b. ends count moved entries entries_count && b)
+  new_stays = ap (λ b. ends count moved entries entries_count && b)
       (ap (λ n. nat_eq n new) in_namespace ∙ another value whole name task found (counts_from value.next) serves)
       ∙ nowhere_stays
 
@@ -182,31 +173,23 @@ module _ (value : WorldValue) (whole : IsHeld value) (name : TaskName) (task : T
     goes mount = inside mount.namespace
 
     same_namespaces : base.namespaces ≡ map namespace_of entries
-    same_namespaces =
-        (λ i. world.namespaces ++ (record { number = sym new_is i; change = 0 } ∷ []))
+    same_namespaces = (λ i. world.namespaces ++ (record { number = sym new_is i; change = 0 } ∷ []))
         ∙ sym (map-append namespace_of value.namespaces (record { count = value.next; tasks = 1 } ∷ []))
 
     listed : (mount : Mount ℕ) → Among mount base.mounts
         → list_all (is_listed nat_eq base) (option_to_list mount.namespace) ≡ true
-    listed mount m =
-        ⊎_elim
-        (λ old. by mount.namespace (passes
-        (λ (x : Mount ℕ). list_all (is_listed nat_eq world)
-        (option_to_list x.namespace)) world.mounts whole.in_world.namespaces.mounts_listed mount old))
-        (λ copy.
-        ap (λ o. list_all (is_listed nat_eq base) (option_to_list o)) (copy_of mount copy).2
-        ∙ ap (λ b. b && true)
+    listed mount m = ⊎_elim (λ old. by mount.namespace (passes (λ (x : Mount ℕ). list_all (is_listed nat_eq world)
+        (option_to_list x.namespace)) world.mounts whole.in_world.namespaces.mounts_listed mount old)) (λ copy.
+        ap (λ o. list_all (is_listed nat_eq base) (option_to_list o)) (copy_of mount copy).2 ∙ ap (λ b. b && true)
         (ap (is_among nat_eq new) (map-append (λ (n : Namespace ℕ). n.number) world.namespaces
         (record { number = new; change = 0 } ∷ []))
         ∙ is_among_right new (map (λ (n : Namespace ℕ). n.number) world.namespaces) (new ∷ [])
-        (ap (λ b. b || false) (eq-eqb new new refl))))
-        (among-append world.mounts more mount m)
+        (ap (λ b. b || false) (eq-eqb new new refl)))) (among-append world.mounts more mount m)
       where
         by : (o : Option ℕ) → list_all (is_listed nat_eq world) (option_to_list o) ≡ true
             → list_all (is_listed nat_eq base) (option_to_list o) ≡ true
         by None e = refl
-        by (Some n) e =
-            ap (λ b. b && true)
+        by (Some n) e = ap (λ b. b && true)
             (ap (is_among nat_eq n) (map-append (λ (x : Namespace ℕ). x.number) world.namespaces
             (record { number = new; change = 0 } ∷ []))
             ∙ is_among_left n (map (λ (x : Namespace ℕ). x.number) world.namespaces) (new ∷ [])
@@ -221,12 +204,10 @@ module _ (value : WorldValue) (whole : IsHeld value) (name : TaskName) (task : T
         → mount.mount_point ≡ Some place → goes (mount_at nat_eq base place) ≡ false)
         → namespaces_ended nat_eq (unshared nat_eq world (counts_from value.next) task)
         ≡ regrouped nat_eq (left_world base base_holds moved goes remaining stays)
-    ended_is stays =
-        ap (namespaces_ended nat_eq) is_unshared
+    ended_is stays = ap (namespaces_ended nat_eq) is_unshared
         ∙ ap (λ (mounts : List (Mount ℕ)). record (taken_away nat_eq base (map (λ (x : Mount ℕ). x.number) mounts)) {
           namespaces = filter (has_tasks nat_eq base) base.namespaces;
-        })
-        (filter_alike (is_in_ended nat_eq base) goes base.mounts (λ mount m.
+        }) (filter_alike (is_in_ended nat_eq base) goes base.mounts (λ mount m.
         in_ended_is count moved entries entries_count base refl same_namespaces mount (listed mount m)))
         ∙ ap (λ (all : List (Namespace ℕ)). record (taken_away nat_eq base
         (gone_numbers base base_holds moved goes remaining stays)) { namespaces = all })

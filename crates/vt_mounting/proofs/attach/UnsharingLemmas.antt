@@ -42,8 +42,7 @@ placed_after k (first ∷ rest) mount m = by (nat_eq mount.number first.number) 
         → (Among mount rest → k + 1 ≤ place mount.number (k + 1) rest)
         → k ≤ unwrap_or (cond b (Some k) (index_from (λ (x : Mount ℕ). nat_eq mount.number x.number) (k + 1) rest)) 0
     by true e after = omega arith
-    by false e after =
-        ⊎_elim
+    by false e after = ⊎_elim
         (λ same. absurd (true≢false (sym (eq-eqb mount.number first.number (ap (λ (x : Mount ℕ). x.number) same)) ∙ e)))
         (λ later. let more = after later in omega (arith, more)) m
 
@@ -53,11 +52,9 @@ places_rise k [] rising a b m n less = absurd m
 places_rise k (first ∷ rest) rising a b m n less =
     let parts = and_parts (list_all (λ (later : Mount ℕ). nat_lt first.number later.number) rest)
     (are_ascending rest) rising in
-    ⊎_elim
-    (λ same_b. absurd (⊎_elim
+    ⊎_elim (λ same_b. absurd (⊎_elim
     (λ same_a. let low : a.number ≡ b.number = ap (λ (x : Mount ℕ). x.number) (same_a ∙ sym same_b) in omega
-    (arith, less, low))
-    (λ later_a.
+    (arith, less, low)) (λ later_a.
     let more = ltb-true first.number a.number
     (passes (λ (later : Mount ℕ). nat_lt first.number later.number) rest parts.0 a later_a) in
     let here : b.number ≡ first.number = ap (λ (x : Mount ℕ). x.number) same_b in omega (arith, less, more, here)) m))
@@ -67,24 +64,20 @@ places_rise k (first ∷ rest) rising a b m n less =
     let not_b : nat_eq b.number first.number
     ≡ false = ne_eqb b.number first.number (λ e. absurd (omega (arith, more_b, e))) in
     subst (λ t. place a.number k (first ∷ rest) < unwrap_or
-    (cond t (Some k) (index_from (λ (x : Mount ℕ). nat_eq b.number x.number) (k + 1) rest)) 0) (sym not_b)
-    (⊎_elim
+    (cond t (Some k) (index_from (λ (x : Mount ℕ). nat_eq b.number x.number) (k + 1) rest)) 0) (sym not_b) (⊎_elim
     (λ same_a.
     let is_a : nat_eq a.number first.number
     ≡ true = eq-eqb a.number first.number (ap (λ (x : Mount ℕ). x.number) same_a) in
     let after = placed_after (k + 1) rest b later_b in
     subst (λ t. unwrap_or (cond t (Some k)
-    (index_from (λ (x : Mount ℕ). nat_eq a.number x.number) (k + 1) rest)) 0 < place b.number (k + 1) rest)
-    (sym is_a)
-    (omega (arith, after)))
-    (λ later_a.
+    (index_from (λ (x : Mount ℕ). nat_eq a.number x.number) (k + 1) rest)) 0 < place b.number (k + 1) rest) (sym is_a)
+    (omega (arith, after))) (λ later_a.
     let more_a = ltb-true first.number a.number
     (passes (λ (later : Mount ℕ). nat_lt first.number later.number) rest parts.0 a later_a) in
     let not_a : nat_eq a.number first.number
     ≡ false = ne_eqb a.number first.number (λ e. absurd (omega (arith, more_a, e))) in
     subst (λ t. unwrap_or (cond t (Some k)
-    (index_from (λ (x : Mount ℕ). nat_eq a.number x.number) (k + 1) rest)) 0 < place b.number (k + 1) rest)
-    (sym not_a)
+    (index_from (λ (x : Mount ℕ). nat_eq a.number x.number) (k + 1) rest)) 0 < place b.number (k + 1) rest) (sym not_a)
     (places_rise (k + 1) rest parts.1 a b later_a later_b less)) m)) n
 
 -- The copies ascend
@@ -107,12 +100,10 @@ changed_ascend change (first ∷ rest) rising keeps =
 pub copies_ascend : (next : ℕ) (all originals : List (Mount ℕ)) → are_ascending all ≡ true
     → list_all (λ mount. nat_lt mount.number (counted next)) all ≡ true → are_ascending originals ≡ true
     → are_ascending (all ++ copies_of next originals) ≡ true
-copies_ascend next all originals rising before ascending =
-    ascending_joined all (copies_of next originals) rising
+copies_ascend next all originals rising before ascending = ascending_joined all (copies_of next originals) rising
     (changed_ascend (copied_by next originals) originals ascending
     (λ a b m n less. let rises : index_of nat_eq originals a.number < index_of nat_eq originals b.number = places_rise 0 originals ascending a b m n less in
-    omega (arith, rises)))
-    (λ a b m n.
+    omega (arith, rises))) (λ a b m n.
     let low : a.number < counted next = ltb-true a.number (counted next)
     (passes (λ (mount : Mount ℕ). nat_lt mount.number (counted next)) all before a m) in
     let from = among-from_map (copied_by next originals) originals b n in
@@ -131,8 +122,7 @@ abbrev counted_on : (MountEntry → ℕ) → List MountEntry → ℕ → ℕ
 counted_on count entries number = unwrap_or (option_map count (entry_numbered entries number)) 0
 
 none_on_new : (count : MountEntry → ℕ) → ((mount : Attached) → count (unused_entry mount) ≡ 0)
-    → (number : ℕ) (new : List Attached)
-    → counted_on count (map unused_entry new) number ≡ 0
+    → (number : ℕ) (new : List Attached) → counted_on count (map unused_entry new) number ≡ 0
 none_on_new count none number [] = refl
 none_on_new count none number (mount ∷ new) = by (nat_eq number (counted mount.number.count))
     (none_on_new count none number new)
@@ -144,8 +134,7 @@ none_on_new count none number (mount ∷ new) = by (nat_eq number (counted mount
     by false rest = rest
 
 none_on : (count : MountEntry → ℕ) → ((mount : Attached) → count (unused_entry mount) ≡ 0) → (next number : ℕ)
-    → next ≤ number
-    → (old : List MountEntry) (new : List Attached)
+    → next ≤ number → (old : List MountEntry) (new : List Attached)
     → list_all (λ mount. nat_lt mount.number next) (mounts_in old) ≡ true
     → counted_on count (old ++ map unused_entry new) number ≡ 0
 none_on count none next number more [] new before = none_on_new count none number new
@@ -258,8 +247,7 @@ pub namespace_added : (value : WorldValue) → Serves nat_eq (world_of value) (c
     ++ record { count = value.next; tasks = new.tasks } ∷ []
 namespace_added value serves entries are id is new =
     inserted_last id new entries (λ entry m. absent entry (subst (Among entry) are m)
-    (nat_eq id.count entry.count) refl)
-    ∙ (λ i. are i ++ record { count = is i; tasks = new.tasks } ∷ [])
+    (nat_eq id.count entry.count) refl) ∙ (λ i. are i ++ record { count = is i; tasks = new.tasks } ∷ [])
   where
     absent : (entry : NamespaceEntry) → Among entry value.namespaces → (b : Bool) → nat_eq id.count entry.count ≡ b
         → b ≡ false
@@ -268,14 +256,12 @@ namespace_added value serves entries are id is new =
         let same = eqb-true id.count entry.count e in
         let number : counted entry.count ≡ counts_from value.next 0 = omega (arith, same, is) in
         let world = world_of value in
-        absurd (true≢false
-        (sym (is_among_numbers (counts_from value.next 0) (numbers_in_use world)
+        absurd (true≢false (sym (is_among_numbers (counts_from value.next 0) (numbers_in_use world)
         (subst (λ n. Among n (numbers_in_use world)) number
         (among-append_right (flat_map used_by_mount world.mounts ++ flat_map used_by_filesystem world.filesystems)
         (map (λ (n : meant_namespace ℕ). n.number) world.namespaces) (counted entry.count)
         (among-map (λ (n : meant_namespace ℕ). n.number) world.namespaces (namespace_of entry)
-        (among-map namespace_of value.namespaces entry m)))))
-        ∙ serves.unused 0))
+        (among-map namespace_of value.namespaces entry m))))) ∙ serves.unused 0))
 
 -- Room for what moves
 
@@ -286,13 +272,11 @@ module _ (value : WorldValue) (whole : IsHeld value)
     (from to : Location) (is : location_of to ≡ moved_in value.next originals (location_of from))
     (other : nat_eq from.mount.count to.mount.count ≡ false) where
   no_uses_there : uses_of mounts (counted to.mount.count) ≡ 0
-  no_uses_there =
-      ap (λ k. uses_of k.mounts (counted to.mount.count)) attached
+  no_uses_there = ap (λ k. uses_of k.mounts (counted to.mount.count)) attached
       ∙ no_uses value.next originals value.mounts copies (numbers_before value whole counts) from to is other
 
   no_writers_there : writers_of mounts (counted to.mount.count) ≡ 0
-  no_writers_there =
-      ap (λ k. writers_of k.mounts (counted to.mount.count)) attached
+  no_writers_there = ap (λ k. writers_of k.mounts (counted to.mount.count)) attached
       ∙ no_writers value.next originals value.mounts copies (numbers_before value whole counts) from to is other
 
   pub uses_left : uses_of mounts (counted to.mount.count) < 18446744073709551615
@@ -307,8 +291,7 @@ module _ (value : WorldValue) (whole : IsHeld value)
     uses_left_then =
         let none = no_uses_there in
         let few : uses_of (with_use_moved old_mount new_mount mounts) (counted to.mount.count) ≤ uses_of mounts
-        (counted to.mount.count) + 1 =
-        few_uses old_mount new_mount mounts (counted to.mount.count) in
+        (counted to.mount.count) + 1 = few_uses old_mount new_mount mounts (counted to.mount.count) in
         subst (λ all. uses_of all (counted to.mount.count) < 18446744073709551615) (sym moves)
         (omega (arith, none, few))
 
@@ -316,7 +299,6 @@ module _ (value : WorldValue) (whole : IsHeld value)
     writers_left_then =
         let none = no_writers_there in
         let few : writers_of (with_use_moved old_mount new_mount mounts) (counted to.mount.count) ≤ writers_of mounts
-        (counted to.mount.count) + 1 =
-        few_writers old_mount new_mount mounts (counted to.mount.count) in
+        (counted to.mount.count) + 1 = few_writers old_mount new_mount mounts (counted to.mount.count) in
         subst (λ all. writers_of all (counted to.mount.count) < 18446744073709551615) (sym moves)
         (omega (arith, none, few))

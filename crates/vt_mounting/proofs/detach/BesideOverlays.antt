@@ -62,8 +62,7 @@ module _ (one other : World ℕ) (same : filter is_overlay other.filesystems ≡
           ap (λ b. b && is_mounted nat_eq world merged.number) (no_layer_of_plain f.number merged plain))
 
       layered : list_any (layer_by other) other.filesystems ≡ list_any (layer_by one) one.filesystems
-      layered =
-          sym (by_overlays other)
+      layered = sym (by_overlays other)
           ∙ (λ i. list_any (λ merged. has_layer_on nat_eq f.number merged && mounted merged.number i) (same i))
           ∙ by_overlays one
 
@@ -72,15 +71,13 @@ pub lives_more : (one other : World ℕ) → ((f : Filesystem ℕ) → Among f o
     → ((number : ℕ) → is_mounted nat_eq one number ≡ true → is_mounted nat_eq other number ≡ true)
     → (f : Filesystem ℕ) → filesystem_lives nat_eq one f ≡ true → filesystem_lives nat_eq other f ≡ true
 lives_more one other within more f lives =
-    ⊎_elim (λ shown. or_first (is_mounted nat_eq other f.number) _ (more f.number shown))
-    (λ layered.
+    ⊎_elim (λ shown. or_first (is_mounted nat_eq other f.number) _ (more f.number shown)) (λ layered.
     let merged = one_passes (λ (m : Filesystem ℕ). has_layer_on nat_eq f.number m && is_mounted nat_eq one m.number)
     one.filesystems layered in
     let parts = and_parts (has_layer_on nat_eq f.number merged.0) (is_mounted nat_eq one merged.0.number) merged.2 in
     or_second (is_mounted nat_eq other f.number) _
     (any_passes (λ (m : Filesystem ℕ). has_layer_on nat_eq f.number m && is_mounted nat_eq other m.number)
-    other.filesystems merged.0 (within merged.0 merged.1)
-    (λ i. parts.0 i && more merged.0.number parts.1 i)))
+    other.filesystems merged.0 (within merged.0 merged.1) (λ i. parts.0 i && more merged.0.number parts.1 i)))
     (or_cases (is_mounted nat_eq one f.number) _ lives)
 
 -- In the code's world all overlays are shown.
@@ -96,8 +93,7 @@ mounted_at_first value whole =
 
 -- No overlay of before has a layer in one of them,
 pub no_layer_midway : (old : WorldValue) → IsHeld old → (world : World ℕ)
-    → ((f : Filesystem ℕ) → Among f world.filesystems → is_overlay f ≡ true
-    → Among f (overlays_seen old.overlays))
+    → ((f : Filesystem ℕ) → Among f world.filesystems → is_overlay f ≡ true → Among f (overlays_seen old.overlays))
     → (overlay : Filesystem ℕ) → Among overlay (overlays_seen old.overlays) → HasNoLayerIn overlay.number world
 no_layer_midway old held world were overlay n =
     all_from_among (λ merged. has_layer_on nat_eq overlay.number merged ≡ false) world.filesystems (λ merged m.
@@ -105,8 +101,7 @@ no_layer_midway old held world were overlay n =
   where
     before : (f : Filesystem ℕ) → Among f (overlays_seen old.overlays)
         → Among f (world_of old).filesystems × (is_overlay f ≡ true)
-    before f m =
-        among-from_filter is_overlay (world_of old).filesystems f
+    before f m = among-from_filter is_overlay (world_of old).filesystems f
         (subst (λ all. Among f all) (sym (overlays_are old held.overlays)) m)
 
     by : (merged : Filesystem ℕ) → Among merged world.filesystems → (b : Bool) → is_overlay merged ≡ b
@@ -116,15 +111,13 @@ no_layer_midway old held world were overlay n =
         among_from_all (λ (g : Filesystem ℕ). has_layer_on nat_eq overlay.number g ≡ false) (world_of old).filesystems
         (among_from_all (λ (f : Filesystem ℕ). is_overlay f ≡ true → HasNoLayerIn f.number (world_of old))
         (world_of old).filesystems (overlays_are_no_layers (world_of old) held.in_world) overlay
-        (before overlay n).0 (before overlay n).1)
-        merged (before merged (were merged m e)).0
+        (before overlay n).0 (before overlay n).1) merged (before merged (were merged m e)).0
 
 -- so the sweep leaves those that mounts show.
 pub swept_overlays : (old : WorldValue) → IsHeld old → (world : World ℕ) → KeepsOverlays old world
     → filter is_overlay (settled nat_eq world).filesystems
     ≡ filter (λ overlay. is_mounted nat_eq (in_use_of world) overlay.number) (overlays_seen old.overlays)
-swept_overlays old held world keeps =
-    named_overlays_stay world (named_midway old held.overlays world keeps)
+swept_overlays old held world keeps = named_overlays_stay world (named_midway old held.overlays world keeps)
     ∙ ap (filter is_overlay) (filter_alike lives stays world.filesystems (λ f m. lives_is f m (is_overlay f) refl))
     ∙ filter_twice is_overlay stays (λ f. is_overlay f && shown f)
     (λ f. by (is_overlay f) (shown f) (lives f)) world.filesystems
@@ -148,8 +141,7 @@ swept_overlays old held world keeps =
 
     lives_is : (f : Filesystem ℕ) → Among f world.filesystems → (b : Bool) → is_overlay f ≡ b
         → lives f ≡ cond b (shown f) (lives f)
-    lives_is f m true e =
-        lives_while_mounted living f (no_layer_midway old held living were f (were f m e))
+    lives_is f m true e = lives_while_mounted living f (no_layer_midway old held living were f (were f m e))
         ∙ sym (mounted_while_counted living f.number)
     lives_is f m false e = refl
 

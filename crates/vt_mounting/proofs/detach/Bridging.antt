@@ -65,13 +65,10 @@ module _ (old : WorldValue) (held : IsHeld old) (after : World ℕ) (gained lost
       (sym from.count)
       (subst (IsCounted left (filesystem_numbered nat_eq left (counted from.was.count))) (sym from.inodes)
       (uses_are_swept_beside_overlays (world_of old) after gained lost (counted from.was.count) (inodes_seen from.was)
-      (worlds_have_trees (world_of old) held.in_world)
-      (worlds_are_in_use (world_of old) held.in_world).inodes
+      (worlds_have_trees (world_of old) held.in_world) (worlds_are_in_use (world_of old) held.in_world).inodes
       (no_upper_is_in_any after (counted from.was.count) (no_upper_midway old held.overlays after swept.midway))
-      from.exchanges
-      (subst (λ f. IsCounted (world_of old) f (inodes_seen from.was))
-      (sym (found_plain_one old held from.was from.among)) was_counted)
-      from.there))
+      from.exchanges (subst (λ f. IsCounted (world_of old) f (inodes_seen from.was))
+      (sym (found_plain_one old held from.was from.among)) was_counted) from.there))
 
   -- the sweep leaves filesystems in the order of their numbers
   pub rise_left : are_rising left.filesystems ≡ true

@@ -118,14 +118,11 @@ module _ (count : ℕ) (change : Inodes ℕ → Inodes ℕ) where
       → HasPartner was news
   becomes_one [] news pairs was m = absurd m
   becomes_one (first ∷ olds) [] pairs was m = absurd pairs
-  becomes_one (first ∷ olds) (entry ∷ news) pairs was m =
-      ⊎_elim
-      (λ same. record {
-        entry = entry;
-        among = inl refl;
-        is = subst (λ x. IsChangedEntry count change x entry)
-            (sym same) pairs.0;
-      })
+  becomes_one (first ∷ olds) (entry ∷ news) pairs was m = ⊎_elim (λ same. record {
+    entry = entry;
+    among = inl refl;
+    is = subst (λ x. IsChangedEntry count change x entry) (sym same) pairs.0;
+  })
       (λ later. let rest = becomes_one olds news pairs.1 was later in record { entry = rest.entry; among = inr rest.among; is = rest.is }) m
 
   pub record HasSource (entry : FilesystemEntry) (olds : Filesystems) : Type 0 where
@@ -138,8 +135,7 @@ module _ (count : ℕ) (change : Inodes ℕ → Inodes ℕ) where
   was_one [] [] pairs entry m = absurd m
   was_one [] (first ∷ news) pairs entry m = absurd pairs
   was_one (was ∷ olds) [] pairs entry m = absurd m
-  was_one (was ∷ olds) (first ∷ news) pairs entry m =
-      ⊎_elim
+  was_one (was ∷ olds) (first ∷ news) pairs entry m = ⊎_elim
       (λ same. record { was = was; among = inl refl; is = subst (IsChangedEntry count change was) (sym same) pairs.0 })
       (λ later. let rest = was_one olds news pairs.1 entry later in record { was = rest.was; among = inr rest.among; is = rest.is }) m
 
@@ -165,8 +161,7 @@ pub record ChangesFiles (value : WorldValue) (location : Location ℕ) (change :
   pub own : (number : ℕ) → is_own_number entry.count number ≡ false → MakesOther number change
 
 module _ (value : WorldValue) (held : IsHeld value) (location : Location ℕ) (change : Change ℕ)
-    (filesystems : Filesystems)
-    (made : ChangesFiles value location change filesystems) where
+    (filesystems : Filesystems) (made : ChangesFiles value location change filesystems) where
   abbrev count : ℕ
   count = made.entry.count
 
@@ -174,16 +169,14 @@ module _ (value : WorldValue) (held : IsHeld value) (location : Location ℕ) (c
   new = with_filesystems value filesystems
 
   filesystem_is : filesystem_at nat_eq (world_of value) location ≡ filesystem_seen made.entry
-  filesystem_is =
-      ap (filesystem_numbered nat_eq (world_of value)) made.shows
+  filesystem_is = ap (filesystem_numbered nat_eq (world_of value)) made.shows
       ∙ found_plain_one value held made.entry made.among
 
   pub is_change : IsChangeOfPlain (world_of value) location (inodes_seen made.entry) change
   is_change = record {
     in_world = held.in_world;
     plain = ap is_overlay filesystem_is;
-    counted =
-        subst (λ f. IsCounted (world_of value) f (inodes_seen made.entry)) (sym filesystem_is)
+    counted = subst (λ f. IsCounted (world_of value) f (inodes_seen made.entry)) (sym filesystem_is)
         (among_from_all (CountsItsMounts
         (world_of value)) value.filesystems held.filesystems made.entry made.among).inodes;
     fits = made.fits;
@@ -192,11 +185,9 @@ module _ (value : WorldValue) (held : IsHeld value) (location : Location ℕ) (c
 
   the_one : (entry : FilesystemEntry) → Among entry value.filesystems → nat_eq count entry.count ≡ true
       → entry ≡ made.entry
-  the_one entry m same =
-      same_Some entry made.entry
+  the_one entry m same = same_Some entry made.entry
       (sym (one_entry value.filesystems (plain_ones_apart value held) entry m)
-      ∙ ap (entry_of value.filesystems) (sym (eqb-true count entry.count same))
-      ∙ made.found)
+      ∙ ap (entry_of value.filesystems) (sym (eqb-true count entry.count same)) ∙ made.found)
 
   pairs : ArePaired count (changed_by change) value.filesystems filesystems
   pairs = paired count (changed_by change) value.filesystems filesystems made.changes.changed
@@ -205,8 +196,7 @@ module _ (value : WorldValue) (held : IsHeld value) (location : Location ℕ) (c
   partner = becomes_one count (changed_by change) value.filesystems filesystems pairs made.entry made.among
 
   pub inodes_after : inodes_seen partner.entry ≡ changed nat_eq (inodes_seen made.entry) change
-  inodes_after =
-      partner.is.inodes_are
+  inodes_after = partner.is.inodes_are
       ∙ ap (λ b. cond b (changed nat_eq (inodes_seen made.entry) change) (inodes_seen made.entry))
       (eq-eqb count count refl)
 
@@ -222,8 +212,7 @@ module _ (value : WorldValue) (held : IsHeld value) (location : Location ℕ) (c
   same_put (was ∷ olds) [] all two = absurd two
   same_put (was ∷ olds) (entry ∷ news) all two = (
     subst (λ b. SameFilesystem (cond b put (filesystem_seen was)) (filesystem_seen entry))
-        (sym (counted_test count was.count))
-        (by (nat_eq count was.count) refl two.0.inodes_are),
+        (sym (counted_test count was.count)) (by (nat_eq count was.count) refl two.0.inodes_are),
     same_put olds news (λ other m. all other (inr m)) two.1,
   )
     where
@@ -253,19 +242,16 @@ module _ (value : WorldValue) (held : IsHeld value) (location : Location ℕ) (c
       (files_seen partner.entry)) (world_of new)
   same_with_tree =
       subst (λ f. SameWorlds (with_filesystem nat_eq (world_of value) (with_files f (files_seen partner.entry)))
-      (world_of new))
-      (sym filesystem_is) (record {
+      (world_of new)) (sym filesystem_is) (record {
         mounts = refl;
         master = refl;
-        filesystems =
-            subst (λ list. SameFilesystems list (world_of new).filesystems)
+        filesystems = subst (λ list. SameFilesystems list (world_of new).filesystems)
             (sym (woven_mapped (replaced_if_numbered nat_eq put) numbers_kept (filesystems_seen value.filesystems)
             (overlays_seen value.overlays) (λ f m.
             ap (λ b. cond b put f) (overlay_apart value held made.entry made.among f m))))
             (woven_lists_are_alike (map (replaced_if_numbered nat_eq put) (filesystems_seen value.filesystems))
             (overlays_seen value.overlays) (filesystems_seen filesystems) (overlays_seen value.overlays)
-            (same_put value.filesystems filesystems (λ entry m. m) pairs)
-            (sameness_is_an_equivalence.itself
+            (same_put value.filesystems filesystems (λ entry m. m) pairs) (sameness_is_an_equivalence.itself
             (record (world_of value) { filesystems = overlays_seen value.overlays })).filesystems);
         namespaces = refl;
         tasks = refl;
@@ -276,15 +262,13 @@ module _ (value : WorldValue) (held : IsHeld value) (location : Location ℕ) (c
 
   -- the code's world is the one after the change, with what nothing uses gone
   pub change_is_swept : (fresh : Fresh ℕ) → SameWorlds (after fresh) (world_of new)
-  change_is_swept fresh =
-      sameness_is_an_equivalence.onward (after fresh)
+  change_is_swept fresh = sameness_is_an_equivalence.onward (after fresh)
       (with_tree (world_of value) (filesystem_of (world_of value) location) (files_seen partner.entry)) (world_of new)
       (sameness_is_an_equivalence.back
       (with_tree (world_of value) (filesystem_of (world_of value) location) (files_seen partner.entry)) (after fresh)
       (counted_changes_are_swept_beside_overlays fresh (world_of value) location (inodes_seen made.entry) change
       is_change (files_seen partner.entry) (ap tree_of inodes_after) (numbers_apart_each partner.entry)
-      (numbers_listed partner.entry)))
-      same_with_tree
+      (numbers_listed partner.entry))) same_with_tree
 
   -- Counts
 
@@ -292,12 +276,10 @@ module _ (value : WorldValue) (held : IsHeld value) (location : Location ℕ) (c
   fresh k = 0
 
   at_the_one : filesystem_at nat_eq (after fresh) location ≡ filesystem_numbered nat_eq (after fresh) (counted count)
-  at_the_one =
-      subst (λ w. filesystem_at nat_eq w location
+  at_the_one = subst (λ w. filesystem_at nat_eq w location
       ≡ filesystem_numbered nat_eq w (filesystem_of (world_of value) location))
       (sym (only_files_change_beside_overlays fresh (world_of value) location (inodes_seen made.entry) change
-      is_change)) refl
-      ∙ ap (filesystem_numbered nat_eq (after fresh)) made.shows
+      is_change)) refl ∙ ap (filesystem_numbered nat_eq (after fresh)) made.shows
 
   counted_then : (was entry : FilesystemEntry) → Among was value.filesystems
       → IsChangedEntry count (changed_by change) was entry
@@ -310,8 +292,7 @@ module _ (value : WorldValue) (held : IsHeld value) (location : Location ℕ) (c
       by true e inodes =
           let same = the_one was m e in
           subst (λ n. IsCounted (after fresh) (filesystem_numbered nat_eq (after fresh) (counted n))
-          (inodes_seen entry))
-          (eqb-true count was.count e)
+          (inodes_seen entry)) (eqb-true count was.count e)
           (subst (IsCounted (after fresh) (filesystem_numbered nat_eq (after fresh) (counted count)))
           (ap (λ x. changed nat_eq (inodes_seen x) change) (sym same) ∙ sym inodes)
           (subst (λ f. IsCounted (after fresh) f (changed nat_eq (inodes_seen made.entry) change)) at_the_one
@@ -322,14 +303,11 @@ module _ (value : WorldValue) (held : IsHeld value) (location : Location ℕ) (c
           (other_counts_stay_beside_overlays fresh (world_of value) location (inodes_seen made.entry) change is_change
           (counted was.count) (inodes_seen was)
           (λ same. true≢false (sym (eq-eqb count was.count (counted_same count was.count (sym (same ∙ made.shows))))
-          ∙ e))
-          (subst (λ f. IsCounted (world_of value) f (inodes_seen was))
-          (sym (found_plain_one value held was m))
+          ∙ e)) (subst (λ f. IsCounted (world_of value) f (inodes_seen was)) (sym (found_plain_one value held was m))
           (among_from_all (CountsItsMounts (world_of value)) value.filesystems held.filesystems was m).inodes))
 
   own_after : (entry : FilesystemEntry) → Among entry filesystems → HasOwnInodes entry
-  own_after entry m number other =
-      by (nat_eq count source.was.count) refl source.is.inodes_are
+  own_after entry m number other = by (nat_eq count source.was.count) refl source.is.inodes_are
     where
       source : HasSource count (changed_by change) entry value.filesystems
       source = was_one count (changed_by change) value.filesystems filesystems pairs entry m
@@ -343,8 +321,7 @@ module _ (value : WorldValue) (held : IsHeld value) (location : Location ℕ) (c
       by : (b : Bool) → nat_eq count source.was.count ≡ b
           → inodes_seen entry ≡ cond b (changed nat_eq (inodes_seen source.was) change) (inodes_seen source.was)
           → (inodes_seen entry).inode number ≡ None
-      by true e is =
-          ap (λ (inodes : Inodes ℕ). inodes.inode number) is
+      by true e is = ap (λ (inodes : Inodes ℕ). inodes.inode number) is
           ∙ none_stays number (inodes_seen source.was) change
           (made.own number (ap (λ n. is_own_number n number) (eqb-true count source.was.count e) ∙ other_too)) none_before
       by false e is = ap (λ (inodes : Inodes ℕ). inodes.inode number) is ∙ none_before
@@ -366,19 +343,16 @@ module _ (value : WorldValue) (held : IsHeld value) (location : Location ℕ) (c
           mounts = source.is.mounts_are ∙ was.mounts ∙ ap (λ n. mounts_of_filesystem n) (sym source.is.count_is)
               ∙ ap (λ layers. mounts_showing (world_of value) (counted entry.count) + layers)
               (sym (layers_kept value new held.overlays refl (counted entry.count)));
-          inodes =
-              subst (λ f. IsCounted (world_of new) f (inodes_seen entry))
+          inodes = subst (λ f. IsCounted (world_of new) f (inodes_seen entry))
               (found_filesystem (world_of new).filesystems is.files.one_filesystem (filesystem_seen entry)
               (plain_one_among new held.overlays.merged entry m))
               (subst (λ n. IsCounted (world_of new) (filesystem_numbered nat_eq (world_of new) (counted n))
               (inodes_seen entry)) (sym source.is.count_is)
               (any_same_worlds_count_alike (after fresh) (world_of new) (counted source.was.count) (inodes_seen entry)
-              (change_is_swept fresh)
-              (counted_then source.was entry source.among source.is)));
+              (change_is_swept fresh) (counted_then source.was entry source.among source.is)));
         });
     own_inodes = all_from_among HasOwnInodes filesystems own_after;
-    overlays = overlays_hold_still value new held.overlays refl
-        (same_files_rise
+    overlays = overlays_hold_still value new held.overlays refl (same_files_rise
         (with_tree (world_of value) (filesystem_of (world_of value) location) (files_seen partner.entry)).filesystems
         (world_of new).filesystems same_with_tree.filesystems rising_with_tree)
         (overlays_counted value new held.overlays refl (λ number. refl)) writers;
@@ -392,10 +366,8 @@ module _ (value : WorldValue) (held : IsHeld value) (location : Location ℕ) (c
 
       rising_with_tree : are_rising (with_tree (world_of value) (filesystem_of (world_of value) location)
           (files_seen partner.entry)).filesystems ≡ true
-      rising_with_tree =
-          subst (λ f. are_rising (with_filesystem nat_eq (world_of value)
-          (with_files f (files_seen partner.entry))).filesystems ≡ true)
-          (sym filesystem_is)
+      rising_with_tree = subst (λ f. are_rising (with_filesystem nat_eq (world_of value)
+          (with_files f (files_seen partner.entry))).filesystems ≡ true) (sym filesystem_is)
           (same_numbers_rise (world_of value).filesystems
           (map (replaced_if_numbered nat_eq put) (world_of value).filesystems)
           (numbers_mapped (replaced_if_numbered nat_eq put) numbers_kept (world_of value).filesystems)
@@ -420,15 +392,13 @@ pub record AsksForChange (value : WorldValue) (task : Task ℕ) (permit : Permit
       ≡ with_change nat_eq named_rest (world_of value) location change
 
 pub files_are_changed : (value : WorldValue) (name : TaskName) (permit : Permit ℕ) (location : Location ℕ)
-    (change : Change ℕ)
-    (filesystems : Filesystems) → IsHeld value → (permits : Permits value name permit)
+    (change : Change ℕ) (filesystems : Filesystems) → IsHeld value → (permits : Permits value name permit)
     → AsksForChange value permits.task permit location change → ChangesFiles value location change filesystems
     → IsFilesEvent value name permit (with_filesystems value filesystems)
 files_are_changed value name permit location change filesystems held permits asks made = record {
   held = change_is_held value held location change filesystems made
       (same_gives_no_upper (world_of value) (supply_of value permit) permits.task permit (world_of new) held.in_world
-      held.overlays.read_only permits.given same).0
-      (any_same_worlds_keep_to_numbers (is_counted_before value.next)
+      held.overlays.read_only permits.given same).0 (any_same_worlds_keep_to_numbers (is_counted_before value.next)
       (settled nat_eq (apply nat_eq asks.named_supply (world_of value) permits.task permit).world) (world_of new)
       (subst (λ w. SameWorlds (settled nat_eq w) (world_of new)) (sym asks.applied_named)
       (change_is_swept value held location change filesystems made asks.named_rest))
@@ -436,8 +406,7 @@ files_are_changed value name permit location change filesystems held permits ask
       permits.given.called held.given asks.are_named asks.named))
       (same_worlds_have_layers_alike (left_by value permits.task permit) (world_of new) same
       (left_writers value held permits.task permit permits.given));
-  becomes = λ other called.
-      subst (λ task. SameWorlds (left_by value task permit) (world_of new))
+  becomes = λ other called. subst (λ task. SameWorlds (left_by value task permit) (world_of new))
       (same_Some permits.task other (sym permits.called ∙ called)) same;
 }
   where
@@ -445,6 +414,5 @@ files_are_changed value name permit location change filesystems held permits ask
     new = with_filesystems value filesystems
 
     same : SameWorlds (left_by value permits.task permit) (world_of new)
-    same =
-        subst (λ w. SameWorlds (settled nat_eq w) (world_of new)) (sym asks.applied)
+    same = subst (λ w. SameWorlds (settled nat_eq w) (world_of new)) (sym asks.applied)
         (change_is_swept value held location change filesystems made asks.rest)

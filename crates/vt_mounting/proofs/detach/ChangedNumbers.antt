@@ -11,8 +11,7 @@ module _ (number : ℕ) where
   IsNone inodes = inodes.inode number ≡ None
 
   none_with : (inodes : Inodes ℕ) (other : ℕ) (inode : Option (Inode ℕ)) → IsNone inodes
-      → (number ≡ other → inode ≡ None)
-      → IsNone (with_inode nat_eq inodes other inode)
+      → (number ≡ other → inode ≡ None) → IsNone (with_inode nat_eq inodes other inode)
   none_with inodes other inode none same = by (nat_eq number other) refl
     where
       by : (b : Bool) → nat_eq number other ≡ b → cond b inode (inodes.inode number) ≡ None
@@ -31,13 +30,11 @@ module _ (number : ℕ) where
       (ap inodes.inode (sym same) ∙ none))
 
   none_pinned : (inodes : Inodes ℕ) (other : ℕ) → IsNone inodes → IsNone (pinned nat_eq inodes other)
-  none_pinned inodes other none =
-      none_with inodes other (used_once_more (inodes.inode other)) none
+  none_pinned inodes other none = none_with inodes other (used_once_more (inodes.inode other)) none
       (λ same. ap used_once_more (ap inodes.inode (sym same) ∙ none))
 
   none_unpinned : (inodes : Inodes ℕ) (other : ℕ) → IsNone inodes → IsNone (unpinned nat_eq inodes other)
-  none_unpinned inodes other none =
-      none_with inodes other (used_once_less (inodes.inode other)) none
+  none_unpinned inodes other none = none_with inodes other (used_once_less (inodes.inode other)) none
       (λ same. ap used_once_less (ap inodes.inode (sym same) ∙ none))
 
   none_replaced : (inodes : Inodes ℕ) (object : Option ℕ) → IsNone inodes
@@ -70,15 +67,11 @@ module _ (number : ℕ) where
   none_stays inodes (Remove directory name object) other none =
       none_replaced (with_changed nat_eq inodes directory (node_without_entry name)) (Some object)
       (none_changed inodes directory (node_without_entry name) none)
-  none_stays inodes (Move from old to new object) other none =
-      none_replaced
-      (with_changed nat_eq
+  none_stays inodes (Move from old to new object) other none = none_replaced (with_changed nat_eq
       (with_changed nat_eq (with_changed nat_eq inodes from (node_without_entry old)) to (node_with_entry new object))
-      object (node_with_parent to))
-      (entry_named new (entries_in (node_in (inodes.inode to))))
+      object (node_with_parent to)) (entry_named new (entries_in (node_in (inodes.inode to))))
       (none_changed (with_changed nat_eq (with_changed nat_eq inodes from (node_without_entry old)) to
-      (node_with_entry new object))
-      object (node_with_parent to)
+      (node_with_entry new object)) object (node_with_parent to)
       (none_changed (with_changed nat_eq inodes from (node_without_entry old)) to (node_with_entry new object)
       (none_changed inodes from (node_without_entry old) none)))
   none_stays inodes (SetBytes file bytes) other none = none_changed inodes file (node_with_bytes bytes) none

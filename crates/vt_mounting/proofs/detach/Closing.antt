@@ -95,8 +95,7 @@ abbrev pub used_by : Descriptor ℕ → Use
 used_by descriptor = record { location = descriptor.location; writes = descriptor.writes }
 
 module _ (value : WorldValue) (whole : IsHeld value) (name : TaskName) (task : Task ℕ)
-    (found : task_called (world_of value) name ≡ Some task)
-    (number : ℕ) (descriptor : Descriptor ℕ)
+    (found : task_called (world_of value) name ≡ Some task) (number : ℕ) (descriptor : Descriptor ℕ)
     (goes : Goes descriptor task.descriptors (others number task.descriptors)) where
   abbrev new : Task ℕ
   new = without_descriptor task number
@@ -117,8 +116,7 @@ module _ (value : WorldValue) (whole : IsHeld value) (name : TaskName) (task : T
         ∙ ap (λ places. locations_in split.front ++ ((task.root ∷ task.directory ∷ places) ++ locations_in split.back))
         (ap (map place_of) goes.is ∙ map-append place_of goes.front goes.back)
         ∙ around (locations_in split.front) (task.root ∷ task.directory ∷ map place_of goes.front)
-        (map place_of goes.back)
-        (locations_in split.back);
+        (map place_of goes.back) (locations_in split.back);
     there = refl;
     writes = λ mount.
         let moved = writes_replaced name value.tasks task new whole.in_world.tasks.one_task found refl mount in
@@ -181,12 +179,10 @@ pub nothing_is_closed : (value : WorldValue) (name : TaskName) (number : ℕ) (t
     → IsDone value name (ToClose number) (after value tasks)
 nothing_is_closed value name number tasks whole permits was is =
     let task = permits.task in
-    let none : descriptor_numbered task number
-    ≡ None = sym (was ∙ ap (option_and_then
+    let none : descriptor_numbered task number ≡ None = sym (was ∙ ap (option_and_then
     (λ (other : Task ℕ). descriptor_numbered other number)) permits.called) in
     let same = all_stay task.descriptors none in
-    staying_is_done value name (ToClose number) task (without_descriptor task number) tasks whole
-    (record {
+    staying_is_done value name (ToClose number) task (without_descriptor task number) tasks whole (record {
       called = permits.called;
       given = permits.given;
       named = refl;
@@ -195,8 +191,7 @@ nothing_is_closed value name number tasks whole permits was is =
       same_places = (λ i. task.root ∷ task.directory ∷ map place_of (same i));
       same_namespace = refl;
       same_descriptors = same;
-    })
-    (is ∙ ap (changed_by (λ other. without_descriptor other number) value.tasks) permits.called)
+    }) (is ∙ ap (changed_by (λ other. without_descriptor other number) value.tasks) permits.called)
   where
     all_stay : (all : Descriptors) → find (λ one. number == one.number) all ≡ None → others number all ≡ all
     all_stay [] e = refl

@@ -39,8 +39,7 @@ use Rattle.vt_mounting.proofs.detach.TypedEvents.{typed_done}
 use Rattle.std.proofs.Math.Bool.{and-false}
 
 module _ (value : WorldValue) (whole : IsHeld value) (tasks : Tasks) (more less : List Use)
-    (moves : Moves value tasks more less)
-    (count : ℕ) (entries : List NamespaceEntry)
+    (moves : Moves value tasks more less) (count : ℕ) (entries : List NamespaceEntry)
     (counts : (entry : NamespaceEntry) → Among entry entries → CountsOneMore count tasks entry)
     (same_namespaces : map namespace_of value.namespaces ≡ map namespace_of entries) where
   abbrev world : World ℕ
@@ -79,21 +78,16 @@ module _ (value : WorldValue) (whole : IsHeld value) (tasks : Tasks) (more less 
 
   -- the policy's world before the sweep: these mounts are detached, and then the groups without members end
   pub ended_regrouped : namespaces_ended nat_eq next ≡ regrouped nat_eq start
-  ended_regrouped =
-      (λ i. record (taken_away nat_eq next
-      (map (λ (mount : Mount ℕ). mount.number) (same_mounts i))) {
-        namespaces = filter
-            (has_tasks nat_eq next) next.namespaces;
-      })
-      ∙ taken_is_left world whole.in_world.mounts tasks going remaining stays
+  ended_regrouped = (λ i. record (taken_away nat_eq next (map (λ (mount : Mount ℕ). mount.number) (same_mounts i))) {
+    namespaces = filter (has_tasks nat_eq next) next.namespaces;
+  }) ∙ taken_is_left world whole.in_world.mounts tasks going remaining stays
 
   abbrev k_left : Kept
   k_left = folded (leave_use world)
       (folded (Rattle.vt_mounting.proofs.detach.Moving.gain world) (kept_of value) more) less
 
   typed_left : AreTyped value.groups k_left.mounts
-  typed_left =
-      uses_left_typed value.groups world less
+  typed_left = uses_left_typed value.groups world less
       (folded (Rattle.vt_mounting.proofs.detach.Moving.gain world) (kept_of value) more)
       (gained_typed value.groups world more (kept_of value) (own_types value whole))
 
@@ -115,8 +109,7 @@ module _ (value : WorldValue) (whole : IsHeld value) (tasks : Tasks) (more less 
 
   inside_left : ends count tasks entries counts ≡ true → numbers_inside (counted count) k_left.mounts
       ≡ map (λ (mount : Mount ℕ). mount.number) (filter going world.mounts)
-  inside_left last =
-      ap (map (λ (mount : Mount ℕ). mount.number))
+  inside_left last = ap (map (λ (mount : Mount ℕ). mount.number))
       (inside_stays is_inside nowhere value whole start gained going attached less k_gained reached_gains
       ∙ ap (filter is_inside) (same_moved_mounts world more [] (kept_of value))
       ∙ ap (λ b. filter (λ (mount : Mount ℕ). b && is_inside mount) world.mounts) (sym last))
@@ -129,8 +122,7 @@ module _ (value : WorldValue) (whole : IsHeld value) (tasks : Tasks) (more less 
           by (Some number) f = absurd (true≢false f)
 
   module _ (filesystems : Filesystems) (overlays : List Merged) (namespaces : List NamespaceEntry)
-      (are : namespaces ≡ with_one_task_less count entries)
-      (name : TaskName) (permit : Permit ℕ) (task : Task ℕ)
+      (are : namespaces ≡ with_one_task_less count entries) (name : TaskName) (permit : Permit ℕ) (task : Task ℕ)
       (is : IsApplied value name permit task (namespaces_ended nat_eq next)) where
     -- the world of the code but for types
     abbrev untyped : List MountEntry → WorldValue
@@ -148,8 +140,7 @@ module _ (value : WorldValue) (whole : IsHeld value) (tasks : Tasks) (more less 
       left_swept : IsSwept value start gained at.lost (untyped mounts)
       left_swept =
           reached_swept value start gained going (kept_with mounts filesystems overlays) at all_gone (untyped mounts)
-          overlays refl refl refl
-          (same_files_keep value world start refl (keeps_itself value whole.overlays))
+          overlays refl refl refl (same_files_keep value world start refl (keeps_itself value whole.overlays))
           (ap (map (λ (n : Namespace ℕ). record n { change = 0 }))
           (namespaces_are count tasks entries counts next refl same_namespaces ∙ ap (map namespace_of) (sym are)))
 
@@ -167,18 +158,14 @@ module _ (value : WorldValue) (whole : IsHeld value) (tasks : Tasks) (more less 
         → IsDone value name permit (record (untyped mounts) { groups = groups })
     departs mounts groups are_left =
         subst (λ all. IsDone value name permit (record (untyped all) { groups = groups })) (sym left.typed)
-        (typed_done value whole name permit task start
-        (record {
+        (typed_done value whole name permit task start (record {
           called = is.called;
           given = is.given;
           named = is.named;
-          applied = λ fresh. is.applied fresh
-              ∙ ended_regrouped;
-        })
-        groups left.has (nowhere_private world whole.in_world.mounts tasks going remaining stays)
+          applied = λ fresh. is.applied fresh ∙ ended_regrouped;
+        }) groups left.has (nowhere_private world whole.in_world.mounts tasks going remaining stays)
         gained left.reached.lost (untyped left.entries) (left_swept left.entries left.reached left.all_gone)
-        (left_counts left.entries left.reached left.all_gone)
-        refl)
+        (left_counts left.entries left.reached left.all_gone) refl)
       where
         left : IsLeft value start gained going (kept_with mounts filesystems overlays) groups
         left = leaves value whole world whole.in_world.mounts tasks count entries counts remaining stays

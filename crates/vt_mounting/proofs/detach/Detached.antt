@@ -43,8 +43,7 @@ same_detached number entry = by (nat_eq number entry.mount.number)
 
 pub mounts_detached : (number : ℕ) (entries : List MountEntry)
     → mounts_in (changed number detached_entry entries) ≡ map (detached_if number) (mounts_in entries)
-mounts_detached number entries =
-    map_twice (λ (entry : MountEntry). entry.mount) (detached_entry_if number) entries
+mounts_detached number entries = map_twice (λ (entry : MountEntry). entry.mount) (detached_entry_if number) entries
     ∙ map_alike (λ entry. (detached_entry_if number entry).mount) (λ entry. detached_if number entry.mount) entries
     (λ entry m. same_detached number entry)
     ∙ sym (map_twice (detached_if number) (λ (entry : MountEntry). entry.mount) entries)
@@ -88,8 +87,7 @@ module _ (old : WorldValue) (number : ℕ) (pending : List ℕ) (gained lost : L
   more = map (inode_at (world_of old)) (option_to_list (mount_in nat_eq (mounts_in k.mounts) number).mount_point)
 
   placed : (mount_in nat_eq (mounts_in k.mounts) number).mount_point ≡ option_map location_of point
-  placed =
-      ap (λ o. (unwrap_or o (no_mount number)).mount_point) (found_entry number k.mounts)
+  placed = ap (λ o. (unwrap_or o (no_mount number)).mount_point) (found_entry number k.mounts)
       ∙ by (entry_numbered k.mounts number) ∙ sym point_is
     where
       by : (o : Option MountEntry) → (unwrap_or (option_map (λ entry. entry.mount) o) (no_mount number)).mount_point
@@ -105,8 +103,7 @@ module _ (old : WorldValue) (number : ℕ) (pending : List ℕ) (gained lost : L
           → is_small_node one.node ≡ true
           → (mount_at nat_eq (world_of old) (location_of one)).filesystem ≡ counted one.node.filesystem.count
       seen one None e h small = absurd cc
-      seen one (Some entry) e h small =
-          is.points entry.mount (among-map (λ (x : MountEntry). x.mount) k.mounts entry
+      seen one (Some entry) e h small = is.points entry.mount (among-map (λ (x : MountEntry). x.mount) k.mounts entry
           (found_in (λ (x : MountEntry). nat_eq number x.mount.number) k.mounts entry e).0) one (sym h) small
 
       by : (o : Option Location) → option_map location_of o ≡ point_of number k.mounts
@@ -135,8 +132,7 @@ module _ (old : WorldValue) (number : ℕ) (pending : List ℕ) (gained lost : L
             (sym (append_three lost more (points_lost (world_of old)
             (map (detached_if number) (mounts_in k.mounts)) pending))
             ∙ ap (λ mounts. (lost ++ more) ++ points_lost (world_of old) mounts pending)
-            (sym (mounts_detached number k.mounts)))
-            was.exchanges;
+            (sym (mounts_detached number k.mounts))) was.exchanges;
         mounts = ap (λ (x : Shown). x.mounts) from.2 ∙ was.mounts
             ∙ ap (λ n. mounts_showing world (counted n) + layer_count world (counted n)) (sym count);
       }
@@ -154,14 +150,12 @@ module _ (old : WorldValue) (number : ℕ) (pending : List ℕ) (gained lost : L
     merged = is.merged;
     mounts = is.mounts
         ∙ map_alike (detached_in (number ∷ pending)) (λ mount. detached_in pending (detached_if number mount))
-        (mounts_in k.mounts)
-        (λ mount m. detach_first number pending mount)
+        (mounts_in k.mounts) (λ mount m. detach_first number pending mount)
         ∙ sym (map_twice (detached_in pending) (detached_if number) (mounts_in k.mounts))
         ∙ ap (map (detached_in pending)) (sym (mounts_detached number k.mounts));
     uses = all_from_among (CountsItsUses world) kept_now.mounts (λ new m.
         let from = among-from_map (detached_entry_if number) k.mounts new m in
-        subst (CountsItsUses world) (sym from.2)
-        (counted_still from.0 (nat_eq number from.0.mount.number)
+        subst (CountsItsUses world) (sym from.2) (counted_still from.0 (nat_eq number from.0.mount.number)
         (among_from_all (CountsItsUses world) k.mounts is.uses from.0 from.1)));
     numbers = is.numbers ∙ numbers_now;
     filesystems = shown_now;
@@ -201,8 +195,7 @@ module _ (old : WorldValue) (number : ℕ) (pending : List ℕ) (gained lost : L
           → (is_some entry.mount.namespace ≡ false) × (entry.mount.mount_point ≡ None)
       by was true f same numbered = (
         ap (λ (x : MountEntry). is_some x.mount.namespace) same,
-        ap
-            (λ (x : MountEntry). x.mount.mount_point) same,
+        ap (λ (x : MountEntry). x.mount.mount_point) same,
       )
       by was false f same numbered = absurd
           (true≢false (sym numbered ∙ ap (λ (x : MountEntry). nat_eq number x.mount.number) same ∙ f))

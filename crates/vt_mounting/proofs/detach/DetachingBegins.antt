@@ -44,21 +44,18 @@ detached_world gone world = with_mounts world (map (detached_in gone) world.moun
 
 -- each mount on one of them is one of them
 abbrev pub HasChildrenOf : List ℕ → List (Mount ℕ) → Type 0
-HasChildrenOf gone mounts =
-    (mount : Mount ℕ) → Among mount mounts → (place : Place ℕ) → mount.mount_point ≡ Some place
+HasChildrenOf gone mounts = (mount : Mount ℕ) → Among mount mounts → (place : Place ℕ) → mount.mount_point ≡ Some place
     → is_among nat_eq place.mount gone ≡ true → is_among nat_eq mount.number gone ≡ true
 
 -- Mounts that are changed and keep their numbers
 
 pub pair_mapped : (change : Mount ℕ → Mount ℕ) → ((mount : Mount ℕ) → (change mount).number ≡ mount.number)
-    → (mounts : List (Mount ℕ))
-    → any_pair (λ (a b : Mount ℕ). nat_eq a.number b.number) (map change mounts)
+    → (mounts : List (Mount ℕ)) → any_pair (λ (a b : Mount ℕ). nat_eq a.number b.number) (map change mounts)
     ≡ any_pair (λ (a b : Mount ℕ). nat_eq a.number b.number) mounts
 pair_mapped change same [] = refl
 pair_mapped change same (first ∷ rest) =
     λ i. any-map (λ (b : Mount ℕ). nat_eq (change first).number b.number) change rest
-    (λ (b : Mount ℕ). (λ j. nat_eq (same first j) (same b j))) i
-    || pair_mapped change same rest i
+    (λ (b : Mount ℕ). (λ j. nat_eq (same first j) (same b j))) i || pair_mapped change same rest i
 
 times_alike : {A : Type 0} (test : A → Bool) (change : A → A) → ((a : A) → test (change a) ≡ test a) → (all : List A)
     → times test (map change all) ≡ times test all
@@ -75,9 +72,7 @@ not_gone_stays gone mounts number stays =
     by : (o : Option (Mount ℕ)) → find (λ (mount : Mount ℕ). nat_eq number mount.number) mounts ≡ o
         → unwrap_or (option_map (detached_in gone) o) (no_mount number) ≡ unwrap_or o (no_mount number)
     by None e = refl
-    by (Some mount) e =
-        ap (λ b. cond b (detached mount) mount)
-        (ap (λ n. is_among nat_eq n gone)
+    by (Some mount) e = ap (λ b. cond b (detached mount) mount) (ap (λ n. is_among nat_eq n gone)
         (sym (eqb-true number mount.number (found_in (λ (x : Mount ℕ). nat_eq number x.number) mounts mount e).1))
         ∙ stays)
 
@@ -93,27 +88,21 @@ detached_at : (mounts : List (Mount ℕ)) (number : ℕ) (mount : Mount ℕ)
     → any_pair (λ (a b : Mount ℕ). nat_eq a.number b.number) mounts ≡ false
     → Among mount mounts → mount.number ≡ number → IsDetachedAt mounts number mount
 detached_at [] number mount one m same = absurd m
-detached_at (first ∷ rest) number mount one m same =
-    ⊎_elim
-    (λ here. record {
-      front = [];
-      back = rest;
-      was = ap (λ x. x ∷ rest) (sym here);
-      is = λ i. (ap (λ b. cond b (detached first) first)
-          (eq-eqb first.number number (ap (λ (x : Mount ℕ). x.number) (sym here) ∙ same)) ∙ ap detached (sym here)) i
-          ∷ map_same (detached_if number) rest
-          (λ x n. ap (λ b. cond b (detached x) x)
-          (other x (fails (λ (b : Mount ℕ). nat_eq first.number b.number) rest parts.0 x n) here)) i;
-    })
-    (λ later. let inner = detached_at rest number mount parts.1 later same in record {
-      front = first ∷ inner.front;
-      back = inner.back;
-      was = ap (λ all. first ∷ all) inner.was;
-      is = λ i. ap (λ b. cond b (detached first) first)
-          (ap (nat_eq first.number) (sym same)
-          ∙ fails (λ (b : Mount ℕ). nat_eq first.number b.number) rest parts.0 mount later) i ∷ inner.is i;
-    })
-    m
+detached_at (first ∷ rest) number mount one m same = ⊎_elim (λ here. record {
+  front = [];
+  back = rest;
+  was = ap (λ x. x ∷ rest) (sym here);
+  is = λ i. (ap (λ b. cond b (detached first) first)
+      (eq-eqb first.number number (ap (λ (x : Mount ℕ). x.number) (sym here) ∙ same)) ∙ ap detached (sym here)) i
+      ∷ map_same (detached_if number) rest (λ x n. ap (λ b. cond b (detached x) x)
+      (other x (fails (λ (b : Mount ℕ). nat_eq first.number b.number) rest parts.0 x n) here)) i;
+}) (λ later. let inner = detached_at rest number mount parts.1 later same in record {
+  front = first ∷ inner.front;
+  back = inner.back;
+  was = ap (λ all. first ∷ all) inner.was;
+  is = λ i. ap (λ b. cond b (detached first) first) (ap (nat_eq first.number) (sym same)
+      ∙ fails (λ (b : Mount ℕ). nat_eq first.number b.number) rest parts.0 mount later) i ∷ inner.is i;
+}) m
   where
     parts : (list_any (λ (b : Mount ℕ). nat_eq first.number b.number) rest ≡ false)
         × (any_pair (λ (a b : Mount ℕ). nat_eq a.number b.number) rest ≡ false)
@@ -127,14 +116,12 @@ detached_at (first ∷ rest) number mount one m same =
 module _ (before : World ℕ) where
   -- the mount points are in the filesystems in which they were
   abbrev SeesPlaces : World ℕ → Type 0
-  SeesPlaces world =
-      (mount : Mount ℕ) → Among mount world.mounts → (place : Place ℕ) → mount.mount_point ≡ Some place
+  SeesPlaces world = (mount : Mount ℕ) → Among mount world.mounts → (place : Place ℕ) → mount.mount_point ≡ Some place
       → (mount_at nat_eq world place).filesystem ≡ (mount_at nat_eq before place).filesystem
 
   one_point : (number : ℕ) (world : World ℕ)
       → any_pair (λ (a b : Mount ℕ). nat_eq a.number b.number) world.mounts ≡ false → SeesPlaces world
-      → (filesystem : ℕ)
-      → Exchanges [] (map (inode_at before)
+      → (filesystem : ℕ) → Exchanges [] (map (inode_at before)
       (option_to_list (mount_in nat_eq world.mounts number).mount_point)) filesystem world (without_place world number)
   one_point number world one sees filesystem = by
       (find (λ (mount : Mount ℕ). nat_eq number mount.number) world.mounts) refl
@@ -147,8 +134,7 @@ module _ (before : World ℕ) where
       by : (o : Option (Mount ℕ)) → find (λ (mount : Mount ℕ). nat_eq number mount.number) world.mounts ≡ o
           → Exchanges [] (map (inode_at before)
           (option_to_list (unwrap_or o (no_mount number)).mount_point)) filesystem world (without_place world number)
-      by None e =
-          subst (λ all. Exchanges [] [] filesystem world (with_mounts world all))
+      by None e = subst (λ all. Exchanges [] [] filesystem world (with_mounts world all))
           (sym (map_same (detached_if number) world.mounts
           (λ x m. ap (λ b. cond b (detached x) x) (none_numbered number world.mounts e x m))))
           (record { same = refl; uses = λ n. refl })
@@ -169,16 +155,14 @@ module _ (before : World ℕ) where
       subst (λ all. Exchanges [] [] filesystem world (with_mounts world all)) (map_itself world.mounts)
       (record { same = refl; uses = λ n. refl })
   points_go (number ∷ gone) world one sees filesystem =
-      subst (Exchanges [] (points_lost before world.mounts (number ∷ gone)) filesystem world)
-      (ap (with_mounts world)
+      subst (Exchanges [] (points_lost before world.mounts (number ∷ gone)) filesystem world) (ap (with_mounts world)
       (map_twice (detached_in gone) (detached_if number) world.mounts
       ∙ map_alike (λ mount. detached_in gone (detached_if number mount)) (detached_in (number ∷ gone)) world.mounts
       (λ mount m. sym (detach_first number gone mount))))
       (exchanges_follow world (without_place world number) (detached_world gone (without_place world number)) []
       (map (inode_at before) (option_to_list (mount_in nat_eq world.mounts number).mount_point)) []
       (points_lost before (map (detached_if number) world.mounts) gone) filesystem
-      (one_point number world one sees filesystem)
-      (points_go gone (without_place world number)
+      (one_point number world one sees filesystem) (points_go gone (without_place world number)
       (pair_mapped (detached_if number) (same_number number) world.mounts ∙ one) sees_still filesystem))
     where
       same_filesystem : (mount : Mount ℕ) → (detached_if number mount).filesystem ≡ mount.filesystem
@@ -226,8 +210,7 @@ module _ (world : World ℕ) (number : ℕ) where
 
   -- an overlay that is dead already keeps nothing alive
   same_lives : (f : Filesystem ℕ) → filesystem_lives nat_eq between f ≡ filesystem_lives nat_eq once f
-  same_lives f =
-      ap (λ b. is_mounted nat_eq once f.number || b)
+  same_lives f = ap (λ b. is_mounted nat_eq once f.number || b)
       (any-filter (λ (merged : Filesystem ℕ). has_layer_on nat_eq f.number merged
       && is_mounted nat_eq once merged.number) (filesystem_lives nat_eq world) world.filesystems
       (λ merged m dead. none (has_layer_on nat_eq f.number merged) (is_mounted nat_eq once merged.number)
@@ -250,27 +233,22 @@ module _ (world : World ℕ) (number : ℕ) where
       by false e = no_and (filesystem_lives nat_eq world f)
 
   looked_once : looked_at (without_dead_filesystems nat_eq world) number ≡ without_dead_filesystems nat_eq once
-  looked_once =
-      ap (λ all. record once { filesystems = all })
+  looked_once = ap (λ all. record once { filesystems = all })
       (filter_alike (filesystem_lives nat_eq between) (filesystem_lives nat_eq once)
-      (filter (filesystem_lives nat_eq world) world.filesystems)
-      (λ f m. same_lives f)
+      (filter (filesystem_lives nat_eq world) world.filesystems) (λ f m. same_lives f)
       ∙ filter_twice (filesystem_lives nat_eq once) (filesystem_lives nat_eq world) (filesystem_lives nat_eq once)
       (λ f. follows f) world.filesystems)
 
-looked_all : (world : World ℕ) (numbers : List ℕ)
-    → folded looked_at (without_dead_filesystems nat_eq world) numbers
+looked_all : (world : World ℕ) (numbers : List ℕ) → folded looked_at (without_dead_filesystems nat_eq world) numbers
     ≡ without_dead_filesystems nat_eq (Looks.let_go_mounts world numbers)
 looked_all world [] = refl
-looked_all world (number ∷ numbers) =
-    ap (λ one. folded looked_at one numbers) (looked_once world number)
+looked_all world (number ∷ numbers) = ap (λ one. folded looked_at one numbers) (looked_once world number)
     ∙ looked_all (Looks.let_go_mount world number) numbers
 
 -- The begin
 
 module _ (old : WorldValue) (gained lost : List Inode) (world : World ℕ) (k : Kept)
-    (is : IsKeptBut old [] [] gained lost world k)
-    (gone : List ℕ) (whole : HasChildrenOf gone world.mounts) where
+    (is : IsKeptBut old [] [] gained lost world k) (gone : List ℕ) (whole : HasChildrenOf gone world.mounts) where
   abbrev after : World ℕ
   after = detached_world gone world
 
@@ -278,8 +256,7 @@ module _ (old : WorldValue) (gained lost : List Inode) (world : World ℕ) (k : 
   same_mounts = is.mounts ∙ sym (map_itself (mounts_in k.mounts))
 
   showing : (n : ℕ) → mounts_showing after n ≡ mounts_showing world n
-  showing n =
-      times_alike (λ (mount : Mount ℕ). nat_eq n mount.filesystem) (detached_in gone)
+  showing n = times_alike (λ (mount : Mount ℕ). nat_eq n mount.filesystem) (detached_in gone)
       (λ mount. ap (nat_eq n) (pending_filesystem gone mount)) world.mounts
 
   begun_points : (filesystem : ℕ)
@@ -302,8 +279,7 @@ module _ (old : WorldValue) (gained lost : List Inode) (world : World ℕ) (k : 
         exchanges = subst (λ all. Exchanges all (lost ++ points_lost (world_of old) (mounts_in k.mounts) gone) f
             (world_of old) after) (no_more gained)
             (subst (λ all. Exchanges (gained ++ []) (all ++ points_lost (world_of old) (mounts_in k.mounts) gone) f
-            (world_of old) after) (no_more lost)
-            (exchanges_follow (world_of old) world after gained (lost ++ []) []
+            (world_of old) after) (no_more lost) (exchanges_follow (world_of old) world after gained (lost ++ []) []
             (points_lost (world_of old) (mounts_in k.mounts) gone) f was.exchanges (begun_points f)));
         mounts = was.mounts ∙ ap (λ n. n + layer_count world (counted one.count)) (sym (showing (counted one.count)));
       }
@@ -316,10 +292,8 @@ module _ (old : WorldValue) (gained lost : List Inode) (world : World ℕ) (k : 
   stays_placed mount place false e h = (e, h)
 
   still_attached : (mount : Mount ℕ) → Among mount world.mounts → (place : Place ℕ) → mount.mount_point ≡ Some place
-      → is_among nat_eq mount.number gone ≡ false
-      → is_some (mount_at nat_eq after place).namespace ≡ true
-  still_attached mount m place p stays =
-      ap (λ (x : Mount ℕ). is_some x.namespace)
+      → is_among nat_eq mount.number gone ≡ false → is_some (mount_at nat_eq after place).namespace ≡ true
+  still_attached mount m place p stays = ap (λ (x : Mount ℕ). is_some x.namespace)
       (not_gone_stays gone world.mounts place.mount (by (is_among nat_eq place.mount gone) refl))
       ∙ passes (λ (one : Place ℕ). is_some (mount_at nat_eq world one).namespace) (option_to_list mount.mount_point)
       (passes (stands_on_attached world) world.mounts is.stand.on_attached mount m) place
@@ -334,8 +308,7 @@ module _ (old : WorldValue) (gained lost : List Inode) (world : World ℕ) (k : 
     one_number = pair_mapped (detached_in gone) (pending_number gone) world.mounts ∙ is.stand.one_number;
     nowhere = all_pass is_nowhere_or_attached after.mounts (λ mount m.
         let from = among-from_map (detached_in gone) world.mounts mount m in
-        ap is_nowhere_or_attached from.2
-        ∙ nowhere from.0 (is_among nat_eq from.0.number gone)
+        ap is_nowhere_or_attached from.2 ∙ nowhere from.0 (is_among nat_eq from.0.number gone)
         (passes is_nowhere_or_attached world.mounts is.stand.nowhere from.0 from.1));
     on_attached = all_pass (stands_on_attached after) after.mounts (λ mount m.
         let from = among-from_map (detached_in gone) world.mounts mount m in
@@ -360,11 +333,9 @@ module _ (old : WorldValue) (gained lost : List Inode) (world : World ℕ) (k : 
   begun_located : LocationsStand after
   begun_located =
       subst (λ numbers. list_all (λ (location : Place ℕ). is_among nat_eq location.mount numbers) (all_locations world)
-      ≡ true)
-      (sym (map_twice (λ (mount : Mount ℕ). mount.number) (detached_in gone) world.mounts
+      ≡ true) (sym (map_twice (λ (mount : Mount ℕ). mount.number) (detached_in gone) world.mounts
       ∙ map_alike (λ mount. (detached_in gone mount).number) (λ mount. mount.number) world.mounts
-      (λ mount m. pending_number gone mount)))
-      is.located
+      (λ mount m. pending_number gone mount))) is.located
 
   begun_in_use : MountsInUseBut gone after
   begun_in_use =
@@ -381,8 +352,7 @@ module _ (old : WorldValue) (gained lost : List Inode) (world : World ℕ) (k : 
       by mount false e lives = or_second (is_among nat_eq mount.number gone) (mount_lives nat_eq world mount) lives
 
   begun_mounted : FilesystemsInUse after
-  begun_mounted =
-      all_pass (filesystem_lives nat_eq after) world.filesystems (λ f m.
+  begun_mounted = all_pass (filesystem_lives nat_eq after) world.filesystems (λ f m.
       lives_alike world after refl
       (λ n. any-map (λ (mount : Mount ℕ). nat_eq n mount.filesystem) (detached_in gone) world.mounts
       (λ mount. ap (nat_eq n) (pending_filesystem gone mount))) f
@@ -413,9 +383,7 @@ module _ (old : WorldValue) (gained lost : List Inode) (world : World ℕ) (k : 
   }
 
   ends_living : folded looked_at after gone ≡ in_use_of after
-  ends_living =
-      ap (λ one. folded looked_at one gone) (sym all_live)
-      ∙ looked_all after gone
+  ends_living = ap (λ one. folded looked_at one gone) (sym all_live) ∙ looked_all after gone
       ∙ ap (without_dead_filesystems nat_eq) (sym (mounts_go_one_by_one after gone begun_in_use))
     where
       all_live : without_dead_filesystems nat_eq after ≡ after

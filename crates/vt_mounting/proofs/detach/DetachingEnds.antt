@@ -63,8 +63,7 @@ module _ (value : WorldValue) (whole : IsHeld value) where
   -- mount points are there
   pub point_located : (mount : Mount ℕ) → Among mount world.mounts → (place : Place ℕ) → mount.mount_point ≡ Some place
       → is_located_well nat_eq world place ≡ true
-  point_located mount m place p =
-      λ i. among i && there i
+  point_located mount m place p = λ i. among i && there i
     where
       at_point : Among place (option_to_list mount.mount_point)
       at_point = subst (λ o. Among place (option_to_list o)) (sym p) (inl refl)
@@ -76,15 +75,13 @@ module _ (value : WorldValue) (whole : IsHeld value) where
           (mounts_of_worlds_stand world whole.in_world).on_attached mount m) place at_point
 
       among : is_among nat_eq place.mount (map (λ (x : Mount ℕ). x.number) world.mounts) ≡ true
-      among =
-          is_among_numbers place.mount (map (λ (x : Mount ℕ). x.number) world.mounts)
+      among = is_among_numbers place.mount (map (λ (x : Mount ℕ). x.number) world.mounts)
           (subst (λ n. Among n (map (λ (x : Mount ℕ). x.number) world.mounts)) (number_found world.mounts place.mount)
           (among-map (λ (x : Mount ℕ). x.number) world.mounts (mount_in nat_eq world.mounts place.mount)
           (found_is_there world.mounts place.mount attached)))
 
       there : is_there nat_eq world (mount_at nat_eq world place).filesystem place.node ≡ true
-      there =
-          directory_there (node_at nat_eq world place)
+      there = directory_there (node_at nat_eq world place)
           (passes (is_directory_at nat_eq world) (option_to_list mount.mount_point)
           (and_parts (is_directory_node ((filesystem_numbered nat_eq world mount.filesystem).files.tree.node mount.root))
           (list_all (is_directory_at nat_eq world) (option_to_list mount.mount_point))
@@ -125,16 +122,14 @@ module _ (value : WorldValue) (whole : IsHeld value) where
 
 module _ (old : WorldValue) (after : World ℕ) (gained lost : List Inode) (new : WorldValue) (overlays : List Merged)
     (is : IsKeptBut old [] [] gained lost (in_use_of after) (kept_with new.mounts new.filesystems overlays))
-    (same_tasks : after.tasks ≡ new.tasks)
-    (same_overlays : new.overlays ≡ overlays_kept overlays old.overlays) where
+    (same_tasks : after.tasks ≡ new.tasks) (same_overlays : new.overlays ≡ overlays_kept overlays old.overlays) where
   mounts_are : (in_use_of after).mounts ≡ mounts_in new.mounts
   mounts_are = is.mounts ∙ sym (map_itself (mounts_in new.mounts))
 
   -- the overlays are those of before that mounts show still
   overlays_left : overlays_seen new.overlays
       ≡ filter (λ overlay. is_mounted nat_eq (in_use_of after) overlay.number) (overlays_seen old.overlays)
-  overlays_left =
-      ap overlays_seen same_overlays ∙ seen_kept old is.held (in_use_of after) is.leaves overlays is.merged
+  overlays_left = ap overlays_seen same_overlays ∙ seen_kept old is.held (in_use_of after) is.leaves overlays is.merged
 
   pub detached_swept : KeepsOverlays old after
       → (without_changes after).namespaces ≡ (without_changes (world_of new)).namespaces
@@ -166,8 +161,7 @@ module _ (old : WorldValue) (after : World ℕ) (gained lost : List Inode) (new 
           uses = counts.uses ∙ (λ i. mount_uses (record after { tasks = same_tasks i }) entry.mount.number);
           writers = counts.writers ∙ (λ i. writes_of entry.mount.number (same_tasks i));
         });
-    mounts = λ entry m.
-        (is.filesystems (shown_entry entry) (among-map shown_entry new.filesystems entry m)).mounts
+    mounts = λ entry m. (is.filesystems (shown_entry entry) (among-map shown_entry new.filesystems entry m)).mounts
         ∙ (λ i. times (λ (mount : Mount ℕ). nat_eq (counted entry.count) mount.filesystem) (mounts_are i)
         + sym (layers_of_fewer old new is.held.overlays
         (λ overlay. is_mounted nat_eq (in_use_of after) overlay.number) overlays_left (in_use_of after)
@@ -184,17 +178,14 @@ module _ (old : WorldValue) (after : World ℕ) (gained lost : List Inode) (new 
 
 pub taken_regroups : (world : World ℕ) (gone : List ℕ) → HasChildrenOf gone world.mounts
     → taken_away nat_eq world gone ≡ regrouped nat_eq (detached_world gone world)
-taken_regroups world gone closed =
-    ap (λ mounts. regrouped nat_eq (with_mounts world mounts))
+taken_regroups world gone closed = ap (λ mounts. regrouped nat_eq (with_mounts world mounts))
     (map_alike (after_going nat_eq world gone) (detached_in gone) world.mounts
     (λ mount m. same mount m (is_among nat_eq mount.number gone) refl))
   where
     stays_placed : (mount : Mount ℕ) → Among mount world.mounts → is_among nat_eq mount.number gone ≡ false
-        → (o : Option (Place ℕ)) → mount.mount_point ≡ o
-        → option_map (mount_point_left nat_eq world gone) o ≡ o
+        → (o : Option (Place ℕ)) → mount.mount_point ≡ o → option_map (mount_point_left nat_eq world gone) o ≡ o
     stays_placed mount m e None p = refl
-    stays_placed mount m e (Some place) p =
-        ap (option_map (mount_point_left nat_eq world gone)) (sym p)
+    stays_placed mount m e (Some place) p = ap (option_map (mount_point_left nat_eq world gone)) (sym p)
         ∙ ap (λ (x : Mount ℕ). x.mount_point) (sym (Taken.stays world gone world.namespaces mount e))
         ∙ Taken.same_place world gone world.namespaces false mount place p e
         (other (is_among nat_eq place.mount gone) refl)
@@ -205,8 +196,7 @@ taken_regroups world gone closed =
 
     same : (mount : Mount ℕ) → Among mount world.mounts → (b : Bool) → is_among nat_eq mount.number gone ≡ b
         → cond b (detached mount) (record mount {
-          mount_point = option_map
-              (mount_point_left nat_eq world gone) mount.mount_point;
+          mount_point = option_map (mount_point_left nat_eq world gone) mount.mount_point;
         }) ≡ cond b (detached mount) mount
     same mount m true e = refl
     same mount m false e = ap (λ place. record mount { mount_point = place })
@@ -240,16 +230,13 @@ detached_done value name permit task gone mounts filesystems overlays whole clos
     let kept_last = subst (λ one. IsKeptBut value [] [] [] detaching.lost one
     (kept_with mounts filesystems overlays)) detaching.ends detaching.is in
     let live = whole.in_world.mounts.groups in
-    finished value whole name permit task after
-    (record {
+    finished value whole name permit task after (record {
       called = is.called;
       given = is.given;
       named = is.named;
       applied = λ fresh. is.applied fresh ∙ taken_regroups world gone closed
           ∙ alone_regroups world value.groups whole.groups live gone free;
-    })
-    [] detaching.lost new
-    (detached_swept value after [] detaching.lost new overlays kept_last refl refl
+    }) [] detaching.lost new (detached_swept value after [] detaching.lost new overlays kept_last refl refl
     (same_files_keep value (world_of value) after refl (keeps_itself value whole.overlays)) refl refl)
     (settled_has after value.groups (alone_has world value.groups whole.groups live gone free) (λ mount m dead.
     ap is_ungrouped (detached_is_private world gone whole.in_world.mounts.nowhere mount m
@@ -257,5 +244,4 @@ detached_done value name permit task gone mounts filesystems overlays whole clos
     (detached_counted value after [] detaching.lost new overlays kept_last refl refl
     (all_from_among (CountsWhatIsInIt (world_of new)) value.namespaces (λ entry m.
     let was = among_from_all (CountsWhatIsInIt
-    (world_of value)) value.namespaces whole.namespaces entry m in record { tasks = was.tasks })))
-    refl
+    (world_of value)) value.namespaces whole.namespaces entry m in record { tasks = was.tasks }))) refl

@@ -51,8 +51,7 @@ nothing_last (x ∷ xs) e = absurd (some xs x e)
 -- mounts in the order of their numbers
 
 pub entry_ascending : (entries : List MountEntry) → are_ascending (mounts_in entries) ≡ true → (entry : MountEntry)
-    → Among entry entries
-    → entry_numbered entries entry.mount.number ≡ Some entry
+    → Among entry entries → entry_numbered entries entry.mount.number ≡ Some entry
 entry_ascending [] rising entry m = absurd m
 entry_ascending (x ∷ xs) rising entry m =
     let parts = and_parts (list_all (λ later. nat_lt x.mount.number later.number) (mounts_in xs))
@@ -63,22 +62,18 @@ entry_ascending (x ∷ xs) rising entry m =
         → nat_eq entry.mount.number x.mount.number ≡ b
         → Among entry (x ∷ xs) → (Among entry xs → entry_numbered xs entry.mount.number ≡ Some entry)
         → cond b (Some x) (entry_numbered xs entry.mount.number) ≡ Some entry
-    by above true e n next =
-        ⊎_elim (λ same. ap Some (sym same))
-        (λ later.
+    by above true e n next = ⊎_elim (λ same. ap Some (sym same)) (λ later.
         let less = Rattle.std.proofs.lemmas.Bool.ltb-true x.mount.number entry.mount.number
         (passes (λ l. nat_lt x.mount.number l.number) (mounts_in xs) above entry.mount
         (among-map (λ (one : MountEntry). one.mount) xs entry later)) in
         let same : entry.mount.number ≡ x.mount.number = eqb-true entry.mount.number x.mount.number e in
         absurd (omega (arith, less, same))) n
-    by above false e n next =
-        ⊎_elim (λ same. absurd (true≢false
+    by above false e n next = ⊎_elim (λ same. absurd (true≢false
         (sym (eq-eqb entry.mount.number x.mount.number (ap (λ (one : MountEntry). one.mount.number) same)) ∙ e))) next n
 
 -- the mount that is listed last for a namespace is attached in it
 pub listed_entry : (entries : List MountEntry) (namespace : ℕ) (ids : List MountId) (last : MountId)
-    → are_ascending (mounts_in entries) ≡ true
-    → map (λ (id : MountId). counted id.count) ids
+    → are_ascending (mounts_in entries) ≡ true → map (λ (id : MountId). counted id.count) ids
     ≡ map (λ mount. mount.number) (filter (λ mount. holds_of (nat_eq namespace) mount.namespace) (mounts_in entries))
     → slice_get ids (length ids - 1) ≡ Some last
     → (entry : MountEntry) × (entry_numbered entries (counted last.count) ≡ Some entry)
@@ -118,8 +113,7 @@ none_listed entries namespace ids listed none =
         let here = among-map (λ (x : Mount ℕ). x.number)
         (filter (λ mount. holds_of (nat_eq namespace) mount.namespace) (mounts_in entries)) entry.mount
         (Rattle.vt_laws_mounts.proofs.letting_go.Lists.among-filter (λ (x : Mount ℕ). holds_of (nat_eq namespace) x.namespace)
-        (mounts_in entries) entry.mount
-        (among-map (λ (one : MountEntry). one.mount) entries entry m) e) in
+        (mounts_in entries) entry.mount (among-map (λ (one : MountEntry). one.mount) entries entry m) e) in
         absurd (subst (λ all. Among entry.mount.number all) empty here)
 
 -- fewer are left after each
@@ -164,16 +158,14 @@ module _ (namespace : ℕ) where
           (filter (is_attached_in namespace) (changed number detached_entry xs)))) e in omega (arith, same, later)
 
   one_fewer : (number : ℕ) (entries : List MountEntry) (entry : MountEntry) → entry_numbered entries number ≡ Some entry
-      → is_attached_in namespace entry ≡ true
-      → still (changed number detached_entry entries) < still entries
+      → is_attached_in namespace entry ≡ true → still (changed number detached_entry entries) < still entries
   one_fewer number [] entry found inside = absurd cc
   one_fewer number (x ∷ xs) entry found inside =
       by (nat_eq number x.mount.number) found (is_attached_in namespace x) refl (fewer_changed number xs)
       (λ e. one_fewer number xs entry e inside)
     where
       by : (b : Bool) → cond b (Some x) (entry_numbered xs number) ≡ Some entry → (c : Bool)
-          → is_attached_in namespace x ≡ c
-          → still (changed number detached_entry xs) ≤ still xs
+          → is_attached_in namespace x ≡ c → still (changed number detached_entry xs) ≤ still xs
           → (entry_numbered xs number ≡ Some entry → still (changed number detached_entry xs) < still xs)
           → still (cond b (detached_entry x) x ∷ changed number detached_entry xs) < length
           (cond c (x ∷ filter (is_attached_in namespace) xs) (filter (is_attached_in namespace) xs))
@@ -215,12 +207,10 @@ module _ (namespace : ℕ) where
 -- A step of the loop
 
 pub attached_so : (namespace : ℕ) (mounts : List MountEntry) (filesystems : Filesystems) (overlays : List Merged)
-    (ids : List MountId) (last : MountId) (point : Option Location)
-    → are_ascending (mounts_in mounts) ≡ true
+    (ids : List MountId) (last : MountId) (point : Option Location) → are_ascending (mounts_in mounts) ≡ true
     → map (λ (id : MountId). counted id.count) ids
     ≡ map (λ mount. mount.number) (filter (λ mount. holds_of (nat_eq namespace) mount.namespace) (mounts_in mounts))
-    → slice_get ids (length ids - 1) ≡ Some last
-    → option_map location_of point ≡ point_of (counted last.count) mounts
+    → slice_get ids (length ids - 1) ≡ Some last → option_map location_of point ≡ point_of (counted last.count) mounts
     → IfSome point (λ place. is_small_node place.node ≡ true)
     → IsAttached namespace (kept_with mounts filesystems overlays) (record { number = counted last.count; point = point })
 attached_so namespace mounts filesystems overlays ids last point rising listed found is slot =
@@ -258,8 +248,7 @@ module _ (count : ℕ) (es : Entries) where
   fewer_left old new entries distinct found many less is =
       let entry = last_or_not old false found many in
       ap entries_of is ∙ entries_written count one_task_less es old new distinct found
-      (λ id i. record { count = id.count; tasks = less i })
-      ∙ sym (ap (entries_left count (entries_of es)) entry.1
+      (λ id i. record { count = id.count; tasks = less i }) ∙ sym (ap (entries_left count (entries_of es)) entry.1
       ∙ ap (λ b. cond b (filter (λ (other : NamespaceEntry). not (nat_eq count other.count)) (entries_of es))
       (map (left_if count) (entries_of es))) entry.2)
 

@@ -94,8 +94,7 @@ root_is_located value whole task namespace root is = by (root_mount nat_eq (worl
               ∙ directory_there _ directory,
         ) in
         let same : topmost nat_eq world.mounts (root_of mount) ≡ root = same_Some _ _ f in
-        subst (λ l. is_located_well nat_eq world l ≡ true) same
-        (λ i. there.0.0 i && there.1 i)
+        subst (λ l. is_located_well nat_eq world l ≡ true) same (λ i. there.0.0 i && there.1 i)
 
 -- there is one
 
@@ -128,9 +127,7 @@ namespace_has_a_root value whole name count None permits is = absurd
     by : (o : Option (Mount ℕ)) → root_mount nat_eq world (counted count) ≡ o
         → None ≡ option_map (λ mount. topmost nat_eq world.mounts (root_of mount)) o → ⊥
     by (Some mount) e f = cc
-    by None e f =
-        true≢false
-        (sym one_root ∙ ap (λ (list : List (Mount ℕ)). length list == 1)
+    by None e f = true≢false (sym one_root ∙ ap (λ (list : List (Mount ℕ)). length list == 1)
         (nothing_found (is_root_mount nat_eq) (mounts_of nat_eq world (counted count)) e))
 namespace_has_a_root value whole name count (Some root) permits is = refl
 
@@ -169,8 +166,7 @@ module _ (value : WorldValue) (whole : IsHeld value) (name : TaskName) (task : T
 
   -- one task more there, and one less where it was
   pub enter_counts : (left : ℕ) → task.namespace ≡ counted left → (entry : NamespaceEntry)
-      → Among entry (with_task_more count value.namespaces)
-      → CountsOneMore left tasks entry
+      → Among entry (with_task_more count value.namespaces) → CountsOneMore left tasks entry
   enter_counts left its entry m =
       let from = among-from_map (λ (e : NamespaceEntry). cond (nat_eq count e.count)
       (more_tasks e) e) value.namespaces entry m in
@@ -186,20 +182,16 @@ module _ (value : WorldValue) (whole : IsHeld value) (name : TaskName) (task : T
           ≡ cond b 1 0 = ap one_if (counted_eq_back e.count count ∙ is) in
           let gone : one_if (nat_eq (counted e.count) task.namespace) ≡ cond (nat_eq left e.count) 1 0 =
           ap (λ k. one_if (nat_eq (counted e.count) k)) its ∙ ap one_if (counted_eq_back e.count left) in
-          let some : nat_eq e.tasks 0 ≡ false = ap (λ k. nat_eq k 0) had
-          ∙ tasks_counted (counted e.count) value.tasks
+          let some : nat_eq e.tasks 0 ≡ false = ap (λ k. nat_eq k 0) had ∙ tasks_counted (counted e.count) value.tasks
           (passes (has_tasks nat_eq world) world.namespaces whole.in_world.namespaces.namespaces_live (namespace_of e)
           (among-map namespace_of value.namespaces e n)) in
-          by b (e.tasks + cond b 1 0) refl
-          (let all : e.tasks + cond b 1 0
+          by b (e.tasks + cond b 1 0) refl (let all : e.tasks + cond b 1 0
           ≡ times (λ (other : Task ℕ). nat_eq (counted e.count) other.namespace) tasks + cond
-          (nat_eq left e.count) 1 0 =
-          omega (arith, had, moved, come, gone) in all) some
+          (nat_eq left e.count) 1 0 = omega (arith, had, moved, come, gone) in all) some
         where
           by : (b : Bool) (n : ℕ) → n ≡ e.tasks + cond b 1 0
               → n ≡ times (λ (other : Task ℕ). nat_eq (counted e.count) other.namespace) tasks + cond
-              (nat_eq left e.count) 1 0 → nat_eq e.tasks 0 ≡ false
-              → CountsOneMore left tasks (cond b (more_tasks e) e)
+              (nat_eq left e.count) 1 0 → nat_eq e.tasks 0 ≡ false → CountsOneMore left tasks (cond b (more_tasks e) e)
           by true n is all some = record {
             inside = sym is ∙ all;
             some = Rattle.std.proofs.Common.ne_eqb (e.tasks + 1) 0
@@ -236,18 +228,15 @@ listed_is_named value whole namespace listed =
 held_so : (value : WorldValue) → IsHeld value → (at : Location) (k : Kept) → is_small_node at.node ≡ true
     → is_located_well nat_eq (world_of value) (location_of at) ≡ true
     → with_location at false k ≡ gain (world_of value) k (standing (location_of at))
-held_so value whole at k few well =
-    λ i. with_use (counted at.mount.count)
+held_so value whole at k few well = λ i. with_use (counted at.mount.count)
     (sym (seen_where_located value whole at few well) i, number_of at.node) false k
 
 pub task_enters : (value : WorldValue) (name : TaskName) (count : ℕ) (root : Location) (left : Left)
     (mounts : List MountEntry) (groups : Grouping) (filesystems : Filesystems) (overlays : List Merged)
-    (namespaces : List NamespaceEntry)
-    (new_tasks : Tasks) (k : Kept)
+    (namespaces : List NamespaceEntry) (new_tasks : Tasks) (k : Kept)
     → IsHeld value → Permits value name (ToEnterNamespace (counted count))
     → Some (location_of root) ≡ namespace_root nat_eq (world_of value) (counted count)
-    → is_small_node root.node ≡ true → is_small_node left.root.node ≡ true
-    → is_small_node left.directory.node ≡ true
+    → is_small_node root.node ≡ true → is_small_node left.root.node ≡ true → is_small_node left.directory.node ≡ true
     → Some (left_of left) ≡ option_map left_by (called name value.tasks)
     → new_tasks ≡ changed_called name (λ task. entered_at task (counted count) (location_of root)) value.tasks
     → k ≡ without_location left.directory false (without_location left.root false
@@ -255,8 +244,7 @@ pub task_enters : (value : WorldValue) (name : TaskName) (count : ℕ) (root : L
     → namespaces ≡ with_one_task_less left.namespace.count (with_task_more count value.namespaces)
     → MountsAreLeft (counted left.namespace.count)
     (namespace_entry left.namespace.count (with_task_more count value.namespaces)) k value.groups
-    (kept_with mounts filesystems overlays) groups
-    → IsDone value name (ToEnterNamespace (counted count))
+    (kept_with mounts filesystems overlays) groups → IsDone value name (ToEnterNamespace (counted count))
     (record value {
       mounts = mounts;
       groups = groups;
@@ -277,44 +265,37 @@ task_enters value name count root left mounts groups filesystems overlays namesp
     let located_so = located value whole name task permits.called in
     let old = kept_of value in
     let held = gain world (gain world old (standing place)) (standing place) in
-    let k_so : k ≡ folded (leave_use world) held (standing task.root ∷ standing task.directory ∷ []) =
-    k_is
+    let k_so : k ≡ folded (leave_use world) held (standing task.root ∷ standing task.directory ∷ []) = k_is
     ∙ ap (λ one. without_location left.directory false (without_location left.root false one))
     (ap (with_location root false) (held_so value whole root old few well)
-    ∙ held_so value whole root (gain world old (standing place)) few well)
-    ∙ ap (without_location left.directory false)
+    ∙ held_so value whole root (gain world old (standing place)) few well) ∙ ap (without_location left.directory false)
     (left_so value whole left.root false held few_root
     (ap (is_located_well nat_eq world) at_root ∙ located_so task.root (inl refl))
     ∙ ap (λ l. leave_use world held (standing l)) at_root)
     ∙ left_so value whole left.directory false (leave_use world held (standing task.root)) few_directory
     (ap (is_located_well nat_eq world) at_directory ∙ located_so task.directory (inr (inl refl)))
     ∙ ap (λ l. leave_use world (leave_use world held (standing task.root)) (standing l)) at_directory in
-    subst (λ all. IsDone value name (ToEnterNamespace (counted count))
-    (record value {
+    subst (λ all. IsDone value name (ToEnterNamespace (counted count)) (record value {
       mounts = mounts;
       groups = groups;
       filesystems = filesystems;
       overlays = overlays_kept overlays value.overlays;
       namespaces = namespaces;
       tasks = all;
-    }))
-    (sym (are ∙ ap (changed_by (λ one. entered_at one (counted count) place) value.tasks) permits.called))
+    })) (sym (are ∙ ap (changed_by (λ one. entered_at one (counted count) place) value.tasks) permits.called))
     (departs value whole (replaced (entered_at task (counted count) place) value.tasks)
     (standing place ∷ standing place ∷ []) (standing task.root ∷ standing task.directory ∷ [])
     (enter_moves value whole name task permits.called count place well)
     left.namespace.count (with_task_more count value.namespaces)
     (enter_counts value whole name task permits.called count place well left.namespace.count namespace_is)
     (same_namespaces_more count value.namespaces) filesystems overlays namespaces namespaces_are
-    name (ToEnterNamespace (counted count)) task
-    (record {
+    name (ToEnterNamespace (counted count)) task (record {
       called = permits.called;
       given = permits.given;
       named = listed_is_named value whole (counted count)
           (permit_fits value whole name (ToEnterNamespace (counted count)) permits).names;
       applied = λ fresh. ap (λ o. namespaces_ended nat_eq
           (with_task world (entered_at task (counted count) (unwrap_or o task.root)))) (sym root_is);
-    })
-    mounts groups
-    (subst (λ one. MountsAreLeft (counted left.namespace.count)
+    }) mounts groups (subst (λ one. MountsAreLeft (counted left.namespace.count)
     (namespace_entry left.namespace.count (with_task_more count value.namespaces)) one
     value.groups (kept_with mounts filesystems overlays) groups) k_so mounts_are))

@@ -54,8 +54,7 @@ pub record GoesOne (task : Task ℕ) (tasks after : Tasks) : Type 0 where
 
 -- just the task of the name goes out of the tasks
 pub one_goes_out : (name : TaskName) (tasks : Tasks) (task : Task ℕ) → AreNamedApart tasks
-    → called name tasks ≡ Some task
-    → GoesOne task tasks (without_called name tasks)
+    → called name tasks ≡ Some task → GoesOne task tasks (without_called name tasks)
 one_goes_out name [] task apart found = absurd cc
 one_goes_out name (first ∷ tasks) task apart found =
     let parts = or_parts (list_any (λ (other : Task ℕ). same_name first.name other.name) tasks) _ apart in
@@ -135,8 +134,7 @@ module _ (value : WorldValue) (whole : IsHeld value) (name : TaskName) (task : T
       ap (λ n. one_if (nat_eq (counted entry.count) n)) its ∙ ap one_if (counted_eq_back entry.count count) in
       record {
         inside = omega (arith, had, one, was, is, own);
-        some = ap (λ n. nat_eq n 0) had
-            ∙ tasks_counted (counted entry.count) value.tasks
+        some = ap (λ n. nat_eq n 0) had ∙ tasks_counted (counted entry.count) value.tasks
             (passes (has_tasks nat_eq world) world.namespaces whole.in_world.namespaces.namespaces_live
             (namespace_of entry) (among-map namespace_of value.namespaces entry m));
       }
@@ -152,12 +150,10 @@ module _ (value : WorldValue) (whole : IsHeld value) (name : TaskName) (task : T
 
 -- code leaves what the definitions name
 pub left_so : (value : WorldValue) → IsHeld value → (at : Location) (writes : Bool) (k : Kept)
-    → is_small_node at.node ≡ true
-    → is_located_well nat_eq (world_of value) (location_of at) ≡ true
+    → is_small_node at.node ≡ true → is_located_well nat_eq (world_of value) (location_of at) ≡ true
     → without_location at writes k
     ≡ leave_use (world_of value) k (record { location = location_of at; writes = writes })
-left_so value whole at writes k few well =
-    λ i. without_use (counted at.mount.count)
+left_so value whole at writes k few well = λ i. without_use (counted at.mount.count)
     (sym (seen_where_located value whole at few well) i, number_of at.node) writes k
 
 -- closing its files takes away the uses of its descriptors
@@ -165,8 +161,7 @@ pub files_left_so : (value : WorldValue) → IsHeld value
     → (files : List OpenFile) (descriptors : List (Descriptor ℕ)) (k : Kept)
     → map (λ (file : OpenFile). location_of file.location) files ≡ map (λ (d : Descriptor ℕ). d.location) descriptors
     → map (λ (file : OpenFile). opens_for_writing (access_of file.access)) files
-    ≡ map (λ (d : Descriptor ℕ). d.writes) descriptors
-    → list_all is_small_file files ≡ true
+    ≡ map (λ (d : Descriptor ℕ). d.writes) descriptors → list_all is_small_file files ≡ true
     → ((location : meant.Location ℕ) → Among location (map place descriptors)
     → is_located_well nat_eq (world_of value) location ≡ true)
     → fold without_file k files ≡ folded (leave_use (world_of value)) k (map used_by descriptors)
@@ -182,8 +177,7 @@ files_left_so value whole (file ∷ files) (d ∷ ds) k places writes slots well
     ≡ map (λ (d : Descriptor ℕ). d.writes) ds = cc in
     let few = and_parts (is_small_file file) (list_all is_small_file files) slots in
     let here : without_file k file ≡ leave_use (world_of value) k (used_by d) =
-    left_so value whole file.location (opens_for_writing (access_of file.access)) k
-    few.0
+    left_so value whole file.location (opens_for_writing (access_of file.access)) k few.0
     (ap (is_located_well nat_eq (world_of value)) at ∙ well d.location (inl refl))
     ∙ (λ i. leave_use (world_of value) k (record { location = at i; writes = write i })) in
     ap (λ one. fold without_file one files) here
@@ -204,17 +198,13 @@ pub record LeavesAll (old : Kept) (task : Held) (files : List OpenFile) (left : 
 -- A task exits, and what it alone used is let go.
 pub task_exits : (value : WorldValue) (name : TaskName) (task : Held) (files : List OpenFile) (left : Kept)
     (mounts : List MountEntry) (groups : Grouping) (filesystems : Filesystems) (overlays : List Merged)
-    (namespaces : List NamespaceEntry)
-    (left_tasks : Tasks)
+    (namespaces : List NamespaceEntry) (left_tasks : Tasks)
     → IsHeld value → Permits value name ToExit → Some (task_of task) ≡ called name value.tasks
-    → left_tasks ≡ without_called name value.tasks
-    → LeavesAll (kept_of value) task files left
+    → left_tasks ≡ without_called name value.tasks → LeavesAll (kept_of value) task files left
     → namespaces ≡ with_one_task_less task.namespace.count value.namespaces
     → MountsAreLeft (counted task.namespace.count)
     (namespace_entry task.namespace.count value.namespaces) left value.groups
-    (kept_with mounts filesystems overlays) groups
-    → IsDone value name ToExit
-    (record value {
+    (kept_with mounts filesystems overlays) groups → IsDone value name ToExit (record value {
       mounts = mounts;
       groups = groups;
       filesystems = filesystems;
@@ -228,10 +218,8 @@ task_exits value name task files left mounts groups filesystems overlays namespa
     let count = task.namespace.count in
     let well = located value whole name meant_task called_so in
     let k = kept_of value in
-    let left_is : left ≡ folded (leave_use (world_of value)) k (uses_of_task meant_task) =
-    leaves.is
-    ∙ files_left_so value whole files meant_task.descriptors
-    (without_location task.directory false
+    let left_is : left ≡ folded (leave_use (world_of value)) k (uses_of_task meant_task) = leaves.is
+    ∙ files_left_so value whole files meant_task.descriptors (without_location task.directory false
     (without_location task.root false k)) leaves.places leaves.writes leaves.slots
     (λ location m. well location (inr (inr m)))
     ∙ ap (λ one. folded (leave_use (world_of value)) one (map used_by meant_task.descriptors))
@@ -239,20 +227,17 @@ task_exits value name task files left mounts groups filesystems overlays namespa
     (well (location_of task.directory) (inr (inl refl)))
     ∙ ap (λ one. leave_use (world_of value) one (standing meant_task.directory))
     (left_so value whole task.root false k leaves.root (well (location_of task.root) (inl refl)))) in
-    subst (λ all. IsDone value name ToExit
-    (record value {
+    subst (λ all. IsDone value name ToExit (record value {
       mounts = mounts;
       groups = groups;
       filesystems = filesystems;
       overlays = overlays_kept overlays value.overlays;
       namespaces = namespaces;
       tasks = all;
-    })) (sym are)
-    (departs value whole (without_called name value.tasks) [] (uses_of_task meant_task)
+    })) (sym are) (departs value whole (without_called name value.tasks) [] (uses_of_task meant_task)
     (exit_moves value whole name meant_task called_so)
     count value.namespaces (exit_counts value whole name meant_task called_so count refl) refl filesystems overlays namespaces namespaces_are
-    name ToExit meant_task
-    (record {
+    name ToExit meant_task (record {
       called = called_so;
       given = subst (λ one. Rattle.vt_laws_worlds.specs.Permits.Left.IsGiven
           (Rattle.vt_mounting.specs.Detach.Events.supply_of value ToExit) (world_of value) one ToExit)
@@ -261,8 +246,6 @@ task_exits value name task files left mounts groups filesystems overlays namespa
       applied = λ fresh. ap (λ own. namespaces_ended nat_eq
           (Rattle.vt_spec.specs.Machine.World.without_task (world_of value) own))
           (name-of-called name value.tasks meant_task called_so);
-    })
-    mounts groups
+    }) mounts groups
     (subst (λ one. MountsAreLeft (counted count) (namespace_entry count value.namespaces) one value.groups
-    (kept_with mounts filesystems overlays) groups)
-    left_is mounts_are))
+    (kept_with mounts filesystems overlays) groups) left_is mounts_are))

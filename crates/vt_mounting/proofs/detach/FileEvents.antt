@@ -55,8 +55,7 @@ IsSmall at = at.node.slot < 18446744073709551616
 
 -- A change by a call that names it: chmod(2), link(2), unlink(2), write(2)
 module _ (value : WorldValue) (held : IsHeld value) (name : TaskName) (at : Location) (small : IsSmall at)
-    (change : Change ℕ)
-    (permits : Permits value name (ToChange (location_of at) change)) where
+    (change : Change ℕ) (permits : Permits value name (ToChange (location_of at) change)) where
   change_is_plain : IsPlainAt value at
   change_is_plain =
       changed_is_plain value held name (ToChange (location_of at) change) permits (location_of at) change refl
@@ -80,20 +79,17 @@ module _ (value : WorldValue) (held : IsHeld value) (name : TaskName) (at : Loca
         are_named = λ k. refl;
         named_rest = λ k. 0;
         applied_named = refl;
-      })
-      (record {
+      }) (record {
         entry = change_at.entry;
         among = change_at.among;
         found = change_at.found;
         shows = change_at.shows;
-        fits =
-            given_changes_fit (world_of value) (supply_of value (ToChange (location_of at) change)) permits.task
+        fits = given_changes_fit (world_of value) (supply_of value (ToChange (location_of at) change)) permits.task
             (ToChange (location_of at) change) (location_of at) change (inodes_seen change_at.entry) held.in_world
             permits.given refl
             (ap (λ filesystem. filesystem.files.tree) (sym (located_filesystem value held at change_at)));
         links = links;
-        changes =
-            subst (λ count. ChangesInodes count (changed_by change) value.filesystems filesystems)
+        changes = subst (λ count. ChangesInodes count (changed_by change) value.filesystems filesystems)
             (sym change_at.count_is) changes;
         own = own;
       })
@@ -104,11 +100,9 @@ module _ (value : WorldValue) (held : IsHeld value) (name : TaskName) (at : Loca
       (ToChange (location_of at) change) held.in_world permits.given
 
   pub change_fits : Fits (inodes_at value.filesystems at.node.filesystem.count) change
-  change_fits =
-      given_changes_fit (world_of value) (supply_of value (ToChange (location_of at) change)) permits.task
+  change_fits = given_changes_fit (world_of value) (supply_of value (ToChange (location_of at) change)) permits.task
       (ToChange (location_of at) change) (location_of at) change
-      (inodes_at value.filesystems at.node.filesystem.count) held.in_world
-      permits.given refl
+      (inodes_at value.filesystems at.node.filesystem.count) held.in_world permits.given refl
       (ap tree_of (located_inodes value at change_at)
       ∙ ap (λ filesystem. filesystem.files.tree) (sym (located_filesystem value held at change_at)))
 
@@ -117,8 +111,7 @@ pub attr_is_set : (value : WorldValue) → IsHeld value
     → (name : TaskName) (object : Location) (attr : Attr) (filesystems : Filesystems)
     → IsSmall object → Permits value name (ToChange (location_of object) (SetAttr (number_of object.node) attr))
     → ChangesInodes object.node.filesystem.count
-    (λ inodes. changed nat_eq inodes (SetAttr (number_of object.node) attr))
-    value.filesystems filesystems
+    (λ inodes. changed nat_eq inodes (SetAttr (number_of object.node) attr)) value.filesystems filesystems
     → IsFilesEvent value name (ToChange (location_of object) (SetAttr (number_of object.node) attr))
     (with_filesystems value filesystems)
 attr_is_set value held name object attr filesystems small permits changes =
@@ -127,12 +120,10 @@ attr_is_set value held name object attr filesystems small permits changes =
 
 -- setxattr(2) of the opaque mark
 pub mark_is_set : (value : WorldValue) → IsHeld value
-    → (name : TaskName) (directory : Location) (opaque : Bool) (filesystems : Filesystems)
-    → IsSmall directory
+    → (name : TaskName) (directory : Location) (opaque : Bool) (filesystems : Filesystems) → IsSmall directory
     → Permits value name (ToChange (location_of directory) (SetMark (number_of directory.node) opaque))
     → ChangesInodes directory.node.filesystem.count
-    (λ inodes. changed nat_eq inodes (SetMark (number_of directory.node) opaque))
-    value.filesystems filesystems
+    (λ inodes. changed nat_eq inodes (SetMark (number_of directory.node) opaque)) value.filesystems filesystems
     → IsFilesEvent value name (ToChange (location_of directory) (SetMark (number_of directory.node) opaque))
     (with_filesystems value filesystems)
 mark_is_set value held name directory opaque filesystems small permits changes =

@@ -49,14 +49,11 @@ one_entry (first ∷ rest) one entry m =
         → (b : Bool) → nat_eq entry.count first.count ≡ b → Among entry (first ∷ rest)
         → (Among entry rest → entry_of rest entry.count ≡ Some entry)
         → cond b (Some first) (entry_of rest entry.count) ≡ Some entry
-    by others true e n next =
-        ⊎_elim (λ same. ap Some (sym same))
-        (λ later. absurd (true≢false
+    by others true e n next = ⊎_elim (λ same. ap Some (sym same)) (λ later. absurd (true≢false
         (sym (eq-eqb (counted first.count) (counted entry.count)
         (ap counted (sym (eqb-true entry.count first.count e))))
         ∙ fails (λ (b : Filesystem ℕ). nat_eq (counted first.count) b.number) (filesystems_seen rest) others
-        (filesystem_seen entry)
-        (among-map filesystem_seen rest entry later)))) n
+        (filesystem_seen entry) (among-map filesystem_seen rest entry later)))) n
     by others false e n next =
         ⊎_elim (λ same. absurd (true≢false (sym (eq-eqb entry.count first.count (ap (λ x. x.count) same)) ∙ e))) next n
 
@@ -95,11 +92,9 @@ seen_in (x ∷ fs) own number inode there =
     by false e there rest = let later = rest there in record {
       entry = later.entry;
       among = inr later.among;
-      found =
-          ap (λ b. cond b (Some x) (entry_of fs later.entry.count))
+      found = ap (λ b. cond b (Some x) (entry_of fs later.entry.count))
           (sym (counted_test later.entry.count x.count) ∙ ap (λ n. nat_eq n (counted x.count)) (sym later.number_is)
-          ∙ e)
-          ∙ later.found;
+          ∙ e) ∙ later.found;
       number_is = later.number_is;
       own = later.own;
     }
@@ -111,8 +106,7 @@ inodes_named : (next f slot : ℕ) → is_counted_before next (inode_number f sl
 inodes_named next f slot = ap (λ b. b || is_counted_before_odd) (eq-eqb (inode_number f slot % 2) 0 (omega arith))
   where
     is_counted_before_odd : Bool
-    is_counted_before_odd =
-        nat_eq (inode_number f slot % 4) 1 && nat_lt (inode_number f slot / 4) next
+    is_counted_before_odd = nat_eq (inode_number f slot % 4) 1 && nat_lt (inode_number f slot / 4) next
 
 pub nodes_named : (next : ℕ) (node : NodeRef) → is_counted_before next (number_of node) ≡ true
 nodes_named next node = inodes_named next (born_in node.filesystem.count node.birth) node.slot
@@ -169,8 +163,7 @@ pub there_where_plain : (value : WorldValue) → IsHeld value → (number inode 
     → is_some ((filesystem_found value.filesystems number).files.tree.node inode) ≡ true
 there_where_plain value held number inode plain there =
     ap (λ (filesystem : Filesystem ℕ). is_some (filesystem.files.tree.node inode))
-    (sym (found_where_plain value held number plain))
-    ∙ there
+    (sym (found_where_plain value held number plain)) ∙ there
 
 -- it is in no overlay
 abbrev pub IsPlainAt : WorldValue → Location → Type 0
@@ -178,14 +171,12 @@ IsPlainAt value at = is_overlay (filesystem_at nat_eq (world_of value) (location
 
 -- a location of the world that is in no overlay stands in a filesystem of code
 pub located : (value : WorldValue) → IsHeld value → (at : Location) → at.node.slot < 18446744073709551616
-    → IsPlainAt value at
-    → is_located_well nat_eq (world_of value) (location_of at) ≡ true → IsLocated value at
+    → IsPlainAt value at → is_located_well nat_eq (world_of value) (location_of at) ≡ true → IsLocated value at
 located value held at small plain there =
     let parts = and_parts (is_among nat_eq (counted at.mount.count)
     (map (λ (mount : Mount ℕ). mount.number) (world_of value).mounts)) _ there in
     let seen = seen_in value.filesystems held.own_inodes (mount_at nat_eq (world_of value) (location_of at)).filesystem
-    (number_of at.node)
-    (there_where_plain value held (mount_at nat_eq (world_of value) (location_of at)).filesystem
+    (number_of at.node) (there_where_plain value held (mount_at nat_eq (world_of value) (location_of at)).filesystem
     (number_of at.node) plain parts.1) in
     record {
       entry = seen.entry;
@@ -194,8 +185,7 @@ located value held at small plain there =
       count_is = own_count seen.entry.count at.node small seen.own;
       born_here = own_birth seen.entry.count at.node small seen.own;
       shows = seen.number_is;
-      named = λ i. mount_named value held (counted at.mount.count) parts.0 i
-          && nodes_named value.next at.node i;
+      named = λ i. mount_named value held (counted at.mount.count) parts.0 i && nodes_named value.next at.node i;
     }
 
 -- the definitions find it there
@@ -212,8 +202,7 @@ located_plain value held at seen = ap is_overlay (located_filesystem value held 
 -- and so does code
 pub located_inodes : (value : WorldValue) (at : Location) (seen : IsLocated value at)
     → inodes_at value.filesystems at.node.filesystem.count ≡ inodes_seen seen.entry
-located_inodes value at seen =
-    ap (inodes_at value.filesystems) (sym seen.count_is)
+located_inodes value at seen = ap (inodes_at value.filesystems) (sym seen.count_is)
     ∙ ap (λ found. inodes_seen (unwrap_or found (no_entry seen.entry.count))) seen.found
 
 -- which has the same inodes there
@@ -223,8 +212,7 @@ pub kept_there : (value : WorldValue) → IsHeld value → (at : Location) (seen
 kept_there value held at seen number there =
     ap (λ (inodes : Inodes ℕ). is_some (node_in (inodes.inode number))) (located_inodes value at seen)
     ∙ ap (λ (filesystem : Filesystem ℕ). is_some (filesystem.files.tree.node number))
-    (sym (located_filesystem value held at seen))
-    ∙ there
+    (sym (located_filesystem value held at seen)) ∙ there
 
 -- another inode of that filesystem
 pub also_there : (value : WorldValue) → IsHeld value → (at : Location) (seen : IsLocated value at) (object : NodeRef)
@@ -235,18 +223,14 @@ also_there value held at seen object small there =
     let own = seen_in value.filesystems held.own_inodes (mount_at nat_eq (world_of value) (location_of at)).filesystem
     (number_of object)
     (there_where_plain value held (mount_at nat_eq (world_of value) (location_of at)).filesystem (number_of object)
-    (located_plain value held at seen) there)
-    in
-    let same : object.filesystem.count ≡ at.node.filesystem.count =
-    sym (own_count own.entry.count object small own.own)
-    ∙ counted_same own.entry.count seen.entry.count (sym own.number_is ∙ seen.shows)
-    ∙ seen.count_is in
+    (located_plain value held at seen) there) in
+    let same : object.filesystem.count ≡ at.node.filesystem.count = sym (own_count own.entry.count object small own.own)
+    ∙ counted_same own.entry.count seen.entry.count (sym own.number_is ∙ seen.shows) ∙ seen.count_is in
     λ i. record { count = same i }
 
 -- its tree is one
 pub tree_of_entry : (value : WorldValue) → IsHeld value → (entry : FilesystemEntry) → Among entry value.filesystems
     → IsTree (filesystem_seen entry).files.tree
-tree_of_entry value held entry m =
-    among_from_all (λ (filesystem : Filesystem ℕ). IsTree filesystem.files.tree)
+tree_of_entry value held entry m = among_from_all (λ (filesystem : Filesystem ℕ). IsTree filesystem.files.tree)
     (world_of value).filesystems held.in_world.files.trees
     (filesystem_seen entry) (plain_one_among value held.overlays.merged entry m)

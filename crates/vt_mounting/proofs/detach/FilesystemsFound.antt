@@ -12,8 +12,6 @@ found fs number =
 
 -- what is told of a filesystem that is found first, or further on
 abbrev pub found_if : Bool → FilesystemEntry → Filesystems → ℕ → Filesystem ℕ
-found_if b x fs number =
-    unwrap_or
-    (cond b (Some (filesystem_seen x))
+found_if b x fs number = unwrap_or (cond b (Some (filesystem_seen x))
     (find (λ (filesystem : Filesystem ℕ). nat_eq number filesystem.number) (filesystems_seen fs)))
     (no_filesystem number)

@@ -11,8 +11,7 @@ abbrev pub stays_at : ℕ → List Shown → ℕ → Bool
 stays_at filesystem shown n = not (nat_eq (mounts_shown filesystem shown) 0) || not (nat_eq filesystem n)
 
 -- So code lets it go.
-pub let_go_is : (filesystem : ℕ) (shown : List Shown)
-    → meant.let_go_filesystem filesystem shown
+pub let_go_is : (filesystem : ℕ) (shown : List Shown) → meant.let_go_filesystem filesystem shown
     ≡ filter (λ (one : Shown). stays_at filesystem shown (counted one.count)) shown
 let_go_is filesystem shown = by (nat_eq (mounts_shown filesystem shown) 0)
   where

@@ -78,8 +78,7 @@ pub record IsApplied (value : WorldValue) (name : TaskName) (permit : Permit ℕ
 -- what is counted beside inodes
 pub record CountsBeside (new : WorldValue) : Type 0 where
   pub uses : All (CountsItsUses (world_of new)) new.mounts
-  pub mounts : (entry : FilesystemEntry) → Among entry new.filesystems
-      → entry.mounts
+  pub mounts : (entry : FilesystemEntry) → Among entry new.filesystems → entry.mounts
       ≡ mounts_showing (world_of new) (counted entry.count) + layer_count (world_of new) (counted entry.count)
   pub overlays : All (IsMountedSoOften (world_of new)) new.overlays
   pub namespaces : All (CountsWhatIsInIt (world_of new)) new.namespaces
@@ -89,8 +88,7 @@ module _ (value : WorldValue) (whole : IsHeld value) (next : World ℕ)
     (left : IsWorld nat_eq (settled nat_eq next)) where
   -- what holds of each world holds of the one that the sweep leaves
   pub swept_held : (gained lost : List Inode) (new : WorldValue) → IsSwept value next gained lost new
-      → Has (settled nat_eq next) new.groups
-      → CountsBeside new → KeepsTo (is_counted_before new.next) (world_of new)
+      → Has (settled nat_eq next) new.groups → CountsBeside new → KeepsTo (is_counted_before new.next) (world_of new)
       → WritersHaveLayers (settled nat_eq next) → IsHeld new
   swept_held gained lost new swept has counts keeps writers =
       let same = swept_is_same value whole next gained lost new swept has left in
@@ -112,32 +110,27 @@ module _ (value : WorldValue) (whole : IsHeld value) (next : World ℕ)
         overlays = fewer_overlays_hold value new whole.overlays
             (λ overlay. is_mounted nat_eq (in_use_of next) overlay.number) swept.overlays
             (same_files_rise (settled nat_eq next).filesystems (world_of new).filesystems same.filesystems
-            (rise_left value whole next gained lost new swept has left))
-            counts.overlays
+            (rise_left value whole next gained lost new swept has left)) counts.overlays
             (same_worlds_have_layers_alike (settled nat_eq next) (world_of new) same writers);
         namespaces = counts.namespaces;
       }
 
 module _ (value : WorldValue) (whole : IsHeld value) (name : TaskName) (permit : Permit ℕ) (task : Task ℕ)
-    (next : World ℕ)
-    (is : IsApplied value name permit task next) where
+    (next : World ℕ) (is : IsApplied value name permit task next) where
   -- what is left is a world
   pub is_left : IsWorld nat_eq (settled nat_eq next)
-  is_left =
-      subst (λ world. IsWorld nat_eq (settled nat_eq world)) (is.applied (supply_of value permit))
+  is_left = subst (λ world. IsWorld nat_eq (settled nat_eq world)) (is.applied (supply_of value permit))
       (given_permits_give_no_upper (world_of value) (supply_of value permit) task permit whole.in_world
       whole.overlays.read_only is.given).0
 
   -- in which no descriptor is open for writing in an overlay
   writers_left : WritersHaveLayers (settled nat_eq next)
-  writers_left =
-      subst (λ world. WritersHaveLayers (settled nat_eq world)) (is.applied (supply_of value permit))
+  writers_left = subst (λ world. WritersHaveLayers (settled nat_eq world)) (is.applied (supply_of value permit))
       (left_writers value whole task permit is.given)
 
   -- the settled world names numbers that were counted
   pub keeps_left : KeepsTo (is_counted_before value.next) (settled nat_eq next)
-  keeps_left =
-      subst (λ world. KeepsTo (is_counted_before value.next) (settled nat_eq world)) (is.applied (λ k. 0))
+  keeps_left = subst (λ world. KeepsTo (is_counted_before value.next) (settled nat_eq world)) (is.applied (λ k. 0))
       (permits_keep_to_numbers (is_counted_before value.next) (λ k. 0)
       (world_of value) task permit is.given.called whole.given (λ k. refl) is.named)
 
@@ -145,8 +138,7 @@ module _ (value : WorldValue) (whole : IsHeld value) (name : TaskName) (permit :
   pub finished_as : (after : World ℕ) → settled nat_eq next ≡ settled nat_eq after
       → (gained lost : List Inode) (new : WorldValue)
       → IsSwept value after gained lost new → Has (settled nat_eq after) new.groups → CountsBeside new
-      → new.next ≡ value.next
-      → IsDone value name permit new
+      → new.next ≡ value.next → IsDone value name permit new
   finished_as after alike gained lost new swept has counts same_next =
       let left = subst (IsWorld nat_eq) alike is_left in
       let same = swept_is_same value whole after gained lost new swept has left in
@@ -163,6 +155,5 @@ module _ (value : WorldValue) (whole : IsHeld value) (name : TaskName) (permit :
 
   -- an event that leaves what the sweep leaves is done
   pub finished : (gained lost : List Inode) (new : WorldValue) → IsSwept value next gained lost new
-      → Has (settled nat_eq next) new.groups
-      → CountsBeside new → new.next ≡ value.next → IsDone value name permit new
+      → Has (settled nat_eq next) new.groups → CountsBeside new → new.next ≡ value.next → IsDone value name permit new
   finished = finished_as next refl

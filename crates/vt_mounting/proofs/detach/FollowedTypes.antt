@@ -41,8 +41,7 @@ pub one_left : (P : MountEntry → Type 0) (number : ℕ)
     → (entry : MountEntry) → Among entry (without_attachment number point k).mounts → P entry
 one_left P number point k goes stays entry m =
     let from = among-from_map (λ (one : MountEntry). cond (nat_eq number one.mount.number)
-    (detached_entry one) one) k.mounts entry
-    (left_was number (detached_use number point k) entry m) in
+    (detached_entry one) one) k.mounts entry (left_was number (detached_use number point k) entry m) in
     subst P (sym from.2) (by from.0 from.1 (nat_eq number from.0.mount.number) refl)
   where
     by : (was : MountEntry) → Among was k.mounts → (b : Bool) → nat_eq number was.mount.number ≡ b
@@ -55,8 +54,7 @@ one_left P number point k goes stays entry m =
 
 module _ (groups : Grouping) (numbers : List ℕ) where
   abbrev IsDone : MountEntry → Type 0
-  IsDone entry =
-      (is_among nat_eq entry.mount.number numbers ≡ false → typed_entry groups entry ≡ entry)
+  IsDone entry = (is_among nat_eq entry.mount.number numbers ≡ false → typed_entry groups entry ≡ entry)
       × (is_among nat_eq entry.mount.number numbers ≡ true → source_of entry.mount.propagation ≡ None)
 
   abbrev IsDoneBut : List ℕ → MountEntry → Type 0
@@ -66,23 +64,17 @@ module _ (groups : Grouping) (numbers : List ℕ) where
       → ((number : ℕ) → is_among nat_eq number rest ≡ true → is_among nat_eq number numbers ≡ true)
       → LeaveInTurn rest k last → ((entry : MountEntry) → Among entry k.mounts → IsDoneBut rest entry)
       → (entry : MountEntry) → Among entry last.mounts → IsDone entry
-  turn_done [] k last within same done = λ entry m.
-      ⊎_elim (λ is. is) (λ none. absurd (true≢false (sym none)))
+  turn_done [] k last within same done = λ entry m. ⊎_elim (λ is. is) (λ none. absurd (true≢false (sym none)))
       (done entry (subst (λ (one : Kept). Among entry one.mounts) same m))
-  turn_done (number ∷ rest) k last within turn done =
-      turn_done rest (without_attachment number turn.0 k) last
+  turn_done (number ∷ rest) k last within turn done = turn_done rest (without_attachment number turn.0 k) last
       (λ other t. within other (or_second (nat_eq other number) (is_among nat_eq other rest) t)) turn.3
-      (one_left (IsDoneBut rest) number turn.0 k
-      (λ was m same. inl (
-        λ apart. absurd (true≢false (sym (within was.mount.number
-            (ap (λ b. b || is_among nat_eq was.mount.number rest)
+      (one_left (IsDoneBut rest) number turn.0 k (λ was m same. inl (
+        λ apart. absurd (true≢false (sym (within was.mount.number (ap (λ b. b || is_among nat_eq was.mount.number rest)
             (eq-eqb was.mount.number number (sym (eqb-true number was.mount.number same))))) ∙ apart)),
         λ is. refl,
-      ))
-      (λ was m apart. ⊎_elim (λ is. inl is)
+      )) (λ was m apart. ⊎_elim (λ is. inl is)
       (λ later. inr (ap (λ b. b || is_among nat_eq was.mount.number rest) (sym (turned was.mount.number apart))
-      ∙ later))
-      (done was m)))
+      ∙ later)) (done was m)))
     where
       turned : (other : ℕ) → nat_eq number other ≡ false → nat_eq other number ≡ false
       turned other apart = Rattle.std.proofs.Common.ne_eqb other number
@@ -90,8 +82,7 @@ module _ (groups : Grouping) (numbers : List ℕ) where
 
   all_done : (k last : Kept) → LeaveInTurn numbers k last → AreTyped groups k.mounts
       → (entry : MountEntry) → Among entry last.mounts → IsDone entry
-  all_done k last turn typed =
-      turn_done numbers k last (λ number t. t) turn
+  all_done k last turn typed = turn_done numbers k last (λ number t. t) turn
       (λ was n. at_first was n (is_among nat_eq was.mount.number numbers) refl)
     where
       at_first : (was : MountEntry) → Among was k.mounts → (b : Bool) → is_among nat_eq was.mount.number numbers ≡ b
@@ -149,15 +140,13 @@ module _ (groups : Grouping) (world : World ℕ) where
   pub gained_typed : (uses : List Use) (k : Kept) → AreTyped groups k.mounts
       → AreTyped groups (folded (gain world) k uses).mounts
   gained_typed [] k typed = typed
-  gained_typed (u ∷ uses) k typed =
-      gained_typed uses (gain world k u)
+  gained_typed (u ∷ uses) k typed = gained_typed uses (gain world k u)
       (changed_typed groups u.location.mount (held u.writes) (λ entry is. is) k.mounts typed)
 
   pub uses_left_typed : (uses : List Use) (k : Kept) → AreTyped groups k.mounts
       → AreTyped groups (folded (leave_use world) k uses).mounts
   uses_left_typed [] k typed = typed
-  uses_left_typed (u ∷ uses) k typed =
-      uses_left_typed uses (leave_use world k u)
+  uses_left_typed (u ∷ uses) k typed = uses_left_typed uses (leave_use world k u)
       (left_typed groups u.location.mount (released_use u.location.mount (inode_at world u.location) u.writes k)
       (changed_typed groups u.location.mount (released u.writes) (λ entry is. is) k.mounts typed))
 

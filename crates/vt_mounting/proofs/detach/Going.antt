@@ -52,8 +52,7 @@ use Rattle.vt_laws_mounts.specs.LettingGo.TreesOverlays.{in_use_of}
 pub map_filtered : {A B : Type 0} (f : A → B) (p : A → Bool) (q : B → Bool) → ((a : A) → q (f a) ≡ p a) → (xs : List A)
     → map f (filter p xs) ≡ filter q (map f xs)
 map_filtered f p q same [] = refl
-map_filtered f p q same (x ∷ xs) =
-    by (p x) (map_filtered f p q same xs)
+map_filtered f p q same (x ∷ xs) = by (p x) (map_filtered f p q same xs)
     ∙ ap (λ b. cond b (f x ∷ filter q (map f xs)) (filter q (map f xs))) (sym (same x))
   where
     by : (b : Bool) → map f (filter p xs) ≡ filter q (map f xs)
@@ -70,8 +69,7 @@ module _ (value : WorldValue) (whole : IsHeld value) (tasks : Tasks) (more : Lis
     (unused : mount_uses (world_of (after value tasks)) left_use.location.mount ≡ 0)
     (dead : without_dead_mounts nat_eq (world_of (after value tasks))
     ≡ without_mount (world_of (after value tasks)) left_use.location.mount)
-    (is_kept : kept_with mounts filesystems overlays
-    ≡ meant.without_mount left_use.location.mount mount
+    (is_kept : kept_with mounts filesystems overlays ≡ meant.without_mount left_use.location.mount mount
     (moved_kept (world_of value) more (left_use ∷ []) (kept_of value))) where
   abbrev world : World ℕ
   world = world_of value
@@ -113,12 +111,10 @@ module _ (value : WorldValue) (whole : IsHeld value) (tasks : Tasks) (more : Lis
   same_mount entry = (released_counts less (folded hold_if entry more)).mount ∙ (held_counts more entry).mount
 
   entries_are : mounts ≡ without number (map moved_entry value.mounts)
-  entries_are = ap (λ (k : Kept). k.mounts) is_kept
-      ∙ ap (without number) (mounts_moved world more less (kept_of value))
+  entries_are = ap (λ (k : Kept). k.mounts) is_kept ∙ ap (without number) (mounts_moved world more less (kept_of value))
 
   pub mounts_are : mounts_in mounts ≡ mounted.mounts
-  mounts_are =
-      ap mounts_in entries_are
+  mounts_are = ap mounts_in entries_are
       ∙ map_filtered (λ (entry : MountEntry). entry.mount) (λ entry. not (nat_eq number entry.mount.number))
       (λ x. not (nat_eq x.number number))
       (λ entry. ap not (swap_eq entry.mount.number number)) (map moved_entry value.mounts)
@@ -129,16 +125,14 @@ module _ (value : WorldValue) (whole : IsHeld value) (tasks : Tasks) (more : Lis
 
   entry_was : (entry : MountEntry) → Among entry mounts
       → (was : MountEntry) × Among was value.mounts × (entry ≡ moved_entry was)
-  entry_was entry m =
-      among-from_map moved_entry value.mounts entry
+  entry_was entry m = among-from_map moved_entry value.mounts entry
       (among-from_filter (λ (x : MountEntry). not (nat_eq number x.mount.number)) (map moved_entry value.mounts) entry
       (subst (λ all. Among entry all) entries_are m)).0
 
   -- Filesystems
 
   takes : (n : ℕ) → mounts_showing world n ≡ mounts_showing mounted n + cond (nat_eq mount.filesystem n) 1 0
-  takes n =
-      mount_takes_its_count world number n whole.in_world.mounts.one_number there
+  takes n = mount_takes_its_count world number n whole.in_world.mounts.one_number there
       ∙ ap (λ (x : Mount ℕ). mounts_showing mounted n + cond (nat_eq n x.filesystem) 1 0) found_so
       ∙ ap (λ b. mounts_showing mounted n + cond b 1 0) (swap_eq n mount.filesystem)
 
@@ -148,8 +142,7 @@ module _ (value : WorldValue) (whole : IsHeld value) (tasks : Tasks) (more : Lis
   merged_next : moved_all.overlays ≡ map (merged_in next) (filter is_overlay next.filesystems)
   merged_next = moved_overlays world more less (kept_of value) ∙ merged_at_first value whole
 
-  moved_was : (one : Shown) → Among one moved_all.filesystems
-      → (was : FilesystemEntry) × Among was value.filesystems
+  moved_was : (one : Shown) → Among one moved_all.filesystems → (was : FilesystemEntry) × Among was value.filesystems
       × (one ≡ exchanged_shown gained lost_first (shown_entry was))
   moved_was one m =
       let from = among-from_map (exchanged_shown gained lost_first) (shown value.filesystems) one
@@ -179,8 +172,7 @@ module _ (value : WorldValue) (whole : IsHeld value) (tasks : Tasks) (more : Lis
 
   numbers_next : map (λ (f : Filesystem ℕ). f.number) (filter is_plain_one next.filesystems)
       ≡ map (λ (one : Shown). counted one.count) moved_all.filesystems
-  numbers_next =
-      ap (map (λ (f : Filesystem ℕ). f.number)) (plain_ones_are value whole.overlays)
+  numbers_next = ap (map (λ (f : Filesystem ℕ). f.number)) (plain_ones_are value whole.overlays)
       ∙ map_twice (λ (f : Filesystem ℕ). f.number) filesystem_seen value.filesystems
       ∙ sym (map_twice (λ (one : Shown). counted one.count) shown_entry value.filesystems)
       ∙ sym (map_twice (λ (one : Shown). counted one.count) (exchanged_shown gained lost_first)
@@ -196,14 +188,12 @@ module _ (value : WorldValue) (whole : IsHeld value) (tasks : Tasks) (more : Lis
   shown_left : shown filesystems
       ≡ left_shown value whole next leaves_next number mount.filesystem takes mount.root moved_all.overlays merged_next
       moved_all.filesystems each some apart numbers_next
-  shown_left =
-      ap (λ (k : Kept). k.filesystems) is_kept
+  shown_left = ap (λ (k : Kept). k.filesystems) is_kept
       ∙ shown_are value whole next leaves_next number mount.filesystem takes mount.root moved_all.overlays merged_next
       moved_all.filesystems each some apart numbers_next
 
   overlays_left : overlays ≡ map (merged_in remaining) (filter is_overlay remaining.filesystems)
-  overlays_left =
-      ap (λ (k : Kept). k.overlays) is_kept
+  overlays_left = ap (λ (k : Kept). k.overlays) is_kept
       ∙ (λ i. meant.merged_left_by mount.filesystem (meant.merged_at mount.filesystem (merged_next i)) (merged_next i))
       ∙ merged_then next number mount.filesystem takes (filter is_overlay next.filesystems)
       (overlays_apart value whole next leaves_next)
@@ -239,13 +229,11 @@ module _ (value : WorldValue) (whole : IsHeld value) (tasks : Tasks) (more : Lis
         inodes = ap (λ (x : Shown). x.inodes) is;
         often = from.3;
         some_there = positive (mounts_showing mounted (counted first.0.count)
-            + mounted_layer_count mounted (counted first.0.count))
-            ∙ ap (λ n. not (nat_eq n 0))
+            + mounted_layer_count mounted (counted first.0.count)) ∙ ap (λ n. not (nat_eq n 0))
             (ap (λ n. mounts_showing mounted (counted first.0.count) + n)
             (sym (layers_stay value whole next leaves_next number mount.filesystem takes (counted first.0.count)))
             ∙ ap (λ n. mounts_showing remaining (counted n) + layer_count remaining (counted n)) (sym count)
-            ∙ sym from.3)
-            ∙ ap not from.4;
+            ∙ sym from.3) ∙ ap not from.4;
       }
 
   keeps_next : KeepsOverlays value next
@@ -258,13 +246,10 @@ module _ (value : WorldValue) (whole : IsHeld value) (tasks : Tasks) (more : Lis
       record { one_number = was.one_number; nowhere = was.nowhere; on_attached = was.on_attached }
 
   located : LocationsStand next
-  located =
-      all_pass (λ location. is_among nat_eq location.mount (map (λ x. x.number) next.mounts)) (all_locations next)
+  located = all_pass (λ location. is_among nat_eq location.mount (map (λ x. x.number) next.mounts)) (all_locations next)
       (λ location m.
-      ⊎_elim
-      (λ f. old location (subst (λ all. Among location all) (sym moves.was)
-      (among-append_left moves.front (locations less ++ moves.back) location f)))
-      (λ rest. ⊎_elim
+      ⊎_elim (λ f. old location (subst (λ all. Among location all) (sym moves.was)
+      (among-append_left moves.front (locations less ++ moves.back) location f))) (λ rest. ⊎_elim
       (λ come. (and_parts (is_among nat_eq location.mount (map (λ x. x.number) next.mounts)) _
       (passes (is_located_well nat_eq world) (locations more) moves.there location come)).0)
       (λ b. old location (subst (λ all. Among location all) (sym moves.was)
@@ -276,14 +261,11 @@ module _ (value : WorldValue) (whole : IsHeld value) (tasks : Tasks) (more : Lis
       old : (location : Location ℕ) → Among location (all_locations world)
           → is_among nat_eq location.mount (map (λ x. x.number) next.mounts) ≡ true
       old location m = passes (λ location. is_among nat_eq location.mount (map (λ x. x.number) world.mounts))
-          (all_locations world)
-          (Roots.locations_of_worlds_stand world whole.in_world) location m
+          (all_locations world) (Roots.locations_of_worlds_stand world whole.in_world) location m
 
   unused_so : is_mount_used next number ≡ false
-  unused_so =
-      ap (λ (x : Mount ℕ). is_some x.namespace || is_located nat_eq next number) found_so
-      ∙ ap (λ b. b || is_located nat_eq next number) nowhere
-      ∙ located_while_counted next number ∙ ap (nat_lt 0) unused
+  unused_so = ap (λ (x : Mount ℕ). is_some x.namespace || is_located nat_eq next number) found_so
+      ∙ ap (λ b. b || is_located nat_eq next number) nowhere ∙ located_while_counted next number ∙ ap (nat_lt 0) unused
 
   exchanges_are : (k : ℕ) → nat_lt 0 (mounts_showing mounted k + mounted_layer_count mounted k) ≡ true
       → ((overlay : Filesystem ℕ) → Among overlay (overlays_seen value.overlays) → nat_eq k overlay.number ≡ false)
@@ -340,18 +322,15 @@ module _ (value : WorldValue) (whole : IsHeld value) (tasks : Tasks) (more : Lis
 
   -- Counts
 
-  gone_counted : ((namespace : ℕ)
-      → times (λ task. nat_eq namespace task.namespace) tasks
-      ≡ times (λ task. nat_eq namespace task.namespace) value.tasks)
-      → CountsBeside new
+  gone_counted : ((namespace : ℕ) → times (λ task. nat_eq namespace task.namespace) tasks
+      ≡ times (λ task. nat_eq namespace task.namespace) value.tasks) → CountsBeside new
   gone_counted inside = record {
     uses = all_from_among (CountsItsUses (world_of new)) mounts (λ entry m.
         let from = entry_was entry m in
         let counts = subst (CountsItsUses next) (sym from.2)
         (entry_counts value whole tasks more less moves from.0 from.1) in
         record { uses = counts.uses; writers = counts.writers });
-    mounts = λ entry m.
-        (comes entry m).often
+    mounts = λ entry m. (comes entry m).often
         ∙ (λ i. times (λ (x : Mount ℕ). nat_eq (counted entry.count) x.filesystem) (sym mounts_are i)
         + sym (layers_of_fewer value new whole.overlays (λ overlay. is_mounted nat_eq remaining overlay.number)
         seen_left remaining leaves_left.overlays (counted entry.count)) i);
@@ -366,7 +345,6 @@ module _ (value : WorldValue) (whole : IsHeld value) (tasks : Tasks) (more : Lis
 
   pub gone_done : (name : TaskName) (permit : Permit ℕ) (task : Task ℕ) → IsApplied value name permit task next
       → ((namespace : ℕ) → times (λ task. nat_eq namespace task.namespace) tasks
-      ≡ times (λ task. nat_eq namespace task.namespace) value.tasks)
-      → IsDone value name permit new
+      ≡ times (λ task. nat_eq namespace task.namespace) value.tasks) → IsDone value name permit new
   gone_done name permit task is inside =
       finished value whole name permit task next is gained lost new gone_swept (left_has value whole next refl (λ group. refl)) (gone_counted inside) refl

@@ -49,8 +49,7 @@ module _ (world : World ℕ) (groups : Grouping) (has : Has world groups) (live 
       by : (mount : Mount ℕ) → Among mount world.mounts → (b : Bool)
           → HasLivingGroups nat_eq start (cond b (detached mount) mount)
       by mount m true = λ group e. absurd cc
-      by mount m false = λ group e.
-          subst (λ members. Lives members world.master group)
+      by mount m false = λ group e. subst (λ members. Lives members world.master group)
           (λ i. λ one. members_alike world.mounts start.mounts (sym same_peers) one i)
           (among_from_all (HasLivingGroups nat_eq world) world.mounts live mount m group e)
 

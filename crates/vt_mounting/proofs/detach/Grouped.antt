@@ -50,8 +50,7 @@ same_has world after groups has mounts master =
 -- Mounts that keep their numbers
 
 numbers_mapped : (change : Mount ℕ → Mount ℕ) → ((mount : Mount ℕ) → (change mount).number ≡ mount.number)
-    → (mounts : List (Mount ℕ))
-    → numbers_of (map change mounts) ≡ numbers_of mounts
+    → (mounts : List (Mount ℕ)) → numbers_of (map change mounts) ≡ numbers_of mounts
 numbers_mapped change same [] = refl
 numbers_mapped change same (mount ∷ rest) = λ i. same mount i ∷ numbers_mapped change same rest i
 
@@ -98,8 +97,7 @@ no_source Unbindable e = refl
 -- an ungrouped mount is no peer
 pub no_peer : (mount : Mount ℕ) (rest : List (ℕ × Propagation ℕ)) → is_ungrouped mount.propagation ≡ true
     → cons_option (option_map (λ source. (mount.number, mount.propagation)) (source_of mount.propagation)) rest ≡ rest
-no_peer mount rest free =
-    ap (λ o. cons_option (option_map (λ (source : ℕ). (mount.number, mount.propagation)) o) rest)
+no_peer mount rest free = ap (λ o. cons_option (option_map (λ (source : ℕ). (mount.number, mount.propagation)) o) rest)
     (no_source mount.propagation free)
 
 peers_kept : (p : Mount ℕ → Bool) (mounts : List (Mount ℕ))
@@ -117,14 +115,12 @@ peers_kept p (mount ∷ rest) free = by (p mount) refl (peers_kept p rest (λ ot
 -- the groups stay as they are where the mounts that go are in none
 pub settled_has : (world : World ℕ) (groups : Grouping) → Has world groups
     → ((mount : Mount ℕ) → Among mount world.mounts → mount_lives nat_eq world mount ≡ false
-    → is_ungrouped mount.propagation ≡ true)
-    → Has (settled nat_eq world) groups
+    → is_ungrouped mount.propagation ≡ true) → Has (settled nat_eq world) groups
 settled_has world groups has free = record {
   order = rising_kept (mount_lives nat_eq world) world.mounts has.order;
   peers = has.peers ∙ sym same;
   masters_order = has.masters_order;
-  masters = λ group. has.masters group
-      ∙ ap (λ b. cond b (world.master group) None)
+  masters = λ group. has.masters group ∙ ap (λ b. cond b (world.master group) None)
       (members_alike world.mounts (filter (mount_lives nat_eq world) world.mounts) (sym same) group)
       ∙ twice (has_members nat_eq (filter (mount_lives nat_eq world) world.mounts) group) (world.master group);
 }
@@ -145,8 +141,7 @@ private_is Unbindable e = absurd (true≢false (sym e))
 
 nowhere_is_private : (mount : Mount ℕ) → is_nowhere_or_attached mount ≡ true → is_some mount.namespace ≡ false
     → mount.propagation ≡ Private
-nowhere_is_private mount outside none =
-    private_is mount.propagation
+nowhere_is_private mount outside none = private_is mount.propagation
     (and_parts _ _ (sym (ap (λ b. b || (not (is_some mount.mount_point) && is_private mount.propagation)) none)
     ∙ outside)).1
 
@@ -167,8 +162,7 @@ pub left_has : (value : WorldValue) → IsHeld value → (next : World ℕ) → 
 left_has value held next mounts master =
     settled_has next value.groups (same_has (world_of value) next value.groups held.groups mounts master)
     (λ mount m dead.
-    nowhere_is_free mount
-    (passes is_nowhere_or_attached (mounts_in value.mounts) held.in_world.mounts.nowhere mount
+    nowhere_is_free mount (passes is_nowhere_or_attached (mounts_in value.mounts) held.in_world.mounts.nowhere mount
     (subst (Among mount) mounts m))
     (or_false_left (is_some mount.namespace) (is_located nat_eq next mount.number) dead))
 
@@ -188,18 +182,14 @@ pub changed_has : (value : WorldValue) → IsHeld value → (next : World ℕ) (
     → ((mount : Mount ℕ) → (change mount).number ≡ mount.number)
     → ((mount : Mount ℕ) → (change mount).namespace ≡ mount.namespace)
     → ((mount : Mount ℕ) → (change mount).propagation ≡ mount.propagation) → Has (settled nat_eq next) value.groups
-changed_has value held next change mounts master number namespace kind =
-    settled_has next value.groups
-    (alike_has (world_of value) next value.groups held.groups
-    (ap (λ all. are_rising (numbers_of all)) mounts
+changed_has value held next change mounts master number namespace kind = settled_has next value.groups
+    (alike_has (world_of value) next value.groups held.groups (ap (λ all. are_rising (numbers_of all)) mounts
     ∙ rising_mapped change number (mounts_in value.mounts) held.groups.order)
-    (ap peers_of mounts ∙ peers_mapped change number kind (mounts_in value.mounts)) master)
-    (λ mount m dead.
+    (ap peers_of mounts ∙ peers_mapped change number kind (mounts_in value.mounts)) master) (λ mount m dead.
     let from = among-from_map change (mounts_in value.mounts) mount (subst (Among mount) mounts m) in
     ap (λ (x : Mount ℕ). is_ungrouped x.propagation) from.2 ∙ ap is_ungrouped (kind from.0)
     ∙ nowhere_is_free from.0 (passes is_nowhere_or_attached
-    (mounts_in value.mounts) held.in_world.mounts.nowhere from.0 from.1)
-    (sym (namespace_is from.0 mount from.2)
+    (mounts_in value.mounts) held.in_world.mounts.nowhere from.0 from.1) (sym (namespace_is from.0 mount from.2)
     ∙ or_false_left (is_some mount.namespace) (is_located nat_eq next mount.number) dead))
   where
     namespace_is : (was mount : Mount ℕ) → mount ≡ change was → is_some mount.namespace ≡ is_some was.namespace
@@ -210,8 +200,6 @@ changed_has value held next change mounts master number namespace kind =
 -- once settled, its masters are those of its groups
 pub master_is : (world : World ℕ) (groups : Grouping) → IsWorld nat_eq world → Has world groups → (group : ℕ)
     → world.master group ≡ master_in groups group
-master_is world groups is has group =
-    ap (λ (w : World ℕ). w.master group) (sym is.nothing_unused)
+master_is world groups is has group = ap (λ (w : World ℕ). w.master group) (sym is.nothing_unused)
     ∙ ap (λ (all : List (Mount ℕ)). cond (has_members nat_eq all group) (world.master group) None)
-    (ap (λ (w : World ℕ). w.mounts) is.nothing_unused)
-    ∙ sym (has.masters group)
+    (ap (λ (w : World ℕ). w.mounts) is.nothing_unused) ∙ sym (has.masters group)

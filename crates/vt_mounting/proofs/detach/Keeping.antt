@@ -108,14 +108,11 @@ found_none (first ∷ rest) number = by (nat_eq first.number number) refl (found
     by : (b : Bool) → nat_eq first.number number ≡ b
         → mount_in nat_eq (filter (λ mount. not (nat_eq mount.number number)) rest) number ≡ no_mount number
         → mount_in nat_eq (cond (not b) (first ∷ filter (λ mount. not (nat_eq mount.number number)) rest)
-        (filter (λ mount. not (nat_eq mount.number number)) rest)) number
-        ≡ no_mount number
+        (filter (λ mount. not (nat_eq mount.number number)) rest)) number ≡ no_mount number
     by true e later = later
-    by false e later =
-        ap (λ b. unwrap_or (cond b (Some first)
+    by false e later = ap (λ b. unwrap_or (cond b (Some first)
         (find (λ mount. nat_eq number mount.number) (filter (λ mount. not (nat_eq mount.number number)) rest)))
-        (no_mount number))
-        (swap_eq number first.number ∙ e) ∙ later
+        (no_mount number)) (swap_eq number first.number ∙ e) ∙ later
 
 -- a mount that is detached keeps its number
 pub same_number : (number : ℕ) (mount : Mount ℕ) → (detached_if number mount).number ≡ mount.number
@@ -131,12 +128,10 @@ no_point_still [] other number none = refl
 no_point_still (first ∷ rest) other number none =
     ap (λ n. (unwrap_or (cond (nat_eq number n) (Some (detached_if other first))
     (find (λ mount. nat_eq number mount.number) (map (detached_if other) rest))) (no_mount number)).mount_point)
-    (same_number other first)
-    ∙ by (nat_eq number first.number) none (no_point_still rest other number)
+    (same_number other first) ∙ by (nat_eq number first.number) none (no_point_still rest other number)
   where
     by : (b : Bool) → (unwrap_or (cond b (Some first) (find (λ mount. nat_eq number mount.number) rest))
-        (no_mount number)).mount_point ≡ None
-        → ((mount_in nat_eq rest number).mount_point ≡ None
+        (no_mount number)).mount_point ≡ None → ((mount_in nat_eq rest number).mount_point ≡ None
         → (mount_in nat_eq (map (detached_if other) rest) number).mount_point ≡ None)
         → (unwrap_or (cond b (Some (detached_if other first))
         (find (λ mount. nat_eq number mount.number) (map (detached_if other) rest))) (no_mount number)).mount_point
@@ -164,12 +159,9 @@ points_without world (other ∷ pending) mounts number none =
     head : (b : Bool) → nat_eq other number ≡ b
         → (mount_in nat_eq (filter (λ mount. not (nat_eq mount.number number)) mounts) other).mount_point
         ≡ (mount_in nat_eq mounts other).mount_point
-    head true e =
-        ap (λ n. (mount_in nat_eq (filter (λ mount. not (nat_eq mount.number number)) mounts) n).mount_point)
-        (eqb-true other number e)
-        ∙ ap (λ (mount : Mount ℕ). mount.mount_point) (found_none mounts number) ∙ sym none
+    head true e = ap (λ n. (mount_in nat_eq (filter (λ mount. not (nat_eq mount.number number)) mounts) n).mount_point)
+        (eqb-true other number e) ∙ ap (λ (mount : Mount ℕ). mount.mount_point) (found_none mounts number) ∙ sym none
         ∙ ap (λ n. (mount_in nat_eq mounts n).mount_point) (sym (eqb-true other number e))
-    head false e =
-        ap (λ (mount : Mount ℕ). mount.mount_point)
+    head false e = ap (λ (mount : Mount ℕ). mount.mount_point)
         (found_in_filter (λ mount. not (nat_eq mount.number number)) mounts other
         (λ mount m same. ap not (ap (λ n. nat_eq n number) same ∙ e)))

@@ -70,10 +70,8 @@ module _ (inode : Inode) (all : List Shown) (counts : ℕ → ℕ)
     where
       by : (b : Bool) → nat_eq inode.0 (counted one.count) ≡ b
           → stays_at inode.0 stepped (counted one.count) ≡ is_some_left one
-      by true e =
-          ap (λ b. not (nat_eq (mounts_shown inode.0 stepped) 0) || not b) e
-          ∙ or-false (not (nat_eq (mounts_shown inode.0 stepped) 0))
-          ∙ ap (λ n. not (nat_eq n 0))
+      by true e = ap (λ b. not (nat_eq (mounts_shown inode.0 stepped) 0) || not b) e
+          ∙ or-false (not (nat_eq (mounts_shown inode.0 stepped) 0)) ∙ ap (λ n. not (nat_eq n 0))
           (shown_by_rule inode.0 counts_then stepped each_then one m (eqb-true inode.0 (counted one.count) e)
           ∙ ap counts_then (eqb-true inode.0 (counted one.count) e) ∙ sym (each_then one m))
       by false e =
@@ -81,8 +79,7 @@ module _ (inode : Inode) (all : List Shown) (counts : ℕ → ℕ)
           let is = step_is from.0 from.1 in
           let apart : nat_eq inode.0 (counted from.0.count) ≡ false =
           ap (λ count. nat_eq inode.0 (counted count)) (sym (ap (λ (x : Shown). x.count) from.2 ∙ is.0)) ∙ e in
-          let same : (step from.0).mounts ≡ from.0.mounts - 0 =
-          is.1 ∙ ap (λ b. from.0.mounts - cond b 1 0) apart in
+          let same : (step from.0).mounts ≡ from.0.mounts - 0 = is.1 ∙ ap (λ b. from.0.mounts - cond b 1 0) apart in
           let kept : (step from.0).mounts ≡ from.0.mounts = omega (arith, same) in
           ap (λ b. not (nat_eq (mounts_shown inode.0 stepped) 0) || not b) e
           ∙ or-true (not (nat_eq (mounts_shown inode.0 stepped) 0))
@@ -90,17 +87,13 @@ module _ (inode : Inode) (all : List Shown) (counts : ℕ → ℕ)
           ∙ ap not (some from.0 from.1))
 
   one_goes : without_layer all inode ≡ filter is_some_left stepped
-  one_goes =
-      ap (Rattle.vt_mounting.specs.Detach.Uses.let_go_filesystem inode.0)
-      (map_twice (released_if inode.0)
+  one_goes = ap (Rattle.vt_mounting.specs.Detach.Uses.let_go_filesystem inode.0) (map_twice (released_if inode.0)
       (λ (one : Shown). record one { inodes = unpinned_if (counted one.count) one.inodes inode }) all)
       ∙ let_go_is inode.0 stepped
       ∙ filter_alike (λ (one : Shown). stays_at inode.0 stepped (counted one.count)) is_some_left stepped stays_is
 
   less_again : (rest : List Inode) → map (less rest) stepped ≡ map (less (inode ∷ rest)) all
-  less_again rest =
-      map_twice (less rest) step all
-      ∙ map_alike (λ one. less rest (step one)) (less (inode ∷ rest)) all
+  less_again rest = map_twice (less rest) step all ∙ map_alike (λ one. less rest (step one)) (less (inode ∷ rest)) all
       (λ one m. by one (nat_eq inode.0 (counted one.count)) ∙ (λ i. record one {
         inodes = folded (unpinned_if (counted one.count)) one.inodes (inode ∷ rest);
         mounts = turned one i;
@@ -109,11 +102,9 @@ module _ (inode : Inode) (all : List Shown) (counts : ℕ → ℕ)
       rest_in : Shown → ℕ
       rest_in one = times (λ (other : Inode). nat_eq (counted one.count) other.0) rest
 
-      by : (one : Shown) (b : Bool)
-          → less rest (cond b
+      by : (one : Shown) (b : Bool) → less rest (cond b
           (record one { inodes = unpinned_if (counted one.count) one.inodes inode; mounts = one.mounts - 1 })
-          (record one { inodes = unpinned_if (counted one.count) one.inodes inode }))
-          ≡ record one {
+          (record one { inodes = unpinned_if (counted one.count) one.inodes inode })) ≡ record one {
             inodes = folded (unpinned_if (counted one.count)) one.inodes (inode ∷ rest);
             mounts = one.mounts - cond b 1 0 - rest_in one;
           }
@@ -128,8 +119,7 @@ module _ (inode : Inode) (all : List Shown) (counts : ℕ → ℕ)
 
       turned : (one : Shown) → one.mounts - cond (nat_eq inode.0 (counted one.count)) 1 0 - rest_in one
           ≡ one.mounts - (cond (nat_eq (counted one.count) inode.0) 1 0 + rest_in one)
-      turned one =
-          together one.mounts (cond (nat_eq inode.0 (counted one.count)) 1 0) (rest_in one)
+      turned one = together one.mounts (cond (nat_eq inode.0 (counted one.count)) 1 0) (rest_in one)
           ∙ ap (λ b. one.mounts - (cond b 1 0 + rest_in one)) (swap_eq inode.0 (counted one.count))
         where
           together : (n a k : ℕ) → n - a - k ≡ n - (a + k)
@@ -140,8 +130,7 @@ pub go_one_by_one : (lost : List Inode) (all : List Shown) (counts : ℕ → ℕ
     → ((one : Shown) → Among one all → one.mounts ≡ counts (counted one.count))
     → ((one : Shown) → Among one all → nat_eq one.mounts 0 ≡ false)
     → folded without_layer all lost ≡ filter is_some_left (map (less lost) all)
-go_one_by_one [] all counts each some =
-    sym (filter_all is_some_left all (λ one m. ap not (some one m)))
+go_one_by_one [] all counts each some = sym (filter_all is_some_left all (λ one m. ap not (some one m)))
     ∙ ap (filter is_some_left) (sym (nothing_less all))
 go_one_by_one (inode ∷ rest) all counts each some =
     let then = stepped inode all counts each some in
@@ -152,8 +141,7 @@ go_one_by_one (inode ∷ rest) all counts each some =
     ∙ filter-map is_some_left (less rest) (filter is_some_left then) (λ one. refl)
     ∙ ap (map (less rest)) (filter_less (λ one. is_some_left (less rest one)) is_some_left then
     (λ one m none. gone one.mounts (times (λ (other : Inode). nat_eq (counted one.count) other.0) rest)
-    (turned_back (nat_eq one.mounts 0) none)))
-    ∙ sym (filter-map is_some_left (less rest) then (λ one. refl))
+    (turned_back (nat_eq one.mounts 0) none))) ∙ sym (filter-map is_some_left (less rest) then (λ one. refl))
     ∙ ap (filter is_some_left) (less_again inode all counts each some rest)
   where
     turned : (b : Bool) → not b ≡ true → b ≡ false

@@ -70,15 +70,13 @@ module _ (value : WorldValue) (held : IsHeld value) (lowers : List LayerRef)
     parts : (not (is_overlay (filesystem_numbered nat_eq (world_of value) (counted count))) ≡ true)
         × (is_directory_node ((filesystem_numbered nat_eq (world_of value) (counted count)).files.tree.node
         (inode_of layer.directory)) ≡ true)
-    parts =
-        and_parts (not (is_overlay (filesystem_numbered nat_eq (world_of value) (counted count)))) _
+    parts = and_parts (not (is_overlay (filesystem_numbered nat_eq (world_of value) (counted count)))) _
         (passes (is_plain_layer nat_eq (world_of value)) (map layer_seen lowers) all_plain (layer_seen layer)
         (among-map layer_seen lowers layer n))
 
     is_kept : filesystem_numbered nat_eq (world_of value) (counted count)
         ≡ filesystem_seen (entry_at value.filesystems count)
-    is_kept =
-        counted_where_plain value held count
+    is_kept = counted_where_plain value held count
         (not_so (is_overlay (filesystem_numbered nat_eq (world_of value) (counted count))) parts.0)
 
     shows_it : ShowsLayer (world_of value) value.filesystems layer
@@ -89,8 +87,7 @@ module _ (value : WorldValue) (held : IsHeld value) (lowers : List LayerRef)
 
     is_layer : IsLayer value.filesystems layer
     is_layer = record {
-      tree = subst (λ (f : Filesystem ℕ). IsTree f.files.tree) is_kept
-          (⊎_elim (λ tree. tree)
+      tree = subst (λ (f : Filesystem ℕ). IsTree f.files.tree) is_kept (⊎_elim (λ tree. tree)
           (λ missing. absurd (true≢false (sym parts.1
           ∙ ap (λ (f : Filesystem ℕ). is_directory_node (f.files.tree.node (inode_of layer.directory))) missing.0)))
           (numbered_all (λ (f : Filesystem ℕ). IsTree f.files.tree) (counted count) (world_of value).filesystems
@@ -116,12 +113,10 @@ module _ (value : WorldValue) (held : IsHeld value) (entry : OverlayEntry) (m : 
   world = world_of value
 
   among : Among (overlay_seen entry) (world_of value).filesystems
-  among =
-      (overlay_among value held.overlays (overlay_seen entry) (among-map overlay_seen value.overlays entry m)).0
+  among = (overlay_among value held.overlays (overlay_seen entry) (among-map overlay_seen value.overlays entry m)).0
 
   all_plain : list_all (is_plain_layer nat_eq (world_of value)) (map layer_seen lowers) ≡ true
-  all_plain =
-      subst (λ layers. list_all (is_plain_layer nat_eq (world_of value)) layers ≡ true) same
+  all_plain = subst (λ layers. list_all (is_plain_layer nat_eq (world_of value)) layers ≡ true) same
       (passes (of_overlay true (λ overlay. list_all (is_plain_layer nat_eq (world_of value)) (layers_of overlay)))
       (world_of value).filesystems held.in_world.overlays.plain_layers (overlay_seen entry) among)
 
@@ -130,8 +125,7 @@ module _ (value : WorldValue) (held : IsHeld value) (entry : OverlayEntry) (m : 
   layers_shown_well = plain_layers_shown value held lowers all_plain
 
   fits : (not (is_empty_list entry.lowers) ≡ true) × (nat_le (length entry.lowers) most_lowers ≡ true)
-  fits =
-      and_parts (not (is_empty_list entry.lowers)) (nat_le (length entry.lowers) most_lowers)
+  fits = and_parts (not (is_empty_list entry.lowers)) (nat_le (length entry.lowers) most_lowers)
       (and_parts (not (is_empty_list entry.lowers) && nat_le (length entry.lowers) most_lowers) true
       (passes (of_overlay true has_fit_layers) (world_of value).filesystems held.in_world.overlays.fit_layers
       (overlay_seen entry) among)).0

@@ -67,18 +67,15 @@ module _ (world : World ℕ) where
   sorted_among : (x : Mount ℕ) (mounts start : List (Mount ℕ)) → Among x start ⊎ Among x mounts
       → Among x (sorted_with start mounts)
   sorted_among x [] start m = ⊎_elim (λ s. s) (λ none. absurd none) m
-  sorted_among x (mount ∷ mounts) start m =
-      sorted_among x mounts (insert_deepest nat_eq world mount start)
+  sorted_among x (mount ∷ mounts) start m = sorted_among x mounts (insert_deepest nat_eq world mount start)
       (⊎_elim (λ s. inl (insert_among x mount start (inr s)))
       (λ later. ⊎_elim (λ same. inl (insert_among x mount start (inl same))) (λ l. inr l) later) m)
 
   among_sorted : (x : Mount ℕ) (mounts start : List (Mount ℕ)) → Among x (sorted_with start mounts)
       → Among x start ⊎ Among x mounts
   among_sorted x [] start m = inl m
-  among_sorted x (mount ∷ mounts) start m =
-      ⊎_elim
-      (λ s. ⊎_elim (λ same. inr (inl same)) (λ l. inl l) (among_insert x mount start s))
-      (λ later. inr (inr later))
+  among_sorted x (mount ∷ mounts) start m = ⊎_elim
+      (λ s. ⊎_elim (λ same. inr (inl same)) (λ l. inl l) (among_insert x mount start s)) (λ later. inr (inr later))
       (among_sorted x mounts (insert_deepest nat_eq world mount start) m)
 
 -- One event after the other
@@ -142,8 +139,7 @@ module _ (world : World ℕ) (live : AllGroupsLive world)
       → change mount ≡ mount)
       → ((mount : Mount ℕ) → is_ungrouped mount.propagation ≡ true → is_ungrouped (change mount).propagation ≡ true)
       → AllGroupsLive (with_mounts world (map change world.mounts))
-  live_still change number others still =
-      all_from_among (HasLivingGroups nat_eq after) after.mounts (λ mount m.
+  live_still change number others still = all_from_among (HasLivingGroups nat_eq after) after.mounts (λ mount m.
       let from = among-from_map change world.mounts mount m in
       subst (HasLivingGroups nat_eq after) (sym from.2) (lives from.0 from.1 (is_among nat_eq from.0.number tree) refl))
     where
@@ -162,8 +158,7 @@ module _ (world : World ℕ) (live : AllGroupsLive world)
               let its = free mount (within mount (inl refl)) e in
               no_peer (change mount) (peers_of (map change rest)) (still mount its) ∙ later
               ∙ sym (no_peer mount (peers_of rest) its)
-          by false e later =
-              λ i. cons_option (peer_of (others mount (within mount (inl refl)) e i)) (later i)
+          by false e later = λ i. cons_option (peer_of (others mount (within mount (inl refl)) e i)) (later i)
 
       lives : (mount : Mount ℕ) → Among mount world.mounts → (b : Bool) → is_among nat_eq mount.number tree ≡ b
           → HasLivingGroups nat_eq after (change mount)
@@ -178,29 +173,25 @@ module _ (world : World ℕ) (live : AllGroupsLive world)
     -- a mount of that number now
     found_now : (n : ℕ) → mount_numbered nat_eq now n
         ≡ unwrap_or (option_map so.change (find (λ (x : Mount ℕ). nat_eq n x.number) world.mounts)) (no_mount n)
-    found_now n =
-        ap (λ (w : World ℕ). mount_numbered nat_eq w n) so.is
+    found_now n = ap (λ (w : World ℕ). mount_numbered nat_eq w n) so.is
         ∙ ap (λ o. unwrap_or o (no_mount n)) (found_mapped so.change so.number world.mounts n)
 
     -- one that is not shared is not shared now
     unshared_now : (n : ℕ) → is_shared (mount_numbered nat_eq world n).propagation ≡ false
         → is_shared (mount_numbered nat_eq now n).propagation ≡ false
-    unshared_now n is =
-        ap (λ (x : Mount ℕ). is_shared x.propagation) (found_now n)
+    unshared_now n is = ap (λ (x : Mount ℕ). is_shared x.propagation) (found_now n)
         ∙ by (find (λ (x : Mount ℕ). nat_eq n x.number) world.mounts) refl is
       where
         kept : (mount : Mount ℕ) → Among mount world.mounts → is_shared mount.propagation ≡ false
             → (b : Bool) → is_among nat_eq mount.number tree ≡ b → is_shared (so.change mount).propagation ≡ false
-        kept mount m e true its =
-            unshared (so.change mount).propagation (so.ungrouped_still mount (free mount m its))
+        kept mount m e true its = unshared (so.change mount).propagation (so.ungrouped_still mount (free mount m its))
         kept mount m e false out = ap (λ (x : Mount ℕ). is_shared x.propagation) (so.others mount m out) ∙ e
 
         by : (o : Option (Mount ℕ)) → find (λ (x : Mount ℕ). nat_eq n x.number) world.mounts ≡ o
             → is_shared (unwrap_or o (no_mount n)).propagation ≡ false
             → is_shared (unwrap_or (option_map so.change o) (no_mount n)).propagation ≡ false
         by None e h = refl
-        by (Some mount) e h =
-            kept mount (found_in (λ (x : Mount ℕ). nat_eq n x.number) world.mounts mount e).0 h
+        by (Some mount) e h = kept mount (found_in (λ (x : Mount ℕ). nat_eq n x.number) world.mounts mount e).0 h
             (is_among nat_eq mount.number tree) refl
 
   module _ (done : List ℕ) (now : World ℕ) (so : IsUnderway done now) (number : ℕ)
@@ -208,8 +199,7 @@ module _ (world : World ℕ) (live : AllGroupsLive world)
     -- it stands on no shared mount
     stands_apart : (place : Place ℕ) → (mount_numbered nat_eq now number).mount_point ≡ Some place
         → is_shared (mount_at nat_eq world place).propagation ≡ false
-    stands_apart place p =
-        by (find (λ (x : Mount ℕ). nat_eq number x.number) world.mounts) refl
+    stands_apart place p = by (find (λ (x : Mount ℕ). nat_eq number x.number) world.mounts) refl
         (ap (λ (x : Mount ℕ). x.mount_point) (sym (found_now done now so number)) ∙ p)
       where
         by : (o : Option (Mount ℕ)) → find (λ (x : Mount ℕ). nat_eq number x.number) world.mounts ≡ o
@@ -232,8 +222,7 @@ module _ (world : World ℕ) (live : AllGroupsLive world)
     -- the mount of that number now
     now_is : (mount : Mount ℕ) → Among mount world.mounts → mount.number ≡ number
         → mount_numbered nat_eq now number ≡ so.change mount
-    now_is mount m numbered =
-        found_now done now so number
+    now_is mount m numbered = found_now done now so number
         ∙ ap (λ o. unwrap_or (option_map so.change o) (no_mount number)) (found mount m numbered)
       where
         found : (mount : Mount ℕ) → Among mount world.mounts → mount.number ≡ number
@@ -299,8 +288,7 @@ module _ (world : World ℕ) (live : AllGroupsLive world)
     now_mounts = ap (λ (w : World ℕ). w.mounts) so.is
 
     going_so : (x : Mount ℕ) → x.number ≡ number → after_going nat_eq now (number ∷ []) x ≡ detached x
-    going_so x numbered =
-        ap (λ b. cond (b || false) (detached x)
+    going_so x numbered = ap (λ b. cond (b || false) (detached x)
         (record x { mount_point = option_map (mount_point_left nat_eq now (number ∷ [])) x.mount_point }))
         (eq-eqb x.number number numbered)
 
@@ -309,20 +297,15 @@ module _ (world : World ℕ) (live : AllGroupsLive world)
 
     unplaced_stays : (x : Mount ℕ) → nat_eq x.number number ≡ false → x.mount_point ≡ None
         → after_going nat_eq now (number ∷ []) x ≡ x
-    unplaced_stays x other none =
-        Taken.stays now (number ∷ []) now.namespaces x (stays_so x other)
-        ∙ (λ i. record x {
-          mount_point =
-              (ap (option_map (mount_point_left nat_eq now (number ∷ []))) none ∙ sym none) i;
-        })
+    unplaced_stays x other none = Taken.stays now (number ∷ []) now.namespaces x (stays_so x other) ∙ (λ i. record x {
+      mount_point = (ap (option_map (mount_point_left nat_eq now (number ∷ []))) none ∙ sym none) i;
+    })
 
     placed_stays : (x : Mount ℕ) (place : Place ℕ) → nat_eq x.number number ≡ false → x.mount_point ≡ Some place
-        → nat_eq place.mount number ≡ false
-        → after_going nat_eq now (number ∷ []) x ≡ x
+        → nat_eq place.mount number ≡ false → after_going nat_eq now (number ∷ []) x ≡ x
     placed_stays x place other p apart_from =
         let stays = Taken.stays now (number ∷ []) now.namespaces x (stays_so x other) in
-        stays
-        ∙ (λ i. record x {
+        stays ∙ (λ i. record x {
           mount_point = (ap (λ (y : Mount ℕ). y.mount_point) (sym stays)
               ∙ Taken.same_place now (number ∷ []) now.namespaces false x place p (stays_so x other)
               (ap (λ b. b || false) apart_from) ∙ sym p) i;
@@ -343,8 +326,7 @@ module _ (world : World ℕ) (live : AllGroupsLive world)
 
         by : (o : Option (Place ℕ)) → mount.mount_point ≡ o → after_going nat_eq now (number ∷ []) mount ≡ mount
         by None p = unplaced_stays mount (other mount.number out) p
-        by (Some place) p =
-            placed_stays mount place (other mount.number out) p
+        by (Some place) p = placed_stays mount place (other mount.number out) p
             (other place.mount (under (is_among nat_eq place.mount tree) refl))
           where
             under : (b : Bool) → is_among nat_eq place.mount tree ≡ b → b ≡ false
@@ -364,11 +346,9 @@ module _ (world : World ℕ) (live : AllGroupsLive world)
         → is_ungrouped (after_going nat_eq now (number ∷ []) x).propagation ≡ true
     ungrouped_alike x h = by (is_going nat_eq (number ∷ []) x.number)
       where
-        by : (b : Bool) → is_ungrouped
-            (cond b (detached x) (record x {
-              mount_point = option_map
-                  (mount_point_left nat_eq now (number ∷ [])) x.mount_point;
-            })).propagation ≡ true
+        by : (b : Bool) → is_ungrouped (cond b (detached x) (record x {
+          mount_point = option_map (mount_point_left nat_eq now (number ∷ [])) x.mount_point;
+        })).propagation ≡ true
         by true = refl
         by false = h
 
@@ -378,8 +358,7 @@ module _ (world : World ℕ) (live : AllGroupsLive world)
       where
         later : (b : Bool) → nat_eq mount.number number ≡ false
             → (mount.number ≡ number) ⊎ (is_among nat_eq mount.number done ≡ true) → next_change mount ≡ detached mount
-        later b f h =
-            ⊎_elim (λ numbered. absurd (true≢false (sym (eq-eqb mount.number number numbered) ∙ f)))
+        later b f h = ⊎_elim (λ numbered. absurd (true≢false (sym (eq-eqb mount.number number numbered) ∙ f)))
             (λ before. ap (after_going nat_eq now (number ∷ [])) (so.gone mount m before)
             ∙ unplaced_stays (detached mount) f refl) h
 
@@ -407,8 +386,7 @@ module _ (world : World ℕ) (live : AllGroupsLive world)
             → cond (b || false) (mount_at nat_eq now at).mount_point None ≡ Some under
             → is_shared (mount_at nat_eq world under).propagation ≡ false
         stands at false e under p = absurd (none_some under p)
-        stands at true e under p =
-            stands_apart under
+        stands at true e under p = stands_apart under
             (ap (λ n. (mount_numbered nat_eq now n).mount_point) (sym (eqb-true at.mount number e)) ∙ p)
 
         last : (steps : ℕ) (default at : Place ℕ) → is_shared (mount_at nat_eq world default).propagation ≡ false
@@ -426,8 +404,7 @@ module _ (world : World ℕ) (live : AllGroupsLive world)
             by (Some under) e further = further under (stands at (nat_eq at.mount number) refl under e)
 
     apart_next : (mount : Mount ℕ) → Among mount world.mounts → is_among nat_eq mount.number tree ≡ true → (b : Bool)
-        → IsApart world (cond b (detached (so.change mount))
-        (record (so.change mount) {
+        → IsApart world (cond b (detached (so.change mount)) (record (so.change mount) {
           mount_point = option_map (mount_point_left nat_eq now (number ∷ [])) (so.change mount).mount_point;
         }))
     apart_next mount m its true place p = absurd (none_some place p)
@@ -437,8 +414,7 @@ module _ (world : World ℕ) (live : AllGroupsLive world)
             → option_map (mount_point_left nat_eq now (number ∷ [])) o ≡ Some place
             → is_shared (mount_at nat_eq world place).propagation ≡ false
         by None e q = absurd (none_some place q)
-        by (Some at) e q =
-            ap (λ one. is_shared (mount_at nat_eq world one).propagation)
+        by (Some at) e q = ap (λ one. is_shared (mount_at nat_eq world one).propagation)
             (sym (same_Some (mount_point_left nat_eq now (number ∷ []) at) place q))
             ∙ falls_apart at (so.apart_still mount m its at e)
 
@@ -457,8 +433,7 @@ module _ (world : World ℕ) (live : AllGroupsLive world)
       same = λ mount. detached_alike (so.change mount) ∙ so.same mount;
       gone = next_gone;
       others = next_others;
-      waiting = λ mount m e.
-          Taken.same_namespace now (number ∷ []) now.namespaces false (so.change mount)
+      waiting = λ mount m e. Taken.same_namespace now (number ∷ []) now.namespaces false (so.change mount)
           (stays_so (so.change mount) (ap (λ n. nat_eq n number) (so.number mount) ∙ (other_yet mount e).0))
           ∙ so.waiting mount m (other_yet mount e).1;
       ungrouped_still = λ mount h. ungrouped_alike (so.change mount) (so.ungrouped_still mount h);
@@ -467,15 +442,13 @@ module _ (world : World ℕ) (live : AllGroupsLive world)
 
     next_event : (mount : Mount ℕ) → mount.number ≡ number
         → IsUnderway (number ∷ done) (unmounted_if_there nat_eq now mount)
-    next_event mount numbered =
-        subst (λ n. IsUnderway (number ∷ done)
+    next_event mount numbered = subst (λ n. IsUnderway (number ∷ done)
         (cond (is_some (mount_numbered nat_eq now n).namespace) (unmounted nat_eq now n) now)) (sym numbered)
         (by (is_some (mount_numbered nat_eq now number).namespace) refl)
       where
         by : (b : Bool) → is_some (mount_numbered nat_eq now number).namespace ≡ b
             → IsUnderway (number ∷ done) (cond b (unmounted nat_eq now number) now)
-        by true e =
-            subst (λ gone. IsUnderway (number ∷ done) (taken_away nat_eq now gone))
+        by true e = subst (λ gone. IsUnderway (number ∷ done) (taken_away nat_eq now gone))
             (sym goes_now) (unmounted_now e)
         by false e = skipped e
 
@@ -513,8 +486,7 @@ module _ (world : World ℕ) (live : AllGroupsLive world)
       → folded (unmounted_if_there nat_eq) world events ≡ detached_world tree world
   events_detach events within each =
       let so = all_events events within [] world begun in
-      so.is ∙ ap (with_mounts world)
-      (map_alike so.change (detached_in tree) world.mounts
+      so.is ∙ ap (with_mounts world) (map_alike so.change (detached_in tree) world.mounts
       (λ mount m. by so mount m (is_among nat_eq mount.number tree) refl))
     where
       by : (so : IsUnderway (taken_by events []) (folded (unmounted_if_there nat_eq) world events)) (mount : Mount ℕ)
@@ -548,21 +520,15 @@ tree_parent : (depth : ℕ) (mounts : List (Mount ℕ)) (top x : Mount ℕ) → 
     → (x ≡ top) ⊎ ((parent : Mount ℕ) × Among parent (tree_from nat_eq depth mounts top)
     × (stands_on nat_eq parent.number x ≡ true))
 tree_parent zero mounts top x m = ⊎_elim inl (λ none. absurd none) m
-tree_parent (suc depth) mounts top x m =
-    ⊎_elim inl
-    (λ later.
+tree_parent (suc depth) mounts top x m = ⊎_elim inl (λ later.
     let under = among-from_flat_map (tree_from nat_eq depth mounts) (children nat_eq mounts top.number) x later in
     let child = among-from_filter (stands_on nat_eq top.number) mounts under.0 under.1 in
-    inr (⊎_elim
-    (λ same. (top, inl refl, ap (stands_on nat_eq top.number) same ∙ child.1))
-    (λ above. (
+    inr (⊎_elim (λ same. (top, inl refl, ap (stands_on nat_eq top.number) same ∙ child.1)) (λ above. (
       above.0,
       inr (among-flat_map (tree_from nat_eq depth mounts) (children nat_eq mounts top.number) under.0 above.0 under.1
           above.1),
       above.2,
-    ))
-    (tree_parent depth mounts under.0 x under.2)))
-    m
+    )) (tree_parent depth mounts under.0 x under.2))) m
 
 module _ (world : World ℕ) (kept : MountInvariants nat_eq world) (number : ℕ)
     (there : is_some (mount_numbered nat_eq world number).namespace ≡ true) where
@@ -588,19 +554,14 @@ module _ (world : World ℕ) (kept : MountInvariants nat_eq world) (number : ℕ
 
   member_attached : (y : Mount ℕ) → (y ≡ top) ⊎ (Among y world.mounts × (is_some y.mount_point ≡ true))
       → Among y world.mounts × (is_some y.namespace ≡ true)
-  member_attached y h =
-      ⊎_elim
-      (λ same. (
-        subst (λ x. Among x world.mounts) (sym same) (found_is_there world.mounts number there),
-        ap
-            (λ (x : Mount ℕ). is_some x.namespace) same ∙ there,
-      ))
-      (λ placed. (
-        placed.0,
-        placed_is_attached y (is_some y.namespace) (is_some y.mount_point) placed.1
-            (passes is_nowhere_or_attached world.mounts kept.nowhere y placed.0),
-      ))
-      h
+  member_attached y h = ⊎_elim (λ same. (
+    subst (λ x. Among x world.mounts) (sym same) (found_is_there world.mounts number there),
+    ap (λ (x : Mount ℕ). is_some x.namespace) same ∙ there,
+  )) (λ placed. (
+    placed.0,
+    placed_is_attached y (is_some y.namespace) (is_some y.mount_point) placed.1
+        (passes is_nowhere_or_attached world.mounts kept.nowhere y placed.0),
+  )) h
 
   tree_attached : (mount : Mount ℕ) → Among mount world.mounts → is_among nat_eq mount.number numbers ≡ true
       → is_some mount.namespace ≡ true
@@ -610,8 +571,7 @@ module _ (world : World ℕ) (kept : MountInvariants nat_eq world) (number : ℕ
       let member = member_attached from.0 (tree_placed (length world.mounts) world.mounts top from.0 from.1) in
       ap (λ (x : Mount ℕ). is_some x.namespace)
       (sym (found_itself world.mounts kept.one_number mount m) ∙ ap (mount_in nat_eq world.mounts) from.2
-      ∙ found_itself world.mounts kept.one_number from.0 member.0)
-      ∙ member.1
+      ∙ found_itself world.mounts kept.one_number from.0 member.0) ∙ member.1
 
   -- a mount of the tree is found by its number
   tree_mount : (mount : Mount ℕ) → Among mount world.mounts → is_among nat_eq mount.number numbers ≡ true
@@ -637,9 +597,7 @@ module _ (world : World ℕ) (kept : MountInvariants nat_eq world) (number : ℕ
       → IsApart world top → lazily_unmounted nat_eq world number ≡ detached_world numbers world
   lazily_is_detached ungrouped apart =
       events_detach world kept.groups kept.one_number numbers tree_has_children tree_attached
-      (tree_is_free ungrouped) each_apart
-      (deepest_first nat_eq world tree)
-      (λ mount m. ⊎_elim (λ none. absurd none)
+      (tree_is_free ungrouped) each_apart (deepest_first nat_eq world tree) (λ mount m. ⊎_elim (λ none. absurd none)
       (λ n. is_among_numbers mount.number numbers (among-map (λ (x : Mount ℕ). x.number) tree mount n))
       (among_sorted world mount tree [] m))
       (λ n within. let from = among-from_map (λ (x : Mount ℕ). x.number) tree n (among_numbers n numbers within) in
@@ -647,17 +605,14 @@ module _ (world : World ℕ) (kept : MountInvariants nat_eq world) (number : ℕ
     where
       each_apart : (mount : Mount ℕ) → Among mount world.mounts → is_among nat_eq mount.number numbers ≡ true
           → IsApart world mount
-      each_apart mount m its = ⊎_elim
-          (λ same. subst (IsApart world) (sym same) apart)
-          (λ under. λ place p. on_tree place under.0 under.1
-          (eqb-true under.0.number place.mount
+      each_apart mount m its = ⊎_elim (λ same. subst (IsApart world) (sym same) apart)
+          (λ under. λ place p. on_tree place under.0 under.1 (eqb-true under.0.number place.mount
           (ap (holds_of (λ (at : Place ℕ). nat_eq under.0.number at.mount)) (sym p) ∙ under.2)))
           (tree_parent (length world.mounts) world.mounts top mount (tree_mount mount m its))
         where
           on_tree : (place : Place ℕ) (parent : Mount ℕ) → Among parent tree → parent.number ≡ place.mount
               → is_shared (mount_at nat_eq world place).propagation ≡ false
-          on_tree place parent among same =
-              ap (λ n. is_shared (mount_in nat_eq world.mounts n).propagation) (sym same)
+          on_tree place parent among same = ap (λ n. is_shared (mount_in nat_eq world.mounts n).propagation) (sym same)
               ∙ unshared (mount_in nat_eq world.mounts parent.number).propagation
               (passes (λ n. is_ungrouped (mount_in nat_eq world.mounts n).propagation) numbers ungrouped parent.number
               (among-map (λ (x : Mount ℕ). x.number) tree parent among))

@@ -47,8 +47,7 @@ none_among number (x ∷ xs) e = by (nat_eq number x.number) e (none_among numbe
 module _ (value : WorldValue) (whole : IsHeld value) (tasks : Tasks) (more : List Use) (left_use : Use)
     (moves : Moves value tasks more (left_use ∷ []))
     (mounts : List MountEntry) (filesystems : Filesystems) (overlays : List Merged)
-    (is_kept : kept_with mounts filesystems overlays
-    ≡ meant.let_go_mount left_use.location.mount
+    (is_kept : kept_with mounts filesystems overlays ≡ meant.let_go_mount left_use.location.mount
     (moved_kept (world_of value) more (left_use ∷ []) (kept_of value)))
     (name : TaskName) (permit : Permit ℕ) (task : Task ℕ)
     (is : IsApplied value name permit task (world_of (after value tasks)))
@@ -78,11 +77,9 @@ module _ (value : WorldValue) (whole : IsHeld value) (tasks : Tasks) (more : Lis
   looked : without_dead_mounts nat_eq next
       ≡ cond (is_some (mount_numbered nat_eq next number).namespace || nat_lt 0 (mount_uses next number)) next
       (without_mount next number)
-  looked =
-      mounts_go_one_by_one next (number ∷ [])
+  looked = mounts_go_one_by_one next (number ∷ [])
       (mounts_but world tasks (left_use.location ∷ []) (worlds_are_in_use world whole.in_world)
-      (mounts_of_worlds_stand world whole.in_world)
-      (only_left value whole tasks more (left_use ∷ []) moves))
+      (mounts_of_worlds_stand world whole.in_world) (only_left value whole tasks more (left_use ∷ []) moves))
       ∙ mount_goes_at_zero next number whole.in_world.mounts.one_number
 
   pub left_done : IsDone value name permit (remade_with value mounts filesystems overlays tasks)
@@ -90,10 +87,8 @@ module _ (value : WorldValue) (whole : IsHeld value) (tasks : Tasks) (more : Lis
     where
       by : (o : Option MountEntry) → entry_numbered moved.mounts number ≡ o
           → IsDone value name permit (remade_with value mounts filesystems overlays tasks)
-      by None e =
-          absurd (true≢false (sym mount_listed ∙ none_among number world.mounts
-          (ap (find (λ x. nat_eq number x.number))
-          (sym (same_moved_mounts world more (left_use ∷ []) (kept_of value)))
+      by None e = absurd (true≢false (sym mount_listed ∙ none_among number world.mounts
+          (ap (find (λ x. nat_eq number x.number)) (sym (same_moved_mounts world more (left_use ∷ []) (kept_of value)))
           ∙ found_entry number moved.mounts ∙ ap (option_map (λ entry. entry.mount)) e)))
       by (Some entry) e = chosen (is_some entry.mount.namespace) refl (nat_eq entry.uses 0) refl
         where
@@ -104,33 +99,27 @@ module _ (value : WorldValue) (whole : IsHeld value) (tasks : Tasks) (more : Lis
           numbered = eqb-true number entry.mount.number found.1
 
           mount_is : mount_numbered nat_eq world number ≡ entry.mount
-          mount_is = ap (λ o. unwrap_or o (no_mount number))
-              (ap (find (λ x. nat_eq number x.number))
+          mount_is = ap (λ o. unwrap_or o (no_mount number)) (ap (find (λ x. nat_eq number x.number))
               (sym (same_moved_mounts world more (left_use ∷ []) (kept_of value)))
               ∙ found_entry number moved.mounts ∙ ap (option_map (λ entry. entry.mount)) e)
 
           uses_are : entry.uses ≡ mount_uses next number
           uses_are =
               let from = among-from_map (folded_entry more (left_use ∷ [])) value.mounts entry
-              (subst (λ all. Among entry all)
-              (mounts_moved world more (left_use ∷ []) (kept_of value)) found.0) in
+              (subst (λ all. Among entry all) (mounts_moved world more (left_use ∷ []) (kept_of value)) found.0) in
               let counts = subst (CountsItsUses next) (sym from.2)
               (entry_counts value whole tasks more (left_use ∷ []) moves from.0 from.1) in
               counts.uses ∙ ap (mount_uses next) (sym numbered)
 
           kept_so : (b c : Bool) → is_some entry.mount.namespace ≡ b → nat_eq entry.uses 0 ≡ c
               → kept_with mounts filesystems overlays ≡ cond (not b && c) (meant.without_mount number entry.mount moved) moved
-          kept_so b c f g =
-              is_kept ∙ ap (meant.let_go_entry number moved) e
+          kept_so b c f g = is_kept ∙ ap (meant.let_go_entry number moved) e
               ∙ (λ i. cond (not (f i) && g i) (meant.without_mount number entry.mount moved) moved)
 
           looked_so : (b c : Bool) → is_some entry.mount.namespace ≡ b → nat_lt 0 entry.uses ≡ c
               → without_dead_mounts nat_eq next ≡ cond (b || c) next (without_mount next number)
-          looked_so b c f g =
-              looked
-              ∙ (λ i. cond (is_some (mount_is i).namespace || nat_lt 0 (sym uses_are i)) next
-              (without_mount next number))
-              ∙ (λ i. cond (f i || g i) next (without_mount next number))
+          looked_so b c f g = looked ∙ (λ i. cond (is_some (mount_is i).namespace || nat_lt 0 (sym uses_are i)) next
+              (without_mount next number)) ∙ (λ i. cond (f i || g i) next (without_mount next number))
 
           some_uses : nat_eq entry.uses 0 ≡ false → nat_lt 0 entry.uses ≡ true
           some_uses g = let some : entry.uses ≢ 0 = eqb-false entry.uses 0 g in lt-ltb 0 entry.uses
@@ -138,11 +127,9 @@ module _ (value : WorldValue) (whole : IsHeld value) (tasks : Tasks) (more : Lis
 
           stays : without_dead_mounts nat_eq next ≡ next → kept_with mounts filesystems overlays ≡ moved
               → IsDone value name permit (remade_with value mounts filesystems overlays tasks)
-          stays stay same =
-              subst (λ all. IsDone value name permit (record (remade value mounts filesystems tasks) {
-                overlays = all;
-              }))
-              (sym (ap (λ all. overlays_kept all value.overlays)
+          stays stay same = subst (λ all. IsDone value name permit (record (remade value mounts filesystems tasks) {
+            overlays = all;
+          })) (sym (ap (λ all. overlays_kept all value.overlays)
               (ap (λ (k : Kept). k.overlays) same ∙ moved_overlays world more (left_use ∷ []) (kept_of value))
               ∙ kept_itself value whole))
               (remains_done value whole tasks more (left_use ∷ []) moves mounts filesystems overlays same stay name

@@ -59,8 +59,7 @@ pub record IsLeft (value : WorldValue) (start : World ℕ) (gained : List Inode)
 module _ (value : WorldValue) (whole : IsHeld value) (world : World ℕ) (invariants : MountInvariants nat_eq world)
     (tasks : Tasks) (count : ℕ) (entries : List NamespaceEntry)
     (counts : (entry : NamespaceEntry) → Among entry entries → CountsOneMore count tasks entry)
-    (namespaces : List (Namespace ℕ))
-    (stays : (mount : Mount ℕ) → Among mount world.mounts
+    (namespaces : List (Namespace ℕ)) (stays : (mount : Mount ℕ) → Among mount world.mounts
     → goes_with (ends count tasks entries counts) (counted count) mount ≡ false
     → (place : Location ℕ) → mount.mount_point ≡ Some place
     → goes_with (ends count tasks entries counts) (counted count) (mount_at nat_eq world place) ≡ false) where
@@ -99,8 +98,7 @@ module _ (value : WorldValue) (whole : IsHeld value) (world : World ℕ) (invari
     leave last gone = record {
       entries = gone.entries;
       reached = detaches_all value whole start gained going (goes_with_attached ends_now (counted count))
-          (counted count)
-          (λ mount its. (λ i. last i && holds_of (nat_eq (counted count)) (its i))
+          (counted count) (λ mount its. (λ i. last i && holds_of (nat_eq (counted count)) (its i))
           ∙ eq-eqb (counted count) (counted count) refl)
           gone.ends.gone [] old (record new { mounts = gone.entries }) gone.ends.detached reached;
       all_gone = λ entry m.

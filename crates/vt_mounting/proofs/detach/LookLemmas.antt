@@ -57,12 +57,10 @@ module _ (value : WorldValue) (held : IsHeld value) where
   root_there : (count owner slot : ℕ)
       → (filesystem_numbered nat_eq (world_of value) (counted count)).files.tree.node (inode_number owner slot) ≡ None
       → inode_number owner slot ≢ (filesystem_numbered nat_eq (world_of value) (counted count)).files.tree.root
-  root_there count owner slot none same =
-      ⊎_elim
+  root_there count owner slot none same = ⊎_elim
       (λ tree. true≢false (sym (directory_there (found.files.tree.node found.files.tree.root) tree.root_directory)
       ∙ ap (λ n. is_some (found.files.tree.node n)) (sym same) ∙ ap is_some none))
-      (λ missing. counted_inode count owner slot
-      (sym (same ∙ ap (λ (f : Filesystem ℕ). f.files.tree.root) missing.0)))
+      (λ missing. counted_inode count owner slot (sym (same ∙ ap (λ (f : Filesystem ℕ). f.files.tree.root) missing.0)))
       (numbered_all (λ (f : Filesystem ℕ). IsTree f.files.tree) (counted count) (world_of value).filesystems
       held.in_world.files.trees)
     where
@@ -72,28 +70,21 @@ module _ (value : WorldValue) (held : IsHeld value) where
   -- a mount that is there has its root, and what its mount point is on
   mount_shows : (mount : meant.Mount ℕ) → Among mount (mounts_in value.mounts)
       → (is_directory_node ((filesystem_numbered nat_eq (world_of value) mount.filesystem).files.tree.node mount.root)
-      ≡ true)
-      × (list_all (is_directory_at nat_eq (world_of value)) (option_to_list mount.mount_point) ≡ true)
-  mount_shows mount m =
-      and_parts (is_directory_node
+      ≡ true) × (list_all (is_directory_at nat_eq (world_of value)) (option_to_list mount.mount_point) ≡ true)
+  mount_shows mount m = and_parts (is_directory_node
       ((filesystem_numbered nat_eq (world_of value) mount.filesystem).files.tree.node mount.root))
       (list_all (is_directory_at nat_eq (world_of value)) (option_to_list mount.mount_point))
-      (among_from_list_all (has_its_root nat_eq (world_of value))
-      (mounts_in value.mounts) held.in_world.roots mount m)
+      (among_from_list_all (has_its_root nat_eq (world_of value)) (mounts_in value.mounts) held.in_world.roots mount m)
 
-  root_node : (mount : meant.Mount ℕ) → Among mount (mounts_in value.mounts)
-      → IsNodeIn mount.filesystem mount.root
-  root_node mount m =
-      nodes_own value held mount.filesystem mount.root (directory_there _ (mount_shows mount m).0)
+  root_node : (mount : meant.Mount ℕ) → Among mount (mounts_in value.mounts) → IsNodeIn mount.filesystem mount.root
+  root_node mount m = nodes_own value held mount.filesystem mount.root (directory_there _ (mount_shows mount m).0)
 
   -- the filesystem that a mount shows is counted
   pub shown_counted : (number : ℕ)
       → (count : ℕ) × ((mount_numbered nat_eq (world_of value) (counted number)).filesystem ≡ counted count)
-  shown_counted number =
-      ⊎_elim
+  shown_counted number = ⊎_elim
       (λ m. let node = root_node (mount_numbered nat_eq (world_of value) (counted number)) m in
-      (node.0.filesystem.count, node.2))
-      (λ none. (number, ap (λ (mount : meant.Mount ℕ). mount.filesystem) none))
+      (node.0.filesystem.count, node.2)) (λ none. (number, ap (λ (mount : meant.Mount ℕ). mount.filesystem) none))
       (found_or_none (mounts_in value.mounts) (counted number))
 
   module _ (at : Location) (small : is_small_node at.node ≡ true) where
@@ -111,8 +102,7 @@ module _ (value : WorldValue) (held : IsHeld value) where
         ∙ unseen_node unseen in
         ap (λ (filesystem : Filesystem ℕ). is_removed nat_eq filesystem.files.tree (number_of at.node)) is
         ∙ nowhere_removed (filesystem_numbered nat_eq (world_of value) (counted shown.0)).files.tree
-        (number_of at.node) none
-        (ne_eqb (number_of at.node)
+        (number_of at.node) none (ne_eqb (number_of at.node)
         (filesystem_numbered nat_eq (world_of value) (counted shown.0)).files.tree.root
         (root_there shown.0 (born_in at.node.filesystem.count at.node.birth) at.node.slot none))
 
@@ -120,21 +110,16 @@ module _ (value : WorldValue) (held : IsHeld value) where
     pub under_another : (directory : NodeRef) → is_small_node directory ≡ true
         → (is_seen value at && nat_eq directory.filesystem.count at.node.filesystem.count) ≡ false
         → is_directory_under nat_eq (filesystem_at nat_eq (world_of value) (location_of at)).files (number_of at.node)
-        (number_of directory)
-        ≡ nat_eq (number_of at.node) (number_of directory)
+        (number_of directory) ≡ nat_eq (number_of at.node) (number_of directory)
     under_another directory directory_small apart =
         either_false (is_seen value at) (nat_eq directory.filesystem.count at.node.filesystem.count) apart _
         (λ unseen. under_nowhere (filesystem_at nat_eq (world_of value) (location_of at)).files (number_of at.node)
-        (number_of directory) (unseen_node unseen))
-        (λ seen other.
+        (number_of directory) (unseen_node unseen)) (λ seen other.
         nowhere_under (filesystem_at nat_eq (world_of value) (location_of at)).files (number_of at.node)
-        (number_of directory)
-        (in_no_other value held (mount_at nat_eq (world_of value) (location_of at)).filesystem
-        directory directory_small
-        (ap (λ n. nat_eq n (counted directory.filesystem.count))
+        (number_of directory) (in_no_other value held (mount_at nat_eq (world_of value) (location_of at)).filesystem
+        directory directory_small (ap (λ n. nat_eq n (counted directory.filesystem.count))
         (eqb-true (mount_at nat_eq (world_of value) (location_of at)).filesystem
-        (counted at.node.filesystem.count) seen)
-        ∙ counted_test at.node.filesystem.count directory.filesystem.count
+        (counted at.node.filesystem.count) seen) ∙ counted_test at.node.filesystem.count directory.filesystem.count
         ∙ turned at.node.filesystem.count directory.filesystem.count ∙ other)))
 
     -- the mounts that stand on an inode, through whatever mount
@@ -151,8 +136,7 @@ module _ (value : WorldValue) (held : IsHeld value) where
         -- an overlay has no upper layer
         read_only : of_overlay false (λ overlay. is_some overlay.upper)
             (filesystem_numbered nat_eq (world_of value) shown) ≡ false
-        read_only =
-            ⊎_elim (λ none. none)
+        read_only = ⊎_elim (λ none. none)
             (λ missing. ap (of_overlay false (λ overlay. is_some overlay.upper)) missing.0)
             (numbered_all (λ (f : Filesystem ℕ). of_overlay false (λ overlay. is_some overlay.upper) f ≡ false) shown
             (world_of value).filesystems held.overlays.read_only)
@@ -166,8 +150,7 @@ module _ (value : WorldValue) (held : IsHeld value) where
 
         no_upper : (o : Option (Overlay ℕ)) → overlay_or false (λ overlay. is_some overlay.upper) o ≡ false
             → overlay_or [] (λ overlay. upper_points (world_of value)
-            (filesystem_numbered nat_eq (world_of value) shown) overlay (number_of at.node)) o
-            ≡ []
+            (filesystem_numbered nat_eq (world_of value) shown) overlay (number_of at.node)) o ≡ []
         no_upper None e = refl
         no_upper (Some overlay) e = without overlay overlay.upper e
 
@@ -178,14 +161,12 @@ module _ (value : WorldValue) (held : IsHeld value) where
         ≡ (is_seen value at && stands_over (number_of at.node) mount)
     point_seen mount m =
         ap (list_any (λ (point : ℕ × ℕ). is_point nat_eq (world_of value) point.0 point.1 mount)) points_are
-        ∙ or-false _
-        ∙ by mount.mount_point (mount_shows mount m).1
+        ∙ or-false _ ∙ by mount.mount_point (mount_shows mount m).1
       where
         there : (place : meant.Location ℕ) → is_some (node_at nat_eq (world_of value) place) ≡ true → (b : Bool)
             → nat_eq place.node (number_of at.node) ≡ b
             → (b && nat_eq (mount_at nat_eq (world_of value) place).filesystem
-            (mount_at nat_eq (world_of value) (location_of at)).filesystem)
-            ≡ (is_seen value at && b)
+            (mount_at nat_eq (world_of value) (location_of at)).filesystem) ≡ (is_seen value at && b)
         there place is false e = sym (and-false (is_seen value at))
         there place is true e =
             let home = at_home value held (mount_at nat_eq (world_of value) place).filesystem at.node small
@@ -203,18 +184,15 @@ module _ (value : WorldValue) (held : IsHeld value) where
             (mount_at nat_eq (world_of value) (location_of at)).filesystem) o
             ≡ (is_seen value at && holds_of (λ place. nat_eq place.node (number_of at.node)) o)
         by None e = sym (and-false (is_seen value at))
-        by (Some place) e =
-            there place (directory_there (node_at nat_eq (world_of value) place)
+        by (Some place) e = there place (directory_there (node_at nat_eq (world_of value) place)
             (and_parts (is_directory_at nat_eq (world_of value) place) true e).0)
             (nat_eq place.node (number_of at.node)) refl
 
     -- one that passes stands there just where one stands over the inode that is seen
-    pub any_point : (test : meant.Mount ℕ → Bool)
-        → list_any test (mounts_on nat_eq (world_of value) (location_of at))
+    pub any_point : (test : meant.Mount ℕ → Bool) → list_any test (mounts_on nat_eq (world_of value) (location_of at))
         ≡ (is_seen value at && list_any (λ mount. stands_over (number_of at.node) mount && test mount)
         (mounts_in value.mounts))
-    any_point test =
-        any_filtered (is_seen value at)
+    any_point test = any_filtered (is_seen value at)
         (λ mount. list_any (λ (point : ℕ × ℕ). is_point nat_eq (world_of value) point.0 point.1 mount)
         (points_of nat_eq (world_of value) (location_of at)))
         (stands_over (number_of at.node)) test (mounts_in value.mounts) point_seen
@@ -222,16 +200,13 @@ module _ (value : WorldValue) (held : IsHeld value) where
     -- the root of a mount that shows another filesystem is another inode
     root_apart : is_seen value at ≡ false
         → nat_eq (mount_at nat_eq (world_of value) (location_of at)).root (number_of at.node) ≡ false
-    root_apart unseen =
-        ne_eqb (mount_at nat_eq (world_of value) (location_of at)).root (number_of at.node)
-        (⊎_elim
+    root_apart unseen = ne_eqb (mount_at nat_eq (world_of value) (location_of at)).root (number_of at.node) (⊎_elim
         (λ m same.
         let mount = mount_at nat_eq (world_of value) (location_of at) in
         let home = at_home value held mount.filesystem at.node small
         (ap (λ n. is_some ((filesystem_numbered nat_eq (world_of value) mount.filesystem).files.tree.node n))
         (sym same) ∙ directory_there _ (mount_shows mount m).0) in
-        true≢false (sym (eq-eqb mount.filesystem (counted at.node.filesystem.count) home) ∙ unseen))
-        (λ none same.
+        true≢false (sym (eq-eqb mount.filesystem (counted at.node.filesystem.count) home) ∙ unseen)) (λ none same.
         counted_inode at.mount.count (born_in at.node.filesystem.count at.node.birth) at.node.slot
         (sym (ap (λ (mount : meant.Mount ℕ). mount.root) none) ∙ same))
         (found_or_none (mounts_in value.mounts) (counted at.mount.count)))
@@ -240,8 +215,7 @@ module _ (value : WorldValue) (held : IsHeld value) where
     pub unseen_root : is_seen value at ≡ false
         → is_directory_under nat_eq (filesystem_at nat_eq (world_of value) (location_of at)).files
         (mount_at nat_eq (world_of value) (location_of at)).root (number_of at.node) ≡ false
-    unseen_root unseen =
-        nowhere_under (filesystem_at nat_eq (world_of value) (location_of at)).files
+    unseen_root unseen = nowhere_under (filesystem_at nat_eq (world_of value) (location_of at)).files
         (mount_at nat_eq (world_of value) (location_of at)).root (number_of at.node) (unseen_node unseen)
         ∙ root_apart unseen
 
@@ -249,13 +223,10 @@ module _ (value : WorldValue) (held : IsHeld value) where
     pub missing_root : mount_at nat_eq (world_of value) (location_of at) ≡ no_mount (counted at.mount.count)
         → is_directory_under nat_eq (filesystem_at nat_eq (world_of value) (location_of at)).files
         (mount_at nat_eq (world_of value) (location_of at)).root (number_of at.node) ≡ false
-    missing_root none =
-        ap (λ (mount : meant.Mount ℕ). is_directory_under nat_eq
-        (filesystem_numbered nat_eq (world_of value) mount.filesystem).files
-        mount.root (number_of at.node)) none
+    missing_root none = ap (λ (mount : meant.Mount ℕ). is_directory_under nat_eq
+        (filesystem_numbered nat_eq (world_of value) mount.filesystem).files mount.root (number_of at.node)) none
         ∙ under_nowhere (filesystem_numbered nat_eq (world_of value) (counted at.mount.count)).files
-        (counted at.mount.count)
-        (number_of at.node)
+        (counted at.mount.count) (number_of at.node)
         (no_counted_inode value held (counted at.mount.count) at.mount.count)
         ∙ ne_eqb (counted at.mount.count) (number_of at.node)
         (counted_inode at.mount.count (born_in at.node.filesystem.count at.node.birth) at.node.slot)

@@ -43,8 +43,7 @@ lost_alike gained lost other k one two same exchanges = record {
 
 -- a filter that skips only what gives nothing
 pub flat_map_less : {A B : Type 0} (g : A → List B) (q : A → Bool) (xs : List A)
-    → ((x : A) → Among x xs → q x ≡ false → g x ≡ [])
-    → flat_map g (filter q xs) ≡ flat_map g xs
+    → ((x : A) → Among x xs → q x ≡ false → g x ≡ []) → flat_map g (filter q xs) ≡ flat_map g xs
 flat_map_less g q [] none = refl
 flat_map_less g q (x ∷ xs) none = by (q x) refl (flat_map_less g q xs (λ y m. none y (inr m)))
   where
@@ -78,19 +77,15 @@ pub shown_by_rule : (f : ℕ) (counts : ℕ → ℕ) (all : List Shown)
     → ((one : Shown) → Among one all → one.mounts ≡ counts (counted one.count))
     → (one : Shown) → Among one all → f ≡ counted one.count → mounts_shown f all ≡ counts f
 shown_by_rule f counts [] each one m same = absurd m
-shown_by_rule f counts (first ∷ rest) each one m same =
-    by (nat_eq f (counted first.count)) refl
+shown_by_rule f counts (first ∷ rest) each one m same = by (nat_eq f (counted first.count)) refl
     (λ later. shown_by_rule f counts rest (λ x n. each x (inr n)) one later same)
   where
     by : (b : Bool) → nat_eq f (counted first.count) ≡ b → (Among one rest → mounts_shown f rest ≡ counts f)
         → unwrap_or (option_map (λ (x : Shown). x.mounts)
         (cond b (Some first) (find (λ x. nat_eq f (counted x.count)) rest))) 0 ≡ counts f
     by true e next = each first (inl refl) ∙ ap counts (sym (eqb-true f (counted first.count) e))
-    by false e next =
-        ⊎_elim
-        (λ here. absurd (true≢false (sym
-        (eq-eqb f (counted first.count) (same ∙ ap (λ (x : Shown). counted x.count) here)) ∙ e)))
-        next m
+    by false e next = ⊎_elim (λ here. absurd (true≢false (sym
+        (eq-eqb f (counted first.count) (same ∙ ap (λ (x : Shown). counted x.count) here)) ∙ e))) next m
 
 -- Mounts by their numbers
 
@@ -105,15 +100,13 @@ one_number_less p (x ∷ xs) one =
   where
     by : (b : Bool) → list_any (λ b. nat_eq x.number b.number) xs ≡ false → OneNumberAMount (filter p xs)
         → OneNumberAMount (cond b (x ∷ filter p xs) (filter p xs))
-    by true others later =
-        (λ i. none_passes (λ b. nat_eq x.number b.number) (filter p xs)
+    by true others later = (λ i. none_passes (λ b. nat_eq x.number b.number) (filter p xs)
         (λ y m. fails (λ b. nat_eq x.number b.number) xs others y (among-from_filter p xs y m).0) i || later i)
     by false others later = later
 
 -- an entry is found by its number
 pub entry_itself : (entries : List MountEntry) → OneNumberAMount (mounts_in entries) → (entry : MountEntry)
-    → Among entry entries
-    → entry_numbered entries entry.mount.number ≡ Some entry
+    → Among entry entries → entry_numbered entries entry.mount.number ≡ Some entry
 entry_itself [] one entry m = absurd m
 entry_itself (x ∷ xs) one entry m =
     let parts = or_parts (list_any (λ b. nat_eq x.mount.number b.number) (mounts_in xs))
@@ -124,26 +117,21 @@ entry_itself (x ∷ xs) one entry m =
         → nat_eq entry.mount.number x.mount.number ≡ b
         → Among entry (x ∷ xs) → (Among entry xs → entry_numbered xs entry.mount.number ≡ Some entry)
         → cond b (Some x) (entry_numbered xs entry.mount.number) ≡ Some entry
-    by others true e n next =
-        ⊎_elim (λ same. ap Some (sym same))
-        (λ later. absurd (true≢false
+    by others true e n next = ⊎_elim (λ same. ap Some (sym same)) (λ later. absurd (true≢false
         (sym (eq-eqb x.mount.number entry.mount.number (sym (eqb-true entry.mount.number x.mount.number e)))
         ∙ fails (λ b. nat_eq x.mount.number b.number) (mounts_in xs) others entry.mount
         (among-map (λ (one : MountEntry). one.mount) xs entry later)))) n
-    by others false e n next =
-        ⊎_elim (λ same. absurd (true≢false
+    by others false e n next = ⊎_elim (λ same. absurd (true≢false
         (sym (eq-eqb entry.mount.number x.mount.number (ap (λ (one : MountEntry). one.mount.number) same)) ∙ e))) next n
 
 -- a change that keeps each mount
 pub mounts_unchanged : (number : ℕ) (change : MountEntry → MountEntry) (entries : List MountEntry)
     → ((entry : MountEntry) → (change entry).mount ≡ entry.mount)
     → mounts_in (changed number change entries) ≡ mounts_in entries
-mounts_unchanged number change entries same =
-    map_twice (λ (entry : MountEntry). entry.mount)
+mounts_unchanged number change entries same = map_twice (λ (entry : MountEntry). entry.mount)
     (λ entry. cond (nat_eq number entry.mount.number) (change entry) entry) entries
     ∙ map_alike (λ entry. (cond (nat_eq number entry.mount.number) (change entry) entry).mount)
-    (λ entry. entry.mount) entries
-    (λ entry m. by entry (nat_eq number entry.mount.number))
+    (λ entry. entry.mount) entries (λ entry m. by entry (nat_eq number entry.mount.number))
   where
     by : (entry : MountEntry) (b : Bool) → (cond b (change entry) entry).mount ≡ entry.mount
     by entry true = same entry
@@ -151,8 +139,7 @@ mounts_unchanged number change entries same =
 
 -- an entry that is found is there, and has the number
 pub entry_found_at : (entries : List MountEntry) (number : ℕ) (entry : MountEntry)
-    → entry_numbered entries number ≡ Some entry
-    → Among entry entries × (number ≡ entry.mount.number)
+    → entry_numbered entries number ≡ Some entry → Among entry entries × (number ≡ entry.mount.number)
 entry_found_at [] number entry e = absurd cc
 entry_found_at (x ∷ xs) number entry e = by (nat_eq number x.mount.number) refl e (entry_found_at xs number entry)
   where

@@ -224,8 +224,7 @@ module _ (value : WorldValue) (whole : IsHeld value) (start : World ℕ) (gained
       exchanges = λ one m. let from = shown_was one m in
           subst (λ count. Exchanges gained
           ((lost ++ (inode ∷ [])) ++ (inodes_of_uses world left ++ points_left world goes new.mounts))
-          (counted count) world now)
-          (ap (λ (x : Shown). x.count) (sym from.2))
+          (counted count) world now) (ap (λ (x : Shown). x.count) (sym from.2))
           (subst (λ all. Exchanges gained all (counted from.0.count) world now)
           ((λ i. lost ++ (inodes_of_uses world (u ∷ left) ++ flat_map (point_left world goes) (sym same_mounts i)))
           ∙ sym (append_assoc lost (inode ∷ []) (inodes_of_uses world left ++ points_left world goes new.mounts)))
@@ -252,8 +251,7 @@ module _ (value : WorldValue) (whole : IsHeld value) (start : World ℕ) (gained
 
   -- what a mount is at, in the world in which the call began
   abbrev pub IsGoing : Kept → ℕ → Option Place → MountEntry → Type 0
-  IsGoing k number point entry =
-      (entry_numbered k.mounts number ≡ Some entry) × (goes entry.mount ≡ true)
+  IsGoing k number point entry = (entry_numbered k.mounts number ≡ Some entry) × (goes entry.mount ≡ true)
       × (option_map location_of point ≡ entry.mount.mount_point)
       × IfSome point (λ place. is_small_node place.node ≡ true)
 
@@ -267,8 +265,7 @@ module _ (value : WorldValue) (whole : IsHeld value) (start : World ℕ) (gained
   -- the points of the entries are those of the others, and of this one
   points_are : (number : ℕ) (entries : List MountEntry) → OneNumberAMount (mounts_in entries) → (entry : MountEntry)
       → entry_numbered entries number ≡ Some entry → goes entry.mount ≡ true → (test : Inode → Bool)
-      → times test (points_left world goes entries)
-      ≡ times test (inodes_of_mount_point world entry.mount) + times test
+      → times test (points_left world goes entries) ≡ times test (inodes_of_mount_point world entry.mount) + times test
       (points_left world goes (changed number detached_entry entries))
   points_are number [] one entry e going test = absurd cc
   points_are number (x ∷ xs) one entry e going test =
@@ -277,8 +274,7 @@ module _ (value : WorldValue) (whole : IsHeld value) (start : World ℕ) (gained
       by parts.0 (nat_eq number x.mount.number) refl e (λ h. points_are number xs parts.1 entry h going test)
     where
       by : list_any (λ b. nat_eq x.mount.number b.number) (mounts_in xs) ≡ false → (b : Bool)
-          → nat_eq number x.mount.number ≡ b
-          → cond b (Some x) (entry_numbered xs number) ≡ Some entry
+          → nat_eq number x.mount.number ≡ b → cond b (Some x) (entry_numbered xs number) ≡ Some entry
           → (entry_numbered xs number ≡ Some entry → times test (points_left world goes xs)
           ≡ times test (inodes_of_mount_point world entry.mount) + times test
           (points_left world goes (changed number detached_entry xs)))
@@ -326,8 +322,7 @@ module _ (value : WorldValue) (whole : IsHeld value) (start : World ℕ) (gained
     one_number = one_number_kept goes (mounts_in k.mounts) (subst OneNumberAMount mid.mounts mid.stand.one_number)
 
     is_entry : (was : MountEntry) → Among was k.mounts → nat_eq number was.mount.number ≡ true → was ≡ entry
-    is_entry was m e =
-        same_Some was entry (sym (entry_itself k.mounts one_number was m)
+    is_entry was m e = same_Some was entry (sym (entry_itself k.mounts one_number was m)
         ∙ ap (entry_numbered k.mounts) (sym (eqb-true number was.mount.number e)) ∙ going.0)
 
     -- a detached mount is what it is to become
@@ -336,38 +331,30 @@ module _ (value : WorldValue) (whole : IsHeld value) (start : World ℕ) (gained
       where
         by : (b : Bool) → nat_eq number was.mount.number ≡ b
             → gone_if goes (cond b (detached_entry was) was).mount ≡ gone_if goes was.mount
-        by true e =
-            ap (λ b. cond b (detached (detached was.mount)) (detached was.mount)) (not_going_detached was.mount)
+        by true e = ap (λ b. cond b (detached (detached was.mount)) (detached was.mount)) (not_going_detached was.mount)
             ∙ sym (ap (λ b. cond b (detached was.mount) was.mount)
             (ap (λ (x : MountEntry). goes x.mount) (is_entry was m e) ∙ going.1))
         by false e = refl
 
     same_now : now.mounts ≡ map (gone_if goes) (mounts_in taken.mounts)
-    same_now =
-        mid.mounts
-        ∙ map_twice (gone_if goes) (λ (x : MountEntry). x.mount) k.mounts
+    same_now = mid.mounts ∙ map_twice (gone_if goes) (λ (x : MountEntry). x.mount) k.mounts
         ∙ map_alike (λ (x : MountEntry). gone_if goes x.mount)
         (λ (x : MountEntry). gone_if goes (take x).mount) k.mounts (λ was m. sym (same_gone was m))
         ∙ sym (map_twice (λ (x : MountEntry). gone_if goes x.mount) take k.mounts)
         ∙ sym (map_twice (gone_if goes) (λ (x : MountEntry). x.mount) taken.mounts)
 
     -- the inodes that code unpins
-    unpinned_are : unpinned_at point k.filesystems
-        ≡ map (λ (one : Shown). record one {
-          inodes = folded
-              (unpinned_if (counted one.count)) one.inodes lost_here;
-        }) k.filesystems
+    unpinned_are : unpinned_at point k.filesystems ≡ map (λ (one : Shown). record one {
+      inodes = folded (unpinned_if (counted one.count)) one.inodes lost_here;
+    }) k.filesystems
     unpinned_are = by point going.2 going.3
       where
         by : (o : Option Place) → option_map location_of o ≡ entry.mount.mount_point
-            → IfSome o (λ place. is_small_node place.node ≡ true)
-            → unpinned_at o k.filesystems
+            → IfSome o (λ place. is_small_node place.node ≡ true) → unpinned_at o k.filesystems
             ≡ map (λ (one : Shown). record one {
-              inodes = folded
-                  (unpinned_if (counted one.count)) one.inodes lost_here;
+              inodes = folded (unpinned_if (counted one.count)) one.inodes lost_here;
             }) k.filesystems
-        by None is few =
-            sym (map_same (λ (one : Shown). one) k.filesystems (λ one m. refl))
+        by None is few = sym (map_same (λ (one : Shown). one) k.filesystems (λ one m. refl))
             ∙ (λ i. map (λ (one : Shown). record one {
               inodes = folded (unpinned_if (counted one.count)) one.inodes
                   (map (inode_at world) (option_to_list (is i)));
@@ -376,11 +363,9 @@ module _ (value : WorldValue) (whole : IsHeld value) (start : World ℕ) (gained
             let well = ap (λ o. list_all (is_located_well nat_eq world) (option_to_list o)) is
             ∙ mid.well entry (entry_found_at k.mounts number entry going.0).0 going.1 in
             (λ i. unpinned_in (
-              sym (seen_where_located value whole place few
-                  (and_parts _ _ well).0) i,
+              sym (seen_where_located value whole place few (and_parts _ _ well).0) i,
               number_of place.node,
-            ) k.filesystems)
-            ∙ (λ i. map (λ (one : Shown). record one {
+            ) k.filesystems) ∙ (λ i. map (λ (one : Shown). record one {
               inodes = folded (unpinned_if (counted one.count)) one.inodes
                   (map (inode_at world) (option_to_list (is i)));
             }) k.filesystems)
@@ -424,8 +409,7 @@ module _ (value : WorldValue) (whole : IsHeld value) (start : World ℕ) (gained
     entry_before e m = among-from_map take k.mounts e m
 
     -- what a detached entry keeps
-    take_keeps : (was : MountEntry)
-        → ((take was).mount.number ≡ was.mount.number) × ((take was).uses ≡ was.uses)
+    take_keeps : (was : MountEntry) → ((take was).mount.number ≡ was.mount.number) × ((take was).uses ≡ was.uses)
         × ((take was).writers ≡ was.writers)
     take_keeps was = by (nat_eq number was.mount.number)
       where
@@ -439,8 +423,7 @@ module _ (value : WorldValue) (whole : IsHeld value) (start : World ℕ) (gained
         → list_all (is_located_well nat_eq world) (option_to_list (take was).mount.mount_point) ≡ true
     well_still was m = by (nat_eq number was.mount.number)
       where
-        by : (b : Bool) → goes (cond b (detached_entry was) was).mount ≡ true
-            → list_all (is_located_well nat_eq world)
+        by : (b : Bool) → goes (cond b (detached_entry was) was).mount ≡ true → list_all (is_located_well nat_eq world)
             (option_to_list (cond b (detached_entry was) was).mount.mount_point) ≡ true
         by true e = refl
         by false e = mid.well was m e
@@ -468,8 +451,7 @@ module _ (value : WorldValue) (whole : IsHeld value) (start : World ℕ) (gained
       exchanges = λ one m. let from = shown_before one m in
           subst (λ count. Exchanges gained
           ((lost ++ lost_here) ++ (inodes_of_uses world left ++ points_left world goes taken.mounts))
-          (counted count) world now)
-          (ap (λ (x : Shown). x.count) (sym from.2))
+          (counted count) world now) (ap (λ (x : Shown). x.count) (sym from.2))
           (lost_alike gained (lost ++ (inodes_of_uses world left ++ points_left world goes k.mounts))
           ((lost ++ lost_here) ++ (inodes_of_uses world left ++ points_left world goes taken.mounts))
           (counted from.0.count) world now

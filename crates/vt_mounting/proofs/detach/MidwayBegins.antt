@@ -63,11 +63,9 @@ module _ (goes : Mount ℕ → Bool)
       by : (b : Bool) → goes (no_mount n) ≡ b → no_mount n ≡ cond b (detached (no_mount n)) (no_mount n)
       by true e = absurd (true≢false (sym (attached (no_mount n) e)))
       by false e = refl
-  mount_in_gone (x ∷ xs) n =
-      ap (λ b. unwrap_or (cond b (Some (gone_if goes x))
+  mount_in_gone (x ∷ xs) n = ap (λ b. unwrap_or (cond b (Some (gone_if goes x))
       (find (λ mount. nat_eq n mount.number) (map (gone_if goes) xs))) (no_mount n))
-      (ap (nat_eq n) (gone_number goes x))
-      ∙ by (nat_eq n x.number) (mount_in_gone xs n)
+      (ap (nat_eq n) (gone_number goes x)) ∙ by (nat_eq n x.number) (mount_in_gone xs n)
     where
       by : (b : Bool) → mount_in nat_eq (map (gone_if goes) xs) n ≡ gone_if goes (mount_in nat_eq xs n)
           → unwrap_or (cond b (Some (gone_if goes x)) (find (λ mount. nat_eq n mount.number) (map (gone_if goes) xs)))
@@ -81,15 +79,12 @@ module _ (goes : Mount ℕ → Bool)
       → (mount_in nat_eq (map (gone_if goes) front ++ back) n).filesystem
       ≡ (mount_in nat_eq (front ++ back) n).filesystem
   shows_alike [] back n = refl
-  shows_alike (x ∷ xs) back n =
-      ap (λ b. (unwrap_or (cond b (Some (gone_if goes x))
+  shows_alike (x ∷ xs) back n = ap (λ b. (unwrap_or (cond b (Some (gone_if goes x))
       (find (λ mount. nat_eq n mount.number) (map (gone_if goes) xs ++ back))) (no_mount n)).filesystem)
-      (ap (nat_eq n) (gone_number goes x))
-      ∙ by (nat_eq n x.number) (shows_alike xs back n)
+      (ap (nat_eq n) (gone_number goes x)) ∙ by (nat_eq n x.number) (shows_alike xs back n)
     where
       by : (b : Bool) → (mount_in nat_eq (map (gone_if goes) xs ++ back) n).filesystem
-          ≡ (mount_in nat_eq (xs ++ back) n).filesystem
-          → (unwrap_or (cond b (Some (gone_if goes x))
+          ≡ (mount_in nat_eq (xs ++ back) n).filesystem → (unwrap_or (cond b (Some (gone_if goes x))
           (find (λ mount. nat_eq n mount.number) (map (gone_if goes) xs ++ back))) (no_mount n)).filesystem
           ≡ (unwrap_or (cond b (Some x) (find (λ mount. nat_eq n mount.number) (xs ++ back))) (no_mount n)).filesystem
       by true later = (gone_shows x).0
@@ -114,21 +109,17 @@ module _ (goes : Mount ℕ → Bool)
         same_inodes : (o : Option (Location ℕ))
             → map (inode_at before) (option_to_list o) ≡ map (inode_at world) (option_to_list o)
         same_inodes None = refl
-        same_inodes (Some place) =
-            λ i. (
-              (shows_alike front (x ∷ rest) place.mount
-                  ∙ ap (λ mounts. (mount_in nat_eq mounts place.mount).filesystem) (sym whole)) i,
-              place.node,
-            ) ∷ []
+        same_inodes (Some place) = λ i. (
+          (shows_alike front (x ∷ rest) place.mount
+              ∙ ap (λ mounts. (mount_in nat_eq mounts place.mount).filesystem) (sym whole)) i,
+          place.node,
+        ) ∷ []
 
         by : (b : Bool) → Exchanges [] (cond b (inodes_of_mount_point world x) []) k before
             (over (map (gone_if goes) front ++ (cond b (detached x) x ∷ rest)))
-        by true =
-            subst (λ lost. Exchanges [] lost k before (over (map (gone_if goes) front ++ (detached x ∷ rest))))
-            (same_inodes x.mount_point)
-            (mount_is_placed before (over (map (gone_if goes) front ++ (detached x ∷ rest)))
-            (map (gone_if goes) front) rest x (detached x)
-            refl refl refl refl refl refl refl k)
+        by true = subst (λ lost. Exchanges [] lost k before (over (map (gone_if goes) front ++ (detached x ∷ rest))))
+            (same_inodes x.mount_point) (mount_is_placed before (over (map (gone_if goes) front ++ (detached x ∷ rest)))
+            (map (gone_if goes) front) rest x (detached x) refl refl refl refl refl refl refl k)
         by false = nothing before
 
     all_detached : (front back : List (Mount ℕ)) → world.mounts ≡ front ++ back
@@ -146,10 +137,8 @@ module _ (goes : Mount ℕ → Bool)
         ap (λ list. list ++ rest) (Rattle.std.proofs.lemmas.List.map-append (gone_if goes) front (x ∷ []))
         ∙ append_assoc (map (gone_if goes) front) (gone_if goes x ∷ []) rest in
         exchanges_follow (over (map (gone_if goes) front ++ (x ∷ rest)))
-        (over (map (gone_if goes) front ++ (gone_if goes x ∷ rest)))
-        (over (map (gone_if goes) (front ++ (x ∷ rest))))
-        [] (point_left world goes x) [] (flat_map (point_left world goes) rest) k
-        (one_detached front rest x whole)
+        (over (map (gone_if goes) front ++ (gone_if goes x ∷ rest))) (over (map (gone_if goes) (front ++ (x ∷ rest))))
+        [] (point_left world goes x) [] (flat_map (point_left world goes) rest) k (one_detached front rest x whole)
         (subst (λ mounts. Exchanges [] (flat_map (point_left world goes) rest) k (over mounts)
         (over (map (gone_if goes) (front ++ (x ∷ rest))))) here
         (subst (λ mounts. Exchanges [] (flat_map (point_left world goes) rest) k
@@ -216,15 +205,13 @@ module _ (value : WorldValue) (whole : IsHeld value) (tasks : Tasks) (more less 
 
   entry_was : (entry : MountEntry) → Among entry k_begins.mounts
       → (was : MountEntry) × Among was value.mounts × (entry ≡ folded hold_if was more)
-  entry_was entry m =
-      among-from_map (λ was. folded hold_if was more) value.mounts entry
+  entry_was entry m = among-from_map (λ was. folded hold_if was more) value.mounts entry
       (subst (λ all. Among entry all) (mounts_gained world more (kept_of value)) m)
 
   same_mount : (was : MountEntry) → (folded hold_if was more).mount ≡ was.mount
   same_mount was = (held_counts more was).mount
 
-  uses_are : (was : MountEntry) → Among was value.mounts
-      → (folded hold_if was more).uses
+  uses_are : (was : MountEntry) → Among was value.mounts → (folded hold_if was more).uses
       ≡ mount_uses next (folded hold_if was more).mount.number + times
       (is_use_on (folded hold_if was more).mount.number) less
   uses_are was m =
@@ -239,8 +226,7 @@ module _ (value : WorldValue) (whole : IsHeld value) (tasks : Tasks) (more less 
       ≡ mount_uses next n + times (is_use_on n) less = omega (arith, had, held, moved, a, b) in
       one ∙ ap (λ (x : Mount ℕ). mount_uses next x.number + times (is_use_on x.number) less) (sym (same_mount was))
 
-  writers_are : (was : MountEntry) → Among was value.mounts
-      → (folded hold_if was more).writers
+  writers_are : (was : MountEntry) → Among was value.mounts → (folded hold_if was more).writers
       ≡ writes_of (folded hold_if was more).mount.number tasks + times
       (writes_on_mount (folded hold_if was more).mount.number) less
   writers_are was m =
@@ -257,8 +243,7 @@ module _ (value : WorldValue) (whole : IsHeld value) (tasks : Tasks) (more less 
   in_world was m = among-map (λ (e : MountEntry). e.mount) value.mounts was m
 
   pub point_is_located : (mount : Mount ℕ) → Among mount world.mounts → (o : Option (Location ℕ))
-      → mount.mount_point ≡ o
-      → list_all (is_located_well nat_eq world) (option_to_list o) ≡ true
+      → mount.mount_point ≡ o → list_all (is_located_well nat_eq world) (option_to_list o) ≡ true
   point_is_located mount m None e = refl
   point_is_located mount m (Some place) e =
       let standing = passes (Rattle.vt_laws_mounts.specs.Counts.Using.is_on world.mounts)
@@ -275,16 +260,13 @@ module _ (value : WorldValue) (whole : IsHeld value) (tasks : Tasks) (more less 
 
   -- what mounts stand on stays with them
   pub parent_stays : (mount : Mount ℕ) → Among mount world.mounts → goes mount ≡ false → (place : Location ℕ)
-      → mount.mount_point ≡ Some place
-      → goes (mount_at nat_eq world place) ≡ false
-  parent_stays mount m stays place e =
-      ap inside (sym (parent_inside world whole.in_world.mounts.one_number
+      → mount.mount_point ≡ Some place → goes (mount_at nat_eq world place) ≡ false
+  parent_stays mount m stays place e = ap inside (sym (parent_inside world whole.in_world.mounts.one_number
       (λ x n. among_from_all (λ (x : Mount ℕ). Stands nat_eq world x.number) world.mounts whole.in_world.mounts.standing x n) mount m place e))
       ∙ stays
 
   same_numbers : map (λ (x : Mount ℕ). x.number) ended.mounts ≡ map (λ (x : Mount ℕ). x.number) world.mounts
-  same_numbers =
-      map_twice (λ (x : Mount ℕ). x.number) (gone_if goes) world.mounts
+  same_numbers = map_twice (λ (x : Mount ℕ). x.number) (gone_if goes) world.mounts
       ∙ map_alike (λ (x : Mount ℕ). (gone_if goes x).number) (λ (x : Mount ℕ). x.number) world.mounts
       (λ x m. gone_number goes x)
 
@@ -323,12 +305,10 @@ module _ (value : WorldValue) (whole : IsHeld value) (tasks : Tasks) (more less 
           → list_all (λ place. is_some (mount_at nat_eq world place).namespace) (option_to_list o) ≡ true
           → list_all (λ place. is_some (mount_at nat_eq ended place).namespace) (option_to_list o) ≡ true
       still x m stays None e h = refl
-      still x m stays (Some place) e h =
-          ap (λ (y : Mount ℕ). is_some y.namespace && true)
+      still x m stays (Some place) e h = ap (λ (y : Mount ℕ). is_some y.namespace && true)
           (mount_in_gone goes goes_attached world.mounts place.mount
           ∙ ap (λ b. cond b (detached (mount_at nat_eq world place)) (mount_at nat_eq world place))
-          (parent_stays x m stays place e))
-          ∙ h
+          (parent_stays x m stays place e)) ∙ h
 
       on : (x : Mount ℕ) → Among x world.mounts → (b : Bool) → goes x ≡ b
           → stands_on_attached ended (cond b (detached x) x) ≡ true
@@ -340,11 +320,9 @@ module _ (value : WorldValue) (whole : IsHeld value) (tasks : Tasks) (more less 
   located_ended =
       all_pass (λ location. is_among nat_eq location.mount (map (λ x. x.number) ended.mounts)) (all_locations next)
       (λ location m.
-      ap (is_among nat_eq location.mount) same_numbers
-      ∙ ⊎_elim
+      ap (is_among nat_eq location.mount) same_numbers ∙ ⊎_elim
       (λ f. old location (subst (λ all. Among location all) (sym moves.was)
-      (among-append_left moves.front (locations less ++ moves.back) location f)))
-      (λ rest. ⊎_elim
+      (among-append_left moves.front (locations less ++ moves.back) location f))) (λ rest. ⊎_elim
       (λ come. (and_parts (is_among nat_eq location.mount (map (λ x. x.number) world.mounts)) _
       (passes (is_located_well nat_eq world) (locations more) moves.there location come)).0)
       (λ b. old location (subst (λ all. Among location all) (sym moves.was)
@@ -356,8 +334,7 @@ module _ (value : WorldValue) (whole : IsHeld value) (tasks : Tasks) (more less 
       old : (location : Location ℕ) → Among location (all_locations world)
           → is_among nat_eq location.mount (map (λ x. x.number) world.mounts) ≡ true
       old location m = passes (λ location. is_among nat_eq location.mount (map (λ x. x.number) world.mounts))
-          (all_locations world)
-          (Roots.locations_of_worlds_stand world whole.in_world) location m
+          (all_locations world) (Roots.locations_of_worlds_stand world whole.in_world) location m
 
   -- Filesystems
 
@@ -429,8 +406,7 @@ module _ (value : WorldValue) (whole : IsHeld value) (tasks : Tasks) (more less 
         ∙ map_twice (λ (f : Filesystem ℕ). f.number) filesystem_seen value.filesystems
         ∙ sym (map_twice (λ (one : Shown). counted one.count) shown_entry value.filesystems)
         ∙ sym (map_twice (λ (one : Shown). counted one.count) pinned_one (shown value.filesystems))
-        ∙ sym (ap (map (λ (one : Shown). counted one.count))
-        (filesystems_gained world more (kept_of value)));
+        ∙ sym (ap (map (λ (one : Shown). counted one.count)) (filesystems_gained world more (kept_of value)));
     stand = stand_ended;
     located = located_ended;
     leaves = leaves_alike world ended refl (λ n. shows_still n world.mounts) value (leaves_at_first value whole);
@@ -447,8 +423,7 @@ module _ (value : WorldValue) (whole : IsHeld value) (tasks : Tasks) (more less 
           ap (λ (x : Mount ℕ). not (is_some x.namespace) && nat_eq (folded hold_if was more).uses 0) held.mount
           ∙ by (is_some was.mount.namespace)
           (passes (mount_lives nat_eq world) world.mounts (worlds_are_in_use world whole.in_world).mounts was.mount
-          (in_world was n))
-          held.uses (among_from_all (CountsItsUses world) value.mounts whole.mounts was n).uses
+          (in_world was n)) held.uses (among_from_all (CountsItsUses world) value.mounts whole.mounts was n).uses
         where
           by : (b : Bool) → (b || is_located nat_eq world was.mount.number) ≡ true
               → (folded hold_if was more).uses ≡ was.uses + times (is_use_on was.mount.number) more

@@ -47,8 +47,7 @@ module _ (value : WorldValue) (whole : IsHeld value) (start : World ℕ) (gained
 
   pub leaves_one : (u : Use) (left : List Use) (k : Kept) → Reached value start gained goes (u ∷ left) k
       → Reached value start gained goes left (leave_use world k u)
-  leaves_one u left k at =
-      mount_looked_at value whole start gained goes attached u.location.mount left at.now _ _
+  leaves_one u left k at = mount_looked_at value whole start gained goes attached u.location.mount left at.now _ _
       (use_left value whole start gained goes attached u left at.now k at.lost at.midway)
       (left_alone value whole start gained goes attached u left at.now k at.lost at.midway at.none)
 
@@ -81,8 +80,7 @@ module _ (value : WorldValue) (start : World ℕ) (gained : List Inode) (goes : 
     (at : Reached value start gained goes [] k)
     (all_gone : (entry : MountEntry) → Among entry k.mounts → goes entry.mount ≡ false)
     (new : WorldValue) (overlays : List Merged) (is_kept : kept_with new.mounts new.filesystems overlays ≡ k)
-    (same_tasks : start.tasks ≡ new.tasks)
-    (same_overlays : new.overlays ≡ overlays_kept overlays value.overlays) where
+    (same_tasks : start.tasks ≡ new.tasks) (same_overlays : new.overlays ≡ overlays_kept overlays value.overlays) where
   abbrev now : World ℕ
   now = at.now
 
@@ -90,9 +88,7 @@ module _ (value : WorldValue) (start : World ℕ) (gained : List Inode) (goes : 
   mid = at.midway
 
   mounts_are : now.mounts ≡ mounts_in new.mounts
-  mounts_are =
-      mid.mounts
-      ∙ map_same (gone_if goes) (mounts_in k.mounts)
+  mounts_are = mid.mounts ∙ map_same (gone_if goes) (mounts_in k.mounts)
       (λ x m. let from = among-from_map (λ (e : MountEntry). e.mount) k.mounts x m in
       ap (λ b. cond b (detached x) x) (ap goes from.2 ∙ all_gone from.0 from.1))
       ∙ ap (λ (one : Kept). mounts_in one.mounts) (sym is_kept)
@@ -104,12 +100,10 @@ module _ (value : WorldValue) (start : World ℕ) (gained : List Inode) (goes : 
   rest_lost = at.lost ++ (inodes_of_uses (world_of value) [] ++ points_left (world_of value) goes k.mounts)
 
   nothing_rests : rest_lost ≡ at.lost
-  nothing_rests =
-      ap (λ points. at.lost ++ points)
+  nothing_rests = ap (λ points. at.lost ++ points)
       (flat_map_none (point_left (world_of value) goes) (mounts_in k.mounts)
       (λ x m. let from = among-from_map (λ (e : MountEntry). e.mount) k.mounts x m in
-      ap (λ b. cond b (inodes_of_mount_point (world_of value) x) [])
-      (ap goes from.2 ∙ all_gone from.0 from.1)))
+      ap (λ b. cond b (inodes_of_mount_point (world_of value) x) []) (ap goes from.2 ∙ all_gone from.0 from.1)))
       ∙ append-nil at.lost
 
   -- all is in use
@@ -119,8 +113,7 @@ module _ (value : WorldValue) (start : World ℕ) (gained : List Inode) (goes : 
       let entry = among-from_map (λ (e : MountEntry). e.mount) k.mounts from.0 from.1 in
       let is : x ≡ entry.0.mount = from.2 ∙ ap (gone_if goes) entry.2
       ∙ ap (λ b. cond b (detached entry.0.mount) entry.0.mount) (all_gone entry.0 entry.1) in
-      ap (mount_lives nat_eq now) is
-      ∙ lives entry.0 entry.1
+      ap (mount_lives nat_eq now) is ∙ lives entry.0 entry.1
     where
       lives : (entry : MountEntry) → Among entry k.mounts
           → (is_some entry.mount.namespace || is_located nat_eq now entry.mount.number) ≡ true
@@ -148,10 +141,8 @@ module _ (value : WorldValue) (start : World ℕ) (gained : List Inode) (goes : 
           (among-filter is_plain_one now.filesystems f m (ap not e)))) in
           let is = mid.shown from.0 from.1 in
           counted_lives value mid.held now mid.leaves f
-          (positive (mounts_showing now f.number + layer_count now f.number)
-          ∙ ap (λ n. not (nat_eq n 0))
-          (ap (λ n. mounts_showing now n + layer_count now n) from.2 ∙ sym is.mounts)
-          ∙ ap not is.mounted)
+          (positive (mounts_showing now f.number + layer_count now f.number) ∙ ap (λ n. not (nat_eq n 0))
+          (ap (λ n. mounts_showing now n + layer_count now n) from.2 ∙ sym is.mounts) ∙ ap not is.mounted)
 
   merged_now : overlays ≡ map (merged_in now) (filter is_overlay now.filesystems)
   merged_now = ap (λ (one : Kept). one.overlays) is_kept ∙ mid.merged
@@ -162,13 +153,9 @@ module _ (value : WorldValue) (start : World ℕ) (gained : List Inode) (goes : 
   overlays_left = ap overlays_seen same_overlays ∙ seen_kept value mid.held now mid.leaves overlays merged_now
 
   living_is : in_use_of start ≡ now
-  living_is =
-      sym mid.same
-      ∙ ap (without_dead_filesystems nat_eq) still
-      ∙ (λ i. record now {
-        filesystems = filter_all
-            (filesystem_lives nat_eq now) now.filesystems filesystem_is_used i;
-      })
+  living_is = sym mid.same ∙ ap (without_dead_filesystems nat_eq) still ∙ (λ i. record now {
+    filesystems = filter_all (filesystem_lives nat_eq now) now.filesystems filesystem_is_used i;
+  })
     where
       still : without_dead_mounts nat_eq now ≡ now
       still = λ i. record now { mounts = filter_all (mount_lives nat_eq now) now.mounts mount_is_used i }
@@ -190,8 +177,7 @@ module _ (value : WorldValue) (start : World ℕ) (gained : List Inode) (goes : 
         (sym living_is);
     mounts = ap (λ (w : World ℕ). w.mounts) living_is ∙ mounts_are;
     numbers = ap (λ (w : World ℕ). map (λ (f : Filesystem ℕ). f.number) (filter is_plain_one w.filesystems)) living_is
-        ∙ mid.numbers
-        ∙ ap (λ (one : Kept). map (λ (x : Shown). counted x.count) one.filesystems) (sym is_kept)
+        ∙ mid.numbers ∙ ap (λ (one : Kept). map (λ (x : Shown). counted x.count) one.filesystems) (sym is_kept)
         ∙ map_twice (λ (x : Shown). counted x.count) shown_entry new.filesystems;
     entries = λ entry m. let is = mid.shown (shown_entry entry) (shown_of entry m) in record {
       was = is.was;
@@ -222,16 +208,14 @@ module _ (value : WorldValue) (start : World ℕ) (gained : List Inode) (goes : 
           writers = written ∙ ap (writes_of entry.mount.number) tasks_are;
         });
     mounts = λ entry m. let is = mid.shown (shown_entry entry) (shown_of entry m) in
-        is.mounts
-        ∙ (λ i. Rattle.vt_laws_mounts.specs.LettingGo.Counts.times
+        is.mounts ∙ (λ i. Rattle.vt_laws_mounts.specs.LettingGo.Counts.times
         (λ (x : Mount ℕ). nat_eq (counted entry.count) x.filesystem) (mounts_are i)
         + sym (layers_of_fewer value new mid.held.overlays (λ overlay. is_mounted nat_eq now overlay.number)
         overlays_left now mid.leaves.overlays (counted entry.count)) i);
     overlays = all_from_among (IsMountedSoOften (world_of new)) new.overlays (λ entry m.
         among_from_all (IsMountedSoOften now) (overlays_kept overlays value.overlays)
         (counted_kept value mid.held now mid.leaves overlays merged_now) entry
-        (subst (λ all. Among entry all) same_overlays m)
-        ∙ (λ i. Rattle.vt_laws_mounts.specs.LettingGo.Counts.times
+        (subst (λ all. Among entry all) same_overlays m) ∙ (λ i. Rattle.vt_laws_mounts.specs.LettingGo.Counts.times
         (λ (x : Mount ℕ). nat_eq entry.number x.filesystem) (mounts_are i)));
     namespaces = namespaces;
   }

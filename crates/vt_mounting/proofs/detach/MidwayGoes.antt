@@ -91,11 +91,9 @@ module _ (now : World ℕ) (number : ℕ)
   -- an overlay that no mount shows keeps nothing alive
   same_lives : (f : Filesystem ℕ)
       → filesystem_lives nat_eq (without_dead_mounts nat_eq second) f ≡ filesystem_lives nat_eq living f
-  same_lives f =
-      (λ i. showing (same_left i) f.number
+  same_lives f = (λ i. showing (same_left i) f.number
       || list_any (λ (merged : Filesystem ℕ). has_layer_on nat_eq f.number merged
-      && showing (same_left i) merged.number) second.filesystems)
-      ∙ ap (λ b. is_mounted nat_eq living f.number || b)
+      && showing (same_left i) merged.number) second.filesystems) ∙ ap (λ b. is_mounted nat_eq living f.number || b)
       (any-filter (λ (merged : Filesystem ℕ). has_layer_on nat_eq f.number merged
       && is_mounted nat_eq living merged.number) (filesystem_lives nat_eq others) now.filesystems
       (λ merged m gone. none (has_layer_on nat_eq f.number merged) (is_mounted nat_eq living merged.number)
@@ -148,11 +146,9 @@ module _ (value : WorldValue) (whole : IsHeld value) (start : World ℕ) (gained
         (sym (entry_itself k.mounts one_number other m) ∙ ap (entry_numbered k.mounts) e ∙ found)
 
     in_now : Among mount now.mounts
-    in_now =
-        subst (λ all. Among mount all) (sym mid.mounts)
+    in_now = subst (λ all. Among mount all) (sym mid.mounts)
         (subst (λ one. Among one (map (gone_if goes) (mounts_in k.mounts)))
-        (ap (λ b. cond b (detached mount) mount) not_going)
-        (among-map (gone_if goes) (mounts_in k.mounts) mount
+        (ap (λ b. cond b (detached mount) mount) not_going) (among-map (gone_if goes) (mounts_in k.mounts) mount
         (among-map (λ (one : MountEntry). one.mount) k.mounts entry among.0)))
 
     mount_is : mount_numbered nat_eq now number ≡ mount
@@ -175,8 +171,7 @@ module _ (value : WorldValue) (whole : IsHeld value) (start : World ℕ) (gained
     not_located = located_while_counted now number ∙ ap (nat_lt 0) no_uses
 
     not_used : is_mount_used now number ≡ false
-    not_used =
-        ap (λ (x : Mount ℕ). is_some x.namespace || is_located nat_eq now number) mount_is
+    not_used = ap (λ (x : Mount ℕ). is_some x.namespace || is_located nat_eq now number) mount_is
         ∙ ap (λ b. b || is_located nat_eq now number) nowhere ∙ not_located
 
     dead : (other : Mount ℕ) → Among other now.mounts → not (nat_eq other.number number) ≡ false
@@ -185,8 +180,7 @@ module _ (value : WorldValue) (whole : IsHeld value) (start : World ℕ) (gained
         let same : other.number ≡ number = eqb-true other.number number (turned (nat_eq other.number number) e) in
         let is : other ≡ mount = sym (found_itself now.mounts mid.stand.one_number other m)
         ∙ ap (mount_numbered nat_eq now) same ∙ mount_is in
-        ap (mount_lives nat_eq now) is
-        ∙ ap (λ n. is_some mount.namespace || is_located nat_eq now n) (sym among.1)
+        ap (mount_lives nat_eq now) is ∙ ap (λ n. is_some mount.namespace || is_located nat_eq now n) (sym among.1)
         ∙ ap (λ b. b || is_located nat_eq now number) nowhere ∙ not_located
       where
         turned : (b : Bool) → not b ≡ false → b ≡ true
@@ -205,8 +199,7 @@ module _ (value : WorldValue) (whole : IsHeld value) (start : World ℕ) (gained
     -- Filesystems
 
     takes : (n : ℕ) → mounts_showing now n ≡ mounts_showing first n + cond (nat_eq f n) 1 0
-    takes n =
-        mount_takes_its_count now number n mid.stand.one_number mount_listed
+    takes n = mount_takes_its_count now number n mid.stand.one_number mount_listed
         ∙ ap (λ (x : Mount ℕ). mounts_showing first n + cond (nat_eq n x.filesystem) 1 0) mount_is
         ∙ ap (λ b. mounts_showing first n + cond b 1 0) (swap_eq n f)
 
@@ -287,13 +280,11 @@ module _ (value : WorldValue) (whole : IsHeld value) (start : World ℕ) (gained
                 (true≢false (sym (ap (λ k. nat_eq k number) (eqb-true n x.number g) ∙ e) ∙ apart))
             by true e false g later = later
             by false e true g later = ap (λ d.
-                Rattle.std.specs.Prelude.unwrap_or
-                (cond d (Some x) (find (λ mount. nat_eq n mount.number)
+                Rattle.std.specs.Prelude.unwrap_or (cond d (Some x) (find (λ mount. nat_eq n mount.number)
                 (filter (λ (other : Mount ℕ). not (nat_eq other.number number)) xs)))
                 (Rattle.vt_spec.specs.Machine.Mounts.no_mount n)) g
             by false e false g later = ap (λ d.
-                Rattle.std.specs.Prelude.unwrap_or
-                (cond d (Some x) (find (λ mount. nat_eq n mount.number)
+                Rattle.std.specs.Prelude.unwrap_or (cond d (Some x) (find (λ mount. nat_eq n mount.number)
                 (filter (λ (other : Mount ℕ). not (nat_eq other.number number)) xs)))
                 (Rattle.vt_spec.specs.Machine.Mounts.no_mount n)) g ∙ later
 
@@ -331,8 +322,7 @@ module _ (value : WorldValue) (whole : IsHeld value) (start : World ℕ) (gained
         (ap not (ap (λ n. nat_eq n number) (sym from.2) ∙ swap_eq location.mount number ∙ apart))))))
 
     same_points : points_left world goes (without number k.mounts) ≡ points_left world goes k.mounts
-    same_points =
-        ap (flat_map (point_left world goes))
+    same_points = ap (flat_map (point_left world goes))
         (sym (filter-map (λ (x : Mount ℕ). not (nat_eq number x.number)) (λ (e : MountEntry). e.mount) k.mounts
         (λ e. refl)))
         ∙ flat_map_less (point_left world goes) (λ (x : Mount ℕ). not (nat_eq number x.number)) (mounts_in k.mounts)
@@ -348,11 +338,9 @@ module _ (value : WorldValue) (whole : IsHeld value) (start : World ℕ) (gained
         turned false e = absurd (true≢false e)
 
     same_mounts : after.mounts ≡ map (gone_if goes) (mounts_in (without number k.mounts))
-    same_mounts =
-        ap (filter (λ x. not (nat_eq x.number number))) mid.mounts
+    same_mounts = ap (filter (λ x. not (nat_eq x.number number))) mid.mounts
         ∙ filter-map (λ (x : Mount ℕ). not (nat_eq x.number number)) (gone_if goes) (mounts_in k.mounts)
-        (λ x. ap (λ n. not (nat_eq n number)) (gone_number goes x))
-        ∙ ap (map (gone_if goes))
+        (λ x. ap (λ n. not (nat_eq n number)) (gone_number goes x)) ∙ ap (map (gone_if goes))
         (filter-map (λ (x : Mount ℕ). not (nat_eq x.number number)) (λ (e : MountEntry). e.mount) k.mounts
         (λ e. ap not (swap_eq e.mount.number number)))
 
@@ -375,8 +363,7 @@ module _ (value : WorldValue) (whole : IsHeld value) (start : World ℕ) (gained
     lost_in : (c : ℕ) → nat_lt 0 (mounts_showing first c + mounted_layer_count first c) ≡ true
         → ((overlay : Filesystem ℕ) → Among overlay (overlays_seen value.overlays) → nat_eq c overlay.number ≡ false)
         → Exchanges [] lost_here c now after
-    lost_in c there no_overlay =
-        exchanges_follow now first after [] (root ∷ []) [] (layers_gone f k.overlays) c
+    lost_in c there no_overlay = exchanges_follow now first after [] (root ∷ []) [] (layers_gone f k.overlays) c
         (subst (λ (x : Mount ℕ). Exchanges [] ((x.filesystem, x.root) ∷ []) c now first) mount_is
         (Roots.mounts_leave_their_roots now number mid.stand mid.located mount_listed not_used c))
         (layers_exchanged value whole now mid.leaves number f takes mount.root k.overlays mid.merged k.filesystems each
@@ -389,8 +376,7 @@ module _ (value : WorldValue) (whole : IsHeld value) (start : World ℕ) (gained
     counted_there new m =
         let from = shown_was new m in
         let c = counted from.0.count in
-        positive (mounts_showing first c + mounted_layer_count first c)
-        ∙ ap (λ n. not (nat_eq n 0))
+        positive (mounts_showing first c + mounted_layer_count first c) ∙ ap (λ n. not (nat_eq n 0))
         (ap (λ n. mounts_showing first c + n) (sym (layers_stay value whole now mid.leaves number f takes c))
         ∙ ap (λ n. mounts_showing after n + layer_count after n) (sym (ap counted (same_count new m))) ∙ sym from.3)
         ∙ ap not from.4
@@ -406,15 +392,12 @@ module _ (value : WorldValue) (whole : IsHeld value) (start : World ℕ) (gained
         (inodes_of_uses world left ++ points_left world goes (without number k.mounts))) n world after)
         (sym (ap counted (same_count new m)))
         (subst (λ points. Exchanges gained (lost_now ++ (inodes_of_uses world left ++ points)) c world after)
-        (sym same_points)
-        (exchanges_between world now after gained lost rest lost_here c (mid.exchanges from.0 from.1)
+        (sym same_points) (exchanges_between world now after gained lost rest lost_here c (mid.exchanges from.0 from.1)
         (lost_in c (counted_there new m) (apart from.0 from.1))))
 
     merged_left : kept_left.overlays ≡ map (merged_in after) (filter is_overlay after.filesystems)
-    merged_left =
-        (λ i. meant.merged_left_by f (meant.merged_at f (mid.merged i)) (mid.merged i))
-        ∙ merged_then now number f takes (filter is_overlay now.filesystems)
-        (overlays_apart value whole now mid.leaves)
+    merged_left = (λ i. meant.merged_left_by f (meant.merged_at f (mid.merged i)) (mid.merged i))
+        ∙ merged_then now number f takes (filter is_overlay now.filesystems) (overlays_apart value whole now mid.leaves)
         (λ overlay m. (overlay_was value whole now mid.leaves overlay m).1)
         ∙ ap (map (merged_in first)) (sym (overlays_stay value whole now mid.leaves number f takes))
 
@@ -433,8 +416,7 @@ module _ (value : WorldValue) (whole : IsHeld value) (start : World ℕ) (gained
       shown = shown_is;
       exchanges = exchanges_are;
       numbers = numbers_are value whole now mid.leaves number f takes mount.root k.overlays mid.merged k.filesystems
-          each some apart mid.numbers
-          ∙ sym (ap (map (λ (one : Shown). counted one.count)) shown_left);
+          each some apart mid.numbers ∙ sym (ap (map (λ (one : Shown). counted one.count)) shown_left);
       stand = record {
         one_number = stand_first.one_number;
         nowhere = stand_first.nowhere;

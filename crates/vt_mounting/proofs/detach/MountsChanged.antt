@@ -89,8 +89,7 @@ module _ (value : WorldValue) (whole : IsHeld value) (number : ℕ) (change : Mo
   next_of = with_mounts (world_of value) (mounts_in (changed number (with_mount_changed change) value.mounts))
 
   part_changed : {A : Type 0} (part : Mount ℕ → A) → ((mount : Mount ℕ) → part (change mount) ≡ part mount)
-      → (mount : Mount ℕ)
-      → part (one_changed number change mount) ≡ part mount
+      → (mount : Mount ℕ) → part (one_changed number change mount) ≡ part mount
   part_changed part same mount = by (nat_eq number mount.number)
     where
       by : (b : Bool) → part (cond b (change mount) mount) ≡ part mount
@@ -98,8 +97,7 @@ module _ (value : WorldValue) (whole : IsHeld value) (number : ℕ) (change : Mo
       by false = refl
 
   part_kept : {A : Type 0} (part : Mount ℕ → A) → ((mount : Mount ℕ) → part (change mount) ≡ part mount)
-      → (entry : MountEntry)
-      → part (entry_changed number change entry).mount ≡ part entry.mount
+      → (entry : MountEntry) → part (entry_changed number change entry).mount ≡ part entry.mount
   part_kept part same entry = by (nat_eq number entry.mount.number)
     where
       by : (b : Bool) → part (cond b (with_mount_changed change entry) entry).mount ≡ part entry.mount
@@ -125,8 +123,7 @@ module _ (value : WorldValue) (whole : IsHeld value) (number : ℕ) (change : Mo
   same_mounted : (filesystem : ℕ) → is_mounted nat_eq next_of filesystem ≡ is_mounted nat_eq (world_of value) filesystem
   same_mounted filesystem =
       any-map (λ (mount : Mount ℕ). nat_eq filesystem mount.filesystem) (λ (entry : MountEntry). entry.mount) entries
-      (λ entry. refl)
-      ∙ any-map (λ (entry : MountEntry). nat_eq filesystem entry.mount.filesystem)
+      (λ entry. refl) ∙ any-map (λ (entry : MountEntry). nat_eq filesystem entry.mount.filesystem)
       (entry_changed number change) value.mounts
       (λ entry. ap (nat_eq filesystem) (part_kept (λ mount. mount.filesystem) keeps.filesystem entry))
       ∙ sym (any-map (λ (mount : Mount ℕ). nat_eq filesystem mount.filesystem)
@@ -145,9 +142,7 @@ module _ (value : WorldValue) (whole : IsHeld value) (number : ℕ) (change : Mo
 
   -- all mounts and filesystems are still in use
   living_is : in_use_of next_of ≡ next_of
-  living_is =
-      ap (without_dead_filesystems nat_eq) mounts_stay
-      ∙ ap (λ all. record next_of { filesystems = all })
+  living_is = ap (without_dead_filesystems nat_eq) mounts_stay ∙ ap (λ all. record next_of { filesystems = all })
       (filter_all (filesystem_lives nat_eq next_of) next_of.filesystems (λ f m.
       same_lives f ∙ passes (filesystem_lives nat_eq (world_of value))
       (world_of value).filesystems in_use.filesystems f m))
@@ -156,8 +151,7 @@ module _ (value : WorldValue) (whole : IsHeld value) (number : ℕ) (change : Mo
       in_use = worlds_are_in_use (world_of value) whole.in_world
 
       mounts_stay : without_dead_mounts nat_eq next_of ≡ next_of
-      mounts_stay =
-          ap (with_mounts next_of) (filter_all (mount_lives nat_eq next_of) next_of.mounts (λ mount m.
+      mounts_stay = ap (with_mounts next_of) (filter_all (mount_lives nat_eq next_of) next_of.mounts (λ mount m.
           let was = mount_was mount m in
           ap (mount_lives nat_eq next_of) was.2
           ∙ (λ i. is_some (part_kept (λ one. one.namespace) keeps.namespace was.0 i)
@@ -189,8 +183,7 @@ module _ (value : WorldValue) (whole : IsHeld value) (number : ℕ) (change : Mo
 
     same_numbers : map (λ f. f.number) (filter is_plain_one (world_of value).filesystems)
         ≡ map (λ (entry : FilesystemEntry). counted entry.count) filesystems
-    same_numbers =
-        ap (map (λ (f : Filesystem ℕ). f.number)) (plain_ones_are value whole.overlays)
+    same_numbers = ap (map (λ (f : Filesystem ℕ). f.number)) (plain_ones_are value whole.overlays)
         ∙ map_twice (λ (f : Filesystem ℕ). f.number) filesystem_seen value.filesystems
         ∙ sym (map_twice (λ (one : Shown). counted one.count) shown_entry value.filesystems)
         ∙ sym (map_twice (λ (one : Shown). counted one.count) (exchanged_shown gained lost) (shown value.filesystems))
@@ -204,8 +197,7 @@ module _ (value : WorldValue) (whole : IsHeld value) (number : ℕ) (change : Mo
           ap (λ (world : World ℕ). is_mounted nat_eq world filesystem) living_is ∙ same_mounted filesystem));
       mounts = ap (λ (world : World ℕ). world.mounts) living_is;
       numbers = ap (λ (world : World ℕ). map (λ (f : Filesystem ℕ). f.number)
-          (filter is_plain_one world.filesystems)) living_is
-          ∙ same_numbers;
+          (filter is_plain_one world.filesystems)) living_is ∙ same_numbers;
       entries = λ entry m. let from = shown_was entry m in record {
         was = from.0;
         among = from.1;
@@ -230,8 +222,7 @@ module _ (value : WorldValue) (whole : IsHeld value) (number : ℕ) (change : Mo
           ap (λ (one : Shown). one.mounts) from.2
           ∙ (among_from_all (CountsItsMounts (world_of value)) value.filesystems whole.filesystems from.0 from.1).mounts
           ∙ ap (λ count. mounts_showing (world_of value) (counted count) + layer_count (world_of value) (counted count))
-          (sym (ap (λ (one : Shown). one.count) from.2))
-          ∙ (λ i. sym (same_showing (counted entry.count)) i
+          (sym (ap (λ (one : Shown). one.count) from.2)) ∙ (λ i. sym (same_showing (counted entry.count)) i
           + sym (layers_kept value new whole.overlays refl (counted entry.count)) i);
       overlays = overlays_counted value new whole.overlays refl same_showing;
       namespaces = all_from_among (CountsWhatIsInIt (world_of new)) value.namespaces (λ entry m.
@@ -250,8 +241,7 @@ module _ (value : WorldValue) (whole : IsHeld value) (number : ℕ) (change : Mo
             by false = was
 
     pub mount_is_changed : (name : TaskName) (permit : Permit ℕ) (task : Task ℕ)
-        → IsApplied value name permit task next_of
-        → Has (settled nat_eq next_of) value.groups
+        → IsApplied value name permit task next_of → Has (settled nat_eq next_of) value.groups
         → IsDone value name permit (remade value
         (changed number (with_mount_changed change) value.mounts) filesystems value.tasks)
     mount_is_changed name permit task is has =
@@ -276,8 +266,7 @@ none_changed number change (entry ∷ rest) none =
 
 entry_split : (number : ℕ) (change : Mount ℕ → Mount ℕ) (entries : List MountEntry) (entry : MountEntry)
     → any_pair (λ (a b : Mount ℕ). nat_eq a.number b.number) (mounts_in entries) ≡ false
-    → entry_numbered entries number ≡ Some entry
-    → IsSplit number change entry entries
+    → entry_numbered entries number ≡ Some entry → IsSplit number change entry entries
 entry_split number change [] entry one found = absurd cc
 entry_split number change (first ∷ rest) entry one found =
     let parts = or_parts (list_any (λ (other : Mount ℕ). nat_eq first.mount.number other.number)
@@ -295,11 +284,9 @@ entry_split number change (first ∷ rest) entry one found =
           front = [];
           back = rest;
           was = ap (λ x. x ∷ rest) same;
-          is = (λ i. cond (is i) (with_mount_changed change first) first
-              ∷ none_changed number change rest
+          is = (λ i. cond (is i) (with_mount_changed change first) first ∷ none_changed number change rest
               (ap (λ n. list_any (λ (other : Mount ℕ). nat_eq n other.number) (mounts_in rest))
-              (eqb-true number first.mount.number is) ∙ none) i)
-              ∙ ap (λ x. with_mount_changed change x ∷ rest) same;
+              (eqb-true number first.mount.number is) ∙ none) i) ∙ ap (λ x. with_mount_changed change x ∷ rest) same;
         }
     by none false is here later = let split = later here in record {
       front = first ∷ split.front;
@@ -328,13 +315,11 @@ attached_entry value number namespace is = by (entry_numbered value.mounts numbe
     by (Some entry) e found = (
       entry,
       e,
-      ap (λ o. unwrap_or o (no_mount number))
-          (found ∙ ap (option_map (λ (entry : MountEntry). entry.mount)) e),
+      ap (λ o. unwrap_or o (no_mount number)) (found ∙ ap (option_map (λ (entry : MountEntry). entry.mount)) e),
     )
 
 module _ (value : WorldValue) (whole : IsHeld value) (number : ℕ) (change : Mount ℕ → Mount ℕ)
-    (keeps : KeepsWhatItShows change)
-    (entry : MountEntry) (is : entry_numbered value.mounts number ≡ Some entry) where
+    (keeps : KeepsWhatItShows change) (entry : MountEntry) (is : entry_numbered value.mounts number ≡ Some entry) where
   pub places_exchanged : (filesystem : ℕ)
       → Exchanges (map (inode_at (world_of value)) (option_to_list (change entry.mount).mount_point))
       (map (inode_at (world_of value)) (option_to_list entry.mount.mount_point)) filesystem
@@ -342,8 +327,7 @@ module _ (value : WorldValue) (whole : IsHeld value) (number : ℕ) (change : Mo
   places_exchanged =
       let split = entry_split number change value.mounts entry whole.in_world.mounts.one_number is in
       mount_is_placed (world_of value) (next_of value whole number change keeps) (mounts_in split.front)
-      (mounts_in split.back) entry.mount (change entry.mount)
-      refl refl
+      (mounts_in split.back) entry.mount (change entry.mount) refl refl
       (ap mounts_in split.was ∙ map-append (λ (one : MountEntry). one.mount) split.front (entry ∷ split.back))
       (ap mounts_in split.is ∙ map-append (λ (one : MountEntry). one.mount) split.front
       (with_mount_changed change entry ∷ split.back))

@@ -48,8 +48,7 @@ pub found_mapped : (change : Mount ℕ → Mount ℕ) → ((mount : Mount ℕ) �
     → find (λ (mount : Mount ℕ). nat_eq number mount.number) (map change mounts)
     ≡ option_map change (find (λ (mount : Mount ℕ). nat_eq number mount.number) mounts)
 found_mapped change same [] number = refl
-found_mapped change same (first ∷ rest) number =
-    ap (λ n. cond (nat_eq number n) (Some (change first))
+found_mapped change same (first ∷ rest) number = ap (λ n. cond (nat_eq number n) (Some (change first))
     (find (λ (mount : Mount ℕ). nat_eq number mount.number) (map change rest))) (same first)
     ∙ by (nat_eq number first.number) (found_mapped change same rest number)
   where
@@ -71,8 +70,7 @@ none_numbered number (first ∷ rest) none x m = by (nat_eq number first.number)
     by : (b : Bool) → nat_eq number first.number ≡ b
         → cond b (Some first) (find (λ (y : Mount ℕ). nat_eq number y.number) rest) ≡ None
         → Among x (first ∷ rest) → (find (λ (y : Mount ℕ). nat_eq number y.number) rest ≡ None → Among x rest
-        → nat_eq x.number number ≡ false)
-        → nat_eq x.number number ≡ false
+        → nat_eq x.number number ≡ false) → nat_eq x.number number ≡ false
     by true f h n next = absurd cc
     by false f h n next =
         ⊎_elim (λ same. ap (λ (y : Mount ℕ). nat_eq y.number number) same ∙ swap_eq first.number number ∙ f) (next h) n
@@ -150,9 +148,7 @@ module _ (old : WorldValue) (number : ℕ) (pending : List ℕ) (gained lost : L
   })
     where
       same : looked_at world number ≡ world
-      same =
-          ap (without_dead_filesystems nat_eq) stay
-          ∙ ap (λ all. record world { filesystems = all })
+      same = ap (without_dead_filesystems nat_eq) stay ∙ ap (λ all. record world { filesystems = all })
           (filter_all (filesystem_lives nat_eq world) world.filesystems
           (λ f m. passes (filesystem_lives nat_eq world) world.filesystems is.mounted f m))
 
@@ -161,8 +157,7 @@ module _ (old : WorldValue) (number : ℕ) (pending : List ℕ) (gained lost : L
       both false b c h g = h
 
   module _ (entry : MountEntry) (e : entry_numbered k.mounts number ≡ Some entry)
-      (nowhere : is_some entry.mount.namespace ≡ false)
-      (unplaced : entry.mount.mount_point ≡ None) where
+      (nowhere : is_some entry.mount.namespace ≡ false) (unplaced : entry.mount.mount_point ≡ None) where
     abbrev mount : Mount ℕ
     mount = entry.mount
 
@@ -177,8 +172,7 @@ module _ (old : WorldValue) (number : ℕ) (pending : List ℕ) (gained lost : L
     numbered = eqb-true number mount.number entry_found.1
 
     mount_is : mount_numbered nat_eq world number ≡ seen
-    mount_is = ap (λ o. unwrap_or o (no_mount number))
-        (ap (find (λ x. nat_eq number x.number)) is.mounts
+    mount_is = ap (λ o. unwrap_or o (no_mount number)) (ap (find (λ x. nat_eq number x.number)) is.mounts
         ∙ found_mapped (detached_in pending) (pending_number pending) (mounts_in k.mounts) number
         ∙ ap (option_map (detached_in pending))
         (found_entry number k.mounts ∙ ap (option_map (λ (one : MountEntry). one.mount)) e))
@@ -195,8 +189,7 @@ module _ (old : WorldValue) (number : ℕ) (pending : List ℕ) (gained lost : L
 
     looked : (c : Bool) → nat_lt 0 entry.uses ≡ c
         → Looks.let_go_mount world number ≡ cond c world (without_mount world number)
-    looked c f =
-        mount_goes_at_zero world number is.stand.one_number
+    looked c f = mount_goes_at_zero world number is.stand.one_number
         ∙ (λ i. cond (nowhere_so i || nat_lt 0 (sym uses_are i)) world (without_mount world number))
         ∙ ap (λ b. cond b world (without_mount world number)) f
 
@@ -207,13 +200,10 @@ module _ (old : WorldValue) (number : ℕ) (pending : List ℕ) (gained lost : L
 
     -- the mount is one of the world
     mount_listed : is_among nat_eq number (map (λ x. x.number) world.mounts) ≡ true
-    mount_listed =
-        is_among_numbers number (map (λ (x : Mount ℕ). x.number) world.mounts)
+    mount_listed = is_among_numbers number (map (λ (x : Mount ℕ). x.number) world.mounts)
         (subst (λ n. Among n (map (λ (x : Mount ℕ). x.number) world.mounts))
-        (pending_number pending mount ∙ sym numbered)
-        (among-map (λ (x : Mount ℕ). x.number) world.mounts seen
-        (subst (λ all. Among seen all) (sym is.mounts)
-        (among-map (detached_in pending) (mounts_in k.mounts) mount
+        (pending_number pending mount ∙ sym numbered) (among-map (λ (x : Mount ℕ). x.number) world.mounts seen
+        (subst (λ all. Among seen all) (sym is.mounts) (among-map (detached_in pending) (mounts_in k.mounts) mount
         (among-map (λ (x : MountEntry). x.mount) k.mounts entry entry_found.0)))))
 
     -- where nothing is on it
@@ -242,8 +232,7 @@ module _ (old : WorldValue) (number : ℕ) (pending : List ℕ) (gained lost : L
       looked_is = ap (without_dead_filesystems nat_eq) dead
 
       takes : (n : ℕ) → mounts_showing world n ≡ mounts_showing mounted n + cond (nat_eq mount.filesystem n) 1 0
-      takes n =
-          mount_takes_its_count world number n is.stand.one_number mount_listed
+      takes n = mount_takes_its_count world number n is.stand.one_number mount_listed
           ∙ ap (λ f. mounts_showing mounted n + cond (nat_eq n f) 1 0) shows
           ∙ ap (λ b. mounts_showing mounted n + cond b 1 0) (swap_eq n mount.filesystem)
 
@@ -254,11 +243,9 @@ module _ (old : WorldValue) (number : ℕ) (pending : List ℕ) (gained lost : L
       some : (one : Shown) → Among one k.filesystems → nat_eq one.mounts 0 ≡ false
       some one m =
           let there = among-from_map (λ (f : Filesystem ℕ). f.number) (filter is_plain_one world.filesystems)
-          (counted one.count)
-          (subst (λ all. Among (counted one.count) all) (sym is.numbers)
+          (counted one.count) (subst (λ all. Among (counted one.count) all) (sym is.numbers)
           (among-map (λ (x : Shown). counted x.count) k.filesystems one m)) in
-          turned (nat_eq one.mounts 0)
-          (ap (λ n. not (nat_eq n 0))
+          turned (nat_eq one.mounts 0) (ap (λ n. not (nat_eq n 0))
           (each one m ∙ ap (λ n. mounts_showing world n + layer_count world n) there.2)
           ∙ sym (positive (mounts_showing world there.0.number + layer_count world there.0.number))
           ∙ plain_ones_counted old is.held world is.leaves is.mounted there.0
@@ -278,8 +265,7 @@ module _ (old : WorldValue) (number : ℕ) (pending : List ℕ) (gained lost : L
       shown_left : kept_now.filesystems
           ≡ left_shown old is.held world is.leaves number mount.filesystem takes mount.root k.overlays is.merged
           k.filesystems each some apart is.numbers
-      shown_left =
-          shown_are old is.held world is.leaves number mount.filesystem takes mount.root k.overlays is.merged
+      shown_left = shown_are old is.held world is.leaves number mount.filesystem takes mount.root k.overlays is.merged
           k.filesystems each some apart is.numbers
 
       not_located : is_located nat_eq world number ≡ false
@@ -292,8 +278,7 @@ module _ (old : WorldValue) (number : ℕ) (pending : List ℕ) (gained lost : L
       root_is = (λ i. ((mount_is i).filesystem, (mount_is i).root))
           ∙ (λ i. (pending_filesystem pending mount i, pending_root pending mount i))
 
-      root_goes : (n : ℕ)
-          → nat_lt 0 (mounts_showing mounted n + mounted_layer_count mounted n) ≡ true
+      root_goes : (n : ℕ) → nat_lt 0 (mounts_showing mounted n + mounted_layer_count mounted n) ≡ true
           → ((overlay : Filesystem ℕ) → Among overlay (overlays_seen old.overlays) → nat_eq n overlay.number ≡ false)
           → Exchanges [] lost_here n world remaining
       root_goes n some_there others =
@@ -312,8 +297,7 @@ module _ (old : WorldValue) (number : ℕ) (pending : List ℕ) (gained lost : L
           found_in_filter is_other world.mounts n (λ x m same. by x same (nat_eq x.number number) refl)
         where
           by : (x : Mount ℕ) → x.number ≡ n → (b : Bool) → nat_eq x.number number ≡ b → not b ≡ true
-          by x same true h =
-              absurd (true≢false (sym attached
+          by x same true h = absurd (true≢false (sym attached
               ∙ ap (λ one. is_some (mount_numbered nat_eq world one).namespace)
               (sym same ∙ eqb-true x.number number h) ∙ nowhere_so))
           by x same false h = refl
@@ -336,8 +320,7 @@ module _ (old : WorldValue) (number : ℕ) (pending : List ℕ) (gained lost : L
             all_pass (λ place. is_some (mount_at nat_eq remaining place).namespace) (option_to_list x.mount_point)
             (λ place p.
             let attached = passes (λ place. is_some (mount_at nat_eq world place).namespace)
-            (option_to_list x.mount_point)
-            (passes (stands_on_attached world) world.mounts is.stand.on_attached x
+            (option_to_list x.mount_point) (passes (stands_on_attached world) world.mounts is.stand.on_attached x
             (among-from_filter is_other world.mounts x m).0) place p in
             ap (λ (one : Mount ℕ). is_some one.namespace) (stays_there place.mount attached) ∙ attached));
       }
@@ -361,20 +344,17 @@ module _ (old : WorldValue) (number : ℕ) (pending : List ℕ) (gained lost : L
       kept_mounts = without number k.mounts
 
       mounts_are : mounts_in kept_mounts ≡ filter is_other (mounts_in k.mounts)
-      mounts_are =
-          map_filtered (λ (one : MountEntry). one.mount)
+      mounts_are = map_filtered (λ (one : MountEntry). one.mount)
           (λ (one : MountEntry). not (nat_eq number one.mount.number)) is_other
           (λ one. ap not (swap_eq one.mount.number number)) k.mounts
 
       later_is : points_lost (world_of old) (mounts_in kept_mounts) pending ≡ later
-      later_is =
-          ap (λ all. points_lost (world_of old) all pending) mounts_are
+      later_is = ap (λ all. points_lost (world_of old) all pending) mounts_are
           ∙ points_without (world_of old) pending (mounts_in k.mounts) number
           (ap (λ o. (unwrap_or o (no_mount number)).mount_point)
           (found_entry number k.mounts ∙ ap (option_map (λ (one : MountEntry). one.mount)) e) ∙ unplaced)
 
-      shown_now : (new : Shown) → Among new kept_now.filesystems
-          → IsShownIn old gained (lost ++ lost_here)
+      shown_now : (new : Shown) → Among new kept_now.filesystems → IsShownIn old gained (lost ++ lost_here)
           (points_lost (world_of old) (mounts_in kept_mounts) pending) remaining new
       shown_now new m =
           let from = left_counted old is.held world is.leaves number mount.filesystem takes mount.root k.overlays
@@ -384,12 +364,10 @@ module _ (old : WorldValue) (number : ℕ) (pending : List ℕ) (gained lost : L
           let n = counted was.was.count in
           let same : counted new.count ≡ n = ap counted (count ∙ was.count) in
           let some_there : nat_lt 0 (mounts_showing mounted n + mounted_layer_count mounted n) ≡ true =
-          positive (mounts_showing mounted n + mounted_layer_count mounted n)
-          ∙ ap (λ k. not (nat_eq k 0))
+          positive (mounts_showing mounted n + mounted_layer_count mounted n) ∙ ap (λ k. not (nat_eq k 0))
           (ap (λ k. mounts_showing mounted n + k)
           (sym (layers_stay old is.held world is.leaves number mount.filesystem takes n))
-          ∙ ap (λ k. mounts_showing remaining k + layer_count remaining k) (sym same) ∙ sym from.3)
-          ∙ ap not from.4 in
+          ∙ ap (λ k. mounts_showing remaining k + layer_count remaining k) (sym same) ∙ sym from.3) ∙ ap not from.4 in
           record {
             was = was.was;
             among = was.among;
@@ -410,14 +388,11 @@ module _ (old : WorldValue) (number : ℕ) (pending : List ℕ) (gained lost : L
       remaining_kept = record {
         held = is.held;
         merged = (λ i. meant.merged_left_by mount.filesystem (meant.merged_at mount.filesystem (is.merged i))
-            (is.merged i))
-            ∙ merged_then world number mount.filesystem takes (filter is_overlay world.filesystems)
+            (is.merged i)) ∙ merged_then world number mount.filesystem takes (filter is_overlay world.filesystems)
             (overlays_apart old is.held world is.leaves)
-            (λ overlay m. (overlay_was old is.held world is.leaves overlay m).1)
-            ∙ ap (map (merged_in mounted))
+            (λ overlay m. (overlay_was old is.held world is.leaves overlay m).1) ∙ ap (map (merged_in mounted))
             (sym (overlays_stay old is.held world is.leaves number mount.filesystem takes));
-        mounts = ap (filter is_other) is.mounts
-            ∙ filter-map is_other (detached_in pending) (mounts_in k.mounts)
+        mounts = ap (filter is_other) is.mounts ∙ filter-map is_other (detached_in pending) (mounts_in k.mounts)
             (λ x. ap (λ n. not (nat_eq n number)) (pending_number pending x))
             ∙ ap (map (detached_in pending)) (sym mounts_are);
         uses = all_from_among (CountsItsUses remaining) kept_mounts (λ one m.
@@ -425,8 +400,7 @@ module _ (old : WorldValue) (number : ℕ) (pending : List ℕ) (gained lost : L
             (among-from_filter (λ (x : MountEntry). not (nat_eq number x.mount.number)) k.mounts one m).0 in
             record { uses = counts.uses; writers = counts.writers });
         numbers = numbers_are old is.held world is.leaves number mount.filesystem takes mount.root k.overlays is.merged
-            k.filesystems each some apart is.numbers
-            ∙ sym (ap (map (λ (one : Shown). counted one.count)) shown_left);
+            k.filesystems each some apart is.numbers ∙ sym (ap (map (λ (one : Shown). counted one.count)) shown_left);
         filesystems = shown_now;
         stand = stand_still;
         located = located_still;
@@ -437,8 +411,7 @@ module _ (old : WorldValue) (number : ℕ) (pending : List ℕ) (gained lost : L
             || mount_lives nat_eq world x) world.mounts is.in_use x from.0) from.1);
         mounted = living_then old is.held world is.leaves number mount.filesystem takes;
         leaves = leaves_then old is.held world is.leaves number mount.filesystem takes;
-        points = λ x m point p few.
-            is.points x (among-from_filter is_other (mounts_in k.mounts) x
+        points = λ x m point p few. is.points x (among-from_filter is_other (mounts_in k.mounts) x
             (subst (λ all. Among x all) mounts_are m)).0 point p few;
         places = λ x m place p.
             let from = (among-from_filter is_other world.mounts x m).0 in
@@ -465,8 +438,7 @@ module _ (old : WorldValue) (number : ℕ) (pending : List ℕ) (gained lost : L
               subst (λ one. IsKeptBut old pending pending gained (lost ++ lost_here unused dead) one
                   (meant.let_go_mount number k)) (sym (looked_is unused dead))
                   (subst (λ one. IsKeptBut old pending pending gained (lost ++ lost_here unused dead)
-                  (remaining unused dead) one) (sym (kept_is false true nowhere g))
-                  (remaining_kept unused dead)),
+                  (remaining unused dead) one) (sym (kept_is false true nowhere g)) (remaining_kept unused dead)),
             )
         by false g =
             let some : entry.uses ≢ 0 = eqb-false entry.uses 0 g in (
@@ -487,8 +459,7 @@ module _ (old : WorldValue) (number : ℕ) (pending : List ℕ) (gained lost : L
   )
     where
       absent : find (λ (x : Mount ℕ). nat_eq number x.number) world.mounts ≡ None
-      absent =
-          ap (find (λ (x : Mount ℕ). nat_eq number x.number)) is.mounts
+      absent = ap (find (λ (x : Mount ℕ). nat_eq number x.number)) is.mounts
           ∙ found_mapped (detached_in pending) (pending_number pending) (mounts_in k.mounts) number
           ∙ ap (option_map (detached_in pending))
           (found_entry number k.mounts ∙ ap (option_map (λ (one : MountEntry). one.mount)) e)

@@ -49,21 +49,18 @@ module _ (old : WorldValue) (held : IsHeld old) (world : World ℕ) (leaves : Le
 
   among_before : (overlay : Filesystem ℕ) → Among overlay (overlays_seen old.overlays)
       → Among overlay (world_of old).filesystems × (is_overlay overlay ≡ true)
-  among_before overlay m =
-      among-from_filter is_overlay (world_of old).filesystems overlay
+  among_before overlay m = among-from_filter is_overlay (world_of old).filesystems overlay
       (subst (λ all. Among overlay all) (sym (overlays_are old held.overlays)) m)
 
   -- no overlay has a layer in it
   no_layer_in : (overlay : Filesystem ℕ) → Among overlay (filter is_overlay world.filesystems)
       → HasNoLayerIn overlay.number world
-  no_layer_in overlay m =
-      no_layer_midway old held world
+  no_layer_in overlay m = no_layer_midway old held world
       (λ f n e. (overlay_was f (among-filter is_overlay world.filesystems f n e)).0) overlay (overlay_was overlay m).0
 
   -- all layers are those of overlays that mounts show
   all_layers_mounted : (number : ℕ) → layer_count world number ≡ mounted_layer_count world number
-  all_layers_mounted number =
-      layers_left_are_mounted world world number
+  all_layers_mounted number = layers_left_are_mounted world world number
       (sym (filter_all (λ overlay. is_mounted nat_eq world overlay.number) (filter is_overlay world.filesystems)
       (λ overlay n. (overlay_was overlay n).1)))
 
@@ -74,23 +71,18 @@ module _ (old : WorldValue) (held : IsHeld old) (world : World ℕ) (leaves : Le
       or_first (is_mounted nat_eq world f.number) _ (overlay_was f (among-filter is_overlay world.filesystems f m e)).1
 
   -- and so does a filesystem in which something is counted
-  pub counted_lives : (f : Filesystem ℕ)
-      → nat_lt 0 (mounts_showing world f.number + layer_count world f.number) ≡ true
+  pub counted_lives : (f : Filesystem ℕ) → nat_lt 0 (mounts_showing world f.number + layer_count world f.number) ≡ true
       → filesystem_lives nat_eq world f ≡ true
-  counted_lives f some =
-      lives_while_counted world f
+  counted_lives f some = lives_while_counted world f
       ∙ some_of_both (mounts_showing world f.number) (mounted_layer_count world f.number)
-      ∙ ap (λ n. nat_lt 0 (mounts_showing world f.number + n)) (sym (all_layers_mounted f.number))
-      ∙ some
+      ∙ ap (λ n. nat_lt 0 (mounts_showing world f.number + n)) (sym (all_layers_mounted f.number)) ∙ some
 
   -- in a plain filesystem that is in use something is counted
   pub plain_ones_counted : FilesystemsInUse world → (f : Filesystem ℕ) → Among f world.filesystems
       → nat_lt 0 (mounts_showing world f.number + layer_count world f.number) ≡ true
-  plain_ones_counted living f m =
-      ap (λ n. nat_lt 0 (mounts_showing world f.number + n)) (all_layers_mounted f.number)
+  plain_ones_counted living f m = ap (λ n. nat_lt 0 (mounts_showing world f.number + n)) (all_layers_mounted f.number)
       ∙ sym (some_of_both (mounts_showing world f.number) (mounted_layer_count world f.number))
-      ∙ sym (lives_while_counted world f)
-      ∙ passes (filesystem_lives nat_eq world) world.filesystems living f m
+      ∙ sym (lives_while_counted world f) ∙ passes (filesystem_lives nat_eq world) world.filesystems living f m
 
   pub overlays_apart : any_pair (λ (a b : Filesystem ℕ). nat_eq a.number b.number) (filter is_overlay world.filesystems)
       ≡ false
@@ -103,8 +95,7 @@ module _ (old : WorldValue) (held : IsHeld old) (world : World ℕ) (leaves : Le
       (pair-filter (λ (a b : Filesystem ℕ). nat_eq a.number b.number) is_overlay (world_of old).filesystems
       held.in_world.files.one_filesystem)))
 
-  module _ (number filesystem : ℕ)
-      (takes : (n : ℕ) → mounts_showing world n
+  module _ (number filesystem : ℕ) (takes : (n : ℕ) → mounts_showing world n
       ≡ mounts_showing (without_mount world number) n + cond (nat_eq filesystem n) 1 0) where
     abbrev mounted : World ℕ
     mounted = without_mount world number
@@ -127,11 +118,9 @@ module _ (old : WorldValue) (held : IsHeld old) (world : World ℕ) (leaves : Le
       where
         by : (b : Bool) → is_overlay f ≡ b
             → filesystem_lives nat_eq mounted f ≡ cond b (is_shown f) (nat_lt 0 (counts f.number))
-        by true e =
-            lives_while_mounted mounted f (no_layer_in f (among-filter is_overlay world.filesystems f m e))
+        by true e = lives_while_mounted mounted f (no_layer_in f (among-filter is_overlay world.filesystems f m e))
             ∙ sym (mounted_while_counted mounted f.number)
-        by false e =
-            lives_while_counted mounted f
+        by false e = lives_while_counted mounted f
             ∙ some_of_both (mounts_showing mounted f.number) (mounted_layer_count mounted f.number)
 
     pub left_are : left.filesystems ≡ filter stays world.filesystems
@@ -139,9 +128,7 @@ module _ (old : WorldValue) (held : IsHeld old) (world : World ℕ) (leaves : Le
 
     -- overlays that mounts show stay
     pub overlays_stay : filter is_overlay left.filesystems ≡ filter is_shown (filter is_overlay world.filesystems)
-    overlays_stay =
-        ap (filter is_overlay) left_are
-        ∙ filter_twice is_overlay stays (λ f. is_overlay f && is_shown f)
+    overlays_stay = ap (filter is_overlay) left_are ∙ filter_twice is_overlay stays (λ f. is_overlay f && is_shown f)
         (λ f. by (is_overlay f) (is_shown f) (nat_lt 0 (counts f.number))) world.filesystems
         ∙ sym (filter_twice is_shown is_overlay (λ f. is_overlay f && is_shown f) (λ f. refl) world.filesystems)
       where
@@ -157,8 +144,7 @@ module _ (old : WorldValue) (held : IsHeld old) (world : World ℕ) (leaves : Le
     -- plain filesystems stay of which something is left
     pub plain_ones_stay : filter is_plain_one left.filesystems
         ≡ filter (λ (f : Filesystem ℕ). nat_lt 0 (counts f.number)) (filter is_plain_one world.filesystems)
-    plain_ones_stay =
-        ap (filter is_plain_one) left_are
+    plain_ones_stay = ap (filter is_plain_one) left_are
         ∙ filter_twice is_plain_one stays (λ f. is_plain_one f && nat_lt 0 (counts f.number))
         (λ f. by (is_overlay f) (is_shown f) (nat_lt 0 (counts f.number))) world.filesystems
         ∙ sym (filter_twice (λ (f : Filesystem ℕ). nat_lt 0 (counts f.number)) is_plain_one
@@ -193,10 +179,8 @@ module _ (old : WorldValue) (held : IsHeld old) (world : World ℕ) (leaves : Le
 
         by : (overlay : Filesystem ℕ) (b : Bool) → is_shown overlay ≡ b
             → is_shown overlay ≡ (is_mounted nat_eq world overlay.number && is_shown overlay)
-        by overlay true e =
-            e ∙ (λ i. sym (is_shown_before overlay.number e) i && sym e i)
-        by overlay false e =
-            e ∙ both (is_mounted nat_eq world overlay.number)
+        by overlay true e = e ∙ (λ i. sym (is_shown_before overlay.number e) i && sym e i)
+        by overlay false e = e ∙ both (is_mounted nat_eq world overlay.number)
             ∙ ap (λ c. is_mounted nat_eq world overlay.number && c) (sym e)
 
     -- and all that is left is in use.
@@ -212,11 +196,9 @@ module _ (old : WorldValue) (held : IsHeld old) (world : World ℕ) (leaves : Le
             (subst (λ all. Among overlay all) overlays_stay m)).1)
 
         by : (f : Filesystem ℕ) → stays f ≡ true → (b : Bool) → is_overlay f ≡ b → filesystem_lives nat_eq left f ≡ true
-        by f stay true e =
-            or_first (is_mounted nat_eq left f.number) _
+        by f stay true e = or_first (is_mounted nat_eq left f.number) _
             (ap (λ b. cond b (is_shown f) (nat_lt 0 (counts f.number))) (sym e) ∙ stay)
-        by f stay false e =
-            lives_while_counted left f
+        by f stay false e = lives_while_counted left f
             ∙ some_of_both (mounts_showing left f.number) (mounted_layer_count left f.number)
             ∙ ap (λ n. nat_lt 0 (mounts_showing left f.number + n))
             (sym (layers_left_are_mounted left left f.number (sym all_shown)) ∙ layers_stay f.number)
@@ -241,15 +223,12 @@ module _ (old : WorldValue) (held : IsHeld old) (world : World ℕ) (leaves : Le
 
       gone_is : flat_map layers_used (filter (λ f. not (is_shown f)) (filter is_overlay world.filesystems))
           ≡ layers_gone filesystem overlays
-      gone_is =
-          layers_go world number filesystem takes (filter is_overlay world.filesystems) overlays_apart
-          (λ overlay m. (overlay_was overlay m).1)
-          ∙ ap (layers_gone filesystem) (sym merged)
+      gone_is = layers_go world number filesystem takes (filter is_overlay world.filesystems) overlays_apart
+          (λ overlay m. (overlay_was overlay m).1) ∙ ap (layers_gone filesystem) (sym merged)
 
       fewer_layers : (n : ℕ) → layer_count world n
           ≡ mounted_layer_count mounted n + times (λ (inode : Inode). nat_eq n inode.0) (layers_gone filesystem overlays)
-      fewer_layers n =
-          layers_of_overlays world n ∙ layers_parted n is_shown (filter is_overlay world.filesystems)
+      fewer_layers n = layers_of_overlays world n ∙ layers_parted n is_shown (filter is_overlay world.filesystems)
           ∙ (λ i. layers_among n (sym overlays_stay i) + times (λ (inode : Inode). nat_eq n inode.0) (gone_is i))
           ∙ ap (λ k. k + times (λ (inode : Inode). nat_eq n inode.0) (layers_gone filesystem overlays))
           (sym (layers_of_overlays left n) ∙ layers_stay n)
@@ -261,8 +240,7 @@ module _ (old : WorldValue) (held : IsHeld old) (world : World ℕ) (leaves : Le
           let layers = fewer_layers (counted one.count) in
           ap (λ b. one.mounts - (cond b 1 0
           + times (λ (inode : Inode). nat_eq (counted one.count) inode.0) (layers_gone filesystem overlays)))
-          (swap_eq (counted one.count) filesystem)
-          ∙ omega (arith, counts_are, took, layers)
+          (swap_eq (counted one.count) filesystem) ∙ omega (arith, counts_are, took, layers)
 
       -- where an overlay has the number, no plain filesystem has it
       module _ (one : Merged) (found : merged_at filesystem overlays ≡ Some one) where
@@ -279,17 +257,13 @@ module _ (old : WorldValue) (held : IsHeld old) (world : World ℕ) (leaves : Le
             (subst (λ all. Among one all) merged there.0) in
             ap (λ n. nat_eq n (counted x.count))
             (eqb-true filesystem one.number there.1 ∙ ap (λ (y : Merged). y.number) was.2)
-            ∙ swap_eq was.0.number (counted x.count)
-            ∙ ap (λ (y : Shown). nat_eq (counted y.count) was.0.number) from.2
+            ∙ swap_eq was.0.number (counted x.count) ∙ ap (λ (y : Shown). nat_eq (counted y.count) was.0.number) from.2
             ∙ apart from.0 from.1 was.0 (overlay_was was.0 was.1).0
 
         nothing : without_layer shown (filesystem, root) ≡ unpinned
-        nothing =
-            ap (let_go_filesystem filesystem)
-            (map_alike (meant.released_if filesystem) (λ x. x) unpinned
+        nothing = ap (let_go_filesystem filesystem) (map_alike (meant.released_if filesystem) (λ x. x) unpinned
             (λ x m. ap (λ b. cond b (record x { mounts = x.mounts - 1 }) x) (none_has_it x m))
-            ∙ sym (map_itself unpinned))
-            ∙ by (nat_eq (meant.mounts_shown filesystem unpinned) 0)
+            ∙ sym (map_itself unpinned)) ∙ by (nat_eq (meant.mounts_shown filesystem unpinned) 0)
           where
             by : (b : Bool) → cond b (meant.without_filesystem filesystem unpinned) unpinned ≡ unpinned
             by true = filter_all (λ (x : Shown). not (nat_eq filesystem (counted x.count))) unpinned
@@ -308,8 +282,7 @@ module _ (old : WorldValue) (held : IsHeld old) (world : World ℕ) (leaves : Le
       -- code keeps what has something left,
       pub shown_are : shown_left_by filesystem (merged_at filesystem overlays) (unpinned_in (filesystem, root) shown)
           ≡ left_shown
-      shown_are =
-          by (merged_at filesystem overlays) refl
+      shown_are = by (merged_at filesystem overlays) refl
           ∙ go_one_by_one lost shown (λ n. mounts_showing world n + layer_count world n) each some
         where
           by : (o : Option Merged) → merged_at filesystem overlays ≡ o
@@ -321,11 +294,9 @@ module _ (old : WorldValue) (held : IsHeld old) (world : World ℕ) (leaves : Le
       -- which the world keeps, too
       pub numbers_are : map (λ (f : Filesystem ℕ). f.number) (filter is_plain_one left.filesystems)
           ≡ map (λ (one : Shown). counted one.count) left_shown
-      numbers_are =
-          ap (map (λ (f : Filesystem ℕ). f.number)) plain_ones_stay
+      numbers_are = ap (map (λ (f : Filesystem ℕ). f.number)) plain_ones_stay
           ∙ sym (filter-map (λ n. nat_lt 0 (counts n)) (λ (f : Filesystem ℕ). f.number)
-          (filter is_plain_one world.filesystems) (λ f. refl))
-          ∙ ap (filter (λ n. nat_lt 0 (counts n))) numbers
+          (filter is_plain_one world.filesystems) (λ f. refl)) ∙ ap (filter (λ n. nat_lt 0 (counts n))) numbers
           ∙ filter-map (λ n. nat_lt 0 (counts n)) (λ (one : Shown). counted one.count) shown (λ one. refl)
           ∙ ap (map (λ (one : Shown). counted one.count))
           (filter_alike (λ (one : Shown). nat_lt 0 (counts (counted one.count)))
@@ -359,30 +330,25 @@ module _ (old : WorldValue) (held : IsHeld old) (world : World ℕ) (leaves : Le
       -- and its inodes lose a use for each layer that goes.
       pub layers_exchanged : (n : ℕ) → nat_lt 0 (counts n) ≡ true
           → ((overlay : Filesystem ℕ) → Among overlay (filter is_overlay world.filesystems)
-          → nat_eq n overlay.number ≡ false)
-          → Exchanges [] (layers_gone filesystem overlays) n mounted left
-      layers_exchanged n some_there others =
-          subst (λ all. Exchanges [] all n mounted left)
+          → nat_eq n overlay.number ≡ false) → Exchanges [] (layers_gone filesystem overlays) n mounted left
+      layers_exchanged n some_there others = subst (λ all. Exchanges [] all n mounted left)
           (flat_map_alike used_by_filesystem layers_used
           (filter (λ f. not (is_shown f)) (filter is_overlay world.filesystems))
           (λ overlay m. uses_layers overlay (no_upper overlay
-          (among-from_filter (λ f. not (is_shown f)) (filter is_overlay world.filesystems) overlay m).0))
-          ∙ gone_is)
+          (among-from_filter (λ f. not (is_shown f)) (filter is_overlay world.filesystems) overlay m).0)) ∙ gone_is)
           (overlays_take_their_uses mounted left is_shown n refl refl overlays_stay
           (ap (λ all. unwrap_or (find (λ (x : Filesystem ℕ). nat_eq n x.number) all) (no_filesystem n)) left_are
           ∙ found_unless stays world.filesystems n (λ x m e. by x m e (is_overlay x) refl)))
         where
           no_upper : (overlay : Filesystem ℕ) → Among overlay (filter is_overlay world.filesystems)
               → of_overlay false (λ o. is_some o.upper) overlay ≡ false
-          no_upper overlay m =
-              among_from_all (λ (f : Filesystem ℕ). of_overlay false (λ o. is_some o.upper) f ≡ false)
+          no_upper overlay m = among_from_all (λ (f : Filesystem ℕ). of_overlay false (λ o. is_some o.upper) f ≡ false)
               (world_of old).filesystems held.overlays.read_only overlay
               (among_before overlay (overlay_was overlay m).0).0
 
           by : (x : Filesystem ℕ) → Among x world.filesystems → x.number ≡ n → (b : Bool) → is_overlay x ≡ b
               → cond b (is_shown x) (nat_lt 0 (counts x.number)) ≡ true
-          by x m e true o =
-              absurd (true≢false (sym (eq-eqb n x.number (sym e))
+          by x m e true o = absurd (true≢false (sym (eq-eqb n x.number (sym e))
               ∙ others x (among-filter is_overlay world.filesystems x m o)))
           by x m e false o = ap (λ k. nat_lt 0 (counts k)) e ∙ some_there
 
@@ -396,8 +362,7 @@ leaves_at_first value whole = record {
   rise = whole.overlays.all_rise;
 }
 
-pub merged_at_first : (value : WorldValue) → IsHeld value
-    → map merged_seen value.overlays
+pub merged_at_first : (value : WorldValue) → IsHeld value → map merged_seen value.overlays
     ≡ map (merged_in (world_of value)) (filter is_overlay (world_of value).filesystems)
 merged_at_first value whole =
     map_alike merged_seen (λ entry. merged_in (world_of value) (overlay_seen entry)) value.overlays
@@ -405,16 +370,13 @@ merged_at_first value whole =
       number = entry.number;
       mounts = among_from_all (IsMountedSoOften (world_of value)) value.overlays whole.overlays.mounts entry m i;
       layers = map (λ layer. (layer.filesystem, layer.directory)) entry.lowers;
-    })
-    ∙ sym (map_twice (merged_in (world_of value)) overlay_seen value.overlays)
+    }) ∙ sym (map_twice (merged_in (world_of value)) overlay_seen value.overlays)
     ∙ ap (map (merged_in (world_of value))) (sym (overlays_are value whole.overlays))
 
 -- In each of its plain filesystems something is counted.
 pub some_at_first : (value : WorldValue) → IsHeld value → (was : FilesystemEntry) → Among was value.filesystems
     → nat_eq was.mounts 0 ≡ false
-some_at_first value whole was m =
-    turned (nat_eq was.mounts 0)
-    (ap (λ n. not (nat_eq n 0))
+some_at_first value whole was m = turned (nat_eq was.mounts 0) (ap (λ n. not (nat_eq n 0))
     (among_from_all (CountsItsMounts (world_of value)) value.filesystems whole.filesystems was m).mounts
     ∙ sym (positive (mounts_showing (world_of value) (counted was.count)
     + layer_count (world_of value) (counted was.count)))
@@ -433,8 +395,7 @@ module _ (world other : World ℕ) (same : other.filesystems ≡ world.filesyste
   leaves_alike old leaves = record {
     overlays = ap (filter is_overlay) same ∙ leaves.overlays
         ∙ filter_alike (λ (overlay : Filesystem ℕ). is_mounted nat_eq world overlay.number)
-        (λ (overlay : Filesystem ℕ). is_mounted nat_eq other overlay.number) (overlays_seen old.overlays)
-        (λ overlay m.
+        (λ (overlay : Filesystem ℕ). is_mounted nat_eq other overlay.number) (overlays_seen old.overlays) (λ overlay m.
         mounted_while_counted world overlay.number ∙ ap (nat_lt 0) (sym (showing overlay.number))
         ∙ sym (mounted_while_counted other overlay.number));
     rise = ap are_rising same ∙ leaves.rise;
@@ -442,11 +403,9 @@ module _ (world other : World ℕ) (same : other.filesystems ≡ world.filesyste
 
   pub merged_alike : map (merged_in world) (filter is_overlay world.filesystems)
       ≡ map (merged_in other) (filter is_overlay other.filesystems)
-  merged_alike =
-      map_alike (merged_in world) (merged_in other) (filter is_overlay world.filesystems)
+  merged_alike = map_alike (merged_in world) (merged_in other) (filter is_overlay world.filesystems)
       (λ overlay m. λ i. record {
         number = overlay.number;
         mounts = sym (showing overlay.number) i;
         layers = layers_used overlay;
-      })
-      ∙ ap (λ all. map (merged_in other) (filter is_overlay all)) (sym same)
+      }) ∙ ap (λ all. map (merged_in other) (filter is_overlay all)) (sym same)

@@ -76,11 +76,9 @@ module _ (mounts : List (Mount ℕ)) (one : any_pair (λ (a b : Mount ℕ). nat_
       by : (old : Mount ℕ) → spec.Among old mounts → (b : Bool) → nat_eq mount.number old.number ≡ b
           → cond b mount old ≡ old
       by old n false e = refl
-      by old n true e =
-          sym (found_itself mounts one mount m)
+      by old n true e = sym (found_itself mounts one mount m)
           ∙ ap (λ k. unwrap_or (find (λ (x : Mount ℕ). nat_eq k x.number) mounts) (no_mount k))
-          (eqb-true mount.number old.number e)
-          ∙ found_itself mounts one old n
+          (eqb-true mount.number old.number e) ∙ found_itself mounts one old n
 
   pub puts_themselves : (some : List (Mount ℕ)) → ((mount : Mount ℕ) → spec.Among mount some → spec.Among mount mounts)
       → folded (with_mount nat_eq) mounts some ≡ mounts
@@ -113,8 +111,7 @@ module _ (value : WorldValue) (held : IsHeld value) (number namespace : ℕ) (pl
 
   first_put : with_mount nat_eq (mounts_in value.mounts) put
       ≡ map (one_changed number (placed_at place)) (mounts_in value.mounts)
-  first_put =
-      spec-map_alike (replaced_if_same nat_eq put) (one_changed number (placed_at place)) mounts (λ mount m.
+  first_put = spec-map_alike (replaced_if_same nat_eq put) (one_changed number (placed_at place)) mounts (λ mount m.
       ap (λ n. cond (nat_eq n mount.number) put mount) (number_found mounts number)
       ∙ by mount m (nat_eq number mount.number) refl)
     where
@@ -125,15 +122,13 @@ module _ (value : WorldValue) (held : IsHeld value) (number namespace : ℕ) (pl
 
       by : (mount : Mount ℕ) → spec.Among mount (mounts_in value.mounts) → (b : Bool) → nat_eq number mount.number ≡ b
           → cond b put mount ≡ cond b (placed_at place mount) mount
-      by mount m true e =
-          ap (placed_at place) (ap (mount_numbered nat_eq world) (eqb-true number mount.number e)
+      by mount m true e = ap (placed_at place) (ap (mount_numbered nat_eq world) (eqb-true number mount.number e)
           ∙ found_itself mounts one_number mount m)
       by mount m false e = refl
 
   module _ (rest : List (Mount ℕ))
       (is_tree : mount_tree nat_eq (mounts_in value.mounts) (mount_numbered nat_eq (world_of value) number)
-      ≡ mount_numbered nat_eq (world_of value) number ∷ rest)
-      (new : Copies ℕ) where
+      ≡ mount_numbered nat_eq (world_of value) number ∷ rest) (new : Copies ℕ) where
     abbrev tree : List (Mount ℕ)
     tree = mount_numbered nat_eq (world_of value) number ∷ rest
 
@@ -149,8 +144,7 @@ module _ (value : WorldValue) (held : IsHeld value) (number namespace : ℕ) (pl
     in_rest mount m = subst (spec.Among mount) (sym is_tree) (inr m)
 
     another : (mount : Mount ℕ) → spec.Among mount rest → nat_eq top.number mount.number ≡ false
-    another mount m =
-        spec.none_among (λ (other : Mount ℕ). nat_eq top.number other.number) rest
+    another mount m = spec.none_among (λ (other : Mount ℕ). nat_eq top.number other.number) rest
         (or_parts (list_any (λ (other : Mount ℕ). nat_eq top.number other.number) rest) _
         (subst (λ list. any_pair (λ (a b : Mount ℕ). nat_eq a.number b.number) list ≡ false) is_tree
         (trees_have_each_once world number one_number held.in_world.mounts.standing))).0 mount m
@@ -164,21 +158,17 @@ module _ (value : WorldValue) (held : IsHeld value) (number namespace : ℕ) (pl
     }
 
     rest_copied : (mount : Mount ℕ) → spec.Among mount rest → copy mount ≡ mount
-    rest_copied mount m =
-        (λ i. record mount {
-          namespace = (there ∙ sym (in_tree value held number namespace inside mount (in_rest mount m)).2) i;
-          mount_point = Some (cond ((turned mount.number top.number ∙ another mount m) i)
-              (record { mount = (mount_at nat_eq (world_of value) place).number; node = place.node })
-              (unwrap_or (option_map (λ (at : Location ℕ). record { mount = at.mount; node = at.node }) mount.mount_point) place));
-        })
-        ∙ stays mount.mount_point (tree_placed (length mounts) mounts top mount placed (in_rest mount m))
+    rest_copied mount m = (λ i. record mount {
+      namespace = (there ∙ sym (in_tree value held number namespace inside mount (in_rest mount m)).2) i;
+      mount_point = Some (cond ((turned mount.number top.number ∙ another mount m) i)
+          (record { mount = (mount_at nat_eq (world_of value) place).number; node = place.node })
+          (unwrap_or (option_map (λ (at : Location ℕ). record { mount = at.mount; node = at.node }) mount.mount_point) place));
+    }) ∙ stays mount.mount_point (tree_placed (length mounts) mounts top mount placed (in_rest mount m))
       where
-        stays : (o : Option (Location ℕ)) → is_some o ≡ true
-            → record mount {
-              mount_point = Some
-                  (unwrap_or (option_map (λ (at : Location ℕ). record { mount = at.mount; node = at.node }) o) place);
-            }
-            ≡ record mount { mount_point = o }
+        stays : (o : Option (Location ℕ)) → is_some o ≡ true → record mount {
+          mount_point = Some
+              (unwrap_or (option_map (λ (at : Location ℕ). record { mount = at.mount; node = at.node }) o) place);
+        } ≡ record mount { mount_point = o }
         stays None e = absurd (true≢false (sym e))
         stays (Some at) e = refl
 
@@ -190,15 +180,12 @@ module _ (value : WorldValue) (held : IsHeld value) (number namespace : ℕ) (pl
     pub mounts_after : folded (with_mount nat_eq) (mounts_in value.mounts)
         (map (copy_by (world_of value) place tree true true new) (twigs (world_of value) place tree))
         ≡ map (one_changed number (placed_at place)) (mounts_in value.mounts)
-    mounts_after =
-        ap (folded (with_mount nat_eq) mounts) all_copied
-        ∙ puts_themselves (with_mount nat_eq mounts put)
+    mounts_after = ap (folded (with_mount nat_eq) mounts) all_copied ∙ puts_themselves (with_mount nat_eq mounts put)
         (one_number_by_numbers mounts (with_mount nat_eq mounts put) (numbers-with_mount put mounts) one_number)
         rest (λ mount m.
         subst (λ x. spec.Among x (with_mount nat_eq mounts put)) (ap (λ b. cond b put mount) (another mount m))
         (spec.among-map (replaced_if_same nat_eq put) mounts mount
-        (in_tree value held number namespace inside mount (in_rest mount m)).0))
-        ∙ first_put
+        (in_tree value held number namespace inside mount (in_rest mount m)).0)) ∙ first_put
 
     -- no group is made
     made_none : (list : List (Mount ℕ))
@@ -222,12 +209,10 @@ module _ (value : WorldValue) (held : IsHeld value) (number namespace : ℕ) (pl
       let begins = tree_top (length mounts) mounts top in
       let new = copies_from nat_eq fresh (mount_at nat_eq world place ∷ []) (top ∷ begins.0) in
       ap (λ list. attach nat_eq world fresh place true list) begins.1
-      ∙ at_destination world place (top ∷ begins.0) alone true fresh
-      ∙ (λ i. record world {
+      ∙ at_destination world place (top ∷ begins.0) alone true fresh ∙ (λ i. record world {
         mounts = (append-nil _ ∙ append-nil _ ∙ map-id _ ∙ mounts_after begins.0 begins.1 new
             ∙ sym (mounts_changed number (placed_at place) value.mounts)) i;
-        master = folded (masters_with nat_eq) world.master
-            (made_none begins.0 begins.1 new (top ∷ begins.0) i ++ []);
+        master = folded (masters_with nat_eq) world.master (made_none begins.0 begins.1 new (top ∷ begins.0) i ++ []);
       })
 
 -- a mount point is there
@@ -253,14 +238,12 @@ mount_point_located value held number namespace point inside is =
     is_among_numbers point.mount (map (λ (x : Mount ℕ). x.number) mounts)
     (subst (λ n. Among n (map (λ (x : Mount ℕ). x.number) mounts)) (number_found mounts point.mount)
     (among-map (λ (x : Mount ℕ). x.number) mounts (mount_at nat_eq world point)
-    (found_is_there mounts point.mount stands.0))) i
-    && directory_there (node_at nat_eq world point) directory.0 i)
+    (found_is_there mounts point.mount stands.0))) i && directory_there (node_at nat_eq world point) directory.0 i)
 
 -- The event
 
 module _ (value : WorldValue) (whole : IsHeld value) (name : TaskName) (number : ℕ) (place : At) (left : Option At)
-    (filesystems : Filesystems)
-    (permits : Permits value name (ToMove number (location_of place)))
+    (filesystems : Filesystems) (permits : Permits value name (ToMove number (location_of place)))
     (unshared : is_shared (mount_at nat_eq (world_of value) (location_of place)).propagation ≡ false)
     (small : is_small_node place.node ≡ true)
     (small_left : (point : At) → left ≡ Some point → is_small_node point.node ≡ true)
@@ -303,8 +286,7 @@ module _ (value : WorldValue) (whole : IsHeld value) (name : TaskName) (number :
   -- the inode at the new mount point is there
   gained_is_there : (was : FilesystemEntry) → Among was value.filesystems
       → AreThere (counted was.count) (inodes_seen was) gained
-  gained_is_there was m =
-      ap (λ b. b && true)
+  gained_is_there was m = ap (λ b. b && true)
       (by (nat_eq (counted was.count) (mount_at nat_eq (world_of value) (location_of place)).filesystem) refl)
     where
       some_inode : (o : Option (Trees.Inode ℕ)) → is_some (node_in o) ≡ is_some o
@@ -314,39 +296,30 @@ module _ (value : WorldValue) (whole : IsHeld value) (name : TaskName) (number :
       by : (b : Bool) → nat_eq (counted was.count) (mount_at nat_eq (world_of value) (location_of place)).filesystem ≡ b
           → (not b || is_some ((inodes_seen was).inode (number_of place.node))) ≡ true
       by false e = refl
-      by true e =
-          sym (some_inode ((inodes_seen was).inode (number_of place.node)))
+      by true e = sym (some_inode ((inodes_seen was).inode (number_of place.node)))
           ∙ ap (λ (f : Filesystem ℕ). is_some (f.files.tree.node (number_of place.node)))
-          (sym (found_plain_one value whole was m)
-          ∙ ap (filesystem_numbered nat_eq there_world) (eqb-true _ _ e))
+          (sym (found_plain_one value whole was m) ∙ ap (filesystem_numbered nat_eq there_world) (eqb-true _ _ e))
           ∙ (and_parts _ _ place_located).1
 
-  pub mount_is_moved : IsDone value name (ToMove number (location_of place))
-      (remade value (changed number (λ entry.
+  pub mount_is_moved : IsDone value name (ToMove number (location_of place)) (remade value (changed number (λ entry.
       record entry {
-        mount = record entry.mount {
-          mount_point = Some
-              (location_of place);
-        };
+        mount = record entry.mount { mount_point = Some (location_of place) };
       }) value.mounts) filesystems value.tasks)
   mount_is_moved =
       let entry = attached_entry value number permits.task.namespace may.own in
       mount_is_changed value whole number (placed_at (location_of place))
-      (places_keep (location_of place)) gained lost filesystems
-      (shown_is ∙ shown_moved left left_is small_left)
+      (places_keep (location_of place)) gained lost filesystems (shown_is ∙ shown_moved left left_is small_left)
       (λ filesystem. subst (λ (mount : Mount ℕ). Exchanges gained
       (map (inode_at there_world) (option_to_list mount.mount_point)) filesystem there_world
       (next_of value whole number (placed_at (location_of place)) (places_keep (location_of place)))) (sym entry.2)
       (places_exchanged value whole number (placed_at (location_of place))
       (places_keep (location_of place)) entry.0 entry.1 filesystem))
-      gained_is_there name (ToMove number (location_of place)) permits.task
-      (record {
+      gained_is_there name (ToMove number (location_of place)) permits.task (record {
         called = permits.called;
         given = permits.given;
         named = λ i. attached_named value whole number permits.task.namespace may.own i
             && located_is_named value whole (location_of place) place_located i;
-        applied = λ fresh.
-            tree_moved value whole number permits.task.namespace
+        applied = λ fresh. tree_moved value whole number permits.task.namespace
             (location_of place) may.own may.destination.own may.placed fresh
             (none_from_not_some (group_of (mount_at nat_eq (world_of value) (location_of place)).propagation) unshared);
       })

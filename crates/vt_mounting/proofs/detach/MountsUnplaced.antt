@@ -16,8 +16,7 @@ use Rattle.vt_mounting.proofs.detach.Shown.{found_entry, let_go_none}
 pub point_seen : (mounts : List MountEntry) (number : ℕ) (found : Option (Mount ℕ))
     → find (λ mount. nat_eq number mount.number) (mounts_in mounts) ≡ found
     → point_of number mounts ≡ option_and_then (λ mount. mount.mount_point) found
-point_seen mounts number found is =
-    by (entry_numbered mounts number)
+point_seen mounts number found is = by (entry_numbered mounts number)
     ∙ ap (option_and_then (λ (mount : Mount ℕ). mount.mount_point)) (sym (found_entry number mounts) ∙ is)
   where
     by : (o : Option MountEntry) → option_and_then (λ entry. entry.mount.mount_point) o
@@ -40,8 +39,7 @@ changed_none number change (first ∷ rest) none = by (nat_eq number first.mount
 
 pub detach_none : (number : ℕ) (k : Kept) → find (λ mount. nat_eq number mount.number) (mounts_in k.mounts) ≡ None
     → k ≡ without_attachment number None k
-detach_none number k none =
-    let_go_none number k none
+detach_none number k none = let_go_none number k none
     ∙ ap (λ mounts. Rattle.vt_mounting.specs.Detach.Uses.let_go_mount number (record k { mounts = mounts }))
     (sym (changed_none number detached_entry k.mounts
     (by (entry_numbered k.mounts number) (sym (found_entry number k.mounts) ∙ none))))

@@ -63,15 +63,13 @@ map_itself (x ∷ xs) = ap (λ rest. x ∷ rest) (map_itself xs)
 pub mounts_gained : (world : World ℕ) (uses : List Use) (k : Kept)
     → (folded (gain world) k uses).mounts ≡ map (λ entry. folded hold_if entry uses) k.mounts
 mounts_gained world [] k = map_itself k.mounts
-mounts_gained world (held_use ∷ uses) k =
-    mounts_gained world uses (gain world k held_use)
+mounts_gained world (held_use ∷ uses) k = mounts_gained world uses (gain world k held_use)
     ∙ map_twice (λ entry. folded hold_if entry uses) (λ entry. hold_if entry held_use) k.mounts
 
 pub mounts_lost : (world : World ℕ) (uses : List Use) (k : Kept)
     → (folded (lose world) k uses).mounts ≡ map (λ entry. folded release_if entry uses) k.mounts
 mounts_lost world [] k = map_itself k.mounts
-mounts_lost world (held_use ∷ uses) k =
-    mounts_lost world uses (lose world k held_use)
+mounts_lost world (held_use ∷ uses) k = mounts_lost world uses (lose world k held_use)
     ∙ map_twice (λ entry. folded release_if entry uses) (λ entry. release_if entry held_use) k.mounts
 
 -- an entry with more uses, and with less
@@ -85,8 +83,7 @@ pub record HasLess (less : List Use) (entry new : MountEntry) : Type 0 where
   pub uses : new.uses ≡ entry.uses - times (is_use_on entry.mount.number) less
   pub writers : new.writers ≡ entry.writers - times (writes_on_mount entry.mount.number) less
 
-held_one : (entry : MountEntry) (b w : Bool)
-    → ((cond b (held w entry) entry).mount ≡ entry.mount)
+held_one : (entry : MountEntry) (b w : Bool) → ((cond b (held w entry) entry).mount ≡ entry.mount)
     × ((cond b (held w entry) entry).uses ≡ entry.uses + cond b 1 0)
     × ((cond b (held w entry) entry).writers ≡ entry.writers + cond (w && b) 1 0)
 held_one entry true true = (refl, refl, refl)
@@ -94,8 +91,7 @@ held_one entry true false = (refl, refl, refl)
 held_one entry false true = (refl, omega arith, omega arith)
 held_one entry false false = (refl, omega arith, omega arith)
 
-released_one : (entry : MountEntry) (b w : Bool)
-    → ((cond b (released w entry) entry).mount ≡ entry.mount)
+released_one : (entry : MountEntry) (b w : Bool) → ((cond b (released w entry) entry).mount ≡ entry.mount)
     × ((cond b (released w entry) entry).uses ≡ entry.uses - cond b 1 0)
     × ((cond b (released w entry) entry).writers ≡ entry.writers - cond (w && b) 1 0)
 released_one entry true true = (refl, refl, refl)
@@ -151,40 +147,28 @@ inodes_of_uses world uses = map (λ (held_use : Use). inode_at world held_use.lo
 abbrev pub exchanged_shown : List Inode → List Inode → Shown → Shown
 exchanged_shown gained lost one = record one { inodes = exchanged (counted one.count) gained lost one.inodes }
 
-pub filesystems_gained : (world : World ℕ) (uses : List Use) (k : Kept)
-    → (folded (gain world) k uses).filesystems
+pub filesystems_gained : (world : World ℕ) (uses : List Use) (k : Kept) → (folded (gain world) k uses).filesystems
     ≡ map (λ (one : Shown). record one {
-      inodes = folded (pinned_if (counted one.count)) one.inodes
-          (inodes_of_uses world uses);
+      inodes = folded (pinned_if (counted one.count)) one.inodes (inodes_of_uses world uses);
     }) k.filesystems
 filesystems_gained world [] k = map_itself k.filesystems
-filesystems_gained world (held_use ∷ uses) k =
-    filesystems_gained world uses (gain world k held_use)
+filesystems_gained world (held_use ∷ uses) k = filesystems_gained world uses (gain world k held_use)
     ∙ map_twice (λ (one : Shown). record one {
-      inodes = folded (pinned_if (counted one.count)) one.inodes
-          (inodes_of_uses world uses);
-    })
-    (λ (one : Shown). record one {
-      inodes = pinned_if (counted one.count) one.inodes
-          (inode_at world held_use.location);
+      inodes = folded (pinned_if (counted one.count)) one.inodes (inodes_of_uses world uses);
+    }) (λ (one : Shown). record one {
+      inodes = pinned_if (counted one.count) one.inodes (inode_at world held_use.location);
     }) k.filesystems
 
-pub filesystems_lost : (world : World ℕ) (uses : List Use) (k : Kept)
-    → (folded (lose world) k uses).filesystems
+pub filesystems_lost : (world : World ℕ) (uses : List Use) (k : Kept) → (folded (lose world) k uses).filesystems
     ≡ map (λ (one : Shown). record one {
-      inodes = folded (unpinned_if (counted one.count)) one.inodes
-          (inodes_of_uses world uses);
+      inodes = folded (unpinned_if (counted one.count)) one.inodes (inodes_of_uses world uses);
     }) k.filesystems
 filesystems_lost world [] k = map_itself k.filesystems
-filesystems_lost world (held_use ∷ uses) k =
-    filesystems_lost world uses (lose world k held_use)
+filesystems_lost world (held_use ∷ uses) k = filesystems_lost world uses (lose world k held_use)
     ∙ map_twice (λ (one : Shown). record one {
-      inodes = folded (unpinned_if (counted one.count)) one.inodes
-          (inodes_of_uses world uses);
-    })
-    (λ (one : Shown). record one {
-      inodes = unpinned_if (counted one.count) one.inodes
-          (inode_at world held_use.location);
+      inodes = folded (unpinned_if (counted one.count)) one.inodes (inodes_of_uses world uses);
+    }) (λ (one : Shown). record one {
+      inodes = unpinned_if (counted one.count) one.inodes (inode_at world held_use.location);
     }) k.filesystems
 
 -- what is gained and lost
@@ -203,31 +187,22 @@ moved_kept world more less k = folded (lose world) (folded (gain world) k more) 
 
 pub moved_overlays : (world : World ℕ) (more less : List Use) (k : Kept)
     → (moved_kept world more less k).overlays ≡ k.overlays
-moved_overlays world more less k =
-    lost_overlays world less (folded (gain world) k more) ∙ gained_overlays world more k
+moved_overlays world more less k = lost_overlays world less (folded (gain world) k more) ∙ gained_overlays world more k
 
-pub filesystems_moved : (world : World ℕ) (more less : List Use) (k : Kept)
-    → (moved_kept world more less k).filesystems
+pub filesystems_moved : (world : World ℕ) (more less : List Use) (k : Kept) → (moved_kept world more less k).filesystems
     ≡ map (exchanged_shown (inodes_of_uses world more) (inodes_of_uses world less)) k.filesystems
-filesystems_moved world more less k =
-    filesystems_lost world less (folded (gain world) k more)
+filesystems_moved world more less k = filesystems_lost world less (folded (gain world) k more)
     ∙ ap (map (λ (one : Shown). record one {
-      inodes = folded (unpinned_if (counted one.count)) one.inodes
-          (inodes_of_uses world less);
-    })) (filesystems_gained world more k)
-    ∙ map_twice (λ (one : Shown). record one {
-      inodes = folded (unpinned_if (counted one.count)) one.inodes
-          (inodes_of_uses world less);
-    })
-    (λ (one : Shown). record one {
-      inodes = folded (pinned_if (counted one.count)) one.inodes
-          (inodes_of_uses world more);
+      inodes = folded (unpinned_if (counted one.count)) one.inodes (inodes_of_uses world less);
+    })) (filesystems_gained world more k) ∙ map_twice (λ (one : Shown). record one {
+      inodes = folded (unpinned_if (counted one.count)) one.inodes (inodes_of_uses world less);
+    }) (λ (one : Shown). record one {
+      inodes = folded (pinned_if (counted one.count)) one.inodes (inodes_of_uses world more);
     }) k.filesystems
 
 pub mounts_moved : (world : World ℕ) (more less : List Use) (k : Kept)
     → (moved_kept world more less k).mounts ≡ map (λ entry. folded release_if (folded hold_if entry more) less) k.mounts
-mounts_moved world more less k =
-    mounts_lost world less (folded (gain world) k more)
+mounts_moved world more less k = mounts_lost world less (folded (gain world) k more)
     ∙ ap (map (λ entry. folded release_if entry less)) (mounts_gained world more k)
     ∙ map_twice (λ entry. folded release_if entry less) (λ entry. folded hold_if entry more) k.mounts
 
@@ -257,12 +232,9 @@ module _ (value : WorldValue) (whole : IsHeld value) (tasks : Tasks) (more less 
 
   -- what was left was left
   pub only_left : only_these_are_left world tasks (locations less) ≡ true
-  only_left =
-      all_pass (λ location. is_location_among (all_locations next) location
-      || is_location_among (locations less) location) (all_locations world)
-      (λ location m. ⊎_elim
-      (λ f. still location (among-append_left moves.front (locations more ++ moves.back) location f))
-      (λ rest. ⊎_elim
+  only_left = all_pass (λ location. is_location_among (all_locations next) location
+      || is_location_among (locations less) location) (all_locations world) (λ location m. ⊎_elim
+      (λ f. still location (among-append_left moves.front (locations more ++ moves.back) location f)) (λ rest. ⊎_elim
       (λ gone. or_second (is_location_among (all_locations next) location) _ (found (locations less) location gone))
       (λ b. still location (among-append_right moves.front (locations more ++ moves.back) location
       (among-append_right (locations more) moves.back location b)))
@@ -272,8 +244,7 @@ module _ (value : WorldValue) (whole : IsHeld value) (tasks : Tasks) (more less 
     where
       found : (all : List (Location ℕ)) (location : Location ℕ) → Among location all
           → is_location_among all location ≡ true
-      found all location m =
-          any_passes (same_location nat_eq location) all location m
+      found all location m = any_passes (same_location nat_eq location) all location m
           (λ i. eq-eqb location.mount location.mount refl i && eq-eqb location.node location.node refl i)
 
       still : (location : Location ℕ) → Among location (moves.front ++ (locations more ++ moves.back))
@@ -337,16 +308,13 @@ module _ (value : WorldValue) (whole : IsHeld value) (tasks : Tasks) (more less 
           ≡ true = (and_parts _ _ well).1 in
           sym (some_inode ((inodes_seen was).inode location.node))
           ∙ ap (λ (f : Filesystem ℕ). is_some (f.files.tree.node location.node))
-          (sym (found_plain_one value whole was m)
-          ∙ ap (filesystem_numbered nat_eq world) number)
-          ∙ seen
+          (sym (found_plain_one value whole was m) ∙ ap (filesystem_numbered nat_eq world) number) ∙ seen
       by location false e well = refl
 
   -- the locations exchange the uses of inodes
   pub uses_moved : (filesystem : ℕ)
       → Exchanges (inodes_of_uses world more) (inodes_of_uses world less) filesystem world next
-  uses_moved filesystem =
-      subst (λ inodes. Exchanges inodes (inodes_of_uses world less) filesystem world next)
+  uses_moved filesystem = subst (λ inodes. Exchanges inodes (inodes_of_uses world less) filesystem world next)
       (map_twice (inode_at world) (λ (held_use : Use). held_use.location) more)
       (subst (λ inodes. Exchanges (map (inode_at world) (locations more)) inodes filesystem world next)
       (map_twice (inode_at world) (λ (held_use : Use). held_use.location) less)
@@ -359,8 +327,7 @@ folded_entry more less entry = folded release_if (folded hold_if entry more) les
 
 pub same_moved_mounts : (world : World ℕ) (more less : List Use) (k : Kept)
     → mounts_in (moved_kept world more less k).mounts ≡ mounts_in k.mounts
-same_moved_mounts world more less k =
-    ap mounts_in (mounts_moved world more less k)
+same_moved_mounts world more less k = ap mounts_in (mounts_moved world more less k)
     ∙ map_twice (λ (entry : MountEntry). entry.mount) (folded_entry more less) k.mounts
     ∙ map_alike (λ entry. (folded_entry more less entry).mount) (λ entry. entry.mount) k.mounts
     (λ entry m. (released_counts less (folded hold_if entry more)).mount ∙ (held_counts more entry).mount)

@@ -23,20 +23,17 @@ entry_found count [] (Some x) e = absurd cc
 entry_found count (e ∷ es) o is = by (nat_eq count e.0.count) refl is (entry_found count es o)
   where
     by : (b : Bool) → nat_eq count e.0.count ≡ b → cond b (Some e.1) (lookup (is_id count) es) ≡ o
-        → (lookup (is_id count) es ≡ o
-        → find (λ entry. nat_eq count entry.count) (entries_of es)
+        → (lookup (is_id count) es ≡ o → find (λ entry. nat_eq count entry.count) (entries_of es)
         ≡ option_map (λ (one : Namespace). record { count = count; tasks = one.tasks }) o)
         → cond b (Some (entry_of e)) (find (λ entry. nat_eq count entry.count) (entries_of es))
         ≡ option_map (λ (one : Namespace). record { count = count; tasks = one.tasks }) o
-    by true here found later =
-        (λ i. Some (record { count = sym (eqb-true count e.0.count here) i; tasks = e.1.tasks }))
+    by true here found later = (λ i. Some (record { count = sym (eqb-true count e.0.count here) i; tasks = e.1.tasks }))
         ∙ ap (option_map (λ (one : Namespace). record { count = count; tasks = one.tasks })) found
     by false here found later = later found
 
 -- the entries of the others stay
 others_stay : (count : ℕ) (change : NamespaceEntry → NamespaceEntry) (first : NamespaceId) (es : Entries)
-    → nat_eq count first.count ≡ true
-    → AllByRecursion (λ other. same_namespace first other ≡ false) (keys_of es)
+    → nat_eq count first.count ≡ true → AllByRecursion (λ other. same_namespace first other ≡ false) (keys_of es)
     → map (λ (entry : NamespaceEntry). cond (nat_eq count entry.count) (change entry) entry) (entries_of es)
     ≡ entries_of es
 others_stay count change first [] here apart = refl
@@ -50,19 +47,16 @@ pub entries_written : (count : ℕ) (change : NamespaceEntry → NamespaceEntry)
     → entries_of (set_value (is_id count) es new)
     ≡ map (λ (entry : NamespaceEntry). cond (nat_eq count entry.count) (change entry) entry) (entries_of es)
 entries_written count change [] old new distinct found same = absurd cc
-entries_written count change (e ∷ es) old new distinct found same =
-    by (nat_eq count e.0.count) refl found
+entries_written count change (e ∷ es) old new distinct found same = by (nat_eq count e.0.count) refl found
     (λ f. entries_written count change es old new (IsDistinct-tail same_namespace e.0 (keys_of es) distinct) f same)
   where
     by : (b : Bool) → nat_eq count e.0.count ≡ b → cond b (Some e.1) (lookup (is_id count) es) ≡ Some old
-        → (lookup (is_id count) es ≡ Some old
-        → entries_of (set_value (is_id count) es new)
+        → (lookup (is_id count) es ≡ Some old → entries_of (set_value (is_id count) es new)
         ≡ map (λ (entry : NamespaceEntry). cond (nat_eq count entry.count) (change entry) entry) (entries_of es))
         → entries_of (cond b ((e.0, new) ∷ es) (e ∷ set_value (is_id count) es new))
         ≡ cond b (change (entry_of e)) (entry_of e)
         ∷ map (λ (entry : NamespaceEntry). cond (nat_eq count entry.count) (change entry) entry) (entries_of es)
-    by true t f later =
-        (λ i. (same e.0 ∙ ap (λ n. change (entry_of (e.0, n))) (sym (same_Some e.1 old f))) i
+    by true t f later = (λ i. (same e.0 ∙ ap (λ n. change (entry_of (e.0, n))) (sym (same_Some e.1 old f))) i
         ∷ sym (others_stay count change e.0 es t (IsDistinct-head same_namespace e.0 (keys_of es) distinct)) i)
     by false t f later = ap (λ rest. entry_of e ∷ rest) (later f)
 
@@ -74,11 +68,9 @@ pub none_written : (count : ℕ) (change : NamespaceEntry → NamespaceEntry) (e
 none_written count change [] none = refl
 none_written count change (e ∷ es) none = by (nat_eq count e.0.count) none (none_written count change es)
   where
-    by : (b : Bool) → cond b (Some e.1) (lookup (is_id count) es) ≡ None
-        → (lookup (is_id count) es ≡ None
+    by : (b : Bool) → cond b (Some e.1) (lookup (is_id count) es) ≡ None → (lookup (is_id count) es ≡ None
         → map (λ (entry : NamespaceEntry). cond (nat_eq count entry.count) (change entry) entry) (entries_of es)
-        ≡ entries_of es)
-        → cond b (change (entry_of e)) (entry_of e)
+        ≡ entries_of es) → cond b (change (entry_of e)) (entry_of e)
         ∷ map (λ (entry : NamespaceEntry). cond (nat_eq count entry.count) (change entry) entry) (entries_of es)
         ≡ entry_of e ∷ entries_of es
     by true f later = absurd cc
@@ -101,8 +93,7 @@ none_filtered : (count : ℕ) (es : Entries) → lookup (is_id count) es ≡ Non
 none_filtered count [] none = refl
 none_filtered count (e ∷ es) none = by (nat_eq count e.0.count) none (none_filtered count es)
   where
-    by : (b : Bool) → cond b (Some e.1) (lookup (is_id count) es) ≡ None
-        → (lookup (is_id count) es ≡ None
+    by : (b : Bool) → cond b (Some e.1) (lookup (is_id count) es) ≡ None → (lookup (is_id count) es ≡ None
         → filter (λ (other : NamespaceEntry). not (nat_eq count other.count)) (entries_of es) ≡ entries_of es)
         → cond (not b) (entry_of e ∷ filter (λ (other : NamespaceEntry). not (nat_eq count other.count))
         (entries_of es))
@@ -118,17 +109,13 @@ entries_removed count (e ∷ es) absent = by (nat_eq count e.0.count) refl absen
     (entries_removed count es)
   where
     by : (b : Bool) → nat_eq count e.0.count ≡ b
-        → lookup (is_id count) (cond b es (e ∷ remove_entry (is_id count) es)) ≡ None
-        → (lookup (is_id count) es ≡ None
+        → lookup (is_id count) (cond b es (e ∷ remove_entry (is_id count) es)) ≡ None → (lookup (is_id count) es ≡ None
         → filter (λ (other : NamespaceEntry). not (nat_eq count other.count)) (entries_of es) ≡ entries_of es)
-        → (lookup (is_id count) (remove_entry (is_id count) es) ≡ None
-        → entries_of (remove_entry (is_id count) es)
+        → (lookup (is_id count) (remove_entry (is_id count) es) ≡ None → entries_of (remove_entry (is_id count) es)
         ≡ filter (λ (other : NamespaceEntry). not (nat_eq count other.count)) (entries_of es))
         → entries_of (cond b es (e ∷ remove_entry (is_id count) es))
         ≡ cond (not b) (entry_of e ∷ filter (λ (other : NamespaceEntry). not (nat_eq count other.count))
-        (entries_of es))
-        (filter (λ (other : NamespaceEntry). not (nat_eq count other.count)) (entries_of es))
+        (entries_of es)) (filter (λ (other : NamespaceEntry). not (nat_eq count other.count)) (entries_of es))
     by true t f none later = sym (none f)
-    by false t f none later =
-        ap (λ rest. entry_of e ∷ rest)
+    by false t f none later = ap (λ rest. entry_of e ∷ rest)
         (later (sym (ap (λ b. cond b (Some e.1) (lookup (is_id count) (remove_entry (is_id count) es))) t) ∙ f))

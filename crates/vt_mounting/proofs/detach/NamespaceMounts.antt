@@ -36,14 +36,12 @@ module _ (p : Mount ℕ → Bool) (nowhere : (mount : Mount ℕ) → is_some mou
               → filter p (mounts_in (cond b (without_mount number entry.mount k) k).mounts)
               ≡ filter p (mounts_in k.mounts)
           chosen false unused = refl
-          chosen true unused =
-              ap (filter p) (map_filtered (λ (x : MountEntry). x.mount)
+          chosen true unused = ap (filter p) (map_filtered (λ (x : MountEntry). x.mount)
               (λ (x : MountEntry). not (nat_eq number x.mount.number))
               (λ (x : Mount ℕ). not (nat_eq number x.number)) (λ x. refl) k.mounts)
               ∙ filter_less p (λ (x : Mount ℕ). not (nat_eq number x.number)) (mounts_in k.mounts) (λ x m its.
               let from = among-from_map (λ (y : MountEntry). y.mount) k.mounts x m in
-              let same : from.0 ≡ entry = same_Some from.0 entry
-              (sym (entry_itself k.mounts one from.0 from.1)
+              let same : from.0 ≡ entry = same_Some from.0 entry (sym (entry_itself k.mounts one from.0 from.1)
               ∙ ap (λ (y : Mount ℕ). entry_numbered k.mounts y.number) (sym from.2)
               ∙ ap (entry_numbered k.mounts) (sym (eqb-true number x.number (turned (nat_eq number x.number) its)))
               ∙ e) in
@@ -60,7 +58,6 @@ module _ (p : Mount ℕ → Bool) (nowhere : (mount : Mount ℕ) → is_some mou
         mounts_unchanged u.location.mount (released u.writes) k.mounts (λ entry. refl) in
         inside_stays left (leave_use (world_of value) k u)
         (leaves_one value whole start gained goes attached u left k at)
-        ∙ inside_kept u.location.mount (lose (world_of value) k u)
-        (subst OneNumberAMount (sym same)
+        ∙ inside_kept u.location.mount (lose (world_of value) k u) (subst OneNumberAMount (sym same)
         (one_number_kept goes (mounts_in k.mounts) (subst OneNumberAMount at.midway.mounts at.midway.stand.one_number)))
         ∙ ap (filter p) same

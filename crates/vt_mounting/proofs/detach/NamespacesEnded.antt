@@ -29,8 +29,7 @@ use Rattle.vt_spec.proofs.Lists.{map_alike}
 
 module _ (world : World ℕ) (one : OneNumberAMount world.mounts) (goes : Mount ℕ → Bool)
     (stays : (mount : Mount ℕ) → Among mount world.mounts → goes mount ≡ false → (place : Location ℕ)
-    → mount.mount_point ≡ Some place
-    → goes (mount_at nat_eq world place) ≡ false) where
+    → mount.mount_point ≡ Some place → goes (mount_at nat_eq world place) ≡ false) where
   abbrev gone : List ℕ
   gone = map (λ (mount : Mount ℕ). mount.number) (filter goes world.mounts)
 
@@ -38,8 +37,7 @@ module _ (world : World ℕ) (one : OneNumberAMount world.mounts) (goes : Mount 
   going_is mount m = by (goes mount) refl
     where
       by : (b : Bool) → goes mount ≡ b → is_going nat_eq gone mount.number ≡ b
-      by true e =
-          is_among_numbers mount.number gone
+      by true e = is_among_numbers mount.number gone
           (among-map (λ (x : Mount ℕ). x.number) (filter goes world.mounts) mount
           (Rattle.vt_laws_mounts.proofs.letting_go.Lists.among-filter goes world.mounts mount m e))
       by false e = none (is_going nat_eq gone mount.number) refl
@@ -73,8 +71,7 @@ module _ (world : World ℕ) (one : OneNumberAMount world.mounts) (goes : Mount 
     where
       by : (n : ℕ) → last_or place (chain n (mount_point_of_parent nat_eq world gone) place) ≡ place
       by Rattle.std.proofs.Common.zero = refl
-      by (Rattle.std.proofs.Common.suc n) =
-          λ i. last_or place
+      by (Rattle.std.proofs.Common.suc n) = λ i. last_or place
           (elim (cond (e i) (mount_at nat_eq world place).mount_point None)
           [ None ↦ place ∷ [] | Some b ↦ place ∷ chain n (mount_point_of_parent nat_eq world gone) b ])
 
@@ -82,19 +79,16 @@ module _ (world : World ℕ) (one : OneNumberAMount world.mounts) (goes : Mount 
   taken_so = map_alike (after_going nat_eq world gone) (gone_if goes) world.mounts (λ mount m.
       ap (λ b. cond b (detached mount)
       (record mount { mount_point = option_map (mount_point_left nat_eq world gone) mount.mount_point }))
-      (going_is mount m)
-      ∙ by mount m (goes mount) refl)
+      (going_is mount m) ∙ by mount m (goes mount) refl)
     where
       same : (mount : Mount ℕ) → Among mount world.mounts → goes mount ≡ false → (o : Option (Location ℕ))
-          → mount.mount_point ≡ o
-          → option_map (mount_point_left nat_eq world gone) o ≡ o
+          → mount.mount_point ≡ o → option_map (mount_point_left nat_eq world gone) o ≡ o
       same mount m e None f = refl
       same mount m e (Some place) f = ap Some (place_stays place (not_going place.mount (stays mount m e place f)))
 
       by : (mount : Mount ℕ) → Among mount world.mounts → (b : Bool) → goes mount ≡ b
           → cond b (detached mount) (record mount {
-            mount_point = option_map
-                (mount_point_left nat_eq world gone) mount.mount_point;
+            mount_point = option_map (mount_point_left nat_eq world gone) mount.mount_point;
           }) ≡ cond b (detached mount) mount
       by mount m true e = refl
       by mount m false e = λ i. record mount { mount_point = same mount m e mount.mount_point refl i }
@@ -175,8 +169,7 @@ module _ (count : ℕ) (tasks : Tasks) (entries : List NamespaceEntry)
 
   -- who has no task afterwards
   ended_is : (o : Option NamespaceEntry) → namespace_entry count entries ≡ o → (entry : NamespaceEntry)
-      → Among entry entries
-      → nat_eq (in_it entry) 0 ≡ (ends_by o && nat_eq count entry.count)
+      → Among entry entries → nat_eq (in_it entry) 0 ≡ (ends_by o && nat_eq count entry.count)
   ended_is o is entry m = by o is (nat_eq count entry.count) refl (counts entry m)
     where
       other : nat_eq count entry.count ≡ false → CountsOneMore count tasks entry → nat_eq (in_it entry) 0 ≡ false
@@ -190,8 +183,7 @@ module _ (count : ℕ) (tasks : Tasks) (entries : List NamespaceEntry)
       nothing false = refl
 
       by : (o : Option NamespaceEntry) → namespace_entry count entries ≡ o → (b : Bool) → nat_eq count entry.count ≡ b
-          → CountsOneMore count tasks entry
-          → nat_eq (in_it entry) 0 ≡ (ends_by o && b)
+          → CountsOneMore count tasks entry → nat_eq (in_it entry) 0 ≡ (ends_by o && b)
       by None f b e c = other ((found_in entries None f).1 refl entry m) c
       by (Some one) f false e c = other e c ∙ sym (nothing (has_one_task one))
       by (Some one) f true e c =
@@ -248,17 +240,15 @@ module _ (count : ℕ) (tasks : Tasks) (entries : List NamespaceEntry)
           less e false c = omega (arith, c)
 
   pub left_counted : (world : World ℕ) → world.tasks ≡ tasks → All (CountsWhatIsInIt world) new
-  left_counted world same =
-      all_from_among (CountsWhatIsInIt world) new (λ entry m. record {
-        tasks = new_counts (namespace_entry count entries) refl entry m
-            ∙ ap (times (λ (task : Task ℕ). nat_eq (counted entry.count) task.namespace)) (sym same);
-      })
+  left_counted world same = all_from_among (CountsWhatIsInIt world) new (λ entry m. record {
+    tasks = new_counts (namespace_entry count entries) refl entry m
+        ∙ ap (times (λ (task : Task ℕ). nat_eq (counted entry.count) task.namespace)) (sym same);
+  })
 
   -- the namespaces that still have tasks are those of the entries
   module _ (world : World ℕ) (same_tasks : world.tasks ≡ tasks)
       (same_namespaces : world.namespaces ≡ map namespace_of entries) where
-    counted_tasks : (number : ℕ) (all : Tasks)
-        → list_any (λ (task : Task ℕ). nat_eq number task.namespace) all
+    counted_tasks : (number : ℕ) (all : Tasks) → list_any (λ (task : Task ℕ). nat_eq number task.namespace) all
         ≡ nat_lt 0 (times (λ (task : Task ℕ). nat_eq number task.namespace) all)
     counted_tasks number [] = refl
     counted_tasks number (task ∷ all) = by (nat_eq number task.namespace) (counted_tasks number all)
@@ -268,25 +258,20 @@ module _ (count : ℕ) (tasks : Tasks) (entries : List NamespaceEntry)
             → (b || list_any (λ (task : Task ℕ). nat_eq number task.namespace) all)
             ≡ nat_lt 0 (cond b 1 0 + times (λ (task : Task ℕ). nat_eq number task.namespace) all)
         by true e = sym (lt-ltb 0 (1 + times (λ (task : Task ℕ). nat_eq number task.namespace) all) (omega arith))
-        by false e = e ∙ ap (nat_lt 0)
-            (let same : times (λ (task : Task ℕ). nat_eq number task.namespace) all
+        by false e = e ∙ ap (nat_lt 0) (let same : times (λ (task : Task ℕ). nat_eq number task.namespace) all
             ≡ 0 + times (λ (task : Task ℕ). nat_eq number task.namespace) all = omega arith in same)
 
     pub has_tasks_is : (entry : NamespaceEntry) → Among entry entries
         → has_tasks nat_eq world (namespace_of entry) ≡ not (ends && nat_eq count entry.count)
-    has_tasks_is entry m =
-        ap (list_any (λ (task : Task ℕ). nat_eq (counted entry.count) task.namespace)) same_tasks
+    has_tasks_is entry m = ap (list_any (λ (task : Task ℕ). nat_eq (counted entry.count) task.namespace)) same_tasks
         ∙ counted_tasks (counted entry.count) tasks ∙ positive (in_it entry)
         ∙ ap not (ended_is (namespace_entry count entries) refl entry m)
 
     pub namespaces_are : filter (has_tasks nat_eq world) world.namespaces ≡ map namespace_of new
-    namespaces_are =
-        ap (filter (has_tasks nat_eq world)) same_namespaces
-        ∙ filter-at entries (λ entry m. has_tasks_is entry m)
-        ∙ by (namespace_entry count entries)
+    namespaces_are = ap (filter (has_tasks nat_eq world)) same_namespaces
+        ∙ filter-at entries (λ entry m. has_tasks_is entry m) ∙ by (namespace_entry count entries)
       where
-        filter-at : (all : List NamespaceEntry)
-            → ((entry : NamespaceEntry) → Among entry all
+        filter-at : (all : List NamespaceEntry) → ((entry : NamespaceEntry) → Among entry all
             → has_tasks nat_eq world (namespace_of entry) ≡ not (ends && nat_eq count entry.count))
             → filter (has_tasks nat_eq world) (map namespace_of all)
             ≡ map namespace_of (filter (λ (entry : NamespaceEntry). not (ends && nat_eq count entry.count)) all)
@@ -299,8 +284,7 @@ module _ (count : ℕ) (tasks : Tasks) (entries : List NamespaceEntry)
             one : (b : Bool) → filter (has_tasks nat_eq world) (map namespace_of xs)
                 ≡ map namespace_of (filter (λ (entry : NamespaceEntry). not (ends && nat_eq count entry.count)) xs)
                 → cond b (namespace_of x ∷ filter (has_tasks nat_eq world) (map namespace_of xs))
-                (filter (has_tasks nat_eq world) (map namespace_of xs))
-                ≡ map namespace_of (cond b (x ∷ filter
+                (filter (has_tasks nat_eq world) (map namespace_of xs)) ≡ map namespace_of (cond b (x ∷ filter
                 (λ (entry : NamespaceEntry). not (ends && nat_eq count entry.count)) xs)
                 (filter (λ (entry : NamespaceEntry). not (ends && nat_eq count entry.count)) xs))
             one true later = ap (λ rest. namespace_of x ∷ rest) later
@@ -314,8 +298,7 @@ module _ (count : ℕ) (tasks : Tasks) (entries : List NamespaceEntry)
             one true = refl
             one false = refl
 
-        by : (o : Option NamespaceEntry)
-            → map namespace_of (filter (λ (entry : NamespaceEntry). not
+        by : (o : Option NamespaceEntry) → map namespace_of (filter (λ (entry : NamespaceEntry). not
             (ends_by o && nat_eq count entry.count)) entries) ≡ map namespace_of (entries_left count entries o)
         by None = ap (map namespace_of) (filter_all (λ (entry : NamespaceEntry). true) entries (λ entry m. refl))
         by (Some one) = chosen (has_one_task one)
@@ -360,8 +343,7 @@ module _ (count : ℕ) (tasks : Tasks) (entries : List NamespaceEntry)
             lives : (number : ℕ) (entry : NamespaceEntry) → Among entry entries → (namespace : Namespace ℕ)
                 → Among namespace world.namespaces
                 → number ≡ counted entry.count → namespace ≡ namespace_of entry → (b : Bool)
-                → (ends && nat_eq count entry.count) ≡ b
-                → list_any (λ namespace. nat_eq number namespace.number
+                → (ends && nat_eq count entry.count) ≡ b → list_any (λ namespace. nat_eq number namespace.number
                 && has_tasks nat_eq world namespace) world.namespaces ≡ not b
             lives number entry m namespace n is same false e =
                 any_passes (λ x. nat_eq number x.number && has_tasks nat_eq world x) world.namespaces namespace n
@@ -375,7 +357,5 @@ module _ (count : ℕ) (tasks : Tasks) (entries : List NamespaceEntry)
                 one : (x : Namespace ℕ) (b : Bool) → nat_eq number x.number ≡ b
                     → (b && has_tasks nat_eq world x) ≡ false
                 one x false f = refl
-                one x true f =
-                    ap (λ k. list_any (λ (task : Task ℕ). nat_eq k task.namespace) world.tasks)
-                    (sym (eqb-true number x.number f) ∙ is)
-                    ∙ has_tasks_is entry m ∙ ap not e
+                one x true f = ap (λ k. list_any (λ (task : Task ℕ). nat_eq k task.namespace) world.tasks)
+                    (sym (eqb-true number x.number f) ∙ is) ∙ has_tasks_is entry m ∙ ap not e

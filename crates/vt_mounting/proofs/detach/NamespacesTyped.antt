@@ -41,10 +41,8 @@ module _ (world : World ℕ) (invariants : MountInvariants nat_eq world) (tasks 
   gone_numbers = map (λ (mount : Mount ℕ). mount.number) (filter goes world.mounts)
 
   pub taken_is_left : record (taken_away nat_eq
-      (record world { tasks = tasks }) gone_numbers) { namespaces = namespaces }
-      ≡ regrouped nat_eq left_world
-  taken_is_left =
-      ap (λ (one : World ℕ). record one { namespaces = namespaces })
+      (record world { tasks = tasks }) gone_numbers) { namespaces = namespaces } ≡ regrouped nat_eq left_world
+  taken_is_left = ap (λ (one : World ℕ). record one { namespaces = namespaces })
       (taken_regrouped (record world { tasks = tasks }) invariants.one_number goes stays)
       ∙ ap (λ (one : World ℕ). record one { namespaces = namespaces })
       (regrouped_beside (with_mounts world (map (gone_if goes) world.mounts)) world.namespaces tasks)
@@ -53,8 +51,7 @@ module _ (world : World ℕ) (invariants : MountInvariants nat_eq world) (tasks 
   -- the groups are those of that world, once it is regrouped
   pub left_has_groups : (before groups : Grouping) → Has world before → TakesAway before groups gone_numbers
       → Has (regrouped nat_eq left_world) groups
-  left_has_groups before groups has follows =
-      subst (λ one. Has one groups) (sym
+  left_has_groups before groups has follows = subst (λ one. Has one groups) (sym
       (regrouped_beside (with_mounts world (map (gone_if goes) world.mounts)) namespaces tasks))
       (same_has (regrouped nat_eq (with_mounts world (map (gone_if goes) world.mounts)))
       (record (regrouped nat_eq (with_mounts world
@@ -73,8 +70,7 @@ module _ (world : World ℕ) (invariants : MountInvariants nat_eq world) (tasks 
           ap (λ b. cond b (detached mount) mount) (none mount))
 
       none_end : regrouped nat_eq left_world ≡ left_world
-      none_end =
-          ap (λ (mounts : List (Mount ℕ)). regrouped nat_eq (record left_world { mounts = mounts })) same_mounts
+      none_end = ap (λ (mounts : List (Mount ℕ)). regrouped nat_eq (record left_world { mounts = mounts })) same_mounts
           ∙ regrouped_beside world namespaces tasks
           ∙ ap (λ (one : World ℕ). record one { namespaces = namespaces; tasks = tasks })
           (regrouped_living world invariants.groups)
@@ -86,6 +82,5 @@ module _ (world : World ℕ) (invariants : MountInvariants nat_eq world) (tasks 
   nowhere_private mount m none =
       let from = among-from_map (gone_if goes) world.mounts mount m in
       ap (λ (x : Mount ℕ). x.propagation) from.2
-      ∙ stays_private from.0 (passes is_nowhere_or_attached world.mounts invariants.nowhere from.0 from.1)
-      (goes from.0)
+      ∙ stays_private from.0 (passes is_nowhere_or_attached world.mounts invariants.nowhere from.0 from.1) (goes from.0)
       (ap (λ (x : Mount ℕ). is_some x.namespace) (sym from.2) ∙ none)

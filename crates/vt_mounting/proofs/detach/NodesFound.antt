@@ -23,8 +23,7 @@ use Rattle.vt_world.specs.WorldValue.{WorldValue, overlays_seen, world_of}
 
 -- the inode with this number is a node of the filesystem with that one
 abbrev pub IsNodeIn : ℕ → ℕ → Type 0
-IsNodeIn number inode =
-    (node : NodeRef) × (is_small_node node ≡ true) × (number ≡ counted node.filesystem.count)
+IsNodeIn number inode = (node : NodeRef) × (is_small_node node ≡ true) × (number ≡ counted node.filesystem.count)
     × (inode ≡ number_of node)
 
 -- those of a plain filesystem were born there
@@ -57,31 +56,25 @@ put_all P overlay (first ∷ rest) here all =
 pub woven_all : (P : Filesystem ℕ → Type 0) (plain overlays : List (Filesystem ℕ)) → All P plain → All P overlays
     → All P (woven plain overlays)
 woven_all P plain [] all over = all
-woven_all P plain (overlay ∷ rest) all over =
-    put_all P overlay (woven plain rest) (All-head P overlay rest over)
+woven_all P plain (overlay ∷ rest) all over = put_all P overlay (woven plain rest) (All-head P overlay rest over)
     (woven_all P plain rest all (All-tail P overlay rest over))
 
 pub own_together : (base : Filesystems) → All HasOwnInodes base → (overlays : List (Filesystem ℕ))
     → All HasOwnNodes overlays → All HasOwnNodes (woven (filesystems_seen base) overlays)
-own_together base own overlays nodes =
-    woven_all HasOwnNodes (filesystems_seen base) overlays
+own_together base own overlays nodes = woven_all HasOwnNodes (filesystems_seen base) overlays
     (all_from_among HasOwnNodes (filesystems_seen base) (λ f m.
     let from = among-from_map filesystem_seen base f m in
-    subst HasOwnNodes (sym from.2) (plain_node from.0 (among_from_all HasOwnInodes base own from.0 from.1))))
-    nodes
+    subst HasOwnNodes (sym from.2) (plain_node from.0 (among_from_all HasOwnInodes base own from.0 from.1)))) nodes
 
 -- what is found is a node of the filesystem in which it is found
 pub node_in_world : (world : World ℕ) → All HasOwnNodes world.filesystems → (number inode : ℕ)
     → is_some ((filesystem_numbered nat_eq world number).files.tree.node inode) ≡ true → IsNodeIn number inode
-node_in_world world own number inode there =
-    ⊎_elim
-    (λ nodes. let found = nodes inode there in (
-      found.0,
-      found.1,
-      sym (number_numbered number world.filesystems) ∙ found.2,
-      found.3,
-    ))
-    (λ missing. absurd (true≢false (sym there
+node_in_world world own number inode there = ⊎_elim (λ nodes. let found = nodes inode there in (
+  found.0,
+  found.1,
+  sym (number_numbered number world.filesystems) ∙ found.2,
+  found.3,
+)) (λ missing. absurd (true≢false (sym there
     ∙ ap (λ (f : Filesystem ℕ). is_some (f.files.tree.node inode)) missing.0)))
     (numbered_all HasOwnNodes number world.filesystems own)
 
@@ -92,8 +85,7 @@ pub node_at_home : (world : World ℕ) → All HasOwnNodes world.filesystems →
     → number ≡ counted node.filesystem.count
 node_at_home world own number node small there =
     let found = node_in_world world own number (number_of node) there in
-    found.2
-    ∙ ap (λ (one : NodeRef). counted one.filesystem.count)
+    found.2 ∙ ap (λ (one : NodeRef). counted one.filesystem.count)
     (sym (one_to_one node found.0 (small_parts node small) (small_parts found.0 found.1) found.3))
 
 -- The code's world
@@ -122,8 +114,7 @@ in_no_other value held number node small other =
     by : (o : Option (Node ℕ))
         → (filesystem_numbered nat_eq (world_of value) number).files.tree.node (number_of node) ≡ o → o ≡ None
     by None e = refl
-    by (Some found) e =
-        absurd (true≢false (sym (eq-eqb number (counted node.filesystem.count)
+    by (Some found) e = absurd (true≢false (sym (eq-eqb number (counted node.filesystem.count)
         (at_home value held number node small (ap is_some e))) ∙ other))
 
 -- what is counted is no inode

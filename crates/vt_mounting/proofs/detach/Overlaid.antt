@@ -72,8 +72,7 @@ plain_ones_are value holds =
 pub seen_one_among : (value : WorldValue)
     → All (λ filesystem. is_overlay filesystem ≡ true) (overlays_seen value.overlays) → (filesystem : Filesystem ℕ)
     → Among filesystem (filesystems_seen value.filesystems) → Among filesystem (world_of value).filesystems
-seen_one_among value merged filesystem m =
-    (among-from_filter is_plain_one (world_of value).filesystems filesystem
+seen_one_among value merged filesystem m = (among-from_filter is_plain_one (world_of value).filesystems filesystem
     (subst (Among filesystem)
     (sym (woven_lists_are_failing is_overlay (filesystems_seen value.filesystems) (overlays_seen value.overlays)
     (record { fail = files_are_plain value.filesystems; pass = merged }))) m)).0
@@ -94,8 +93,7 @@ found_plain_one value held entry m =
 -- no two of those that are kept by their inodes have one number
 pub plain_ones_apart : (value : WorldValue) → IsHeld value
     → any_pair (λ (a b : Filesystem ℕ). nat_eq a.number b.number) (filesystems_seen value.filesystems) ≡ false
-plain_ones_apart value held =
-    subst (λ list. any_pair (λ (a b : Filesystem ℕ). nat_eq a.number b.number) list ≡ false)
+plain_ones_apart value held = subst (λ list. any_pair (λ (a b : Filesystem ℕ). nat_eq a.number b.number) list ≡ false)
     (plain_ones_are value held.overlays)
     (pair-filter (λ (a b : Filesystem ℕ). nat_eq a.number b.number) is_plain_one (world_of value).filesystems
     held.in_world.files.one_filesystem)
@@ -166,8 +164,7 @@ by_numbers (first ∷ rest) = λ i. all_by_numbers (nat_lt first.number) rest i 
 pub same_numbers_rise : (before after : List (Filesystem ℕ))
     → map (λ (f : Filesystem ℕ). f.number) after ≡ map (λ (f : Filesystem ℕ). f.number) before
     → are_rising before ≡ true → are_rising after ≡ true
-same_numbers_rise before after same rising =
-    by_numbers after ∙ ap rise same ∙ sym (by_numbers before) ∙ rising
+same_numbers_rise before after same rising = by_numbers after ∙ ap rise same ∙ sym (by_numbers before) ∙ rising
 
 pub same_files_rise : (before after : List (Filesystem ℕ)) → SameFilesystems before after
     → are_rising before ≡ true → are_rising after ≡ true
@@ -178,8 +175,7 @@ same_files_rise before after same = same_numbers_rise before after (numbers_same
     numbers_same [] [] same = refl
     numbers_same [] (other ∷ others) same = absurd same
     numbers_same (one ∷ ones) [] same = absurd same
-    numbers_same (one ∷ ones) (other ∷ others) same =
-        λ i. sym same.0.number i ∷ numbers_same ones others same.1 i
+    numbers_same (one ∷ ones) (other ∷ others) same = λ i. sym same.0.number i ∷ numbers_same ones others same.1 i
 
 -- the sweep of inodes leaves the numbers of plain filesystems
 
@@ -190,19 +186,16 @@ kind_left world false f = refl
 pub plain_numbers_left : (world : World ℕ)
     → map (λ (f : Filesystem ℕ). f.number) (filter is_plain_one (settled nat_eq world).filesystems)
     ≡ map (λ (f : Filesystem ℕ). f.number) (filter is_plain_one (in_use_of world).filesystems)
-plain_numbers_left world =
-    both (in_use_of world).filesystems
+plain_numbers_left world = both (in_use_of world).filesystems
   where
     swept : Filesystem ℕ → Filesystem ℕ
     swept f = after_second world (after_first world f)
 
-    both : (list : List (Filesystem ℕ))
-        → map (λ (f : Filesystem ℕ). f.number)
+    both : (list : List (Filesystem ℕ)) → map (λ (f : Filesystem ℕ). f.number)
         (filter is_plain_one (map (after_second world) (map (after_first world) list)))
         ≡ map (λ (f : Filesystem ℕ). f.number) (filter is_plain_one list)
     both [] = refl
-    both (first ∷ rest) =
-        ap (λ b. map (λ (f : Filesystem ℕ). f.number) (cond (not b)
+    both (first ∷ rest) = ap (λ b. map (λ (f : Filesystem ℕ). f.number) (cond (not b)
         (swept first ∷ filter is_plain_one (map (after_second world) (map (after_first world) rest)))
         (filter is_plain_one (map (after_second world) (map (after_first world) rest)))))
         (kind first) ∙ by (is_overlay first) (both rest)
@@ -210,11 +203,9 @@ plain_numbers_left world =
         kind : (f : Filesystem ℕ) → is_overlay (swept f) ≡ is_overlay f
         kind f =
             kind_left (without_dead_in nat_eq is_overlay (in_use_of world)) (not (is_overlay (after_first world f)))
-            (after_first world f)
-            ∙ kind_left (in_use_of world) (is_overlay f) f
+            (after_first world f) ∙ kind_left (in_use_of world) (is_overlay f) f
 
-        by : (b : Bool)
-            → map (λ (f : Filesystem ℕ). f.number)
+        by : (b : Bool) → map (λ (f : Filesystem ℕ). f.number)
             (filter is_plain_one (map (after_second world) (map (after_first world) rest)))
             ≡ map (λ (f : Filesystem ℕ). f.number) (filter is_plain_one rest)
             → map (λ (f : Filesystem ℕ). f.number) (cond (not b)
@@ -223,8 +214,7 @@ plain_numbers_left world =
             ≡ map (λ (f : Filesystem ℕ). f.number) (cond (not b) (first ∷ filter is_plain_one rest)
             (filter is_plain_one rest))
         by true later = later
-        by false later =
-            λ i. (number-second world (after_first world first) ∙ number-first world first) i ∷ later i
+        by false later = λ i. (number-second world (after_first world first) ∙ number-first world first) i ∷ later i
 
 -- a world with the same filesystems keeps the same overlays
 pub same_files_keep : (old : WorldValue) (world other : World ℕ) → other.filesystems ≡ world.filesystems
@@ -251,35 +241,28 @@ named_midway old holds world keeps =
 -- the sweep leaves filesystems in the order of their numbers
 pub swept_rise : (world : World ℕ) → are_rising world.filesystems ≡ true
     → are_rising (settled nat_eq world).filesystems ≡ true
-swept_rise world rise =
-    same_numbers_rise (in_use_of world).filesystems (settled nat_eq world).filesystems
+swept_rise world rise = same_numbers_rise (in_use_of world).filesystems (settled nat_eq world).filesystems
     (numbers_mapped (after_second world) (number-second world) (map (after_first world) (in_use_of world).filesystems)
     ∙ numbers_mapped (after_first world) (number-first world) (in_use_of world).filesystems)
     (rising_filtered (filesystem_lives nat_eq (without_dead_mounts nat_eq world)) world.filesystems rise)
 
 -- as many layers are in each filesystem while the overlays stay
-pub as_many_layers : (world other : World ℕ)
-    → filter is_overlay other.filesystems ≡ filter is_overlay world.filesystems
+pub as_many_layers : (world other : World ℕ) → filter is_overlay other.filesystems ≡ filter is_overlay world.filesystems
     → (number : ℕ) → layer_count other number ≡ layer_count world number
 as_many_layers world other stay number =
     let same = overlays_use_filesystems world other [] [] [] (filter is_overlay world.filesystems) number refl stay in
     omega (arith, same)
 
 -- another value of the world with the same overlays
-pub same_overlays : (old new : WorldValue) → HoldsOverlays old
-    → overlays_seen new.overlays ≡ overlays_seen old.overlays
+pub same_overlays : (old new : WorldValue) → HoldsOverlays old → overlays_seen new.overlays ≡ overlays_seen old.overlays
     → filter is_overlay (world_of new).filesystems ≡ overlays_seen old.overlays
 same_overlays old new holds same =
-    woven_lists_are_passing is_overlay (filesystems_seen new.filesystems) (overlays_seen new.overlays)
-    (record {
+    woven_lists_are_passing is_overlay (filesystems_seen new.filesystems) (overlays_seen new.overlays) (record {
       fail = files_are_plain new.filesystems;
       pass = subst (All (λ filesystem. is_overlay filesystem ≡ true)) (sym same) holds.merged;
-    })
-    (ap are_rising same ∙ holds.overlays_rise)
-    ∙ same
+    }) (ap are_rising same ∙ holds.overlays_rise) ∙ same
 
-pub layers_kept : (old new : WorldValue) → HoldsOverlays old
-    → overlays_seen new.overlays ≡ overlays_seen old.overlays
+pub layers_kept : (old new : WorldValue) → HoldsOverlays old → overlays_seen new.overlays ≡ overlays_seen old.overlays
     → (number : ℕ) → layer_count (world_of new) number ≡ layer_count (world_of old) number
 layers_kept old new holds same =
     as_many_layers (world_of old) (world_of new) (same_overlays old new holds same ∙ sym (overlays_are old holds))
@@ -288,11 +271,9 @@ layers_kept old new holds same =
 pub overlays_counted : (old new : WorldValue) → HoldsOverlays old → new.overlays ≡ old.overlays
     → ((number : ℕ) → mounts_showing (world_of new) number ≡ mounts_showing (world_of old) number)
     → All (IsMountedSoOften (world_of new)) new.overlays
-overlays_counted old new holds same showing =
-    subst (All (IsMountedSoOften (world_of new))) (sym same)
+overlays_counted old new holds same showing = subst (All (IsMountedSoOften (world_of new))) (sym same)
     (all_from_among (IsMountedSoOften (world_of new)) old.overlays (λ entry m.
-    among_from_all (IsMountedSoOften (world_of old)) old.overlays holds.mounts entry m
-    ∙ sym (showing entry.number)))
+    among_from_all (IsMountedSoOften (world_of old)) old.overlays holds.mounts entry m ∙ sym (showing entry.number)))
 
 -- and where mounts show what they showed, the overlays are mounted
 pub still_mounted : (old : WorldValue) → IsHeld old → (world : World ℕ)
@@ -303,8 +284,7 @@ still_mounted old held world same =
     (overlays_seen old.overlays) (λ f m.
     let there = among-from_filter is_overlay (world_of old).filesystems f
     (subst (Among f) (sym (overlays_are old held.overlays)) m) in
-    same f.number
-    ∙ among_from_all (λ g. is_overlay g ≡ true → is_mounted nat_eq (world_of old) g.number ≡ true)
+    same f.number ∙ among_from_all (λ g. is_overlay g ≡ true → is_mounted nat_eq (world_of old) g.number ≡ true)
     (world_of old).filesystems (overlays_are_mounted (world_of old) held.in_world) f there.0 there.1)
 
 -- What holds of overlays holds still of another value of the world with the same ones.
@@ -326,8 +306,7 @@ overlays_hold_still old new holds same rising mounts writers = record {
     keeps = record { overlays = same_overlays old new holds same; rise = rising }
 
 -- overlays of which each is shown are those that are shown
-pub all_shown : (old : WorldValue) (world : World ℕ) → AreStillMounted old world
-    → overlays_seen old.overlays
+pub all_shown : (old : WorldValue) (world : World ℕ) → AreStillMounted old world → overlays_seen old.overlays
     ≡ filter (λ overlay. is_mounted nat_eq world overlay.number) (overlays_seen old.overlays)
 all_shown old world mounted =
     sym (filter_all (λ (overlay : Filesystem ℕ). is_mounted nat_eq world overlay.number) (overlays_seen old.overlays)
@@ -341,14 +320,12 @@ module _ (old new : WorldValue) (holds : HoldsOverlays old) (stays : Filesystem 
   was_there f m = (among-from_filter stays (overlays_seen old.overlays) f (subst (Among f) left m)).0
 
   fewer_are_merged : All (λ filesystem. is_overlay filesystem ≡ true) (overlays_seen new.overlays)
-  fewer_are_merged =
-      all_from_among (λ filesystem. is_overlay filesystem ≡ true) (overlays_seen new.overlays) (λ f m.
+  fewer_are_merged = all_from_among (λ filesystem. is_overlay filesystem ≡ true) (overlays_seen new.overlays) (λ f m.
       among_from_all (λ filesystem. is_overlay filesystem ≡ true) (overlays_seen old.overlays) holds.merged f
       (was_there f m))
 
   fewer_have_own : All HasOwnNodes (overlays_seen new.overlays)
-  fewer_have_own =
-      all_from_among HasOwnNodes (overlays_seen new.overlays) (λ f m.
+  fewer_have_own = all_from_among HasOwnNodes (overlays_seen new.overlays) (λ f m.
       among_from_all HasOwnNodes (overlays_seen old.overlays) holds.own_nodes f (was_there f m))
 
   fewer_rise : are_rising (overlays_seen new.overlays) ≡ true
@@ -362,10 +339,8 @@ module _ (old new : WorldValue) (holds : HoldsOverlays old) (stays : Filesystem 
 
   overlay_before : (f : Filesystem ℕ) → Among f (world_of new).filesystems → is_overlay f ≡ true
       → Among f (world_of old).filesystems
-  overlay_before f m e =
-      (among-from_filter is_overlay (world_of old).filesystems f
-      (subst (Among f) (sym (overlays_are old holds))
-      (was_there f (subst (Among f) fewer_overlays_are
+  overlay_before f m e = (among-from_filter is_overlay (world_of old).filesystems f
+      (subst (Among f) (sym (overlays_are old holds)) (was_there f (subst (Among f) fewer_overlays_are
       (among-filter is_overlay (world_of new).filesystems f m e))))).0
 
   -- as many layers has a world with these overlays
@@ -393,7 +368,6 @@ module _ (old new : WorldValue) (holds : HoldsOverlays old) (stays : Filesystem 
     where
       no_upper : (f : Filesystem ℕ) → Among f (world_of new).filesystems → (b : Bool) → is_overlay f ≡ b
           → of_overlay false (λ overlay. is_some overlay.upper) f ≡ false
-      no_upper f m true e =
-          among_from_all (λ g. of_overlay false (λ overlay. is_some overlay.upper) g ≡ false)
+      no_upper f m true e = among_from_all (λ g. of_overlay false (λ overlay. is_some overlay.upper) g ≡ false)
           (world_of old).filesystems holds.read_only f (overlay_before f m e)
       no_upper f m false e = no_upper_of_plain f e

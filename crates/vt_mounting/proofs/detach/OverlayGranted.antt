@@ -69,8 +69,7 @@ module _ (value : WorldValue) (held : IsHeld value) (fresh : Fresh ℕ) (task : 
       let top = at_end (IsTopmost world held.in_world task called) (destination_walk nat_eq world task path) here
       (destination_walk_end world held.in_world task called path) end in
       subst (λ one. NamesLayers (world_of value) task one overlay) same_place
-      (subst (NamesLayers (world_of value) task here.location) same_overlay
-      (record {
+      (subst (NamesLayers (world_of value) task here.location) same_overlay (record {
         to = destination world held.in_world task called here top free.0;
         layers = (has_layers world task places reached passed, shown_plain world task places reached passed);
         fit = fit_layers world task places reached passed;
@@ -87,8 +86,7 @@ module _ (value : WorldValue) (held : IsHeld value) (fresh : Fresh ℕ) (task : 
       task call (ToMountOverlay place overlay flags) judged in
       granted_names for.0 for.1 flags (ToMountOverlay place overlay flags)
       (subst (λ c. IsGranted nat_eq (looks_of nat_eq (world_of value)) (overfills nat_eq fresh (world_of value) task) task
-      c (ToMountOverlay place overlay flags)) for.2 grants)
-      place overlay flags refl
+      c (ToMountOverlay place overlay flags)) for.2 grants) place overlay flags refl
 
 -- The layers of an overlay without an upper layer, as they are kept
 module _ (value : WorldValue) (held : IsHeld value) (overlay : Overlay ℕ) (lower : overlay.upper ≡ None)
@@ -102,14 +100,12 @@ module _ (value : WorldValue) (held : IsHeld value) (overlay : Overlay ℕ) (low
     parts : (not (is_overlay (filesystem_numbered nat_eq (world_of value) layer.filesystem)) ≡ true)
         × (is_directory_node ((filesystem_numbered nat_eq (world_of value) layer.filesystem).files.tree.node
         layer.directory) ≡ true)
-    parts =
-        and_parts (not (is_overlay (filesystem_numbered nat_eq (world_of value) layer.filesystem))) _
+    parts = and_parts (not (is_overlay (filesystem_numbered nat_eq (world_of value) layer.filesystem))) _
         (passes (is_plain_layer nat_eq (world_of value)) overlay.lowers lowers_plain layer m)
 
     -- it is an inode of a plain filesystem
     pub layer_in : IsSeenIn value.filesystems layer.filesystem layer.directory
-    layer_in =
-        seen_in value.filesystems held.own_inodes layer.filesystem layer.directory
+    layer_in = seen_in value.filesystems held.own_inodes layer.filesystem layer.directory
         (there_where_plain value held layer.filesystem layer.directory
         (by (is_overlay (filesystem_numbered nat_eq (world_of value) layer.filesystem)) parts.0)
         (directory_there ((filesystem_numbered nat_eq (world_of value) layer.filesystem).files.tree.node
@@ -137,25 +133,21 @@ module _ (value : WorldValue) (held : IsHeld value) (overlay : Overlay ℕ) (low
 
         directory_is : inode_number (layer.filesystem / 4) (exchanged (layer.filesystem / 4) layer.directory)
             ≡ layer.directory
-        directory_is =
-            (λ i. inode_number (quarter i) (exchanged (quarter i) layer.directory))
+        directory_is = (λ i. inode_number (quarter i) (exchanged (quarter i) layer.directory))
             ∙ ap (λ n. inode_number layer_in.entry.count (exchanged layer_in.entry.count n)) slot.2
             ∙ ap (λ n. inode_number layer_in.entry.count (exchanged layer_in.entry.count n))
             (sym (exchanged_slot layer_in.entry.count slot.0 slot.1))
-            ∙ ap (inode_number layer_in.entry.count) (exchanged_back layer_in.entry.count slot.0)
-            ∙ sym slot.2
+            ∙ ap (inode_number layer_in.entry.count) (exchanged_back layer_in.entry.count slot.0) ∙ sym slot.2
 
   pub lowers_seen : map layer_seen (map layer_kept overlay.lowers) ≡ overlay.lowers
-  lowers_seen =
-      map_twice layer_seen layer_kept overlay.lowers
+  lowers_seen = map_twice layer_seen layer_kept overlay.lowers
       ∙ map_alike (λ layer. layer_seen (layer_kept layer)) (λ layer. layer) overlay.lowers kept_again
       ∙ sym (map_itself overlay.lowers)
 
   -- they are layers of what is kept, which the world shows
   pub kept_layers : Kept.AreLayers value.filesystems (map layer_kept overlay.lowers)
       × All (ShowsLayer (world_of value) value.filesystems) (map layer_kept overlay.lowers)
-  kept_layers =
-      plain_layers_shown value held (map layer_kept overlay.lowers)
+  kept_layers = plain_layers_shown value held (map layer_kept overlay.lowers)
       (ap (list_all (is_plain_layer nat_eq (world_of value))) lowers_seen ∙ lowers_plain)
 
   -- and not too many

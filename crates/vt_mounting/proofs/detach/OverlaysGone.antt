@@ -33,19 +33,16 @@ merged_in world overlay = record {
 -- An overlay without an upper layer uses these directories alone.
 pub uses_layers : (overlay : Filesystem ℕ) → of_overlay false (λ o. is_some o.upper) overlay ≡ false
     → used_by_filesystem overlay ≡ layers_used overlay
-uses_layers overlay none =
-    ap (λ uppers. layers_used overlay ++ uppers)
+uses_layers overlay none = ap (λ uppers. layers_used overlay ++ uppers)
     (flat_map_none (λ number. of_overlay [] (uppers_in number) overlay) overlay.files.numbers
-    (λ number m. by number overlay.overlay none))
-    ∙ append-nil (layers_used overlay)
+    (λ number m. by number overlay.overlay none)) ∙ append-nil (layers_used overlay)
   where
     by : (number : ℕ) (o : Option (Overlay ℕ)) → overlay_or false (λ overlay. is_some overlay.upper) o ≡ false
         → overlay_or [] (uppers_in number) o ≡ []
     by number None e = refl
     by number (Some one) e = at one.upper e
       where
-        at : (upper : Option (Layer ℕ)) → is_some upper ≡ false
-            → uppers_in number (record one { upper = upper }) ≡ []
+        at : (upper : Option (Layer ℕ)) → is_some upper ≡ false → uppers_in number (record one { upper = upper }) ≡ []
         at None f = refl
         at (Some layer) f = absurd (true≢false f)
 
@@ -57,8 +54,7 @@ layers_gone_by (Some one) = cond (nat_eq (one.mounts - 1) 0) one.layers []
 abbrev pub layers_gone : ℕ → List Merged → List Inode
 layers_gone number overlays = layers_gone_by (merged_at number overlays)
 
-module _ (world : World ℕ) (number filesystem : ℕ)
-    (takes : (n : ℕ) → mounts_showing world n
+module _ (world : World ℕ) (number filesystem : ℕ) (takes : (n : ℕ) → mounts_showing world n
     ≡ mounts_showing (without_mount world number) n + cond (nat_eq filesystem n) 1 0) where
   abbrev mounted : World ℕ
   mounted = without_mount world number
@@ -116,21 +112,14 @@ module _ (world : World ℕ) (number filesystem : ℕ)
       by : (b : Bool) → nat_eq filesystem overlay.number ≡ b
           → flat_map layers_used (filter goes rest) ≡ layers_gone filesystem (map (merged_in world) rest)
           → flat_map layers_used (cond (goes overlay) (overlay ∷ filter goes rest) (filter goes rest))
-          ≡ layers_gone_by (cond b (Some (merged_in world overlay))
-          (merged_at filesystem (map (merged_in world) rest)))
-      by true e later =
-          ap (λ all. flat_map layers_used (cond (goes overlay) (overlay ∷ all) all))
-          (none_go rest (λ other m. ap not
-          (others_shown other.number
+          ≡ layers_gone_by (cond b (Some (merged_in world overlay)) (merged_at filesystem (map (merged_in world) rest)))
+      by true e later = ap (λ all. flat_map layers_used (cond (goes overlay) (overlay ∷ all) all))
+          (none_go rest (λ other m. ap not (others_shown other.number
           (ap (λ n. nat_eq n other.number) (eqb-true filesystem overlay.number e)
-          ∙ fails (λ (b : Filesystem ℕ). nat_eq overlay.number b.number) rest parts.0 other m)
-          ∙ shown other (inr m))))
-          ∙ alone (goes overlay)
-          ∙ ap (λ b. cond b (layers_used overlay) []) (goes_at_one overlay e)
-      by false e later =
-          ap (λ b. flat_map layers_used (cond b (overlay ∷ filter goes rest) (filter goes rest)))
-          (ap not (others_shown overlay.number e ∙ shown overlay (inl refl)))
-          ∙ later
+          ∙ fails (λ (b : Filesystem ℕ). nat_eq overlay.number b.number) rest parts.0 other m) ∙ shown other (inr m))))
+          ∙ alone (goes overlay) ∙ ap (λ b. cond b (layers_used overlay) []) (goes_at_one overlay e)
+      by false e later = ap (λ b. flat_map layers_used (cond b (overlay ∷ filter goes rest) (filter goes rest)))
+          (ap not (others_shown overlay.number e ∙ shown overlay (inl refl))) ∙ later
 
 -- Layers are counted of overlays alone,
 pub layers_of_overlays : (world : World ℕ) (number : ℕ)
@@ -141,8 +130,7 @@ layers_of_overlays world number =
     omega (arith, counts)
 
 -- of those that stay and those that go.
-pub layers_parted : (number : ℕ) (stays : Filesystem ℕ → Bool) (list : List (Filesystem ℕ))
-    → layers_among number list
+pub layers_parted : (number : ℕ) (stays : Filesystem ℕ → Bool) (list : List (Filesystem ℕ)) → layers_among number list
     ≡ layers_among number (filter stays list)
     + times (λ (inode : Inode). nat_eq number inode.0) (flat_map layers_used (filter (λ f. not (stays f)) list))
 layers_parted number stays [] = refl
@@ -166,8 +154,7 @@ layers_parted number stays (first ∷ rest) = by (stays first) (layers_parted nu
     gone list = times is_in (flat_map layers_used list)
 
     by : (b : Bool) → here rest ≡ here (filter stays rest) + gone (filter (λ f. not (stays f)) rest)
-        → here (first ∷ rest)
-        ≡ here (cond b (first ∷ filter stays rest) (filter stays rest))
+        → here (first ∷ rest) ≡ here (cond b (first ∷ filter stays rest) (filter stays rest))
         + gone (cond (not b) (first ∷ filter (λ f. not (stays f)) rest) (filter (λ f. not (stays f)) rest))
     by true later =
         let all = times_append is_there (of_overlay [] layers_of first) (flat_map (of_overlay [] layers_of) rest) in
@@ -176,7 +163,6 @@ layers_parted number stays (first ∷ rest) = by (stays first) (layers_parted nu
         omega (arith, later, all, left)
     by false later =
         let all = times_append is_there (of_overlay [] layers_of first) (flat_map (of_overlay [] layers_of) rest) in
-        let left = times_append is_in (layers_used first)
-        (flat_map layers_used (filter (λ f. not (stays f)) rest)) in
+        let left = times_append is_in (layers_used first) (flat_map layers_used (filter (λ f. not (stays f)) rest)) in
         let same = own (of_overlay [] layers_of first) in
         omega (arith, later, all, left, same)

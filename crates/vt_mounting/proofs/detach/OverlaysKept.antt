@@ -11,8 +11,7 @@ use Rattle.vt_laws_mounts.proofs.letting_go.Lists.{Among, fails}
 use Rattle.vt_mounting.specs.Detach.Uses.{Merged, merged_at, merged_left_by, released_merged, without_merged}
 use Rattle.vt_mounting.proofs.detach.OverlaysGone.{goes_at_one, layers_used, merged_in, others_shown}
 
-module _ (world : World ℕ) (number filesystem : ℕ)
-    (takes : (n : ℕ) → mounts_showing world n
+module _ (world : World ℕ) (number filesystem : ℕ) (takes : (n : ℕ) → mounts_showing world n
     ≡ mounts_showing (without_mount world number) n + cond (nat_eq filesystem n) 1 0) where
   abbrev mounted : World ℕ
   mounted = without_mount world number
@@ -77,8 +76,7 @@ module _ (world : World ℕ) (number filesystem : ℕ)
       less : Merged
       less = record was { mounts = was.mounts - 1 }
 
-      at_it : nat_eq filesystem overlay.number ≡ true
-          → merged_left_by filesystem (Some was) (was ∷ kept)
+      at_it : nat_eq filesystem overlay.number ≡ true → merged_left_by filesystem (Some was) (was ∷ kept)
           ≡ map (merged_in mounted) (filter is_shown (overlay ∷ rest))
       at_it e = chosen (nat_eq (mounts_showing world overlay.number - 1) 0) refl
         where
@@ -108,8 +106,7 @@ module _ (world : World ℕ) (number filesystem : ℕ)
               ∙ stay.without ∙ sym stay.left
               ∙ sym (ap (λ b. map (merged_in mounted) (cond b (overlay ∷ filter is_shown rest) (filter is_shown rest)))
               (turned true (goes_at_one world number filesystem takes overlay e ∙ g)))
-          chosen false g =
-              (λ i. cond (e i) less was ∷ stay.released i)
+          chosen false g = (λ i. cond (e i) less was ∷ stay.released i)
               ∙ (λ i. record was { mounts = sym fewer i } ∷ sym stay.left i)
               ∙ sym (ap (λ b. map (merged_in mounted) (cond b (overlay ∷ filter is_shown rest) (filter is_shown rest)))
               (turned false (goes_at_one world number filesystem takes overlay e ∙ g)))
@@ -122,18 +119,14 @@ module _ (world : World ℕ) (number filesystem : ℕ)
           chosen : (b : Bool)
               → cond b (without_merged filesystem (was ∷ kept)) (released_merged filesystem (was ∷ kept))
               ≡ was ∷ cond b (without_merged filesystem kept) (released_merged filesystem kept)
-          chosen true =
-              ap (λ b. cond (not b) (was ∷ without_merged filesystem kept) (without_merged filesystem kept)) e
+          chosen true = ap (λ b. cond (not b) (was ∷ without_merged filesystem kept) (without_merged filesystem kept)) e
           chosen false = ap (λ b. cond b less was ∷ released_merged filesystem kept) e
 
       by : (b : Bool) → nat_eq filesystem overlay.number ≡ b
-          → merged_left_by filesystem (merged_at filesystem kept) kept
-          ≡ map (merged_in mounted) (filter is_shown rest)
+          → merged_left_by filesystem (merged_at filesystem kept) kept ≡ map (merged_in mounted) (filter is_shown rest)
           → merged_left_by filesystem (cond b (Some was) (merged_at filesystem kept)) (was ∷ kept)
           ≡ map (merged_in mounted) (filter is_shown (overlay ∷ rest))
       by true e later = at_it e
-      by false e later =
-          behind (merged_at filesystem kept) e
-          ∙ (λ i. sym (same_merged overlay e) i ∷ later i)
+      by false e later = behind (merged_at filesystem kept) e ∙ (λ i. sym (same_merged overlay e) i ∷ later i)
           ∙ sym (ap (λ b. map (merged_in mounted) (cond b (overlay ∷ filter is_shown rest) (filter is_shown rest)))
           (others_shown world number filesystem takes overlay.number e ∙ shown overlay (inl refl)))

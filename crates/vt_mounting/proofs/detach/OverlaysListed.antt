@@ -28,15 +28,13 @@ use Rattle.vt_mounting.proofs.detach.StoreStays.{store_stays}
 
 -- all are left where they stay
 pub left_still : (old new : Overlays) → OverlaysStay old new → OverlaysLeft old new
-left_still old new stay =
-    (λ one. true, stay ∙ sym (filter_all (λ one. true) (under_counts old) (λ one m. refl)))
+left_still old new stay = (λ one. true, stay ∙ sym (filter_all (λ one. true) (under_counts old) (λ one m. refl)))
 
 pub left_itself : (old new : Overlays) → new ≡ old → OverlaysLeft old new
 left_itself old new same = left_still old new (ap under_counts same)
 
 -- what is left of those that are left
-pub left_twice : (old middle new : Overlays) → OverlaysLeft old middle → OverlaysLeft middle new
-    → OverlaysLeft old new
+pub left_twice : (old middle new : Overlays) → OverlaysLeft old middle → OverlaysLeft middle new → OverlaysLeft old new
 left_twice old middle new first second = (
   λ one. first.0 one && second.0 one,
   second.1 ∙ ap (filter second.0) first.1
@@ -78,8 +76,7 @@ left_without count overlays = (
 -- a store with one mount less of an overlay, and one without it
 pub left_released : (count : ℕ) (old new : StoreValue) → new ≡ with_mounts count (λ mounts. mounts - 1) old
     → OverlaysLeft old.overlays new.overlays
-left_released count old new is =
-    left_still old.overlays new.overlays
+left_released count old new is = left_still old.overlays new.overlays
     (ap (λ (store : StoreValue). under_counts store.overlays) is ∙ counted_stay_in old count (λ mounts. mounts - 1))
 
 pub left_removed : (count : ℕ) (old middle new : StoreValue) → middle ≡ with_mounts count (λ mounts. mounts - 1) old
@@ -133,8 +130,7 @@ none_at number (first ∷ rest) apart =
 
 -- overlays with numbers of their own
 abbrev pub AreApart : Filesystems → Overlays → Type 0
-AreApart plain overlays =
-    any_pair (λ (a b : Filesystem ℕ). nat_eq a.number b.number)
+AreApart plain overlays = any_pair (λ (a b : Filesystem ℕ). nat_eq a.number b.number)
     (overlays_seen (map (overlay_of_store plain) overlays)) ≡ false
 
 -- those that are left are what the store keeps, where each has a number of its own
@@ -147,16 +143,14 @@ kept_by plain stays (first ∷ rest) new left apart =
     by (kept_by plain stays rest) (stays (first.count, first.overlay)) refl
   where
     Later : Type 0
-    Later =
-        (news : Overlays) → under_counts news ≡ filter stays (under_counts rest) → AreApart plain rest
+    Later = (news : Overlays) → under_counts news ≡ filter stays (under_counts rest) → AreApart plain rest
         → overlays_kept (map merged_of news) (map (overlay_of_store plain) rest) ≡ map (overlay_of_store plain) news
 
     over : OverlayEntry → worlds.OverlayEntry
     over = overlay_of_store plain
 
     parts : (list_any (λ (b : Filesystem ℕ). nat_eq (counted first.count) b.number) (overlays_seen (map over rest))
-        ≡ false)
-        × AreApart plain rest
+        ≡ false) × AreApart plain rest
     parts = or_parts (list_any (λ (b : Filesystem ℕ). nat_eq (counted first.count) b.number)
         (overlays_seen (map over rest)))
         (any_pair (λ (a b : Filesystem ℕ). nat_eq a.number b.number) (overlays_seen (map over rest))) apart
@@ -183,8 +177,7 @@ kept_by plain stays (first ∷ rest) new left apart =
         let was = among-from_map over rest one m in
         ap (λ (o : worlds.OverlayEntry). nat_eq o.number (counted entry.count)) was.2
         ∙ nat_eq_turned (counted was.0.count) (counted entry.count)
-        ∙ ap (λ n. nat_eq (counted n) (counted was.0.count)) (sym count)
-        ∙ others was.0 was.1)
+        ∙ ap (λ n. nat_eq (counted n) (counted was.0.count)) (sym count) ∙ others was.0 was.1)
         ∙ later more tails parts.1) i)
 
     goes : Later → under_counts new ≡ filter stays (under_counts rest)
@@ -193,8 +186,7 @@ kept_by plain stays (first ∷ rest) new left apart =
         ap (λ o. cons_option (counted_again (over first) o) (overlays_kept (map merged_of new) (map over rest)))
         (none_at (counted first.count) new (λ entry m.
         let was = were_there rest new (stays, e) entry m in
-        ap (λ n. nat_eq (counted first.count) (counted n)) (sym was.2) ∙ others was.0 was.1))
-        ∙ later new e parts.1
+        ap (λ n. nat_eq (counted first.count) (counted n)) (sym was.2) ∙ others was.0 was.1)) ∙ later new e parts.1
 
     by : Later → (b : Bool) → stays (first.count, first.overlay) ≡ b
         → overlays_kept (map merged_of new) (over first ∷ map over rest) ≡ map over new
@@ -208,11 +200,9 @@ kept_by plain stays (first ∷ rest) new left apart =
 -- Those that are left of its overlays, as often as they are mounted, are those that the store keeps, as the old plain
 -- trees show them.
 pub kept_in_store : (base : WorldValue) (old new : StoreValue) → IsHeld (with_store old base)
-    → OverlaysLeft old.overlays new.overlays
-    → overlays_kept (map merged_of new.overlays) (overlays_of_store old)
+    → OverlaysLeft old.overlays new.overlays → overlays_kept (map merged_of new.overlays) (overlays_of_store old)
     ≡ map (overlay_of_store old.plain) new.overlays
-kept_in_store base old new held left =
-    kept_by old.plain left.0 old.overlays new.overlays left.1
+kept_in_store base old new held left = kept_by old.plain left.0 old.overlays new.overlays left.1
     (subst (λ list. any_pair (λ (a b : Filesystem ℕ). nat_eq a.number b.number) list ≡ false)
     (overlays_are (with_store old base) held.overlays)
     (pair-filter (λ (a b : Filesystem ℕ). nat_eq a.number b.number) is_overlay
@@ -221,22 +211,16 @@ kept_in_store base old new held left =
 -- An event that is done in a world, whose overlays are those that are left, is done in the world of the store.
 pub done_in_store : (base new_base : WorldValue) (old new : StoreValue) → IsHeld (with_store old base)
     → OverlaysLeft old.overlays new.overlays → (name : TaskName) (permit : Permit ℕ)
-    → Permits (with_store old base) name permit
-    → IsDone (with_store old base) name permit
-    (record new_base {
+    → Permits (with_store old base) name permit → IsDone (with_store old base) name permit (record new_base {
       filesystems = new.plain;
       overlays = overlays_kept (map merged_of new.overlays) (overlays_of_store old);
-    })
-    → IsDone (with_store old base) name permit (with_store new new_base)
+    }) → IsDone (with_store old base) name permit (with_store new new_base)
 done_in_store base new_base old new held left name permit permits done =
     subst (IsDone (with_store old base) name permit)
     (store_stays base new_base old new permits.task permit held permits.given there.held
-    (there.becomes permits.task permits.called) (were_there old.overlays new.overlays left))
-    there
+    (there.becomes permits.task permits.called) (were_there old.overlays new.overlays left)) there
   where
     there : IsDone (with_store old base) name permit
         (record new_base { filesystems = new.plain; overlays = map (overlay_of_store old.plain) new.overlays })
-    there =
-        subst (λ overlays. IsDone (with_store old base) name permit
-        (record new_base { filesystems = new.plain; overlays = overlays }))
-        (kept_in_store base old new held left) done
+    there = subst (λ overlays. IsDone (with_store old base) name permit
+        (record new_base { filesystems = new.plain; overlays = overlays })) (kept_in_store base old new held left) done

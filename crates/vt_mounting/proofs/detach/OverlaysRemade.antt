@@ -33,8 +33,7 @@ module _ (world : World ℕ) where
       by (is_shown first) ∙ none_found rest number (λ overlay m. apart overlay (inr m))
     where
       by : (b : Bool) → merged_at number (map (merged_in world) (cond b (first ∷ filter is_shown rest)
-          (filter is_shown rest)))
-          ≡ merged_at number (kept_of_list rest)
+          (filter is_shown rest))) ≡ merged_at number (kept_of_list rest)
       by true = ap (λ c. cond c (Some (merged_in world first)) (merged_at number (kept_of_list rest)))
           (apart first (inl refl))
       by false = refl
@@ -42,19 +41,15 @@ module _ (world : World ℕ) where
   -- an overlay is found by its number, if a mount shows it
   pub merged_found : (list : List (Filesystem ℕ))
       → any_pair (λ (a b : Filesystem ℕ). nat_eq a.number b.number) list ≡ false
-      → (overlay : Filesystem ℕ) → Among overlay list
-      → merged_at overlay.number (kept_of_list list)
+      → (overlay : Filesystem ℕ) → Among overlay list → merged_at overlay.number (kept_of_list list)
       ≡ cond (is_shown overlay) (Some (merged_in world overlay)) None
   merged_found [] distinct overlay m = absurd m
-  merged_found (first ∷ rest) distinct overlay m =
-      ⊎_elim
+  merged_found (first ∷ rest) distinct overlay m = ⊎_elim
       (λ here. subst (λ (one : Filesystem ℕ). merged_at one.number (kept_of_list (first ∷ rest))
       ≡ cond (is_shown one) (Some (merged_in world one)) None) (sym here) (at_first (is_shown first)))
-      (λ later. behind (is_shown first) overlay
-      (swap_eq overlay.number first.number
+      (λ later. behind (is_shown first) overlay (swap_eq overlay.number first.number
       ∙ fails (λ (b : Filesystem ℕ). nat_eq first.number b.number) rest parts.0 overlay later)
-      ∙ merged_found rest parts.1 overlay later)
-      m
+      ∙ merged_found rest parts.1 overlay later) m
     where
       parts : (list_any (λ (b : Filesystem ℕ). nat_eq first.number b.number) rest ≡ false)
           × (any_pair (λ (a b : Filesystem ℕ). nat_eq a.number b.number) rest ≡ false)
@@ -62,8 +57,7 @@ module _ (world : World ℕ) where
           (any_pair (λ (a b : Filesystem ℕ). nat_eq a.number b.number) rest) distinct
 
       at_first : (b : Bool) → merged_at first.number (map (merged_in world) (cond b (first ∷ filter is_shown rest)
-          (filter is_shown rest)))
-          ≡ cond b (Some (merged_in world first)) None
+          (filter is_shown rest))) ≡ cond b (Some (merged_in world first)) None
       at_first true = ap (λ c. cond c (Some (merged_in world first)) (merged_at first.number (kept_of_list rest)))
           (eq-eqb first.number first.number refl)
       at_first false = none_found rest first.number
@@ -71,8 +65,7 @@ module _ (world : World ℕ) where
 
       behind : (b : Bool) (other : Filesystem ℕ) → nat_eq other.number first.number ≡ false
           → merged_at other.number (map (merged_in world) (cond b (first ∷ filter is_shown rest)
-          (filter is_shown rest)))
-          ≡ merged_at other.number (kept_of_list rest)
+          (filter is_shown rest))) ≡ merged_at other.number (kept_of_list rest)
       behind true other apart =
           ap (λ c. cond c (Some (merged_in world first)) (merged_at other.number (kept_of_list rest))) apart
       behind false other apart = refl
@@ -87,16 +80,14 @@ module _ (old : WorldValue) (held : IsHeld old) (world : World ℕ) (leaves : Le
   shows entry = is_mounted nat_eq world entry.number
 
   overlays_distinct : any_pair (λ (a b : Filesystem ℕ). nat_eq a.number b.number) (overlays_seen old.overlays) ≡ false
-  overlays_distinct =
-      subst (λ list. any_pair (λ (a b : Filesystem ℕ). nat_eq a.number b.number) list ≡ false)
+  overlays_distinct = subst (λ list. any_pair (λ (a b : Filesystem ℕ). nat_eq a.number b.number) list ≡ false)
       (overlays_are old held.overlays)
       (pair-filter (λ (a b : Filesystem ℕ). nat_eq a.number b.number) is_overlay (world_of old).filesystems
       held.in_world.files.one_filesystem)
 
   found_so : (entry : OverlayEntry) → Among entry old.overlays
       → merged_at entry.number overlays ≡ cond (shows entry) (Some (merged_in world (overlay_seen entry))) None
-  found_so entry m =
-      ap (merged_at entry.number) (merged ∙ ap (map (merged_in world)) leaves.overlays)
+  found_so entry m = ap (merged_at entry.number) (merged ∙ ap (map (merged_in world)) leaves.overlays)
       ∙ merged_found world (overlays_seen old.overlays) overlays_distinct (overlay_seen entry)
       (among-map overlay_seen old.overlays entry m)
 
@@ -104,20 +95,16 @@ module _ (old : WorldValue) (held : IsHeld old) (world : World ℕ) (leaves : Le
   FoundSo list = (entry : OverlayEntry) → Among entry list
       → merged_at entry.number overlays ≡ cond (shows entry) (Some (merged_in world (overlay_seen entry))) None
 
-  seen_of : (list : List OverlayEntry) → FoundSo list
-      → overlays_seen (overlays_kept overlays list)
+  seen_of : (list : List OverlayEntry) → FoundSo list → overlays_seen (overlays_kept overlays list)
       ≡ filter (λ (overlay : Filesystem ℕ). is_mounted nat_eq world overlay.number) (overlays_seen list)
   seen_of [] found = refl
   seen_of (first ∷ rest) found =
       ap (λ o. overlays_seen (cons_option (counted_again first o) (overlays_kept overlays rest)))
-      (found first (inl refl))
-      ∙ by (shows first) (seen_of rest (λ entry m. found entry (inr m)))
+      (found first (inl refl)) ∙ by (shows first) (seen_of rest (λ entry m. found entry (inr m)))
     where
-      by : (b : Bool)
-          → overlays_seen (overlays_kept overlays rest)
+      by : (b : Bool) → overlays_seen (overlays_kept overlays rest)
           ≡ filter (λ (overlay : Filesystem ℕ). is_mounted nat_eq world overlay.number) (overlays_seen rest)
-          → overlays_seen (cons_option
-          (counted_again first (cond b (Some (merged_in world (overlay_seen first))) None))
+          → overlays_seen (cons_option (counted_again first (cond b (Some (merged_in world (overlay_seen first))) None))
           (overlays_kept overlays rest))
           ≡ cond b (overlay_seen first ∷ filter (λ (overlay : Filesystem ℕ). is_mounted nat_eq world overlay.number)
           (overlays_seen rest))
@@ -133,14 +120,12 @@ module _ (old : WorldValue) (held : IsHeld old) (world : World ℕ) (leaves : Le
   counted_of : (list : List OverlayEntry) → FoundSo list → (entry : OverlayEntry)
       → Among entry (overlays_kept overlays list) → IsMountedSoOften world entry
   counted_of [] found entry m = absurd m
-  counted_of (first ∷ rest) found entry m =
-      by (shows first) (counted_of rest (λ other o. found other (inr o)) entry)
+  counted_of (first ∷ rest) found entry m = by (shows first) (counted_of rest (λ other o. found other (inr o)) entry)
       (subst (λ o. Among entry (cons_option (counted_again first o) (overlays_kept overlays rest)))
       (found first (inl refl)) m)
     where
       by : (b : Bool) → (Among entry (overlays_kept overlays rest) → IsMountedSoOften world entry)
-          → Among entry (cons_option
-          (counted_again first (cond b (Some (merged_in world (overlay_seen first))) None))
+          → Among entry (cons_option (counted_again first (cond b (Some (merged_in world (overlay_seen first))) None))
           (overlays_kept overlays rest)) → IsMountedSoOften world entry
       by true later n = ⊎_elim (λ here. subst (IsMountedSoOften world) (sym here) refl) later n
       by false later n = later n
@@ -158,8 +143,7 @@ kept_itself value whole = all value.overlays (λ entry m. m)
     all : (list : List OverlayEntry) → ((entry : OverlayEntry) → Among entry list → Among entry value.overlays)
         → overlays_kept (map merged_seen value.overlays) list ≡ list
     all [] within = refl
-    all (first ∷ rest) within =
-        ap (λ o. cons_option (counted_again first o)
+    all (first ∷ rest) within = ap (λ o. cons_option (counted_again first o)
         (overlays_kept (map merged_seen value.overlays) rest))
         (found_so value whole (world_of value) (leaves_at_first value whole) (map merged_seen value.overlays)
         (merged_at_first value whole) first (within first (inl refl))
@@ -167,8 +151,7 @@ kept_itself value whole = all value.overlays (λ entry m. m)
         ∙ (λ i. record first { mounts = sym often i } ∷ all rest (λ entry m. within entry (inr m)) i)
       where
         shown : is_mounted nat_eq (world_of value) first.number ≡ true
-        shown =
-            among_from_all (λ (overlay : Filesystem ℕ). is_mounted nat_eq (world_of value) overlay.number ≡ true)
+        shown = among_from_all (λ (overlay : Filesystem ℕ). is_mounted nat_eq (world_of value) overlay.number ≡ true)
             (overlays_seen value.overlays) (mounted_at_first value whole) (overlay_seen first)
             (among-map overlay_seen value.overlays first (within first (inl refl)))
 

@@ -52,17 +52,14 @@ some_there (x ∷ xs) f node e = by (nat_eq f x.number) e (some_there xs f node)
 pub located_is_named : (value : WorldValue) → IsHeld value → (location : meant.Location ℕ)
     → is_located_well nat_eq (world_of value) location ≡ true
     → location_named (is_counted_before value.next) location ≡ true
-located_is_named value whole location well =
-    (λ i. mount_named i && node_named i)
+located_is_named value whole location well = (λ i. mount_named i && node_named i)
   where
     world : World ℕ
     world = world_of value
 
     named_if_used : (number : ℕ) → Among number (numbers_in_use world) → is_counted_before value.next number ≡ true
-    named_if_used number m =
-        used_numbers_are_named (is_counted_before value.next) world whole.given
-        (3, 7, (λ e. absurd (omega (arith, e))), refl, refl) number
-        (is_among_numbers number (numbers_in_use world) m)
+    named_if_used number m = used_numbers_are_named (is_counted_before value.next) world whole.given
+        (3, 7, (λ e. absurd (omega (arith, e))), refl, refl) number (is_among_numbers number (numbers_in_use world) m)
 
     parts : (is_among nat_eq location.mount (map (λ mount. mount.number) world.mounts) ≡ true)
         × (is_there nat_eq world (mount_at nat_eq world location).filesystem location.node ≡ true)
@@ -126,8 +123,7 @@ module _ (value : WorldValue) (whole : IsHeld value) (name : TaskName) (task new
     back = map (λ descriptor. descriptor.location) task.descriptors ++ locations_in split.back;
     was = ap locations_in split.was ∙ locations_around split.front task split.back
         ∙ sym (append_assoc (locations_in split.front) (task.root ∷ []) _);
-    is = ap locations_in split.is ∙ locations_around split.front new split.back
-        ∙ (λ i. locations_in split.front
+    is = ap locations_in split.is ∙ locations_around split.front new split.back ∙ (λ i. locations_in split.front
         ++ (same_root i ∷ new.directory
         ∷ (map (λ descriptor. descriptor.location) (same_descriptors i) ++ locations_in split.back)))
         ∙ sym (append_assoc (locations_in split.front) (task.root ∷ []) _);
@@ -141,8 +137,7 @@ module _ (value : WorldValue) (whole : IsHeld value) (name : TaskName) (task new
     front = locations_in split.front;
     back = task.directory ∷ (map (λ descriptor. descriptor.location) task.descriptors ++ locations_in split.back);
     was = ap locations_in split.was ∙ locations_around split.front task split.back;
-    is = ap locations_in split.is ∙ locations_around split.front new split.back
-        ∙ (λ i. locations_in split.front
+    is = ap locations_in split.is ∙ locations_around split.front new split.back ∙ (λ i. locations_in split.front
         ++ (new.root ∷ same_directory i
         ∷ (map (λ descriptor. descriptor.location) (same_descriptors i) ++ locations_in split.back)));
     there = ap (λ b. b && true) well;
@@ -154,22 +149,19 @@ kept_so : (value : WorldValue) (whole : IsHeld value) (at left : Location) (k on
     → is_small_node at.node ≡ true → is_small_node left.node ≡ true
     → is_located_well nat_eq (world_of value) (location_of at) ≡ true
     → is_located_well nat_eq (world_of value) (location_of left) ≡ true
-    → one ≡ without_location left false (with_location at false k)
-    → one ≡ let_go_mount (counted left.mount.count)
+    → one ≡ without_location left false (with_location at false k) → one ≡ let_go_mount (counted left.mount.count)
     (released_use (counted left.mount.count)
     ((mount_at nat_eq (world_of value) (location_of left)).filesystem, number_of left.node) false
     (with_use (counted at.mount.count)
     ((mount_at nat_eq (world_of value) (location_of at)).filesystem, number_of at.node) false k))
-kept_so value whole at left k one few few_left well well_left is =
-    is ∙ (λ i. let_go_mount (counted left.mount.count)
+kept_so value whole at left k one few few_left well well_left is = is ∙ (λ i. let_go_mount (counted left.mount.count)
     (released_use (counted left.mount.count)
     (sym (seen_where_located value whole left few_left well_left) i, number_of left.node) false
     (with_use (counted at.mount.count)
     (sym (seen_where_located value whole at few well) i, number_of at.node) false k)))
 
 located_task : (value : WorldValue) → IsHeld value → (name : TaskName) (task : Task ℕ)
-    → task_called (world_of value) name ≡ Some task
-    → (is_located_well nat_eq (world_of value) task.root ≡ true)
+    → task_called (world_of value) name ≡ Some task → (is_located_well nat_eq (world_of value) task.root ≡ true)
     × (is_located_well nat_eq (world_of value) task.directory ≡ true)
 located_task value whole name task found =
     let split = replaced_split name value.tasks task task whole.in_world.tasks.one_task found refl in
@@ -207,11 +199,9 @@ directory_is_set value name directory left mounts filesystems overlays tasks who
     subst (λ all. IsDone value name (ToSetDirectory place) (remade_with value mounts filesystems overlays all)) (sym tasks_are)
     (left_done value whole (replaced new value.tasks) (standing place ∷ []) (standing (location_of left))
     (subst (λ location. Moves value (replaced new value.tasks) (standing place ∷ []) (standing location ∷ []))
-    (sym left_is)
-    (directory_moves value whole name task new permits.called refl refl refl well))
+    (sym left_is) (directory_moves value whole name task new permits.called refl refl refl well))
     mounts filesystems overlays (kept_so value whole directory left (kept_of value)
-    (kept_with mounts filesystems overlays) few few_left well well_left is_kept)
-    name (ToSetDirectory place) task
+    (kept_with mounts filesystems overlays) few few_left well well_left is_kept) name (ToSetDirectory place) task
     (record { called = permits.called; given = permits.given; named = located_is_named value whole place well; applied = λ fresh. refl })
     (same_tasks_in value whole name task new permits.called refl refl refl))
 
@@ -221,8 +211,7 @@ pub root_is_set : (value : WorldValue) (name : TaskName) (root left : Location) 
     → is_small_node root.node ≡ true → is_small_node left.node ≡ true
     → Some (location_of left) ≡ option_map (λ task. task.root) (called name value.tasks)
     → tasks ≡ changed_called name (λ task. record task { root = location_of root }) value.tasks
-    → kept_with mounts filesystems overlays ≡ without_location left false
-    (with_location root false (kept_of value))
+    → kept_with mounts filesystems overlays ≡ without_location left false (with_location root false (kept_of value))
     → IsDone value name (ToSetRoot (location_of root)) (remade_with value mounts filesystems overlays tasks)
 root_is_set value name root left mounts filesystems overlays tasks whole permits few few_left was is is_kept =
     let task = permits.task in
@@ -238,10 +227,8 @@ root_is_set value name root left mounts filesystems overlays tasks whole permits
     subst (λ all. IsDone value name (ToSetRoot place) (remade_with value mounts filesystems overlays all)) (sym tasks_are)
     (left_done value whole (replaced new value.tasks) (standing place ∷ []) (standing (location_of left))
     (subst (λ location. Moves value (replaced new value.tasks) (standing place ∷ []) (standing location ∷ []))
-    (sym left_is)
-    (root_moves value whole name task new permits.called refl refl refl well))
+    (sym left_is) (root_moves value whole name task new permits.called refl refl refl well))
     mounts filesystems overlays (kept_so value whole root left (kept_of value)
-    (kept_with mounts filesystems overlays) few few_left well well_left is_kept)
-    name (ToSetRoot place) task
+    (kept_with mounts filesystems overlays) few few_left well well_left is_kept) name (ToSetRoot place) task
     (record { called = permits.called; given = permits.given; named = located_is_named value whole place well; applied = λ fresh. refl })
     (same_tasks_in value whole name task new permits.called refl refl refl))

@@ -16,15 +16,13 @@ use Rattle.vt_mounting.proofs.detach.Overlaid.{overlays_are}
 pub overlay_among : (value : WorldValue) → HoldsOverlays value → (overlay : Filesystem ℕ)
     → Among overlay (overlays_seen value.overlays)
     → Among overlay (world_of value).filesystems × (is_overlay overlay ≡ true)
-overlay_among value holds overlay m =
-    among-from_filter is_overlay (world_of value).filesystems overlay
+overlay_among value holds overlay m = among-from_filter is_overlay (world_of value).filesystems overlay
     (subst (Among overlay) (sym (overlays_are value holds)) m)
 
 pub found_where_plain : (value : WorldValue) → IsHeld value → (number : ℕ)
     → is_overlay (filesystem_numbered nat_eq (world_of value) number) ≡ false
     → filesystem_numbered nat_eq (world_of value) number ≡ found value.filesystems number
-found_where_plain value held number plain =
-    ap (λ o. unwrap_or o (no_filesystem number))
+found_where_plain value held number plain = ap (λ o. unwrap_or o (no_filesystem number))
     (plain_ones_are_found (filesystems_seen value.filesystems) (overlays_seen value.overlays) number
     (all_from_among (λ (overlay : Filesystem ℕ). nat_eq number overlay.number ≡ false) (overlays_seen value.overlays)
     (λ overlay m. by overlay m (nat_eq number overlay.number) refl)))
@@ -36,14 +34,11 @@ found_where_plain value held number plain =
         let there = overlay_among value held.overlays overlay m in
         absurd (true≢false (sym there.1
         ∙ ap is_overlay (sym (found_filesystem (world_of value).filesystems held.in_world.files.one_filesystem overlay
-        there.0)
-        ∙ ap (filesystem_numbered nat_eq (world_of value)) (sym (eqb-true number overlay.number e)))
-        ∙ plain))
+        there.0) ∙ ap (filesystem_numbered nat_eq (world_of value)) (sym (eqb-true number overlay.number e))) ∙ plain))
 
 -- so by its count
 pub counted_where_plain : (value : WorldValue) → IsHeld value → (count : ℕ)
     → is_overlay (filesystem_numbered nat_eq (world_of value) (counted count)) ≡ false
-    → filesystem_numbered nat_eq (world_of value) (counted count)
-    ≡ filesystem_seen (entry_at value.filesystems count)
+    → filesystem_numbered nat_eq (world_of value) (counted count) ≡ filesystem_seen (entry_at value.filesystems count)
 counted_where_plain value held count plain =
     found_where_plain value held (counted count) plain ∙ found_by_number value.filesystems count

@@ -40,8 +40,7 @@ remade_with value mounts filesystems overlays tasks =
 module _ (value : WorldValue) (whole : IsHeld value) (tasks : Tasks) (more less : List Use)
     (moves : Moves value tasks more less)
     (mounts : List MountEntry) (filesystems : Filesystems) (overlays : List Merged)
-    (is_kept : kept_with mounts filesystems overlays
-    ≡ moved_kept (world_of value) more less (kept_of value)) where
+    (is_kept : kept_with mounts filesystems overlays ≡ moved_kept (world_of value) more less (kept_of value)) where
   abbrev next : World ℕ
   next = world_of (after value tasks)
 
@@ -55,19 +54,16 @@ module _ (value : WorldValue) (whole : IsHeld value) (tasks : Tasks) (more less 
   lost = inodes_of_uses (world_of value) less
 
   pub entries_are : mounts ≡ map moved_entry value.mounts
-  entries_are = ap (λ k. k.mounts) is_kept
-      ∙ mounts_moved (world_of value) more less (kept_of value)
+  entries_are = ap (λ k. k.mounts) is_kept ∙ mounts_moved (world_of value) more less (kept_of value)
 
   pub shown_are : shown filesystems ≡ map (exchanged_shown gained lost) (shown value.filesystems)
-  shown_are = ap (λ k. k.filesystems) is_kept
-      ∙ filesystems_moved (world_of value) more less (kept_of value)
+  shown_are = ap (λ k. k.filesystems) is_kept ∙ filesystems_moved (world_of value) more less (kept_of value)
 
   pub same_mount : (entry : MountEntry) → (moved_entry entry).mount ≡ entry.mount
   same_mount entry = (released_counts less (folded hold_if entry more)).mount ∙ (held_counts more entry).mount
 
   pub same_mounts : mounts_in mounts ≡ mounts_in value.mounts
-  same_mounts =
-      ap mounts_in entries_are ∙ map_twice (λ (entry : MountEntry). entry.mount) moved_entry value.mounts
+  same_mounts = ap mounts_in entries_are ∙ map_twice (λ (entry : MountEntry). entry.mount) moved_entry value.mounts
       ∙ map_alike (λ entry. (moved_entry entry).mount) (λ entry. entry.mount) value.mounts (λ entry m. same_mount entry)
 
   -- each entry was one
@@ -86,8 +82,7 @@ module _ (value : WorldValue) (whole : IsHeld value) (tasks : Tasks) (more less 
 
   pub same_numbers : map (λ f. f.number) (filter is_plain_one (world_of value).filesystems)
       ≡ map (λ (entry : FilesystemEntry). counted entry.count) filesystems
-  same_numbers =
-      ap (map (λ (f : Filesystem ℕ). f.number)) (plain_ones_are value whole.overlays)
+  same_numbers = ap (map (λ (f : Filesystem ℕ). f.number)) (plain_ones_are value whole.overlays)
       ∙ map_twice (λ (f : Filesystem ℕ). f.number) filesystem_seen value.filesystems
       ∙ sym (map_twice (λ (one : Shown). counted one.count) shown_entry value.filesystems)
       ∙ sym (map_twice (λ (one : Shown). counted one.count) (exchanged_shown gained lost) (shown value.filesystems))
@@ -97,9 +92,7 @@ module _ (value : WorldValue) (whole : IsHeld value) (tasks : Tasks) (more less 
   -- all mounts are still in use
   module _ (stay : without_dead_mounts nat_eq next ≡ next) where
     living_is : in_use_of next ≡ next
-    living_is =
-        ap (without_dead_filesystems nat_eq) stay
-        ∙ ap (λ all. record next { filesystems = all })
+    living_is = ap (without_dead_filesystems nat_eq) stay ∙ ap (λ all. record next { filesystems = all })
         (filter_all (filesystem_lives nat_eq next) next.filesystems (λ f m.
         passes (filesystem_lives nat_eq (world_of value)) (world_of value).filesystems
         (worlds_are_in_use (world_of value) whole.in_world).filesystems f m))
@@ -111,8 +104,7 @@ module _ (value : WorldValue) (whole : IsHeld value) (tasks : Tasks) (more less 
           ap (λ (world : World ℕ). is_mounted nat_eq world number) living_is));
       mounts = ap (λ (world : World ℕ). world.mounts) living_is ∙ sym same_mounts;
       numbers = ap (λ (world : World ℕ). map (λ (f : Filesystem ℕ). f.number)
-          (filter is_plain_one world.filesystems)) living_is
-          ∙ same_numbers;
+          (filter is_plain_one world.filesystems)) living_is ∙ same_numbers;
       entries = λ entry m. let from = shown_was entry m in record {
         was = from.0;
         among = from.1;
@@ -126,8 +118,7 @@ module _ (value : WorldValue) (whole : IsHeld value) (tasks : Tasks) (more less 
       tasks = refl;
     }
 
-    pub remains_counted : ((namespace : ℕ)
-        → times (λ task. nat_eq namespace task.namespace) tasks
+    pub remains_counted : ((namespace : ℕ) → times (λ task. nat_eq namespace task.namespace) tasks
         ≡ times (λ task. nat_eq namespace task.namespace) value.tasks)
         → CountsBeside (remade value mounts filesystems tasks)
     remains_counted inside = record {
@@ -151,9 +142,7 @@ module _ (value : WorldValue) (whole : IsHeld value) (tasks : Tasks) (more less 
           let was = among_from_all (CountsWhatIsInIt (world_of value)) value.namespaces whole.namespaces entry m in
           subst (λ all. CountsWhatIsInIt
           (record (world_of (remade value mounts filesystems tasks)) { mounts = all }) entry) (sym same_mounts)
-          (record {
-            tasks = was.tasks ∙ sym (inside (counted entry.count));
-          }));
+          (record { tasks = was.tasks ∙ sym (inside (counted entry.count)) }));
     }
 
     pub remains_done : (name : TaskName) (permit : Permit ℕ) (task : Task ℕ) → IsApplied value name permit task next

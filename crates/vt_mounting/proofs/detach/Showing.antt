@@ -28,8 +28,7 @@ use Rattle.vt_laws_mounts.proofs.letting_go.sweeps.OfWorlds.{found_filesystem}
 same_filesystems : (filesystems : List (Filesystem ℕ)) (entries : Filesystems)
     → map (λ f. f.number) filesystems ≡ map (λ entry. counted entry.count) entries
     → ((f : Filesystem ℕ) → Among f filesystems → (entry : FilesystemEntry) → Among entry entries
-    → f.number ≡ counted entry.count
-    → SameFilesystem f (filesystem_seen entry))
+    → f.number ≡ counted entry.count → SameFilesystem f (filesystem_seen entry))
     → SameFilesystems filesystems (filesystems_seen entries)
 same_filesystems [] [] numbers same = tt
 same_filesystems [] (entry ∷ entries) numbers same = absurd cc
@@ -38,8 +37,7 @@ same_filesystems (f ∷ filesystems) (entry ∷ entries) numbers same =
     let heads : f.number ≡ counted entry.count = cc in
     let tails : map (λ g. g.number) filesystems ≡ map (λ other. counted other.count) entries = cc in (
       same f (inl refl) entry (inl refl) heads,
-      same_filesystems filesystems entries tails
-          (λ g m other n. same g (inr m) other (inr n)),
+      same_filesystems filesystems entries tails (λ g m other n. same g (inr m) other (inr n)),
     )
 
 -- What code keeps, against a world
@@ -64,16 +62,13 @@ module _ (world : World ℕ) (new : WorldValue) (shows : ShowsAs world new) (is_
       by (Some overlay) e = absurd (true≢false (sym e))
 
   same_one : (f : Filesystem ℕ) → Among f (filter is_plain_one world.filesystems) → (entry : FilesystemEntry)
-      → Among entry new.filesystems → f.number ≡ counted entry.count
-      → SameFilesystem f (filesystem_seen entry)
+      → Among entry new.filesystems → f.number ≡ counted entry.count → SameFilesystem f (filesystem_seen entry)
   same_one f among entry n same =
       let plain = among-from_filter is_plain_one world.filesystems f among in
       let m = plain.0 in
-      let is : IsCounted world f (inodes_seen entry) =
-      subst (λ g. IsCounted world g (inodes_seen entry))
+      let is : IsCounted world f (inodes_seen entry) = subst (λ g. IsCounted world g (inodes_seen entry))
       (ap (filesystem_numbered nat_eq world) (sym same)
-      ∙ found_filesystem world.filesystems is_world.files.one_filesystem f m)
-      (shows.inodes entry n) in
+      ∙ found_filesystem world.filesystems is_world.files.one_filesystem f m) (shows.inodes entry n) in
       let tree_is : f.files.tree ≡ (filesystem_seen entry).files.tree = λ i.
       record { root = sym is.root i; node = λ number. sym (is.node number) i } in
       record {
@@ -81,8 +76,7 @@ module _ (world : World ℕ) (new : WorldValue) (shows : ShowsAs world new) (is_
         files = record {
           tree = tree_is;
           numbers = same_numbers_are_permuted f.files.numbers (filesystem_seen entry).files.numbers is.once
-              (numbers_apart_each entry)
-              (λ number. among_from_all (λ g.
+              (numbers_apart_each entry) (λ number. among_from_all (λ g.
               ListsNumbers nat_eq g.files) world.filesystems is_world.files.numbers f m number
               ∙ ap (λ tree. is_some (tree.node number)) tree_is ∙ sym (numbers_listed entry number));
         };
@@ -99,8 +93,7 @@ module _ (world : World ℕ) (new : WorldValue) (shows : ShowsAs world new) (is_
         (woven_lists_are_alike (filter is_plain_one world.filesystems) (filter is_overlay world.filesystems)
         (filesystems_seen new.filesystems) (overlays_seen new.overlays)
         (same_filesystems (filter is_plain_one world.filesystems) new.filesystems shows.numbers same_one)
-        (subst (SameFilesystems (filter is_overlay world.filesystems)) shows.overlays
-        (sameness_is_an_equivalence.itself
+        (subst (SameFilesystems (filter is_overlay world.filesystems)) shows.overlays (sameness_is_an_equivalence.itself
         (record world { filesystems = filter is_overlay world.filesystems })).filesystems));
     namespaces = shows.namespaces;
     tasks = shows.tasks;
@@ -108,22 +101,19 @@ module _ (world : World ℕ) (new : WorldValue) (shows : ShowsAs world new) (is_
 
   -- and has the groups that are kept
   pub shown_has : Has (world_of new) new.groups
-  shown_has =
-      same_has world (world_of new) new.groups shows.groups (sym shows.mounts)
+  shown_has = same_has world (world_of new) new.groups shows.groups (sym shows.mounts)
       (λ group. sym (master_is world new.groups is_world shows.groups group))
 
   -- its overlays are overlays
   merged : All (λ filesystem. is_overlay filesystem ≡ true) (overlays_seen new.overlays)
-  merged =
-      subst (All (λ filesystem. is_overlay filesystem ≡ true)) shows.overlays
+  merged = subst (All (λ filesystem. is_overlay filesystem ≡ true)) shows.overlays
       (all_from_among (λ filesystem. is_overlay filesystem ≡ true) (filter is_overlay world.filesystems)
       (λ f m. (among-from_filter is_overlay world.filesystems f m).1))
 
   -- and its inodes count what is in it
   pub shown_is_counted : (entry : FilesystemEntry) → Among entry new.filesystems → IsWorld nat_eq (world_of new)
       → IsCounted (world_of new) (filesystem_seen entry) (inodes_seen entry)
-  shown_is_counted entry m is =
-      subst (λ f. IsCounted (world_of new) f (inodes_seen entry))
+  shown_is_counted entry m is = subst (λ f. IsCounted (world_of new) f (inodes_seen entry))
       (found_filesystem (world_of new).filesystems is.files.one_filesystem (filesystem_seen entry)
       (plain_one_among new merged entry m))
       (any_same_worlds_count_alike world (world_of new) (counted entry.count) (inodes_seen entry) shown_is_same

@@ -38,17 +38,14 @@ changed_inodes count change changed_so same (one ∷ rest) =
 pub pins : (count number : ℕ) (old new : Filesystems)
     → ChangesInodes count (λ inodes. pinned nat_eq inodes number) old new
     → shown new ≡ pinned_in (counted count, number) (shown old)
-pins count number old new changes =
-    changes.changed
-    ∙ changed_inodes count (λ inodes. pinned nat_eq inodes number)
+pins count number old new changes = changes.changed ∙ changed_inodes count (λ inodes. pinned nat_eq inodes number)
     (λ filesystem inodes. pinned_if filesystem inodes (counted count, number))
     (λ other inodes. ap (λ b. cond b (pinned nat_eq inodes number) inodes) (counted_eq_back other count)) (shown old)
 
 -- and a use less
 pub unpinned_shown : (count number : ℕ) (all : List Shown)
     → shown_with count (λ inodes. unpinned nat_eq inodes number) all ≡ unpinned_in (counted count, number) all
-unpinned_shown count number all =
-    changed_inodes count (λ inodes. unpinned nat_eq inodes number)
+unpinned_shown count number all = changed_inodes count (λ inodes. unpinned nat_eq inodes number)
     (λ filesystem inodes. unpinned_if filesystem inodes (counted count, number))
     (λ other inodes. ap (λ b. cond b (unpinned nat_eq inodes number) inodes) (counted_eq_back other count)) all
 
@@ -62,11 +59,9 @@ pub releases : (count : ℕ) (old : Filesystems)
     → shown (with_changed count (λ entry. record entry { mounts = entry.mounts - 1 }) old)
     ≡ released_in (counted count) (shown old)
 releases count [] = refl
-releases count (entry ∷ rest) =
-    λ i. (by (nat_eq count entry.count)
+releases count (entry ∷ rest) = λ i. (by (nat_eq count entry.count)
     ∙ ap (λ b. cond b (record (shown_entry entry) { mounts = entry.mounts - 1 }) (shown_entry entry))
-    (sym (counted_test count entry.count))) i
-    ∷ releases count rest i
+    (sym (counted_test count entry.count))) i ∷ releases count rest i
   where
     by : (b : Bool) → shown_entry (cond b (record entry { mounts = entry.mounts - 1 }) entry)
         ≡ cond b (record (shown_entry entry) { mounts = entry.mounts - 1 }) (shown_entry entry)
@@ -77,8 +72,7 @@ releases count (entry ∷ rest) =
 pub removes : (count : ℕ) (old : Filesystems)
     → shown (without count old) ≡ without_filesystem (counted count) (shown old)
 removes count [] = refl
-removes count (entry ∷ rest) =
-    by (nat_eq count entry.count) (removes count rest)
+removes count (entry ∷ rest) = by (nat_eq count entry.count) (removes count rest)
     ∙ ap (λ b. cond (not b) (shown_entry entry ∷ without_filesystem (counted count) (shown rest))
     (without_filesystem (counted count) (shown rest))) (sym (counted_test count entry.count))
   where
@@ -93,8 +87,7 @@ removes count (entry ∷ rest) =
 pub mounts_are_shown : (count : ℕ) (filesystems : Filesystems)
     → (entry_at filesystems count).mounts ≡ mounts_shown (counted count) (shown filesystems)
 mounts_are_shown count [] = refl
-mounts_are_shown count (entry ∷ rest) =
-    by (nat_eq count entry.count) (mounts_are_shown count rest)
+mounts_are_shown count (entry ∷ rest) = by (nat_eq count entry.count) (mounts_are_shown count rest)
     ∙ ap (λ b. unwrap_or (option_map (λ one. one.mounts)
     (cond b (Some (shown_entry entry)) (find (λ one. nat_eq (counted count) (counted one.count)) (shown rest)))) 0)
     (sym (counted_test count entry.count))
@@ -134,8 +127,7 @@ filesystem_goes count old held new n is_held is zero gone =
     sym (ap (mounts_shown (counted count)) seen) ∙ sym (mounts_are_shown count held) ∙ sym is ∙ zero in
     ap shown gone ∙ removes count held ∙ ap (without_filesystem (counted count)) seen
     ∙ sym (ap (λ b. cond b (without_filesystem (counted count) (released_in (counted count) (shown old)))
-    (released_in (counted count) (shown old)))
-    (eq-eqb _ 0 none))
+    (released_in (counted count) (shown old))) (eq-eqb _ 0 none))
 
 -- and stays while another shows it
 pub filesystem_stays : (count : ℕ) (old held : Filesystems) (n : ℕ)
@@ -146,10 +138,8 @@ filesystem_stays count old held n is_held is some =
     let seen : shown held ≡ released_in (counted count) (shown old) = ap shown is_held ∙ releases count old in
     let same : n ≡ mounts_shown (counted count) (released_in (counted count) (shown old)) =
     is ∙ mounts_are_shown count held ∙ ap (mounts_shown (counted count)) seen in
-    seen
-    ∙ sym (ap (λ b. cond b (without_filesystem (counted count) (released_in (counted count) (shown old)))
-    (released_in (counted count) (shown old)))
-    (ne_eqb _ 0 (λ none. some (same ∙ none))))
+    seen ∙ sym (ap (λ b. cond b (without_filesystem (counted count) (released_in (counted count) (shown old)))
+    (released_in (counted count) (shown old))) (ne_eqb _ 0 (λ none. some (same ∙ none))))
 
 module _ (number : ℕ) (k : Kept) where
   abbrev found : Option (Mount ℕ)
@@ -175,8 +165,7 @@ module _ (number : ℕ) (k : Kept) where
   pub let_go_unused : (mount : Mount ℕ) → found ≡ Some mount
       → holds_of is_unused (entry_numbered k.mounts number) ≡ true
       → let_go_mount number k ≡ without_mount number mount k
-  let_go_unused mount is unused = by (entry_numbered k.mounts number)
-      (sym (found_entry number k.mounts) ∙ is) unused
+  let_go_unused mount is unused = by (entry_numbered k.mounts number) (sym (found_entry number k.mounts) ∙ is) unused
     where
       by : (o : Option MountEntry) → option_map (λ entry. entry.mount) o ≡ Some mount → holds_of is_unused o ≡ true
           → let_go_entry number k o ≡ without_mount number mount k

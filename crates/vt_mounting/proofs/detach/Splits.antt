@@ -23,8 +23,7 @@ pub record IsSplit (task new : Task ℕ) (tasks after : Tasks) : Type 0 where
 put_split : (name : TaskName) (tasks : Tasks) (task new : Task ℕ) → AreNamedApart tasks → called name tasks ≡ Some task
     → IsSplit task new tasks (put name new tasks)
 put_split name [] task new apart found = absurd cc
-put_split name (first ∷ tasks) task new apart found =
-    by (same_name name first.name) refl found
+put_split name (first ∷ tasks) task new apart found = by (same_name name first.name) refl found
     (put_split name tasks task new
     (or_parts (list_any (λ (other : Task ℕ). same_name first.name other.name) tasks) _ apart).1)
   where
@@ -46,8 +45,7 @@ put_split name (first ∷ tasks) task new apart found =
 
 -- the task of a name is replaced in its place
 pub replaced_split : (name : TaskName) (tasks : Tasks) (task new : Task ℕ) → AreNamedApart tasks
-    → called name tasks ≡ Some task
-    → new.name ≡ task.name → IsSplit task new tasks (replaced new tasks)
+    → called name tasks ≡ Some task → new.name ≡ task.name → IsSplit task new tasks (replaced new tasks)
 replaced_split name tasks task new apart found same =
     let own : new.name ≡ name = same ∙ name-of-called name tasks task found in
     let split = put_split name tasks task new apart found in
@@ -65,10 +63,8 @@ locations_around front task back = flat_map-append locations_of front (task ∷ 
 
 -- where a task is replaced by one with the same locations, all locations stay
 pub locations_stay : (task new : Task ℕ) (tasks after : Tasks) → IsSplit task new tasks after
-    → locations_of new ≡ locations_of task
-    → locations_in after ≡ locations_in tasks
-locations_stay task new tasks after split same =
-    ap locations_in split.is ∙ locations_around split.front new split.back
+    → locations_of new ≡ locations_of task → locations_in after ≡ locations_in tasks
+locations_stay task new tasks after split same = ap locations_in split.is ∙ locations_around split.front new split.back
     ∙ ap (λ own. locations_in split.front ++ (own ++ locations_in split.back)) same
     ∙ sym (locations_around split.front task split.back) ∙ sym (ap locations_in split.was)
 
@@ -83,16 +79,14 @@ writes_total mount [] = refl
 writes_total mount (task ∷ tasks) = ap (λ rest. writes_of_task mount task + rest) (writes_total mount tasks)
 
 module _ (name : TaskName) (tasks : Tasks) (task new : Task ℕ) (apart : AreNamedApart tasks)
-    (found : called name tasks ≡ Some task)
-    (same : new.name ≡ task.name) where
+    (found : called name tasks ≡ Some task) (same : new.name ≡ task.name) where
   pub times_replaced : (test : Task ℕ → Bool)
       → times test (replaced new tasks) + one_if (test task) ≡ times test tasks + one_if (test new)
   times_replaced test =
       let all = total-replaced (λ other. one_if (test other)) name tasks task new apart found same in
       let was = times_total test tasks in let is = times_total test (replaced new tasks) in omega (arith, all, was, is)
 
-  pub writes_replaced : (mount : ℕ)
-      → writes_of mount (replaced new tasks) + writes_of_task mount task
+  pub writes_replaced : (mount : ℕ) → writes_of mount (replaced new tasks) + writes_of_task mount task
       ≡ writes_of mount tasks + writes_of_task mount new
   writes_replaced mount =
       let all = total-replaced (writes_of_task mount) name tasks task new apart found same in

@@ -56,18 +56,15 @@ module _ (value : WorldValue) (tasks : Tasks)
 
   same_uses : (filesystem : Filesystem ℕ) (number : ℕ)
       → inode_uses (world_of value) filesystem number ≡ inode_uses (world_of (after value tasks)) filesystem number
-  same_uses filesystem number = λ i.
-      times (nat_eq number) (filesystem.files.tree.root
+  same_uses filesystem number = λ i. times (nat_eq number) (filesystem.files.tree.root
       ∷ (named_in filesystem.files ++ sym (same_located filesystem.number) i
       ++ layers_in nat_eq (world_of value) filesystem.number
       ++ flat_map (objects_of_overlay nat_eq filesystem.number) (world_of value).filesystems))
 
   -- what holds of each world holds where tasks keep what they use
-  pub stays_held : IsHeld value
-      → ((mount : ℕ) → writes_of mount tasks ≡ writes_of mount value.tasks)
+  pub stays_held : IsHeld value → ((mount : ℕ) → writes_of mount tasks ≡ writes_of mount value.tasks)
       → ((namespace : ℕ) → times (λ task. nat_eq namespace task.namespace) tasks
-      ≡ times (λ task. nat_eq namespace task.namespace) value.tasks)
-      → IsWorld nat_eq (world_of (after value tasks))
+      ≡ times (λ task. nat_eq namespace task.namespace) value.tasks) → IsWorld nat_eq (world_of (after value tasks))
       → KeepsTo (is_counted_before value.next) (world_of (after value tasks))
       → WritersHaveLayers (world_of (after value tasks)) → IsHeld (after value tasks)
   stays_held held writes inside is keeps writers = record {
@@ -112,10 +109,8 @@ module _ (value : WorldValue) (tasks : Tasks)
 
   -- no location is left
   pub none_left : only_these_are_left (world_of value) tasks [] ≡ true
-  none_left =
-      all_pass (λ location. is_location_among (all_locations (world_of (after value tasks))) location
-      || is_location_among [] location)
-      (all_locations (world_of value))
+  none_left = all_pass (λ location. is_location_among (all_locations (world_of (after value tasks))) location
+      || is_location_among [] location) (all_locations (world_of value))
       (λ location m. or_first _ _ (any_passes (same_location nat_eq location)
       (all_locations (world_of (after value tasks))) location
       (subst (λ locations. Among location locations) (sym same) m)
@@ -140,42 +135,34 @@ module _ (value : WorldValue) (name : TaskName) (permit : Permit ℕ) (task new 
   tasks_after = replaced new value.tasks
 
   places_stay : all_locations (world_of (after value tasks_after)) ≡ all_locations (world_of value)
-  places_stay =
-      locations_stay task new value.tasks tasks_after
+  places_stay = locations_stay task new value.tasks tasks_after
       (replaced_split name value.tasks task new held.in_world.tasks.one_task stays.called stays.same_name) stays.same_places
 
   -- the settled world is the one with the new task
   pub stayed_exactly : (fresh : Fresh ℕ)
       → settled nat_eq (apply nat_eq fresh (world_of value) task permit).world ≡ world_of (after value tasks_after)
-  stayed_exactly fresh =
-      ap (settled nat_eq) (stays.applied fresh)
+  stayed_exactly fresh = ap (settled nat_eq) (stays.applied fresh)
       ∙ staying_keeps_overlays (world_of value) tasks_after (worlds_are_settled (world_of value) held.in_world)
       (none_left value tasks_after places_stay)
 
   -- and code's world but for change numbers
   pub stayed_becomes : SameWorlds (left_by value task permit) (world_of (after value tasks_after))
-  stayed_becomes =
-      subst (λ world. SameWorlds world (world_of (after value tasks_after)))
+  stayed_becomes = subst (λ world. SameWorlds world (world_of (after value tasks_after)))
       (sym (stayed_exactly (supply_of value permit)))
       (sameness_is_an_equivalence.itself (world_of (after value tasks_after)))
 
   -- what holds of each world holds of it
   pub stayed_held : IsHeld (after value tasks_after)
-  stayed_held =
-      stays_held value tasks_after places_stay held
+  stayed_held = stays_held value tasks_after places_stay held
       (λ mount. let moved = writes_replaced name value.tasks task new held.in_world.tasks.one_task stays.called stays.same_name mount in
       let own : writes_of_task mount new
-      ≡ writes_of_task mount task = ap (times (writes_on mount)) stays.same_descriptors in omega
-      (arith, moved, own))
+      ≡ writes_of_task mount task = ap (times (writes_on mount)) stays.same_descriptors in omega (arith, moved, own))
       (λ namespace. let moved = times_replaced name value.tasks task new held.in_world.tasks.one_task stays.called stays.same_name (λ one. nat_eq namespace one.namespace) in
-      let own : one_if (nat_eq namespace new.namespace)
-      ≡ one_if (nat_eq namespace task.namespace) = ap
+      let own : one_if (nat_eq namespace new.namespace) ≡ one_if (nat_eq namespace task.namespace) = ap
       (λ number. one_if (nat_eq namespace number)) stays.same_namespace in
-      omega (arith, moved, own))
-      (subst (IsWorld nat_eq) (stayed_exactly (supply_of value permit))
+      omega (arith, moved, own)) (subst (IsWorld nat_eq) (stayed_exactly (supply_of value permit))
       (given_permits_give_no_upper (world_of value) (supply_of value permit) task permit held.in_world
-      held.overlays.read_only stays.given).0)
-      (subst (KeepsTo (is_counted_before value.next)) (stayed_exactly (λ k. 0))
+      held.overlays.read_only stays.given).0) (subst (KeepsTo (is_counted_before value.next)) (stayed_exactly (λ k. 0))
       (permits_keep_to_numbers (is_counted_before value.next) (λ k. 0)
       (world_of value) task permit stays.given.called held.given (λ k. refl) stays.named))
       (subst WritersHaveLayers (stayed_exactly (supply_of value permit))
@@ -195,8 +182,7 @@ becomes_so value name permit new task found same other called =
 
 -- An event that changes a task and nothing that it uses is done.
 pub staying_is_done : (value : WorldValue) (name : TaskName) (permit : Permit ℕ) (task new : Task ℕ) (tasks : Tasks)
-    → IsHeld value
-    → IsStaying value name permit task new → tasks ≡ replaced new value.tasks
+    → IsHeld value → IsStaying value name permit task new → tasks ≡ replaced new value.tasks
     → IsDone value name permit (after value tasks)
 staying_is_done value name permit task new tasks held stays is =
     subst (λ others. IsDone value name permit (after value others)) (sym is) (record {
@@ -223,8 +209,7 @@ umask_is_set value name umask tasks held permits is =
       same_places = refl;
       same_namespace = refl;
       same_descriptors = refl;
-    })
-    (is ∙ ap (changed_by (λ task. record task { umask = umask }) value.tasks) permits.called)
+    }) (is ∙ ap (changed_by (λ task. record task { umask = umask }) value.tasks) permits.called)
 
 -- capabilities are dropped
 pub caps_are_dropped : (value : WorldValue) (name : TaskName) (bits : ℕ) (tasks : Tasks) → IsHeld value
@@ -233,8 +218,7 @@ pub caps_are_dropped : (value : WorldValue) (name : TaskName) (bits : ℕ) (task
     → IsDone value name (ToSetCredentials (with_dropped (credentials_called value name) bits)) (after value tasks)
 caps_are_dropped value name bits tasks held permits is =
     staying_is_done value name (ToSetCredentials credentials) permits.task
-    (record permits.task { credentials = credentials }) tasks held
-    (record {
+    (record permits.task { credentials = credentials }) tasks held (record {
       called = permits.called;
       given = permits.given;
       named = refl;

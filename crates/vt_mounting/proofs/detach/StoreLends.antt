@@ -46,45 +46,37 @@ module _ (base : WorldValue) (store : StoreValue) (held : IsHeld (with_store sto
   module _ (entry : stored.OverlayEntry) (m : Among entry store.overlays) where
     shown : AreLayers store.plain entry.overlay.lowers
         × All (ShowsLayer (world_of (with_store store base)) store.plain) entry.overlay.lowers
-    shown =
-        layers_shown_well (with_store store base) held (overlay_of_store store.plain entry)
+    shown = layers_shown_well (with_store store base) held (overlay_of_store store.plain entry)
         (among-map (overlay_of_store store.plain) store.overlays entry m) entry.overlay.lowers refl
 
     -- what a path leads to in a layer, in the store and in the world
     layer_lends : (path : List (List ℕ)) (layer : LayerRef) → Among layer entry.overlay.lowers
-        → lent_on store.plain path layer
-        ≡ option_map (node_seen (count_of (counted layer.directory.filesystem.count)))
+        → lent_on store.plain path layer ≡ option_map (node_seen (count_of (counted layer.directory.filesystem.count)))
         (node_at_path (open_layer nat_eq (world_of (with_store store base)) (layer_seen layer)) path)
-    layer_lends path layer n =
-        by (at_path (layer_of store.plain layer) path)
+    layer_lends path layer n = by (at_path (layer_of store.plain layer) path)
         ∙ ap (λ open_layer. option_map (node_seen layer.directory.filesystem.count) (node_at_path open_layer path))
         (λ i. record (layer_of store.plain layer) {
           tree = (among_from_all (ShowsLayer (world_of (with_store store base)) store.plain) entry.overlay.lowers
               shown.1 layer n).tree i;
-        })
-        ∙ ap (λ count. option_map (node_seen count)
+        }) ∙ ap (λ count. option_map (node_seen count)
         (node_at_path (open_layer nat_eq (world_of (with_store store base)) (layer_seen layer)) path))
         (sym (count_back layer.directory.filesystem.count))
       where
-        by : (o : Option ℕ)
-            → then_some o (λ object. lent_at store.plain object layer)
+        by : (o : Option ℕ) → then_some o (λ object. lent_at store.plain object layer)
             ≡ option_map (node_seen layer.directory.filesystem.count)
             (then_some o (λ object. (layer_of store.plain layer).tree.node object))
         by None = refl
         by (Some object) = refl
 
-    object_lends : (real : Real ℕ)
-        → object_lent store.plain entry.overlay real
+    object_lends : (real : Real ℕ) → object_lent store.plain entry.overlay real
         ≡ lent_in_layers (world_of (with_store store base)) (with_objects store.plain entry.overlay) real
     object_lends (Upper object) = refl
-    object_lends (Lower place path) =
-        by (slice_get entry.overlay.lowers place) refl
+    object_lends (Lower place path) = by (slice_get entry.overlay.lowers place) refl
         ∙ ap (λ o. then_some o (λ (layer : Layer ℕ). option_map (node_seen (count_of layer.filesystem))
         (node_at_path (open_layer nat_eq (world_of (with_store store base)) layer) path)))
         (sym (slice_get-map layer_seen entry.overlay.lowers place))
       where
-        by : (o : Option LayerRef) → slice_get entry.overlay.lowers place ≡ o
-            → then_some o (lent_on store.plain path)
+        by : (o : Option LayerRef) → slice_get entry.overlay.lowers place ≡ o → then_some o (lent_on store.plain path)
             ≡ then_some (option_map layer_seen o) (λ (layer : Layer ℕ).
             option_map (node_seen (count_of layer.filesystem))
             (node_at_path (open_layer nat_eq (world_of (with_store store base)) layer) path))
@@ -94,17 +86,14 @@ module _ (base : WorldValue) (store : StoreValue) (held : IsHeld (with_store sto
     -- the overlay in the world has the real objects
     overlay_is : (filesystem_numbered nat_eq (world_of (with_store store base)) (counted entry.count)).overlay
         ≡ Some (with_objects store.plain entry.overlay)
-    overlay_is =
-        ap (λ (f : Filesystem ℕ). f.overlay) (overlay_found base store held entry m)
+    overlay_is = ap (λ (f : Filesystem ℕ). f.overlay) (overlay_found base store held entry m)
         ∙ (λ i. Some (record (with_objects store.plain entry.overlay) {
           real = inodes_have_their_objects store.plain entry.overlay shown.0 i;
         }))
 
-    over_lends : (number : ℕ)
-        → real_lent store.plain entry.overlay number
+    over_lends : (number : ℕ) → real_lent store.plain entry.overlay number
         ≡ lent_of_world (world_of (with_store store base)) (counted entry.count) number
-    over_lends number =
-        real_objects_are_lent store.plain entry.overlay shown.0 number
+    over_lends number = real_objects_are_lent store.plain entry.overlay shown.0 number
         ∙ ap (then_some ((with_objects store.plain entry.overlay).real number)) (λ i. λ real. object_lends real i)
         ∙ ap (lent_by (world_of (with_store store base)) number
         (filesystem_numbered nat_eq (world_of (with_store store base)) (counted entry.count))) (sym overlay_is)
@@ -129,5 +118,4 @@ module _ (base : WorldValue) (store : StoreValue) (held : IsHeld (with_store sto
           let same = eqb-true count entry.count
           (found_passes (λ (one : stored.OverlayEntry). nat_eq count one.count) store.overlays entry e) in
           over_lends entry (found_among (λ (one : stored.OverlayEntry). nat_eq count one.count) store.overlays entry e)
-          number
-          ∙ ap (λ n. lent_of_world (world_of (with_store store base)) (counted n) number) (sym same)
+          number ∙ ap (λ n. lent_of_world (world_of (with_store store base)) (counted n) number) (sym same)

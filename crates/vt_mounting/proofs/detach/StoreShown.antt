@@ -30,8 +30,7 @@ use Rattle.vt_mounting.proofs.detach.PlainFound.{overlay_among}
 none_found : {A : Type 0} (test : A → Bool) (list : List A) → find test list ≡ None → (a : A) → Among a list
     → test a ≡ false
 none_found test [] none a m = absurd m
-none_found {A = A} test (first ∷ rest) none a m =
-    by (test first) refl none (none_found test rest)
+none_found {A = A} test (first ∷ rest) none a m = by (test first) refl none (none_found test rest)
   where
     by : (b : Bool) → test first ≡ b → cond b (Some first) (find test rest) ≡ None
         → (find test rest ≡ None → (a : A) → Among a rest → test a ≡ false) → test a ≡ false
@@ -51,8 +50,7 @@ module _ (base : WorldValue) (store : StoreValue) (held : IsHeld (with_store sto
 
   -- its overlays stand on layers
   pub store_stands : StandOnLayers store
-  store_stands =
-      all_from_among (StandsOnLayers store.plain) store.overlays (λ entry m.
+  store_stands = all_from_among (StandsOnLayers store.plain) store.overlays (λ entry m.
       let shown = layers_shown_well (with_store store base) held (overlay_of_store store.plain entry)
       (kept_among entry m) entry.overlay.lowers refl in
       let number = layers_number (with_store store base) held (overlay_of_store store.plain entry)
@@ -74,8 +72,7 @@ module _ (base : WorldValue) (store : StoreValue) (held : IsHeld (with_store sto
   pub plain_found : (count : ℕ) → overlay_in store count ≡ None
       → filesystem_numbered nat_eq (world_of (with_store store base)) (counted count)
       ≡ filesystem_seen (entry_at store.plain count)
-  plain_found count none =
-      ap (λ o. unwrap_or o (no_filesystem (counted count)))
+  plain_found count none = ap (λ o. unwrap_or o (no_filesystem (counted count)))
       (plain_ones_are_found (filesystems_seen store.plain) (overlays_seen (overlays_of_store store)) (counted count)
       (all_from_among (λ (overlay : Filesystem ℕ). nat_eq (counted count) overlay.number ≡ false)
       (overlays_seen (overlays_of_store store)) (λ overlay m.
@@ -84,8 +81,7 @@ module _ (base : WorldValue) (store : StoreValue) (held : IsHeld (with_store sto
       ap (λ (f : Filesystem ℕ). nat_eq (counted count) f.number) (one.2 ∙ ap overlay_seen entry.2)
       ∙ counted_test count entry.0.count
       ∙ none_found (λ (one : stored.OverlayEntry). nat_eq count one.count) store.overlays
-      (no_entry (entry_in store count) none) entry.0 entry.1)))
-      ∙ found_by_number store.plain count
+      (no_entry (entry_in store count) none) entry.0 entry.1))) ∙ found_by_number store.plain count
     where
       no_entry : (o : Option stored.OverlayEntry)
           → option_map (λ (entry : stored.OverlayEntry). entry.overlay) o ≡ None → o ≡ None
@@ -93,46 +89,34 @@ module _ (base : WorldValue) (store : StoreValue) (held : IsHeld (with_store sto
       no_entry (Some entry) e = absurd (none_is_some entry.overlay (sym e))
 
   -- each tree of the store is that of the world
-  pub files_shown : (count : ℕ)
-      → (files_in store count).tree
+  pub files_shown : (count : ℕ) → (files_in store count).tree
       ≡ (filesystem_numbered nat_eq (world_of (with_store store base)) (counted count)).files.tree
   files_shown count = by (overlay_in store count) refl
     where
-      by : (o : Option OverlayValue) → overlay_in store count ≡ o
-          → (files_in store count).tree
+      by : (o : Option OverlayValue) → overlay_in store count ≡ o → (files_in store count).tree
           ≡ (filesystem_numbered nat_eq (world_of (with_store store base)) (counted count)).files.tree
-      by None e =
-          ap (λ (f : Filesystem ℕ). f.files.tree) (is_plain store count e ∙ sym (plain_found count e))
+      by None e = ap (λ (f : Filesystem ℕ). f.files.tree) (is_plain store count e ∙ sym (plain_found count e))
       by (Some overlay) e =
           let over = is_over store count overlay e in
           let number : counted count ≡ counted over.entry.count =
-          sym (number_numbered (counted count) (filesystems_of store))
-          ∙ ap (λ (f : Filesystem ℕ). f.number) over.is in
-          ap (λ (f : Filesystem ℕ). f.files.tree) over.is
-          ∙ sym (inodes_are_the_tree store.plain over.entry.overlay)
+          sym (number_numbered (counted count) (filesystems_of store)) ∙ ap (λ (f : Filesystem ℕ). f.number) over.is in
+          ap (λ (f : Filesystem ℕ). f.files.tree) over.is ∙ sym (inodes_are_the_tree store.plain over.entry.overlay)
           ∙ ap (λ (f : Filesystem ℕ). f.files.tree)
           (sym (ap (filesystem_numbered nat_eq (world_of (with_store store base))) number
           ∙ overlay_found over.entry over.among))
 
   -- in each directories are named by their parents
   pub parents_named_in : (count : ℕ) → ParentsAreNamed (files_in store count).tree
-  parents_named_in count =
-      subst (λ (tree : Tree ℕ). ParentsAreNamed tree) (sym (files_shown count))
-      (⊎_elim
-      (λ tree. ⊎_elim
-      (λ own. parents_named (filesystem_numbered nat_eq world (counted count)).files.tree tree own)
-      missing
-      (numbered_all (λ (f : Filesystem ℕ). HasOwnParents f.files.tree) (counted count) world.filesystems
-      held.in_world.files.own_parents))
-      missing
+  parents_named_in count = subst (λ (tree : Tree ℕ). ParentsAreNamed tree) (sym (files_shown count)) (⊎_elim
+      (λ tree. ⊎_elim (λ own. parents_named (filesystem_numbered nat_eq world (counted count)).files.tree tree own)
+      missing (numbered_all (λ (f : Filesystem ℕ). HasOwnParents f.files.tree) (counted count) world.filesystems
+      held.in_world.files.own_parents)) missing
       (numbered_all (λ (f : Filesystem ℕ). IsTree f.files.tree) (counted count) world.filesystems
       held.in_world.files.trees))
     where
       missing : (filesystem_numbered nat_eq (world_of (with_store store base)) (counted count)
-          ≡ no_filesystem (counted count))
-          × All (λ (f : Filesystem ℕ). nat_eq (counted count) f.number ≡ false)
+          ≡ no_filesystem (counted count)) × All (λ (f : Filesystem ℕ). nat_eq (counted count) f.number ≡ false)
           (world_of (with_store store base)).filesystems
           → ParentsAreNamed (filesystem_numbered nat_eq (world_of (with_store store base)) (counted count)).files.tree
-      missing none =
-          subst (λ (f : Filesystem ℕ). ParentsAreNamed f.files.tree) (sym none.0)
+      missing none = subst (λ (f : Filesystem ℕ). ParentsAreNamed f.files.tree) (sym none.0)
           (λ directory other. ap not (sym (eq-eqb directory directory refl)))

@@ -30,8 +30,7 @@ use Rattle.vt_mounting.proofs.detach.StoreShown.{overlay_found}
 -- Layers that a world shows, the same world but for change numbers and the order of numbers shows, too.
 shown_before : (one other : World ℕ) → SameWorlds one other → (trees : Filesystems) (layers : List LayerRef)
     → All (ShowsLayer other trees) layers → All (ShowsLayer one trees) layers
-shown_before one other same trees layers all =
-    all_from_among (ShowsLayer one trees) layers (λ layer m.
+shown_before one other same trees layers all = all_from_among (ShowsLayer one trees) layers (λ layer m.
     let shows = among_from_all (ShowsLayer other trees) layers all layer m in
     let alike = found_same (counted layer.directory.filesystem.count) one.filesystems other.filesystems
     same.filesystems in
@@ -59,8 +58,7 @@ module _ (base new_base : WorldValue) (old new : StoreValue) (task : Task ℕ) (
   left = left_by (with_store old base) task permit
 
   module _ (there : IsHeld left_value) (becomes : SameWorlds (left_by (with_store old base) task permit)
-      (world_of left_value))
-      (were : (entry : stored.OverlayEntry) → Among entry new.overlays
+      (world_of left_value)) (were : (entry : stored.OverlayEntry) → Among entry new.overlays
       → (was : stored.OverlayEntry) × Among was old.overlays × (was.count ≡ entry.count)
       × (was.overlay ≡ entry.overlay)) where
     module _ (entry : stored.OverlayEntry) (m : Among entry new.overlays) where
@@ -91,8 +89,7 @@ module _ (base new_base : WorldValue) (old new : StoreValue) (task : Task ℕ) (
       was_overlay =
           let one = were entry m in
           ap (λ count. (filesystem_numbered nat_eq (world_of (with_store old base)) (counted count)).overlay)
-          (sym one.2)
-          ∙ ap (λ (f : Filesystem ℕ). f.overlay) (overlay_found base old held one.0 one.1)
+          (sym one.2) ∙ ap (λ (f : Filesystem ℕ). f.overlay) (overlay_found base old held one.0 one.1)
           ∙ subst (λ (overlay : OverlayValue). (overlay_seen (overlay_of_store old.plain
           (record one.0 { overlay = overlay }))).overlay ≡ Some (with_objects old.plain entry.overlay)) (sym one.3)
           (λ i. Some (record (with_objects old.plain entry.overlay) {
@@ -126,6 +123,5 @@ module _ (base new_base : WorldValue) (old new : StoreValue) (task : Task ℕ) (
 
     -- so the world that is left is the one that holds the other store
     pub store_stays : left_value ≡ with_store new new_base
-    store_stays =
-        ap (λ overlays. record new_base { filesystems = new.plain; overlays = overlays })
+    store_stays = ap (λ overlays. record new_base { filesystems = new.plain; overlays = overlays })
         (map_alike (overlay_of_store old.plain) (overlay_of_store new.plain) new.overlays one_stays)

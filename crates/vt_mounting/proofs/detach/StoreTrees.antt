@@ -28,50 +28,39 @@ module _ (base : WorldValue) (store : StoreValue) (held : IsHeld (with_store sto
   numbers_in = by (overlay_in store count) refl
     where
       by : (o : Option OverlayValue) → overlay_in store count ≡ o → ListsNumbers nat_eq (files_in store count)
-      by None e =
-          subst (λ (files : FileTree ℕ). ListsNumbers nat_eq files)
+      by None e = subst (λ (files : FileTree ℕ). ListsNumbers nat_eq files)
           (sym (ap (λ (f : Filesystem ℕ). f.files) (is_plain store count e)))
           (numbers_listed (entry_at store.plain count))
       by (Some overlay) e =
           let over = is_over store count overlay e in
-          subst (λ (files : FileTree ℕ). ListsNumbers nat_eq files)
-          (sym (ap (λ (f : Filesystem ℕ). f.files) over.is))
+          subst (λ (files : FileTree ℕ). ListsNumbers nat_eq files) (sym (ap (λ (f : Filesystem ℕ). f.files) over.is))
           (numbers_are_listed store.plain over.entry.overlay
           (among_from_all (StandsOnLayers store.plain) store.overlays (store_stands base store held) over.entry
           over.among).layers)
 
   -- where the world has no such filesystem, the store has an empty one
   missing : filesystem_numbered nat_eq (world_of (with_store store base)) (counted count)
-      ≡ no_filesystem (counted count)
-      → files_in store count ≡ (no_filesystem (counted count)).files
+      ≡ no_filesystem (counted count) → files_in store count ≡ (no_filesystem (counted count)).files
   missing none = by (overlay_in store count) refl
     where
       by : (o : Option OverlayValue) → overlay_in store count ≡ o
           → files_in store count ≡ (no_filesystem (counted count)).files
-      by None e =
-          ap (λ (f : Filesystem ℕ). f.files)
+      by None e = ap (λ (f : Filesystem ℕ). f.files)
           (is_plain store count e ∙ sym (plain_found base store held count e) ∙ none)
       by (Some overlay) e =
           let over = is_over store count overlay e in
           let number : counted count ≡ counted over.entry.count =
-          sym (number_numbered (counted count) (filesystems_of store))
-          ∙ ap (λ (f : Filesystem ℕ). f.number) over.is in
+          sym (number_numbered (counted count) (filesystems_of store)) ∙ ap (λ (f : Filesystem ℕ). f.number) over.is in
           absurd (true≢false (ap is_overlay (sym (overlay_found base store held over.entry over.among)
           ∙ ap (filesystem_numbered nat_eq (world_of (with_store store base))) (sym number) ∙ none)))
 
-  pub store_tree : IsFileTree (files_in store count)
-      ⊎ (files_in store count ≡ (no_filesystem (counted count)).files)
-  store_tree =
-      ⊎_elim
-      (λ tree. ⊎_elim
-      (λ own. inl (record {
-        tree = subst (λ (tree : Tree ℕ). IsTree tree) (sym (files_shown base store held count)) tree;
-        numbers = numbers_in;
-        own_parents = subst (λ (tree : Tree ℕ). HasOwnParents tree) (sym (files_shown base store held count)) own;
-      }))
-      (λ none. inr (missing none.0))
+  pub store_tree : IsFileTree (files_in store count) ⊎ (files_in store count ≡ (no_filesystem (counted count)).files)
+  store_tree = ⊎_elim (λ tree. ⊎_elim (λ own. inl (record {
+    tree = subst (λ (tree : Tree ℕ). IsTree tree) (sym (files_shown base store held count)) tree;
+    numbers = numbers_in;
+    own_parents = subst (λ (tree : Tree ℕ). HasOwnParents tree) (sym (files_shown base store held count)) own;
+  })) (λ none. inr (missing none.0))
       (numbered_all (λ (f : Filesystem ℕ). HasOwnParents f.files.tree) (counted count)
-      (world_of (with_store store base)).filesystems held.in_world.files.own_parents))
-      (λ none. inr (missing none.0))
+      (world_of (with_store store base)).filesystems held.in_world.files.own_parents)) (λ none. inr (missing none.0))
       (numbered_all (λ (f : Filesystem ℕ). IsTree f.files.tree) (counted count)
       (world_of (with_store store base)).filesystems held.in_world.files.trees)

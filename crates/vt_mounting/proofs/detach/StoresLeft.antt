@@ -27,11 +27,9 @@ pub found_merged : (count : ℕ) (overlays : Overlays)
 found_merged count [] = refl
 found_merged count (entry ∷ rest) =
     ap (λ b. cond b (Some (merged_of entry)) (merged_at (counted count) (map merged_of rest)))
-    (counted_test count entry.count)
-    ∙ by (nat_eq count entry.count) (found_merged count rest)
+    (counted_test count entry.count) ∙ by (nat_eq count entry.count) (found_merged count rest)
   where
-    by : (b : Bool)
-        → merged_at (counted count) (map merged_of rest) ≡ option_map merged_of (entry_kept rest count)
+    by : (b : Bool) → merged_at (counted count) (map merged_of rest) ≡ option_map merged_of (entry_kept rest count)
         → cond b (Some (merged_of entry)) (merged_at (counted count) (map merged_of rest))
         ≡ option_map merged_of (cond b (Some entry) (entry_kept rest count))
     by true later = refl
@@ -47,15 +45,12 @@ merged_there count overlays =
 abbrev less : OverlayEntry → OverlayEntry
 less entry = record entry { mounts = entry.mounts - 1 }
 
-released : (count : ℕ) (overlays : Overlays)
-    → map merged_of (with_overlay_changed count less overlays)
+released : (count : ℕ) (overlays : Overlays) → map merged_of (with_overlay_changed count less overlays)
     ≡ released_merged (counted count) (map merged_of overlays)
 released count [] = refl
-released count (entry ∷ rest) =
-    λ i. (by (nat_eq count entry.count)
+released count (entry ∷ rest) = λ i. (by (nat_eq count entry.count)
     ∙ ap (λ b. cond b (record (merged_of entry) { mounts = entry.mounts - 1 }) (merged_of entry))
-    (sym (counted_test count entry.count))) i
-    ∷ released count rest i
+    (sym (counted_test count entry.count))) i ∷ released count rest i
   where
     by : (b : Bool) → merged_of (cond b (less entry) entry)
         ≡ cond b (record (merged_of entry) { mounts = entry.mounts - 1 }) (merged_of entry)
@@ -66,8 +61,7 @@ removed : (count : ℕ) (overlays : Overlays)
     → map merged_of (without_overlay count (with_overlay_changed count less overlays))
     ≡ without_merged (counted count) (map merged_of overlays)
 removed count [] = refl
-removed count (entry ∷ rest) =
-    by (nat_eq count entry.count) refl (removed count rest)
+removed count (entry ∷ rest) = by (nat_eq count entry.count) refl (removed count rest)
     ∙ ap (λ b. cond (not b) (merged_of entry ∷ without_merged (counted count) (map merged_of rest))
     (without_merged (counted count) (map merged_of rest))) (sym (counted_test count entry.count))
   where
@@ -104,8 +98,7 @@ found_less count (first ∷ rest) entry e = by (nat_eq count first.count) refl e
 
 mounts_seen : (count : ℕ) (all : List Shown) → Stored.mounts_shown count all ≡ mounts_shown (counted count) all
 mounts_seen count [] = refl
-mounts_seen count (one ∷ rest) =
-    by (nat_eq count one.count) (mounts_seen count rest)
+mounts_seen count (one ∷ rest) = by (nat_eq count one.count) (mounts_seen count rest)
     ∙ ap (λ b. unwrap_or (option_map (λ (x : Shown). x.mounts)
     (cond b (Some one) (find (λ x. nat_eq (counted count) (counted x.count)) rest))) 0) (sym (counted_test count one.count))
   where
@@ -117,12 +110,10 @@ mounts_seen count (one ∷ rest) =
     by false later = later
 
 layer_less : (all : List Shown) (layer : LayerRef) → Stored.without_layer all layer ≡ without_layer all (layer_of layer)
-layer_less all layer =
-    (λ i. cond (nat_eq (mounts_seen count held i) 0)
+layer_less all layer = (λ i. cond (nat_eq (mounts_seen count held i) 0)
     (filter_alike (λ (one : Shown). not (nat_eq count one.count))
     (λ (one : Shown). not (nat_eq (counted count) (counted one.count))) held
-    (λ one m. ap not (sym (counted_test count one.count))) i) held)
-    ∙ ap (let_go_filesystem (counted count))
+    (λ one m. ap not (sym (counted_test count one.count))) i) held) ∙ ap (let_go_filesystem (counted count))
     (map_alike (λ (one : Shown). cond (nat_eq count one.count) (record one { mounts = one.mounts - 1 }) one)
     (λ (one : Shown). cond (nat_eq (counted count) (counted one.count)) (record one { mounts = one.mounts - 1 }) one)
     unused (λ one m. ap (λ b. cond b (record one { mounts = one.mounts - 1 }) one) (sym (counted_test count one.count)))
@@ -140,8 +131,7 @@ layer_less all layer =
 layers_less : (layers : List LayerRef) (all : List Shown)
     → without_layers layers all ≡ folded without_layer all (map layer_of layers)
 layers_less [] all = refl
-layers_less (layer ∷ rest) all =
-    layers_less rest (Stored.without_layer all layer)
+layers_less (layer ∷ rest) all = layers_less rest (Stored.without_layer all layer)
     ∙ ap (λ left. folded without_layer left (map layer_of rest)) (layer_less all layer)
 
 -- An overlay
@@ -172,10 +162,8 @@ module _ (count : ℕ) (old held : StoreValue) (is_held : held ≡ with_mounts c
       mounts = [];
       filesystems = (plain
           ∙ ap (λ c. cond c (folded without_layer (shown old.plain) (map layer_of entry.overlay.lowers))
-          (shown old.plain)) (sym t)
-          ∙ sym (ap (λ o. shown_left_by (counted count) o (shown old.plain)) merged_so)) i;
-      overlays = (overlays
-          ∙ ap (λ c. cond c (without_merged (counted count) (map merged_of old.overlays))
+          (shown old.plain)) (sym t) ∙ sym (ap (λ o. shown_left_by (counted count) o (shown old.plain)) merged_so)) i;
+      overlays = (overlays ∙ ap (λ c. cond c (without_merged (counted count) (map merged_of old.overlays))
           (released_merged (counted count) (map merged_of old.overlays))) (sym t)
           ∙ sym (ap (λ o. merged_left_by (counted count) o (map merged_of old.overlays)) merged_so)) i;
     }
@@ -184,11 +172,9 @@ module _ (count : ℕ) (old held : StoreValue) (is_held : held ≡ with_mounts c
   IsLeft new = IfSome (merged_at (counted count) (map merged_of old.overlays))
       (λ one. kept [] new ≡ leave_filesystem (counted count) (kept [] old))
 
-  by_entry : (new : StoreValue)
-      → ((entry : OverlayEntry) → entry_kept old.overlays count ≡ Some entry
+  by_entry : (new : StoreValue) → ((entry : OverlayEntry) → entry_kept old.overlays count ≡ Some entry
       → kept [] new ≡ leave_filesystem (counted count) (kept [] old)) → IsLeft new
-  by_entry new left =
-      subst (λ o. IfSome o (λ one. kept [] new ≡ leave_filesystem (counted count) (kept [] old)))
+  by_entry new left = subst (λ o. IfSome o (λ one. kept [] new ≡ leave_filesystem (counted count) (kept [] old)))
       (sym (found_merged count old.overlays)) (by (entry_kept old.overlays count) refl)
     where
       by : (o : Option OverlayEntry) → entry_kept old.overlays count ≡ o
@@ -200,12 +186,10 @@ module _ (count : ℕ) (old held : StoreValue) (is_held : held ≡ with_mounts c
   pub overlay_goes : n ≡ 0 → (new : StoreValue) → new.overlays ≡ without_overlay count held.overlays
       → shown new.plain ≡ without_layers (lowers_in held count) (shown held.plain) → IsLeft new
   overlay_goes zero new overlays plain = by_entry new (λ entry e.
-      left_by entry e true (eq-eqb (entry.mounts - 1) 0 (sym (mounts_so entry e) ∙ zero)) new
-      (plain
+      left_by entry e true (eq-eqb (entry.mounts - 1) 0 (sym (mounts_so entry e) ∙ zero)) new (plain
       ∙ (λ i. without_layers (unwrap_or (option_map (λ overlay. overlay.lowers)
       (option_map (λ (one : OverlayEntry). one.overlay) (entry_so entry e i))) []) (shown (held_so entry e i).plain))
-      ∙ layers_less entry.overlay.lowers (shown old.plain))
-      (ap (map merged_of)
+      ∙ layers_less entry.overlay.lowers (shown old.plain)) (ap (map merged_of)
       (overlays ∙ ap (λ (store : StoreValue). without_overlay count store.overlays) (held_so entry e))
       ∙ removed count old.overlays))
 
@@ -217,8 +201,7 @@ module _ (count : ℕ) (old held : StoreValue) (is_held : held ≡ with_mounts c
       (ap (λ (store : StoreValue). map merged_of store.overlays) (held_so entry e) ∙ released count old.overlays))
 
 -- The filesystem is an overlay,
-pub merged_leaves : (number : ℕ) (old new : StoreValue)
-    → IfSome (merged_at number (map merged_of old.overlays))
+pub merged_leaves : (number : ℕ) (old new : StoreValue) → IfSome (merged_at number (map merged_of old.overlays))
     (λ one. kept [] new ≡ leave_filesystem number (kept [] old))
     → is_some (merged_at number (map merged_of old.overlays)) ≡ true
     → kept [] new ≡ leave_filesystem number (kept [] old)

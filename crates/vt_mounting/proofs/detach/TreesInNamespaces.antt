@@ -39,8 +39,7 @@ module _ (value : WorldValue) (held : IsHeld value) where
       by (stand world held.in_world.mounts.one_number held.in_world.mounts.standing number)
       ∙ same_namespace above place.mount way
     where
-      by : Stands nat_eq (world_of value) it
-          → (mount_numbered nat_eq (world_of value) it).namespace
+      by : Stands nat_eq (world_of value) it → (mount_numbered nat_eq (world_of value) it).namespace
           ≡ (mount_numbered nat_eq (world_of value) place.mount).namespace
       by (at_root one f) = absurd (true≢false (sym (ap is_some e) ∙ ap is_some f))
       by (on_parent one at f g x) = g
@@ -53,8 +52,7 @@ module _ (value : WorldValue) (held : IsHeld value) where
         → Among other (mounts_in value.mounts) × (mount_numbered nat_eq (world_of value) other.number ≡ other)
         × (other.namespace ≡ Some namespace)
     in_tree other m =
-        let there : Among other mounts =
-        ⊎_elim (λ e. subst (λ x. Among x mounts) (sym e) top_there) (λ l. l)
+        let there : Among other mounts = ⊎_elim (λ e. subst (λ x. Among x mounts) (sym e) top_there) (λ l. l)
         (tree_among (length mounts) mounts (mount_numbered nat_eq world top) other m) in
         let own = found_itself mounts held.in_world.mounts.one_number other there in (
           there,
@@ -67,8 +65,7 @@ module _ (value : WorldValue) (held : IsHeld value) where
         )
       where
         top_there : Among (mount_numbered nat_eq (world_of value) top) (mounts_in value.mounts)
-        top_there =
-            ⊎_elim (λ l. l)
+        top_there = ⊎_elim (λ l. l)
             (λ none. absurd (true≢false (sym (ap is_some is) ∙ ap (λ (x : Mount ℕ). is_some x.namespace) none)))
             (found_or_none mounts top)
 
@@ -91,12 +88,9 @@ module _ (value : WorldValue) (held : IsHeld value) where
           where
             on : (b : Bool) → nat_eq number place.mount ≡ b → b ≡ false
             on false t = refl
-            on true t =
-                absurd (true≢false
-                (sym (and_parts (is_some (mount_at nat_eq world place).namespace) true e).0
+            on true t = absurd (true≢false (sym (and_parts (is_some (mount_at nat_eq world place).namespace) true e).0
                 ∙ ap (λ n. is_some (mount_numbered nat_eq world n).namespace)
-                (sym (eqb-true number place.mount t) ∙ number_found mounts top)
-                ∙ ap is_some nowhere))
+                (sym (eqb-true number place.mount t) ∙ number_found mounts top) ∙ ap is_some nowhere))
 
     pub alone_in_tree : (depth : ℕ)
         → tree_from nat_eq depth (mounts_in value.mounts) (mount_numbered nat_eq (world_of value) top)

@@ -33,8 +33,7 @@ typed_value groups value = record value { mounts = map (typed_entry groups) valu
 
 module _ (groups : Grouping) (new : WorldValue) where
   mounts_typed : mounts_in (map (typed_entry groups) new.mounts) ≡ map (typed_by groups) (mounts_in new.mounts)
-  mounts_typed =
-      map_twice (λ (entry : MountEntry). entry.mount) (typed_entry groups) new.mounts
+  mounts_typed = map_twice (λ (entry : MountEntry). entry.mount) (typed_entry groups) new.mounts
       ∙ sym (map_twice (typed_by groups) (λ (entry : MountEntry). entry.mount) new.mounts)
 
   pub swept_typed : (old : WorldValue) (start : World ℕ) (gained lost : List Inode) → IsSwept old start gained lost new
@@ -57,8 +56,7 @@ module _ (groups : Grouping) (new : WorldValue) where
       inodes = from.inodes;
       exchanges = subst (Exchanges gained lost (counted from.was.count) (world_of old))
           (sym (living_typed groups start))
-          (exchanges_typed groups gained lost (counted from.was.count) (world_of old) (in_use_of start)
-          from.exchanges);
+          (exchanges_typed groups gained lost (counted from.was.count) (world_of old) (in_use_of start) from.exchanges);
     };
     namespaces = swept.namespaces;
     tasks = swept.tasks;
@@ -66,8 +64,7 @@ module _ (groups : Grouping) (new : WorldValue) where
 
   showing_typed : (number : ℕ)
       → mounts_showing (world_of (typed_value groups new)) number ≡ mounts_showing (world_of new) number
-  showing_typed number =
-      ap (times (λ (mount : Mount ℕ). nat_eq number mount.filesystem)) mounts_typed
+  showing_typed number = ap (times (λ (mount : Mount ℕ). nat_eq number mount.filesystem)) mounts_typed
       ∙ mounts_showing_typed groups (world_of new) number
 
   pub counts_typed : CountsBeside new → CountsBeside (typed_value groups new)
@@ -91,8 +88,7 @@ module _ (groups : Grouping) (new : WorldValue) where
 
 -- The policy regroups a world: where mounts got the types of the groups that are left, the event is done.
 module _ (value : WorldValue) (whole : IsHeld value) (name : TaskName) (permit : Permit ℕ) (task : Task ℕ)
-    (start : World ℕ)
-    (is : IsApplied value name permit task (regrouped nat_eq start)) (groups : Grouping)
+    (start : World ℕ) (is : IsApplied value name permit task (regrouped nat_eq start)) (groups : Grouping)
     (has : Has (regrouped nat_eq start) groups)
     (nowhere : (mount : Mount ℕ) → Among mount start.mounts → is_some mount.namespace ≡ false
     → mount.propagation ≡ Private) where

@@ -43,11 +43,9 @@ module _ (groups : Grouping) where
   pub mounted_still : (world : World ℕ) (number : ℕ)
       → is_mounted nat_eq (without_dead_mounts nat_eq (typed_world world)) number
       ≡ is_mounted nat_eq (without_dead_mounts nat_eq world) number
-  mounted_still world number =
-      ap (list_any (λ (mount : Mount ℕ). nat_eq number mount.filesystem)) (mounts_live world)
+  mounted_still world number = ap (list_any (λ (mount : Mount ℕ). nat_eq number mount.filesystem)) (mounts_live world)
       ∙ any-map (λ (mount : Mount ℕ). nat_eq number mount.filesystem) {q = λ mount. nat_eq number mount.filesystem}
-      (typed_by groups)
-      (filter (mount_lives nat_eq world) world.mounts) (λ mount. refl)
+      (typed_by groups) (filter (mount_lives nat_eq world) world.mounts) (λ mount. refl)
 
   -- what lives is the same where types change
   pub living_typed : (world : World ℕ) → in_use_of (typed_world world) ≡ typed_world (in_use_of world)
@@ -56,8 +54,7 @@ module _ (groups : Grouping) where
     master = master_in groups;
     filesystems = filter_alike (filesystem_lives nat_eq (without_dead_mounts nat_eq (typed_world world)))
         (filesystem_lives nat_eq (without_dead_mounts nat_eq world)) world.filesystems (λ f m j.
-        mounted_still world f.number j
-        || list_any (λ merged. has_layer_on nat_eq f.number merged
+        mounted_still world f.number j || list_any (λ merged. has_layer_on nat_eq f.number merged
         && mounted_still world merged.number j) world.filesystems) i;
   }
 
@@ -88,8 +85,7 @@ module _ (groups : Grouping) where
       → Exchanges gained lost filesystem before world → Exchanges gained lost filesystem before (typed_world world)
   exchanges_typed gained lost filesystem before world exchanges = record {
     same = exchanges.same;
-    uses = λ number. exchanges.uses number
-        ∙ ap (λ n. n + times (is_inode filesystem number) lost)
+    uses = λ number. exchanges.uses number ∙ ap (λ n. n + times (is_inode filesystem number) lost)
         (sym (uses_typed world (filesystem_numbered nat_eq world filesystem) number));
   }
 
@@ -116,8 +112,7 @@ module _ (world : World ℕ) (groups : Grouping) (has : Has (regrouped nat_eq wo
     order = has.order;
     peers = has.peers;
     masters_order = has.masters_order;
-    masters = λ group. has.masters group
-        ∙ sym (once_more (has_members nat_eq (regrouped nat_eq world).mounts group)
+    masters = λ group. has.masters group ∙ sym (once_more (has_members nat_eq (regrouped nat_eq world).mounts group)
         ((regrouped nat_eq world).master group));
   })
 
@@ -127,18 +122,15 @@ module _ (world : World ℕ) (groups : Grouping) (has : Has (regrouped nat_eq wo
   private_stays mount m private =
       ap (λ kind. cond (is_unbindable kind) Unbindable (propagation_in groups mount.number)) private
       ∙ among_from_all (λ (x : Mount ℕ). propagation_in groups x.number ≡ shown x.propagation)
-      (regrouped nat_eq world).mounts
-      (shows_types (regrouped nat_eq world) groups has) (inheriting nat_eq world mount)
+      (regrouped nat_eq world).mounts (shows_types (regrouped nat_eq world) groups has) (inheriting nat_eq world mount)
       (subst (Among (inheriting nat_eq world mount)) (sym (mounts-regrouped world))
       (among-map (inheriting nat_eq world) world.mounts mount m))
       ∙ ap (λ kind. shown (inherited nat_eq world kind)) private
 
   -- and has the same groups, where mounts outside are private
   pub settled_typed_has : ((mount : Mount ℕ) → Among mount world.mounts → is_some mount.namespace ≡ false
-      → mount.propagation ≡ Private)
-      → Has (settled nat_eq (typed_world groups world)) groups
-  settled_typed_has nowhere =
-      settled_has (typed_world groups world) groups typed_has (λ mount m dead.
+      → mount.propagation ≡ Private) → Has (settled nat_eq (typed_world groups world)) groups
+  settled_typed_has nowhere = settled_has (typed_world groups world) groups typed_has (λ mount m dead.
       let from = among-from_map (typed_by groups) world.mounts mount m in
       ap (λ (x : Mount ℕ). is_ungrouped x.propagation) from.2
       ∙ ap is_ungrouped (private_stays from.0 from.1 (nowhere from.0 from.1

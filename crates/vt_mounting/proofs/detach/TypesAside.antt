@@ -64,15 +64,12 @@ module _ (groups : Grouping) where
       by false later = later
 
   let_go_told : (number : ℕ) (k : Kept) → with_types (let_go_mount number k) ≡ let_go_mount number (with_types k)
-  let_go_told number k =
-      by (entry_numbered k.mounts number)
+  let_go_told number k = by (entry_numbered k.mounts number)
       ∙ ap (let_go_entry number (with_types k)) (sym (found-told number k.mounts))
     where
-      chosen : (entry : MountEntry) (b : Bool)
-          → with_types (cond b (without_mount number entry.mount k) k)
+      chosen : (entry : MountEntry) (b : Bool) → with_types (cond b (without_mount number entry.mount k) k)
           ≡ cond b (without_mount number (told entry).mount (with_types k)) (with_types k)
-      chosen entry true =
-          ap (λ entries. record (without_mount number entry.mount k) { mounts = entries })
+      chosen entry true = ap (λ entries. record (without_mount number entry.mount k) { mounts = entries })
           (sym (filter-map (λ (one : MountEntry). not (nat_eq number one.mount.number))
           {q = λ (one : MountEntry). not (nat_eq number one.mount.number)} told k.mounts (λ one. refl)))
       chosen entry false = refl
@@ -85,8 +82,7 @@ module _ (groups : Grouping) where
   detached-told : (number : ℕ) (entries : List MountEntry)
       → map told (changed number detached_entry (map told entries)) ≡ map told (changed number detached_entry entries)
   detached-told number [] = refl
-  detached-told number (entry ∷ rest) =
-      λ i. by (nat_eq number entry.mount.number) i ∷ detached-told number rest i
+  detached-told number (entry ∷ rest) = λ i. by (nat_eq number entry.mount.number) i ∷ detached-told number rest i
     where
       by : (b : Bool) → told (if b then detached_entry (told entry) else told entry)
           ≡ told (if b then detached_entry entry else entry)
@@ -98,17 +94,14 @@ module _ (groups : Grouping) where
       → map told one.mounts ≡ map told other.mounts → one.filesystems ≡ other.filesystems
       → one.overlays ≡ other.overlays
       → with_types (without_attachment number point one) ≡ with_types (without_attachment number point other)
-  detached_alike number point one other same shown overlays =
-      let_go_told number (detached_use number point one)
-      ∙ ap (let_go_mount number)
-      (λ i. record {
+  detached_alike number point one other same shown overlays = let_go_told number (detached_use number point one)
+      ∙ ap (let_go_mount number) (λ i. record {
         mounts = (sym (detached-told number one.mounts)
             ∙ ap (λ entries. map told (changed number detached_entry entries)) same
             ∙ detached-told number other.mounts) i;
         filesystems = (detached_use number point (record one { filesystems = shown i })).filesystems;
         overlays = overlays i;
-      })
-      ∙ sym (let_go_told number (detached_use number point other))
+      }) ∙ sym (let_go_told number (detached_use number point other))
 
 abbrev bare : MountEntry → MountEntry
 bare = typed_entry no_groups
@@ -120,19 +113,16 @@ module _ (namespace : ℕ) (one other : List MountEntry) (same : OnlyTypesChange
       sym (counted_so other) ∙ ap (λ entries. length (filter (is_attached_in namespace) entries)) (same no_groups)
       ∙ counted_so one
     where
-      counted_so : (entries : List MountEntry)
-          → length (filter (is_attached_in namespace) (map bare entries))
+      counted_so : (entries : List MountEntry) → length (filter (is_attached_in namespace) (map bare entries))
           ≡ length (filter (is_attached_in namespace) entries)
       counted_so entries =
           ap length (filter-map (is_attached_in namespace) {q = is_attached_in namespace} bare entries (λ entry. refl))
           ∙ length-map (filter (is_attached_in namespace) entries) bare
 
   pub none_alike : list_any (is_attached_in namespace) other ≡ false → list_any (is_attached_in namespace) one ≡ false
-  none_alike none =
-      sym (any-map (is_attached_in namespace) {q = is_attached_in namespace} bare one (λ entry. refl))
+  none_alike none = sym (any-map (is_attached_in namespace) {q = is_attached_in namespace} bare one (λ entry. refl))
       ∙ ap (list_any (is_attached_in namespace)) (sym (same no_groups))
-      ∙ any-map (is_attached_in namespace) {q = is_attached_in namespace} bare other (λ entry. refl)
-      ∙ none
+      ∙ any-map (is_attached_in namespace) {q = is_attached_in namespace} bare other (λ entry. refl) ∙ none
 
   -- what is attached there is attached here
   pub is_attached-alike : (shown : List Shown) (overlays : List Merged) (gone : Detached)
@@ -141,11 +131,9 @@ module _ (namespace : ℕ) (one other : List MountEntry) (same : OnlyTypesChange
   is_attached-alike shown overlays gone is = by (entry_numbered one gone.number) refl
     where
       same_found : option_map bare (entry_numbered one gone.number) ≡ Some (bare is.entry)
-      same_found =
-          sym (found-told no_groups gone.number one)
+      same_found = sym (found-told no_groups gone.number one)
           ∙ ap (λ entries. entry_numbered entries gone.number) (sym (same no_groups))
-          ∙ found-told no_groups gone.number other
-          ∙ ap (option_map bare) is.found
+          ∙ found-told no_groups gone.number other ∙ ap (option_map bare) is.found
 
       by : (o : Option MountEntry) → entry_numbered one gone.number ≡ o
           → IsAttached namespace (record { mounts = one; filesystems = shown; overlays = overlays }) gone
@@ -173,12 +161,10 @@ module _ (namespace : ℕ) where
   inside_listed : (entries : List MountEntry) (entry : MountEntry) → Among entry entries
       → entry.mount.namespace ≡ Some namespace
       → is_among nat_eq entry.mount.number (numbers_inside namespace entries) ≡ true
-  inside_listed entries entry m inside =
-      is_among_numbers entry.mount.number (numbers_inside namespace entries)
+  inside_listed entries entry m inside = is_among_numbers entry.mount.number (numbers_inside namespace entries)
       (among-map (λ (mount : Mount ℕ). mount.number)
       (filter (λ (mount : Mount ℕ). holds_of (nat_eq namespace) mount.namespace) (mounts_in entries)) entry.mount
-      (among-filter (λ (mount : Mount ℕ). holds_of (nat_eq namespace) mount.namespace)
-      (mounts_in entries) entry.mount
+      (among-filter (λ (mount : Mount ℕ). holds_of (nat_eq namespace) mount.namespace) (mounts_in entries) entry.mount
       (among-map (λ (one : MountEntry). one.mount) entries entry m)
       (ap (holds_of (nat_eq namespace)) inside ∙ eq-eqb namespace namespace refl)))
 
@@ -216,8 +202,7 @@ module _ (namespace : ℕ) where
       → is_among nat_eq number (gone_numbers gone) ≡ true
       → is_among nat_eq number (numbers_inside namespace k.mounts) ≡ true
   gone_inside [] k last are number is = absurd (true≢false (sym is))
-  gone_inside (one ∷ gone) k last are number is =
-      by (nat_eq number one.number) refl is
+  gone_inside (one ∷ gone) k last are number is = by (nat_eq number one.number) refl is
       (λ later. inside_before one.number one.point k number
       (gone_inside gone (without_attachment one.number one.point k) last are.1 number later))
     where
@@ -233,8 +218,7 @@ module _ (namespace : ℕ) where
           → (is_among nat_eq number (gone_numbers gone) ≡ true
           → is_among nat_eq number (numbers_inside namespace k.mounts) ≡ true)
           → is_among nat_eq number (numbers_inside namespace k.mounts) ≡ true
-      by true same later rest =
-          subst (λ n. is_among nat_eq n (numbers_inside namespace k.mounts) ≡ true)
+      by true same later rest = subst (λ n. is_among nat_eq n (numbers_inside namespace k.mounts) ≡ true)
           (sym (eqb-true number one.number same)) first
       by false apart later rest = rest later
 
@@ -244,8 +228,7 @@ module _ (namespace : ℕ) where
   stays_there number point k entry m apart = by (entry_numbered (detached_use number point k).mounts number)
     where
       there : Among entry (detached_use number point k).mounts
-      there =
-          subst (λ one. Among one (detached_use number point k).mounts)
+      there = subst (λ one. Among one (detached_use number point k).mounts)
           (ap (λ b. if b then detached_entry entry else entry) apart)
           (among-map (λ (one : MountEntry). if nat_eq number one.mount.number then detached_entry one else one)
           k.mounts entry m)
@@ -269,8 +252,7 @@ module _ (namespace : ℕ) where
   inside_gone [] k last are none entry m inside =
       absurd (true≢false (sym (any_passes (is_attached_in namespace) last.mounts entry
       (subst (λ (one : Kept). Among entry one.mounts) (sym are) m) inside) ∙ none))
-  inside_gone (one ∷ gone) k last are none entry m inside =
-      by (nat_eq entry.mount.number one.number) refl
+  inside_gone (one ∷ gone) k last are none entry m inside = by (nat_eq entry.mount.number one.number) refl
       (λ there. inside_gone gone (without_attachment one.number one.point k) last are.1 none entry there inside)
     where
       turned : nat_eq entry.mount.number one.number ≡ false → nat_eq one.number entry.mount.number ≡ false
@@ -289,8 +271,7 @@ module _ (namespace : ℕ) where
       → is_among nat_eq number (gone_numbers gone) ≡ is_among nat_eq number (numbers_inside namespace k.mounts)
   just_gone gone k last are none number =
       alike (is_among nat_eq number (gone_numbers gone)) (is_among nat_eq number (numbers_inside namespace k.mounts))
-      (gone_inside gone k last are number)
-      (λ is.
+      (gone_inside gone k last are number) (λ is.
       let at = listed_inside k.mounts number is in
       subst (λ n. is_among nat_eq n (gone_numbers gone) ≡ true) (sym at.2)
       (inside_gone gone k last are none at.0 at.1 at.3))
@@ -306,15 +287,13 @@ module _ (namespace : ℕ) where
       → Has (regrouped nat_eq (with_changed as_private world (gone_numbers gone))) now)
       → TakesAway before now (numbers_inside namespace k.mounts)
   all_taken before now gone k last are none has world is living =
-      taken_has world living (numbers_inside namespace k.mounts) now
-      (subst (λ w. Has (regrouped nat_eq w) now)
+      taken_has world living (numbers_inside namespace k.mounts) now (subst (λ w. Has (regrouped nat_eq w) now)
       (λ i. record world {
         mounts = map_alike (changed_if as_private (gone_numbers gone))
             (changed_if as_private (numbers_inside namespace k.mounts)) world.mounts (λ mount m.
             ap (λ b. if b then record mount { propagation = as_private mount.propagation } else mount)
             (just_gone gone k last are none mount.number)) i;
-      })
-      (has world is living))
+      }) (has world is living))
 
 -- one more is detached: it is private
 pub still_detached : (groups : Grouping) (numbers : List ℕ) (number : ℕ) (point : Option Location) (k : Kept)
@@ -325,8 +304,7 @@ still_detached groups numbers number point k still = record {
       → typed_entry groups entry ≡ entry) (without_attachment number point k).mounts
       (one_left (λ (entry : MountEntry). is_among nat_eq entry.mount.number (numbers ++ number ∷ []) ≡ false
       → typed_entry groups entry ≡ entry) number point k
-      (λ was m same apart. absurd (true≢false (sym (there was.mount.number same) ∙ apart)))
-      (λ was m other apart.
+      (λ was m same apart. absurd (true≢false (sym (there was.mount.number same) ∙ apart))) (λ was m other apart.
       among_from_all (λ (one : MountEntry). is_among nat_eq one.mount.number numbers ≡ false
       → typed_entry groups one ≡ one) k.mounts still.typed was m
       (first (is_among nat_eq was.mount.number numbers) (nat_eq was.mount.number number)
@@ -335,9 +313,7 @@ still_detached groups numbers number point k still = record {
       (λ (entry : MountEntry). is_among nat_eq entry.mount.number (numbers ++ number ∷ []) ≡ true
       → source_of entry.mount.propagation ≡ None) (without_attachment number point k).mounts
       (one_left (λ (entry : MountEntry). is_among nat_eq entry.mount.number (numbers ++ number ∷ []) ≡ true
-      → source_of entry.mount.propagation ≡ None) number point k
-      (λ was m same is. refl)
-      (λ was m other is.
+      → source_of entry.mount.propagation ≡ None) number point k (λ was m same is. refl) (λ was m other is.
       among_from_all (λ (one : MountEntry). is_among nat_eq one.mount.number numbers ≡ true
       → source_of one.mount.propagation ≡ None) k.mounts still.sourceless was m
       (left (is_among nat_eq was.mount.number numbers) (nat_eq was.mount.number number)
@@ -347,11 +323,8 @@ still_detached groups numbers number point k still = record {
 }
   where
     there : (other : ℕ) → nat_eq number other ≡ true → is_among nat_eq other (numbers ++ number ∷ []) ≡ true
-    there other same =
-        is_among-snoc other number numbers
-        ∙ ap (λ b. is_among nat_eq other numbers || b)
-        (nat_eq-swapped number other true same)
-        ∙ second (is_among nat_eq other numbers)
+    there other same = is_among-snoc other number numbers ∙ ap (λ b. is_among nat_eq other numbers || b)
+        (nat_eq-swapped number other true same) ∙ second (is_among nat_eq other numbers)
       where
         second : (a : Bool) → (a || true) ≡ true
         second true = refl

@@ -45,12 +45,10 @@ use Rattle.vt_laws_mounts.specs.Mounts.Attaching.{numbers_of}
 
 -- Worlds in which mounts have other types, and groups other masters
 
-regrouped_is : (base : World ℕ)
-    → regrouped nat_eq base ≡ record base {
-      mounts = (regrouped nat_eq base).mounts;
-      master =
-          (regrouped nat_eq base).master;
-    }
+regrouped_is : (base : World ℕ) → regrouped nat_eq base ≡ record base {
+  mounts = (regrouped nat_eq base).mounts;
+  master = (regrouped nat_eq base).master;
+}
 regrouped_is base = by (list_any (lost_a_group nat_eq base) base.mounts)
   where
     by : (b : Bool) → regrouped_by nat_eq b base
@@ -74,8 +72,7 @@ module _ (world : World ℕ) (kind : ℕ → Propagation ℕ → Propagation ℕ
     root = λ mount. refl;
   }
 
-  same_points : (mounts : List (Mount ℕ))
-      → filter_map (λ (mount : Mount ℕ). mount.mount_point) (map change mounts)
+  same_points : (mounts : List (Mount ℕ)) → filter_map (λ (mount : Mount ℕ). mount.mount_point) (map change mounts)
       ≡ filter_map (λ (mount : Mount ℕ). mount.mount_point) mounts
   same_points [] = refl
   same_points (mount ∷ rest) = ap (cons_option mount.mount_point) (same_points rest)
@@ -134,13 +131,11 @@ module _ (value : WorldValue) (whole : IsHeld value) (group : ℕ → ℕ) (word
   -- nothing goes
   pub types_settled : settled nat_eq (retyped nat_eq (world_of value) group word named)
       ≡ world_of (retyped_value value.next)
-  types_settled =
-      sym (settled_without_groups policy)
+  types_settled = sym (settled_without_groups policy)
       ∙ ap (λ world. settled nat_eq (without_dead_groups nat_eq world)) (regrouped_is (record (world_of value) {
         mounts = map (retyped_mount nat_eq group word named) (world_of value).mounts;
         master = with_new_groups nat_eq group (world_of value).master named;
-      }))
-      ∙ ap (settled nat_eq) (λ i. record
+      })) ∙ ap (settled nat_eq) (λ i. record
       (world_of value) { mounts = sym mounts i; master = λ one. sym (has.masters one) i })
       ∙ subst (λ (world : World ℕ). settled nat_eq world ≡ world) (now_is value.next)
       (types_keep_all (world_of value) (change (world_of value) kind (master_in groups)) (master_in groups)
@@ -175,8 +170,7 @@ module _ (value : WorldValue) (whole : IsHeld value) (group : ℕ → ℕ) (word
     filesystems = all_from_among (CountsItsMounts (world_of (retyped_value next))) value.filesystems (λ entry m.
         let was = among_from_all (CountsItsMounts (world_of value)) value.filesystems whole.filesystems entry m in
         subst (λ (world : World ℕ). CountsItsMounts world entry) (now_is next) (record {
-          mounts = was.mounts
-              ∙ ap (λ showing. showing + layer_count (world_of value) (counted entry.count))
+          mounts = was.mounts ∙ ap (λ showing. showing + layer_count (world_of value) (counted entry.count))
               (sym (same_showing (world_of value) kind (master_in groups) (counted entry.count)));
           inodes = record {
             root = was.inodes.root;
@@ -222,17 +216,14 @@ module _ (value : WorldValue) (whole : IsHeld value) (name : TaskName) (number :
         ≡ world_of (retyped_value value whole group word named kind groups mounts has value.next)
     settles = types_settled value whole group word named kind groups mounts has
 
-    pub types_are_set : (next : ℕ)
-        → KeepsTo (is_counted_before next)
+    pub types_are_set : (next : ℕ) → KeepsTo (is_counted_before next)
         (world_of (retyped_value value whole group word named kind groups mounts has value.next))
         → IsDone value name (ToSetType number word recursive)
         (retyped_value value whole group word named kind groups mounts has next)
     types_are_set next given = record {
-      held = types_held value whole group word named kind groups mounts has next
-          (subst (IsWorld nat_eq) settles
+      held = types_held value whole group word named kind groups mounts has next (subst (IsWorld nat_eq) settles
           (given_permits_give_no_upper (world_of value) (supply_of value (ToSetType number word recursive)) permits.task
-          (ToSetType number word recursive) whole.in_world whole.overlays.read_only permits.given).0)
-          given
+          (ToSetType number word recursive) whole.in_world whole.overlays.read_only permits.given).0) given
           (subst WritersHaveLayers settles
           (left_writers value whole permits.task (ToSetType number word recursive) permits.given));
       becomes = becomes_so value name (ToSetType number word recursive)

@@ -70,8 +70,7 @@ unused_lacks number (mount ∷ rest) none =
 
 -- how a change of types is seen, whichever new numbers its groups have
 abbrev pub SeenAs : WorldValue → TypeWord → List (Mount ℕ) → (ℕ → Propagation ℕ → Propagation ℕ) → Grouping → Type 0
-SeenAs value word named kind groups =
-    (group : ℕ → ℕ) → ((number : ℕ) → LacksGroup (world_of value) (group number))
+SeenAs value word named kind groups = (group : ℕ → ℕ) → ((number : ℕ) → LacksGroup (world_of value) (group number))
     → (mounts_in (map (retyped_entry kind) value.mounts) ≡ (retyped nat_eq (world_of value) group word named).mounts)
     × Has (retyped nat_eq (world_of value) group word named) groups
 
@@ -106,8 +105,7 @@ module _ (value : WorldValue) (whole : IsHeld value) (name : TaskName) (number :
   even = 2 * (1 + group_total (world_of value).mounts)
 
   pub is_even : is_counted_before value.next even ≡ true
-  is_even =
-      ap (λ b. b || (even % 4 == 1 && nat_lt (even / 4) value.next)) (eq-eqb (even % 2) 0 (omega arith))
+  is_even = ap (λ b. b || (even % 4 == 1 && nat_lt (even / 4) value.next)) (eq-eqb (even % 2) 0 (omega arith))
 
   pub even_lacks : (one : ℕ) → LacksGroup (world_of value) even
   even_lacks one = beyond even (world_of value).mounts (omega arith)
@@ -128,8 +126,7 @@ module _ (value : WorldValue) (whole : IsHeld value) (name : TaskName) (number :
         subst (KeepsTo (is_counted_before value.next))
         (types_settled value whole (λ one. even) word named kind groups there.0 there.1)
         (permits_keep_to_numbers (is_counted_before value.next) (λ k. even) (world_of value) permits.task
-        (ToSetType number word recursive)
-        permits.given.called whole.given (λ k. is_even) named_number)
+        (ToSetType number word recursive) permits.given.called whole.given (λ k. is_even) named_number)
 
     pub types_are_changed : IsDone value name (ToSetType number word recursive) (changed_value value.next)
     types_are_changed =
@@ -147,31 +144,25 @@ module _ (value : WorldValue) (whole : IsHeld value) (name : TaskName) (number :
     supply k = cond (nat_lt k (length named)) (counts_from value.next k) even
 
     supply_is : (one : ℕ) → numbers_by nat_eq supply named one ≡ group one
-    supply_is one =
-        ap (λ b. cond b (counts_from value.next (index_of nat_eq named one)) even)
+    supply_is one = ap (λ b. cond b (counts_from value.next (index_of nat_eq named one)) even)
         (lt-ltb (index_of nat_eq named one) (length named) (index_bound named one some))
 
     counted_low : (k : ℕ) (b : Bool) → nat_lt k (length named) ≡ b
         → is_counted_before later (cond b (counts_from value.next k) even) ≡ true
     counted_low k true e =
         let low = ltb-true k (length named) e in
-        (λ i. (counts_from value.next k % 2 == 0)
-        || (eq-eqb (counts_from value.next k % 4) 1 (omega arith) i
+        (λ i. (counts_from value.next k % 2 == 0) || (eq-eqb (counts_from value.next k % 4) 1 (omega arith) i
         && lt-ltb (counts_from value.next k / 4) later (omega (arith, low)) i))
         ∙ or-true (counts_from value.next k % 2 == 0)
     counted_low k false e = counted_later value.next later even (omega arith) is_even
 
     keeps_taken : KeepsTo (is_counted_before later)
         (world_of (retyped_value value whole group word named kind groups mounts has value.next))
-    keeps_taken =
-        subst (KeepsTo (is_counted_before later))
-        (ap (λ numbers. settled nat_eq (retyped nat_eq (world_of value) numbers word named))
-        (λ i one. supply_is one i)
+    keeps_taken = subst (KeepsTo (is_counted_before later))
+        (ap (λ numbers. settled nat_eq (retyped nat_eq (world_of value) numbers word named)) (λ i one. supply_is one i)
         ∙ types_settled value whole group word named kind groups mounts has)
         (permits_keep_to_numbers (is_counted_before later) supply (world_of value) permits.task
-        (ToSetType number word recursive)
-        permits.given.called
-        (λ renaming leaves. whole.given renaming
+        (ToSetType number word recursive) permits.given.called (λ renaming leaves. whole.given renaming
         (λ n is. leaves n (counted_later value.next later n (omega arith) is)))
         (λ k. counted_low k (nat_lt k (length named)) refl)
         (counted_later value.next later number (omega arith) named_number))

@@ -43,14 +43,12 @@ same_shown (one ∷ rest) = ap (λ others. one ∷ others) (same_shown rest)
 pub attached_named : (value : WorldValue) → IsHeld value → (number namespace : ℕ)
     → (mount_numbered nat_eq (world_of value) number).namespace ≡ Some namespace
     → is_counted_before value.next number ≡ true
-attached_named value held number namespace own =
-    mount_named value held number
+attached_named value held number namespace own = mount_named value held number
     (is_among_numbers number (map (λ (mount : Mount ℕ). mount.number) (mounts_in value.mounts))
     (subst (λ n. Among n (map (λ (mount : Mount ℕ). mount.number) (mounts_in value.mounts)))
     (number_found (mounts_in value.mounts) number)
     (among-map (λ (mount : Mount ℕ). mount.number) (mounts_in value.mounts)
-    (mount_numbered nat_eq (world_of value) number)
-    (found_is_there (mounts_in value.mounts) number (ap is_some own)))))
+    (mount_numbered nat_eq (world_of value) number) (found_is_there (mounts_in value.mounts) number (ap is_some own)))))
 
 module _ (value : WorldValue) (whole : IsHeld value) (name : TaskName) (number : ℕ) (permit : Permit ℕ)
     (change : Mount ℕ → Mount ℕ)
@@ -78,13 +76,10 @@ module _ (value : WorldValue) (whole : IsHeld value) (name : TaskName) (number :
   pub mount_is_retouched : Has (settled nat_eq (next_of value whole number change keeps)) value.groups
       → permit_named (is_counted_before value.next) permit ≡ true
       → ((fresh : Fresh ℕ) → (apply nat_eq fresh (world_of value) permits.task permit).world
-      ≡ next_of value whole number change keeps)
-      → IsDone value name permit (remade value
+      ≡ next_of value whole number change keeps) → IsDone value name permit (remade value
       (changed number (with_mount_changed change) value.mounts) value.filesystems value.tasks)
-  mount_is_retouched has named applied =
-      mount_is_changed value whole number change keeps [] [] value.filesystems
-      (same_shown (shown value.filesystems)) nothing_exchanged
-      (λ was m. refl) name permit permits.task
+  mount_is_retouched has named applied = mount_is_changed value whole number change keeps [] [] value.filesystems
+      (same_shown (shown value.filesystems)) nothing_exchanged (λ was m. refl) name permit permits.task
       (record { called = permits.called; given = permits.given; named = named; applied = applied }) has
 
 -- Flags
@@ -101,17 +96,14 @@ flags_keep flags = record {
 }
 
 pub flags_are_set : (value : WorldValue) → IsHeld value → (name : TaskName) (number : ℕ) (flags : MountFlags)
-    → Permits value name (ToSetFlags number flags)
-    → IsDone value name (ToSetFlags number flags)
+    → Permits value name (ToSetFlags number flags) → IsDone value name (ToSetFlags number flags)
     (remade value (changed number (λ entry.
     record entry { mount = record entry.mount { flags = flags } }) value.mounts) value.filesystems value.tasks)
 flags_are_set value whole name number flags permits =
     let own = (permit_fits value whole name (ToSetFlags number flags) permits).names in
     mount_is_retouched value whole name number (ToSetFlags number flags) (with_flags flags) (flags_keep flags)
-    (λ mount. refl) permits own
-    (kind_kept value whole number (with_flags flags) (flags_keep flags) (λ mount. refl))
-    (attached_named value whole number permits.task.namespace own)
-    (λ fresh.
+    (λ mount. refl) permits own (kind_kept value whole number (with_flags flags) (flags_keep flags) (λ mount. refl))
+    (attached_named value whole number permits.task.namespace own) (λ fresh.
     flags_are_of_one (world_of value) (record { mount = number; node = number }) flags whole.in_world.mounts.one_number
     ∙ ap (with_mounts (world_of value))
     (map_alike (flags_if number flags) (one_changed number (with_flags flags)) (mounts_in value.mounts)

@@ -37,14 +37,12 @@ pub attached_is_named : (value : WorldValue) → IsHeld value → (number : ℕ)
 attached_is_named value whole number attached =
     let world = world_of value in
     used_numbers_are_named (is_counted_before value.next) world whole.given
-    (3, 7, (λ e. absurd (omega (arith, e))), refl, refl) number
-    (is_among_numbers number (numbers_in_use world)
+    (3, 7, (λ e. absurd (omega (arith, e))), refl, refl) number (is_among_numbers number (numbers_in_use world)
     (among-append_left (flat_map used_by_mount world.mounts ++ flat_map used_by_filesystem world.filesystems)
     (map (λ namespace. namespace.number) world.namespaces) number
     (among-append_left (flat_map used_by_mount world.mounts) (flat_map used_by_filesystem world.filesystems) number
     (among-flat_map used_by_mount world.mounts (mount_in nat_eq world.mounts number) number
-    (found_is_there world.mounts number attached)
-    (inl (sym (number_found world.mounts number)))))))
+    (found_is_there world.mounts number attached) (inl (sym (number_found world.mounts number)))))))
 
 -- where its parent is not shared, an unmount is of a mount alone
 pub goes_apart : (world : World ℕ) (number : ℕ)
@@ -57,8 +55,7 @@ goes_apart world number apart = by (mount_numbered nat_eq world number).mount_po
     its_number = ap (λ n. n ∷ []) (number_found world.mounts number)
 
     by : (o : Option (Place ℕ)) → holds_of (λ (place : Place ℕ). is_shared (mount_at nat_eq world place).propagation) o
-        ≡ false
-        → going_at nat_eq world (mount_numbered nat_eq world number) o ≡ number ∷ []
+        ≡ false → going_at nat_eq world (mount_numbered nat_eq world number) o ≡ number ∷ []
     by None e = its_number
     by (Some place) e = ap (going_from nat_eq world (mount_numbered nat_eq world number) place) e ∙ its_number
 
@@ -88,26 +85,20 @@ unmount_is_done value name number point mounts filesystems overlays whole permit
     (is_used nat_eq world (going nat_eq world (mount_numbered nat_eq world number))) names.2).0 in
     let closed = childless world number none in
     detached_done value name (ToUnmount number) permits.task (number ∷ []) mounts filesystems overlays whole closed
-    (λ mount m its. freed mount m (nat_eq mount.number number) refl its)
-    (record {
+    (λ mount m its. freed mount m (nat_eq mount.number number) refl its) (record {
       called = permits.called;
       given = permits.given;
       named = attached_is_named value whole number (ap is_some names.0);
       applied = λ fresh. ap (taken_away nat_eq world) (goes_apart world number apart);
     })
     (subst (Rattle.vt_mounting.proofs.detach.Detached.IsDetaching value [] (in_use_of (detached_world (number ∷ []) world)) [])
-    (sym is_kept)
-    (detaching_on value [] (in_use_of (detached_world (number ∷ []) world)) number []
-    (kept_of value) point
-    (detaching_begins value [] [] world (kept_of value) (held_is_kept value whole)
+    (sym is_kept) (detaching_on value [] (in_use_of (detached_world (number ∷ []) world)) number []
+    (kept_of value) point (detaching_begins value [] [] world (kept_of value) (held_is_kept value whole)
     (number ∷ []) closed) point_is few))
   where
     freed : (mount : Mount ℕ) → Among mount (mounts_in value.mounts) → (b : Bool) → nat_eq mount.number number ≡ b
-        → (b || false) ≡ true
-        → is_ungrouped mount.propagation ≡ true
-    freed mount m true e its =
-        ap (λ (x : Mount ℕ). is_ungrouped x.propagation)
+        → (b || false) ≡ true → is_ungrouped mount.propagation ≡ true
+    freed mount m true e its = ap (λ (x : Mount ℕ). is_ungrouped x.propagation)
         (sym (found_itself (mounts_in value.mounts) whole.in_world.mounts.one_number mount m)
-        ∙ ap (mount_in nat_eq (mounts_in value.mounts)) (eqb-true mount.number number e))
-        ∙ free
+        ∙ ap (mount_in nat_eq (mounts_in value.mounts)) (eqb-true mount.number number e)) ∙ free
     freed mount m false e its = absurd (true≢false (sym its))

@@ -36,8 +36,7 @@ all_detached old gained last (number ∷ numbers) k final detaching turn =
 
 pub lazy_unmount_is_done : (value : WorldValue) (name : TaskName) (number : ℕ) (numbers : List ℕ)
     (mounts : List MountEntry) (filesystems : Filesystems) (overlays : List Merged)
-    → IsHeld value → Permits value name (ToUnmountLazily number)
-    → numbers ≡ map (λ (mount : Mount ℕ). mount.number)
+    → IsHeld value → Permits value name (ToUnmountLazily number) → numbers ≡ map (λ (mount : Mount ℕ). mount.number)
     (mount_tree nat_eq (mounts_in value.mounts) (mount_in nat_eq (mounts_in value.mounts) number))
     → list_all (λ n. is_ungrouped (mount_in nat_eq (mounts_in value.mounts) n).propagation) numbers ≡ true
     → holds_of (λ (place : Place ℕ). is_shared (mount_at nat_eq (world_of value) place).propagation)
@@ -62,11 +61,8 @@ lazy_unmount_is_done value name number numbers mounts filesystems overlays whole
       named = attached_is_named value whole number there;
       applied = λ fresh. lazily_is_detached world kept_mounts number there ungrouped
           (λ place p. sym (ap (holds_of (λ (at : Place ℕ). is_shared (mount_at nat_eq world at).propagation)) p)
-          ∙ apart)
-          ∙ sym (taken_regroups world gone closed
+          ∙ apart) ∙ sym (taken_regroups world gone closed
           ∙ alone_regroups world value.groups whole.groups kept_mounts.groups gone free);
-    })
-    (all_detached value [] (in_use_of (detached_world gone world)) gone (kept_of value)
-    (kept_with mounts filesystems overlays)
-    (detaching_begins value [] [] world (kept_of value) start gone closed)
+    }) (all_detached value [] (in_use_of (detached_world gone world)) gone (kept_of value)
+    (kept_with mounts filesystems overlays) (detaching_begins value [] [] world (kept_of value) start gone closed)
     (subst (λ all. LeaveInTurn all (kept_of value) (kept_with mounts filesystems overlays)) tree turn))

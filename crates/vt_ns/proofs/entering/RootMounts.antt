@@ -29,8 +29,7 @@ next_passes p (y ∷ ys) (suc n) x none at passed = by (p y) none (λ f. next_pa
     by false f later = later f
 
 none_so_far : {A : Type 0} (p : A → Bool) (xs : List A) (n : ℕ) (x : A) → find p (take n xs) ≡ None
-    → slice_get xs n ≡ Some x → p x ≡ false
-    → find p (take (suc n) xs) ≡ None
+    → slice_get xs n ≡ Some x → p x ≡ false → find p (take (suc n) xs) ≡ None
 none_so_far p [] n x none at failed = absurd cc
 none_so_far p (y ∷ ys) zero x none at failed = ap (λ b. cond b (Some y) None) (ap p (same_Some y x at) ∙ failed)
 none_so_far p (y ∷ ys) (suc n) x none at failed = by (p y) none (λ f. none_so_far p ys n x f at failed)
@@ -43,18 +42,15 @@ none_so_far p (y ∷ ys) (suc n) x none at failed = by (p y) none (λ f. none_so
 
 -- where one more does not pass none has yet
 pub none_passes_yet : {A : Type 0} (p : A → Bool) (xs : List A) (n : ℕ) (x : A) → find p (take n xs) ≡ None
-    → slice_get xs n ≡ Some x → p x ≡ false
-    → find p (take (n + 1) xs) ≡ None
+    → slice_get xs n ≡ Some x → p x ≡ false → find p (take (n + 1) xs) ≡ None
 none_passes_yet p xs n x none at failed =
     let next : n + 1 ≡ suc n = omega arith in ap (λ k. find p (take k xs)) next ∙ none_so_far p xs n x none at failed
 
 -- a listed number is that of a mount of the namespace
 pub listed_at : (entries : List MountEntry) (namespace : ℕ) (ids : List MountId) (n : ℕ) (id : MountId)
-    → are_ascending (mounts_in entries) ≡ true
-    → map (λ (id : MountId). counted id.count) ids
+    → are_ascending (mounts_in entries) ≡ true → map (λ (id : MountId). counted id.count) ids
     ≡ map (λ mount. mount.number) (filter (λ mount. holds_of (nat_eq namespace) mount.namespace) (mounts_in entries))
-    → slice_get ids n ≡ Some id
-    → (mount : Mount ℕ) × (slice_get
+    → slice_get ids n ≡ Some id → (mount : Mount ℕ) × (slice_get
     (filter (λ mount. holds_of (nat_eq namespace) mount.namespace) (mounts_in entries)) n ≡ Some mount)
     × (find (λ mount. nat_eq (counted id.count) mount.number) (mounts_in entries) ≡ Some mount)
 listed_at entries namespace ids n id rising listed at = by (slice_get inside n) refl
@@ -63,13 +59,11 @@ listed_at entries namespace ids n id rising listed at = by (slice_get inside n) 
     inside = filter (λ mount. holds_of (nat_eq namespace) mount.namespace) (mounts_in entries)
 
     numbers : Some (counted id.count) ≡ option_map (λ (mount : Mount ℕ). mount.number) (slice_get inside n)
-    numbers =
-        sym (slice_get-map (λ (id : MountId). counted id.count) ids n
+    numbers = sym (slice_get-map (λ (id : MountId). counted id.count) ids n
         ∙ ap (option_map (λ (id : MountId). counted id.count)) at)
         ∙ ap (λ all. slice_get all n) listed ∙ slice_get-map (λ (mount : Mount ℕ). mount.number) inside n
 
-    by : (o : Option (Mount ℕ)) → slice_get inside n ≡ o
-        → (mount : Mount ℕ) × (slice_get inside n ≡ Some mount)
+    by : (o : Option (Mount ℕ)) → slice_get inside n ≡ o → (mount : Mount ℕ) × (slice_get inside n ≡ Some mount)
         × (find (λ mount. nat_eq (counted id.count) mount.number) (mounts_in entries) ≡ Some mount)
     by None e = absurd (none (numbers ∙ ap (option_map (λ (mount : Mount ℕ). mount.number)) e))
       where
@@ -83,8 +77,7 @@ listed_at entries namespace ids n id rising listed at = by (slice_get inside n) 
         let entry = among-from_map (λ (one : MountEntry). one.mount) entries mount among.0 in (
           mount,
           e,
-          found_entry (counted id.count) entries
-              ∙ ap (λ k. option_map (λ (one : MountEntry). one.mount)
+          found_entry (counted id.count) entries ∙ ap (λ k. option_map (λ (one : MountEntry). one.mount)
               (Rattle.vt_mount.specs.MountsValue.entry_numbered entries k))
               (number ∙ ap (λ (x : Mount ℕ). x.number) entry.2)
               ∙ ap (option_map (λ (one : MountEntry). one.mount)) (entry_ascending entries rising entry.0 entry.1)
@@ -93,8 +86,7 @@ listed_at entries namespace ids n id rising listed at = by (slice_get inside n) 
 
 -- a mount that is got by its place in the list is the one that the definitions have there
 pub listed_got : (entries : List MountEntry) (namespace : ℕ) (ids : List MountId) (n : ℕ) (d : MountId)
-    (o : Option Attached) → are_ascending (mounts_in entries) ≡ true
-    → map (λ (id : MountId). counted id.count) ids
+    (o : Option Attached) → are_ascending (mounts_in entries) ≡ true → map (λ (id : MountId). counted id.count) ids
     ≡ map (λ mount. mount.number) (filter (λ mount. holds_of (nat_eq namespace) mount.namespace) (mounts_in entries))
     → n < length ids → option_map mount_of o
     ≡ find (λ mount. nat_eq (counted (get_or ids n d).count) mount.number) (mounts_in entries)
@@ -122,8 +114,7 @@ pub no_root_yet : (entries : List MountEntry) (namespace n : ℕ) (found : Mount
     → find (λ mount. not (is_some mount.mount_point))
     (take n (filter (λ mount. holds_of (nat_eq namespace) mount.namespace) (mounts_in entries))) ≡ None
     → slice_get (filter (λ mount. holds_of (nat_eq namespace) mount.namespace) (mounts_in entries)) n ≡ Some found
-    → mount_of mount ≡ found → is_some mount.mount_point ≡ true
-    → find (λ mount. not (is_some mount.mount_point))
+    → mount_of mount ≡ found → is_some mount.mount_point ≡ true → find (λ mount. not (is_some mount.mount_point))
     (take (n + 1) (filter (λ mount. holds_of (nat_eq namespace) mount.namespace) (mounts_in entries))) ≡ None
 no_root_yet entries namespace n found mount none at same there =
     none_passes_yet (λ (x : Mount ℕ). not (is_some x.mount_point))

@@ -47,8 +47,7 @@ use Rattle.vt_mounting.proofs.detach.PlainFound.{counted_where_plain, overlay_am
 any_alike : {A : Type 0} (one other : A → Bool) (list : List A) → ((a : A) → Among a list → one a ≡ other a)
     → list_any one list ≡ list_any other list
 any_alike one other [] same = refl
-any_alike one other (a ∷ rest) same =
-    λ i. same a (inl refl) i || any_alike one other rest (λ b m. same b (inr m)) i
+any_alike one other (a ∷ rest) same = λ i. same a (inl refl) i || any_alike one other rest (λ b m. same b (inr m)) i
 
 any_mapped : {A B : Type 0} (test : B → Bool) (change : A → B) (list : List A)
     → list_any test (map change list) ≡ list_any (λ a. test (change a)) list
@@ -71,8 +70,7 @@ born_plain plain own count node small there = by (entry_of plain count) refl the
     by (Some entry) e there = of_number (is_own_number entry.count (number_of node)) refl
       where
         of_number : (b : Bool) → is_own_number entry.count (number_of node) ≡ b → node.birth ≡ Here
-        of_number false other =
-            absurd (true≢false (sym there ∙ ap (λ o. is_some (node_in o))
+        of_number false other = absurd (true≢false (sym there ∙ ap (λ o. is_some (node_in o))
             (own entry (found_among (λ (one : FilesystemEntry). nat_eq count one.count) plain entry e)
             (number_of node) other)))
         of_number true is =
@@ -93,8 +91,7 @@ plain_number node inode e = by node.birth refl e
         let same : inode ≡ record { filesystem = node.filesystem; slot = node.slot } = cc in
         record {
           filesystem = ap (λ (one : InodeRef). one.filesystem.count) same;
-          number = ap inode_of same
-              ∙ ap (λ (birth : Birth). number_of (record node { birth = birth })) (sym here);
+          number = ap inode_of same ∙ ap (λ (birth : Birth). number_of (record node { birth = birth })) (sym here);
         }
     by (Below layer directory rank) below e = absurd cc
 
@@ -128,15 +125,12 @@ module _ (base : WorldValue) (store : StoreValue) (held : IsHeld (with_store sto
       by : (merged : Filesystem ℕ) (o : Option (Overlay ℕ)) → merged.overlay ≡ o
           → of_overlay false (λ overlay. is_some overlay.upper) merged ≡ false
           → counts_in_layer nat_eq world filesystem number layer merged ≡ false
-      by merged None e none =
-          ap (overlay_or false (λ overlay.
+      by merged None e none = ap (overlay_or false (λ overlay.
           holds_of (λ upper. lies_in_layer nat_eq world upper.filesystem upper.directory layer) overlay.upper
           && is_object_of nat_eq filesystem number merged overlay)) e
-      by merged (Some overlay) e none =
-          ap (overlay_or false (λ overlay.
+      by merged (Some overlay) e none = ap (overlay_or false (λ overlay.
           holds_of (λ upper. lies_in_layer nat_eq world upper.filesystem upper.directory layer) overlay.upper
-          && is_object_of nat_eq filesystem number merged overlay)) e
-          ∙ without merged overlay overlay.upper
+          && is_object_of nat_eq filesystem number merged overlay)) e ∙ without merged overlay overlay.upper
           (sym (ap (overlay_or false (λ overlay. is_some overlay.upper)) e) ∙ none)
 
   -- the layers of its overlays
@@ -154,8 +148,7 @@ module _ (base : WorldValue) (store : StoreValue) (held : IsHeld (with_store sto
       → is_locked nat_eq world filesystem number ≡ list_any (in_entry filesystem number) store.overlays
   locked_by filesystem number =
       any_alike (lies_or_counts_under nat_eq world filesystem number) (lies_in_layer nat_eq world filesystem number)
-      (live_layers world)
-      (λ layer m. ap (λ b. lies_in_layer nat_eq world filesystem number layer || b)
+      (live_layers world) (λ layer m. ap (λ b. lies_in_layer nat_eq world filesystem number layer || b)
       (uncounted filesystem number layer) ∙ or-false _)
       ∙ ap (λ all. list_any (lies_in_layer nat_eq world filesystem number) (flat_map (of_overlay [] layers_of) all))
       (overlays_are kept held.overlays)
@@ -186,8 +179,7 @@ module _ (base : WorldValue) (store : StoreValue) (held : IsHeld (with_store sto
         (among-map layer_seen entry.overlay.lowers layer n))).0
 
     same_files : (filesystem_numbered nat_eq (world_of (with_store store base))
-        (counted layer.directory.filesystem.count)).files
-        ≡ files_at store.plain layer.directory.filesystem.count
+        (counted layer.directory.filesystem.count)).files ≡ files_at store.plain layer.directory.filesystem.count
     same_files = ap (λ (f : Filesystem ℕ). f.files) (counted_where_plain kept held own no_overlay)
 
     -- what lies in it lies there in the store
@@ -195,11 +187,9 @@ module _ (base : WorldValue) (store : StoreValue) (held : IsHeld (with_store sto
         ≡ lies_in store.plain count number layer
     lies_so count number = by (nat_eq count own) refl
       where
-        by : (b : Bool) → nat_eq count own ≡ b
-            → lies_in_layer nat_eq world (counted count) number (layer_seen layer)
+        by : (b : Bool) → nat_eq count own ≡ b → lies_in_layer nat_eq world (counted count) number (layer_seen layer)
             ≡ lies_in store.plain count number layer
-        by false e =
-            ap (λ b. b && is_under nat_eq (filesystem_numbered nat_eq world (counted count)).files
+        by false e = ap (λ b. b && is_under nat_eq (filesystem_numbered nat_eq world (counted count)).files
             (inode_of layer.directory) number) (counted_test count own ∙ e)
             ∙ sym (ap (λ b. b && is_under nat_eq (files_at store.plain count) (inode_of layer.directory) number) e)
         by true e =
@@ -212,18 +202,15 @@ module _ (base : WorldValue) (store : StoreValue) (held : IsHeld (with_store sto
       → (filesystem_numbered nat_eq (world_of (with_store store base)) filesystem).files.tree.node number ≡ None
       → has_entry_to nat_eq (filesystem_numbered nat_eq (world_of (with_store store base)) filesystem).files.tree
       directory number ≡ false
-  no_entry_to filesystem number directory none =
-      ⊎_elim
+  no_entry_to filesystem number directory none = ⊎_elim
       (λ tree. by tree (has_entry_to nat_eq found.files.tree directory number) refl)
       (λ missing. ap (λ (f : Filesystem ℕ). has_entry_to nat_eq f.files.tree directory number) missing.0)
-      (numbered_all (λ (f : Filesystem ℕ). IsTree f.files.tree) filesystem world.filesystems
-      held.in_world.files.trees)
+      (numbered_all (λ (f : Filesystem ℕ). IsTree f.files.tree) filesystem world.filesystems held.in_world.files.trees)
     where
       found : Filesystem ℕ
       found = filesystem_numbered nat_eq (world_of (with_store store base)) filesystem
 
-      by : IsTree found.files.tree → (b : Bool) → has_entry_to nat_eq found.files.tree directory number ≡ b
-          → b ≡ false
+      by : IsTree found.files.tree → (b : Bool) → has_entry_to nat_eq found.files.tree directory number ≡ b → b ≡ false
       by tree true e =
           let entry = entry_from found.files.tree tree directory number e in
           absurd (true≢false (sym (tree.alive directory entry.0 number entry.1) ∙ ap is_some none))
@@ -262,19 +249,16 @@ module _ (base : WorldValue) (store : StoreValue) (held : IsHeld (with_store sto
 
       no_node : (o : Option (Node ℕ)) → (files_at store.plain own_count).tree.node (number_of node) ≡ o → o ≡ None
       no_node None e = refl
-      no_node (Some inode) e =
-          absurd (below (born_plain store.plain
+      no_node (Some inode) e = absurd (below (born_plain store.plain
           (λ one among. among_from_all HasOwnInodes store.plain held.own_inodes one among) own_count node small
           (ap is_some e)))
 
       by : (b : Bool) → nat_eq filesystem (counted own_count) ≡ b
           → lies_in_layer nat_eq (world_of (with_store store base)) filesystem (number_of node) (layer_seen layer)
           ≡ false
-      by false e =
-          ap (λ b. b && is_under nat_eq (filesystem_numbered nat_eq world filesystem).files
+      by false e = ap (λ b. b && is_under nat_eq (filesystem_numbered nat_eq world filesystem).files
           (inode_of layer.directory) (number_of node)) e
-      by true e =
-          not_there filesystem (number_of node)
+      by true e = not_there filesystem (number_of node)
           (ap (λ k. (filesystem_numbered nat_eq world k).files.tree.node (number_of node))
           (eqb-true filesystem (counted own_count) e)
           ∙ ap (λ (files : FileTree ℕ). files.tree.node (number_of node)) (same_files entry m layer n)
@@ -287,15 +271,13 @@ module _ (base : WorldValue) (store : StoreValue) (held : IsHeld (with_store sto
       any_alike (lies_in_overlay store.plain count number) (in_entry (counted count) number) store.overlays
       (λ entry m. any_alike (lies_in store.plain count number)
       (λ layer. lies_in_layer nat_eq world (counted count) number (layer_seen layer)) entry.overlay.lowers
-      (λ layer n. sym (lies_so entry m layer n count number)))
-      ∙ sym (locked_by (counted count) number)
+      (λ layer n. sym (lies_so entry m layer n count number))) ∙ sym (locked_by (counted count) number)
 
   -- on what is not there,
   pub none_there : (filesystem number : ℕ)
       → (filesystem_numbered nat_eq (world_of (with_store store base)) filesystem).files.tree.node number ≡ None
       → is_locked nat_eq (world_of (with_store store base)) filesystem number ≡ false
-  none_there filesystem number none =
-      locked_by filesystem number
+  none_there filesystem number none = locked_by filesystem number
       ∙ none_from_among (in_entry filesystem number) store.overlays (λ entry m.
       none_from_among (λ layer. lies_in_layer nat_eq world filesystem number (layer_seen layer)) entry.overlay.lowers
       (λ layer n. not_there filesystem number none (layer_seen layer)))
@@ -303,12 +285,10 @@ module _ (base : WorldValue) (store : StoreValue) (held : IsHeld (with_store sto
   -- and on a node that was born below a layer
   pub none_below : (filesystem : ℕ) (node : NodeRef) → is_small_node node ≡ true → (node.birth ≡ Here → ⊥)
       → is_locked nat_eq (world_of (with_store store base)) filesystem (number_of node) ≡ false
-  none_below filesystem node small below =
-      locked_by filesystem (number_of node)
+  none_below filesystem node small below = locked_by filesystem (number_of node)
       ∙ none_from_among (in_entry filesystem (number_of node)) store.overlays (λ entry m.
       none_from_among (λ layer. lies_in_layer nat_eq world filesystem (number_of node) (layer_seen layer))
-      entry.overlay.lowers
-      (λ layer n. not_plain filesystem node small below entry m layer n))
+      entry.overlay.lowers (λ layer n. not_plain filesystem node small below entry m layer n))
 
   -- in the tree of each plain filesystem directories are named by their parents
   pub plain_parents : (count : ℕ) → ParentsAreNamed (files_at store.plain count).tree
@@ -332,11 +312,9 @@ module _ (base : WorldValue) (store : StoreValue) (held : IsHeld (with_store sto
     pub seen_locked : (inode : InodeRef) → plain_at at.node at.node.birth ≡ Some inode → is_seen value at ≡ true
         → is_in_layer store inode.filesystem.count (inode_of inode)
         ≡ is_locked_at nat_eq (world_of value) (location_of at)
-    seen_locked inode plain =
-        subst (λ (v : WorldValue). is_seen v at ≡ true
+    seen_locked inode plain = subst (λ (v : WorldValue). is_seen v at ≡ true
         → is_in_layer store inode.filesystem.count (inode_of inode)
-        ≡ is_locked_at nat_eq (world_of v) (location_of at)) is
-        (λ seen.
+        ≡ is_locked_at nat_eq (world_of v) (location_of at)) is (λ seen.
         let same = plain_number at.node inode plain in
         locks_are inode.filesystem.count (inode_of inode)
         ∙ (λ i. is_locked nat_eq (world_of kept) (counted (same.filesystem i)) (same.number i))
@@ -344,25 +322,21 @@ module _ (base : WorldValue) (store : StoreValue) (held : IsHeld (with_store sto
         (sym (eqb-true (mount_at nat_eq (world_of kept) (location_of at)).filesystem
         (counted at.node.filesystem.count) seen)))
 
-    pub unseen_unlocked : is_seen value at ≡ false
-        → is_locked_at nat_eq (world_of value) (location_of at) ≡ false
-    unseen_unlocked =
-        subst (λ (v : WorldValue). is_seen v at ≡ false
+    pub unseen_unlocked : is_seen value at ≡ false → is_locked_at nat_eq (world_of value) (location_of at) ≡ false
+    unseen_unlocked = subst (λ (v : WorldValue). is_seen v at ≡ false
         → is_locked_at nat_eq (world_of v) (location_of at) ≡ false) is
         (λ unseen. none_there (mount_at nat_eq (world_of kept) (location_of at)).filesystem (number_of at.node)
         (unseen_node kept held at small unseen))
 
     pub below_unlocked : plain_at at.node at.node.birth ≡ None
         → is_locked_at nat_eq (world_of value) (location_of at) ≡ false
-    below_unlocked none =
-        subst (λ (v : WorldValue). is_locked_at nat_eq (world_of v) (location_of at) ≡ false) is
+    below_unlocked none = subst (λ (v : WorldValue). is_locked_at nat_eq (world_of v) (location_of at) ≡ false) is
         (none_below (mount_at nat_eq (world_of kept) (location_of at)).filesystem at.node small
         (born_below at.node none))
 
     -- and so is everything where there are no overlays
     pub all_unlocked : store.overlays ≡ [] → is_locked_at nat_eq (world_of value) (location_of at) ≡ false
-    all_unlocked none =
-        subst (λ (v : WorldValue). is_locked_at nat_eq (world_of v) (location_of at) ≡ false) is
+    all_unlocked none = subst (λ (v : WorldValue). is_locked_at nat_eq (world_of v) (location_of at) ≡ false) is
         (locked_by (mount_at nat_eq (world_of kept) (location_of at)).filesystem (number_of at.node)
         ∙ ap (list_any (in_entry (mount_at nat_eq (world_of kept) (location_of at)).filesystem (number_of at.node)))
         none)

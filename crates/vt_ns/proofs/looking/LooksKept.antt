@@ -37,8 +37,7 @@ use Rattle.vt_ns.proofs.looking.StoreLooked.{lent_shown, under_shown}
 use Rattle.vt_ns.specs.Lent.{as_lent, real_of_value}
 
 -- the mount that is found, or what stands for one that is not there
-module _ (value : WorldValue) (number : ℕ) (got : Option Mount)
-    (is_found : option_map mount_of got
+module _ (value : WorldValue) (number : ℕ) (got : Option Mount) (is_found : option_map mount_of got
     ≡ find (λ (mount : meant.Mount ℕ). nat_eq number mount.number) (mounts_in value.mounts)) where
   -- a mount that is got is that of the world
   pub mount_found : (mount : Mount) → got ≡ Some mount → mount_numbered nat_eq (world_of value) number ≡ mount_of mount
@@ -67,12 +66,9 @@ module _ (base : WorldValue) (store : StoreValue) (value : WorldValue) (is : wit
       eqb-true (mount_at nat_eq (world_of kept) (location_of at)).filesystem (counted at.node.filesystem.count) seen
 
   -- the object of a node on the mount of a location that is seen is lent
-  pub object_beside : (beside : ℕ) → is_seen value at ≡ true
-      → lent_in store at.node.filesystem.count beside
+  pub object_beside : (beside : ℕ) → is_seen value at ≡ true → lent_in store at.node.filesystem.count beside
       ≡ real_of_value value (record { mount = mount_number at.mount; node = beside })
-  object_beside beside =
-      subst (λ (v : WorldValue). is_seen v at ≡ true
-      → lent_in store at.node.filesystem.count beside
+  object_beside beside = subst (λ (v : WorldValue). is_seen v at ≡ true → lent_in store at.node.filesystem.count beside
       ≡ real_of_value v (record { mount = mount_number at.mount; node = beside })) is
       (λ seen. lent_shown base store held count beside
       ∙ ap (λ n. as_lent ((filesystem_numbered nat_eq (world_of kept) n).files.tree.node beside)
@@ -84,11 +80,9 @@ module _ (base : WorldValue) (store : StoreValue) (value : WorldValue) (is : wit
   object_is = object_beside number
 
   -- and the inode is that of the world
-  pub node_is : is_seen value at ≡ true
-      → (files_in store at.node.filesystem.count).tree.node (number_of at.node)
+  pub node_is : is_seen value at ≡ true → (files_in store at.node.filesystem.count).tree.node (number_of at.node)
       ≡ node_at nat_eq (world_of value) (location_of at)
-  node_is =
-      subst (λ (v : WorldValue). is_seen v at ≡ true
+  node_is = subst (λ (v : WorldValue). is_seen v at ≡ true
       → (files_in store at.node.filesystem.count).tree.node (number_of at.node)
       ≡ node_at nat_eq (world_of v) (location_of at)) is
       (λ seen. ap (λ (tree : Tree ℕ). tree.node number) (files_shown base store held count)
@@ -96,8 +90,7 @@ module _ (base : WorldValue) (store : StoreValue) (value : WorldValue) (is : wit
 
   -- at one that is not seen the world has none
   pub no_node : is_seen value at ≡ false → node_at nat_eq (world_of value) (location_of at) ≡ None
-  no_node =
-      subst (λ (v : WorldValue). is_seen v at ≡ false → node_at nat_eq (world_of v) (location_of at) ≡ None) is
+  no_node = subst (λ (v : WorldValue). is_seen v at ≡ false → node_at nat_eq (world_of v) (location_of at) ≡ None) is
       (unseen_node kept held at small)
 
   pub no_object : is_seen value at ≡ false → real_of_value value (location_of at) ≡ None
@@ -125,8 +118,7 @@ module _ (base : WorldValue) (store : StoreValue) (value : WorldValue) (is : wit
   pub removed_is : is_seen value at ≡ true
       → is_removed nat_eq (files_in store at.node.filesystem.count).tree (number_of at.node)
       ≡ is_removed_at nat_eq (world_of value) (location_of at)
-  removed_is =
-      subst (λ (v : WorldValue). is_seen v at ≡ true
+  removed_is = subst (λ (v : WorldValue). is_seen v at ≡ true
       → is_removed nat_eq (files_in store at.node.filesystem.count).tree (number_of at.node)
       ≡ is_removed_at nat_eq (world_of v) (location_of at)) is
       (λ seen. ap (λ (tree : Tree ℕ). is_removed nat_eq tree number) (files_shown base store held count)
@@ -144,12 +136,10 @@ module _ (base : WorldValue) (store : StoreValue) (value : WorldValue) (is : wit
       → is_directory_under nat_eq (files_in store at.node.filesystem.count) (number_of at.node) (number_of directory)
       ≡ is_directory_under nat_eq (filesystem_at nat_eq (world_of value) (location_of at)).files (number_of at.node)
       (number_of directory)
-  under_is directory =
-      subst (λ (v : WorldValue). is_seen v at ≡ true
+  under_is directory = subst (λ (v : WorldValue). is_seen v at ≡ true
       → is_directory_under nat_eq (files_in store at.node.filesystem.count) (number_of at.node) (number_of directory)
       ≡ is_directory_under nat_eq (filesystem_at nat_eq (world_of v) (location_of at)).files (number_of at.node)
-      (number_of directory)) is
-      (λ seen. under_shown base store held count number (number_of directory)
+      (number_of directory)) is (λ seen. under_shown base store held count number (number_of directory)
       ∙ ap (λ n. is_directory_under nat_eq (filesystem_numbered nat_eq (world_of kept) n).files number
       (number_of directory)) (sym (in_filesystem seen)))
 
@@ -163,15 +153,13 @@ module _ (base : WorldValue) (store : StoreValue) (value : WorldValue) (is : wit
       subst (λ (v : WorldValue). (is_seen v at && nat_eq directory.filesystem.count at.node.filesystem.count) ≡ false
       → nat_eq (number_of at.node) (number_of directory)
       ≡ is_directory_under nat_eq (filesystem_at nat_eq (world_of v) (location_of at)).files (number_of at.node)
-      (number_of directory)) is
-      (λ apart. sym (under_another kept held at small directory directory_small apart))
+      (number_of directory)) is (λ apart. sym (under_another kept held at small directory directory_small apart))
 
   -- a mount that passes stands on an inode that is seen just where one does in the world
   pub points_seen : (test : meant.Mount ℕ → Bool) → is_seen value at ≡ true
       → list_any (λ mount. stands_over (number_of at.node) mount && test mount) (mounts_in base.mounts)
       ≡ list_any test (mounts_on nat_eq (world_of value) (location_of at))
-  points_seen test =
-      subst (λ (v : WorldValue). is_seen v at ≡ true
+  points_seen test = subst (λ (v : WorldValue). is_seen v at ≡ true
       → list_any (λ mount. stands_over (number_of at.node) mount && test mount) (mounts_in base.mounts)
       ≡ list_any test (mounts_on nat_eq (world_of v) (location_of at))) is
       (λ seen. sym (any_point kept held at small test
@@ -181,16 +169,14 @@ module _ (base : WorldValue) (store : StoreValue) (value : WorldValue) (is : wit
   -- none stands on one that is not seen
   pub no_points : (test : meant.Mount ℕ → Bool) → is_seen value at ≡ false
       → list_any test (mounts_on nat_eq (world_of value) (location_of at)) ≡ false
-  no_points test =
-      subst (λ (v : WorldValue). is_seen v at ≡ false
+  no_points test = subst (λ (v : WorldValue). is_seen v at ≡ false
       → list_any test (mounts_on nat_eq (world_of v) (location_of at)) ≡ false) is
       (λ unseen. any_point kept held at small test
       ∙ ap (λ b. b && list_any (λ mount. stands_over (number_of at.node) mount && test mount)
       (mounts_in base.mounts)) unseen)
 
   -- lost on the mount, as it is found
-  module _ (got : Option Mount)
-      (is_found : option_map mount_of got
+  module _ (got : Option Mount) (is_found : option_map mount_of got
       ≡ find (λ (mount : meant.Mount ℕ). nat_eq (counted at.mount.count) mount.number) (mounts_in base.mounts)) where
     abbrev IsLost : Bool → WorldValue → Type 0
     IsLost answer v = answer ≡ is_lost nat_eq (looks_of_value v) (location_of at)
@@ -208,27 +194,21 @@ module _ (base : WorldValue) (store : StoreValue) (value : WorldValue) (is : wit
         (filesystem_numbered nat_eq (world_of kept) m.filesystem).files m.root (number_of at.node))
         (mount_found kept (counted at.mount.count) got is_found mount some)))
 
-    not_under : (v : WorldValue)
-        → is_directory_under nat_eq (filesystem_at nat_eq (world_of v) (location_of at)).files
-        (mount_at nat_eq (world_of v) (location_of at)).root (number_of at.node) ≡ false
-        → IsLost true v
-    not_under v apart =
-        sym (ap (λ b. is_removed_at nat_eq (world_of v) (location_of at) || not b) apart ∙ or-true _)
+    not_under : (v : WorldValue) → is_directory_under nat_eq (filesystem_at nat_eq (world_of v) (location_of at)).files
+        (mount_at nat_eq (world_of v) (location_of at)).root (number_of at.node) ≡ false → IsLost true v
+    not_under v apart = sym (ap (λ b. is_removed_at nat_eq (world_of v) (location_of at) || not b) apart ∙ or-true _)
 
     -- it is lost where the root is in another filesystem
     pub lost_apart : (mount : Mount) → got ≡ Some mount
         → nat_eq mount.root.filesystem.count at.node.filesystem.count ≡ false → IsLost true value
-    lost_apart mount some other =
-        subst (IsLost true) is
-        (not_under kept (unseen_root kept held at small
+    lost_apart mount some other = subst (IsLost true) is (not_under kept (unseen_root kept held at small
         (ap (λ (m : meant.Mount ℕ). nat_eq m.filesystem (counted at.node.filesystem.count))
         (mount_found kept (counted at.mount.count) got is_found mount some)
         ∙ counted_test mount.root.filesystem.count at.node.filesystem.count ∙ other)))
 
     -- and where the mount is not there
     pub lost_missing : got ≡ None → IsLost true value
-    lost_missing none =
-        subst (IsLost true) is (not_under kept
+    lost_missing none = subst (IsLost true) is (not_under kept
         (missing_root kept held at small (mount_missing kept (counted at.mount.count) got is_found none)))
 
 -- no mount is over a location on a mount that none stands on
@@ -254,8 +234,7 @@ last_of_chain (suc n) next at none = ap
 -- where none stands on a mount its locations are topmost
 pub bare_top : (value : WorldValue) (mount : ℕ) → list_any (stands_on nat_eq mount) (mounts_in value.mounts) ≡ false
     → (at : meant.Location ℕ) → at.mount ≡ mount → topmost (looks_of_value value) at ≡ at
-bare_top value mount none at on =
-    last_of_chain (length (mounts_in value.mounts))
+bare_top value mount none at on = last_of_chain (length (mounts_in value.mounts))
     (λ here. option_map root_of (child_at nat_eq (mounts_in value.mounts) here)) at
     (ap (option_map root_of) (none_at at (mounts_in value.mounts)
     (ap (λ n. list_any (stands_on nat_eq n) (mounts_in value.mounts)) on ∙ none)))
@@ -264,6 +243,5 @@ bare_top value mount none at on =
 pub seen_on : (value : WorldValue) (at : Location) (ground : Ground) (b : Bool)
     → IsGround (looks_of_value value) at.mount ground
     → nat_eq ground.filesystem.count at.node.filesystem.count ≡ b → is_seen value at ≡ b
-seen_on value at ground b is same =
-    ap (λ n. nat_eq n (counted at.node.filesystem.count)) (sym is.filesystem)
+seen_on value at ground b is same = ap (λ n. nat_eq n (counted at.node.filesystem.count)) (sym is.filesystem)
     ∙ counted_test ground.filesystem.count at.node.filesystem.count ∙ same

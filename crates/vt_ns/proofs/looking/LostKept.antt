@@ -54,15 +54,13 @@ not_removed_directory tree conditions number stays = by (is_directory_node (tree
     unnamed : is_directory_node (tree.node number) ≡ false → has_entry_to nat_eq tree parent number ≡ false
     unnamed isnt =
         let none = no_directory number (tree.node number) isnt in
-        ap (λ p. is_among nat_eq number (targets_in (tree.node p))) none.0
-        ∙ ap (is_among nat_eq number) none.1
+        ap (λ p. is_among nat_eq number (targets_in (tree.node p))) none.0 ∙ ap (is_among nat_eq number) none.1
 
     at_root : (b : Bool) → nat_eq number tree.root ≡ b → has_entry_to nat_eq tree parent number ≡ false
         → not (b || is_some (cond b None (when (has_entry_to nat_eq tree parent number) parent))) ≡ false
         → IsDirectory tree number
     at_root true e none stays = subst (IsDirectory tree) (sym (eqb-true number tree.root e)) conditions.root_directory
-    at_root false e none stays =
-        absurd (true≢false (sym (ap (λ b. not (is_some (when b parent))) none) ∙ stays))
+    at_root false e none stays = absurd (true≢false (sym (ap (λ b. not (is_some (when b parent))) none) ∙ stays))
 
     by : (b : Bool) → is_directory_node (tree.node number) ≡ b → IsDirectory tree number
     by true is = is
@@ -130,8 +128,7 @@ module _ (up : ℕ → Option ℕ) where
 
       by : (o : Option ℕ) → meets top most directory o ≡ true
           → ((above : ℕ) → is_among nat_eq top (chain most up above) ≡ true
-          → is_among nat_eq top (chain (suc most) up above) ≡ true)
-          → meets top (suc most) directory o ≡ true
+          → is_among nat_eq top (chain (suc most) up above) ≡ true) → meets top (suc most) directory o ≡ true
       by None met rest = met
       by (Some above) met rest = either (nat_eq top directory) _ _ (rest above) met
 
@@ -170,11 +167,9 @@ module _ (files : FileTree ℕ) (conditions : IsFileTree files) where
   most = length files.numbers
 
   pub root_has_none : up files.tree.root ≡ None
-  root_has_none =
-      ap (λ b. cond b None (when (has_entry_to nat_eq files.tree
+  root_has_none = ap (λ b. cond b None (when (has_entry_to nat_eq files.tree
       (parent_in files.tree.root (files.tree.node files.tree.root)) files.tree.root)
-      (parent_in files.tree.root (files.tree.node files.tree.root))))
-      (eq-eqb files.tree.root files.tree.root refl)
+      (parent_in files.tree.root (files.tree.node files.tree.root)))) (eq-eqb files.tree.root files.tree.root refl)
 
   -- what has a parent is not removed
   with_parent : (directory parent : ℕ) → up directory ≡ Some parent → is_removed nat_eq files.tree directory ≡ false
@@ -190,12 +185,10 @@ module _ (files : FileTree ℕ) (conditions : IsFileTree files) where
       → is_removed nat_eq files.tree directory ≡ false
   with_entry directory name object entry =
       let is = directory_from_entry name object (files.tree.node directory) entry in
-      ⊎_elim
-      (λ root. ap (λ b. not (b || is_some (up directory))) (eq-eqb directory files.tree.root (sym root)))
+      ⊎_elim (λ root. ap (λ b. not (b || is_some (up directory))) (eq-eqb directory files.tree.root (sym root)))
       (λ named. with_parent directory named.0
       (parent_named files.tree conditions.tree named.0 named.1 directory named.2 is))
-      (reached_named files.tree directory
-      (filled_reached files.tree conditions.tree directory is name object entry))
+      (reached_named files.tree directory (filled_reached files.tree conditions.tree directory is name object entry))
 
   parts : (root directory : ℕ) → is_lost_under files root directory ≡ false
       → (is_removed nat_eq files.tree directory ≡ false) × (is_directory_under nat_eq files root directory ≡ true)
@@ -213,8 +206,7 @@ module _ (files : FileTree ℕ) (conditions : IsFileTree files) where
   -- the parent of a directory that is found is found
   found_upward : (root directory : ℕ) → is_lost_under files root directory ≡ false → nat_eq directory root ≡ false
       → is_lost_under files root (parent_in directory (files.tree.node directory)) ≡ false
-  found_upward root directory found other =
-      counted most refl (parts root directory found).1
+  found_upward root directory found other = counted most refl (parts root directory found).1
     where
       parent : ℕ
       parent = parent_in directory (files.tree.node directory)
@@ -236,8 +228,7 @@ module _ (files : FileTree ℕ) (conditions : IsFileTree files) where
 
       above_met : (n above : ℕ) → (nat_eq root directory || is_among nat_eq root (chain n up above)) ≡ true
           → is_among nat_eq root (chain n up above) ≡ true
-      above_met n above met =
-          sym (ap (λ b. b || is_among nat_eq root (chain n up above)) (not_here _ refl)) ∙ met
+      above_met n above met = sym (ap (λ b. b || is_among nat_eq root (chain n up above)) (not_here _ refl)) ∙ met
 
       so : (n above : ℕ) → suc n ≡ most → up directory ≡ Some above
           → is_among nat_eq root (chain n up above) ≡ true → is_lost_under files root parent ≡ false
@@ -246,13 +237,11 @@ module _ (files : FileTree ℕ) (conditions : IsFileTree files) where
           let entry = entry_from files.tree conditions.tree parent directory parent_is.1 in
           together root parent (with_entry parent entry.0 directory entry.1)
           (ap (λ m. is_among nat_eq root (chain m up parent)) (sym count)
-          ∙ ap (λ d. is_among nat_eq root (chain (suc n) up d)) (sym parent_is.0)
-          ∙ further up root n above met)
+          ∙ ap (λ d. is_among nat_eq root (chain (suc n) up d)) (sym parent_is.0) ∙ further up root n above met)
 
       step : (n : ℕ) → suc n ≡ most → (o : Option ℕ) → up directory ≡ o → meets up root n directory o ≡ true
           → is_lost_under files root parent ≡ false
-      step n count None e met = absurd (true≢false
-          (sym met ∙ ap (λ b. b || false) (not_here _ refl)))
+      step n count None e met = absurd (true≢false (sym met ∙ ap (λ b. b || false) (not_here _ refl)))
       step n count (Some above) e met = so n above count e (above_met n above met)
 
       counted : (n : ℕ) → n ≡ most → is_among nat_eq root (chain n up directory) ≡ true
@@ -288,8 +277,7 @@ module _ (files : FileTree ℕ) (conditions : IsFileTree files) where
           let root_met : is_among nat_eq files.tree.root (chain n up directory) ≡ true =
           sym (ap (λ b. b || is_among nat_eq files.tree.root (chain n up directory)) (no_root _ refl))
           ∙ sym (ap (is_among nat_eq files.tree.root) long) ∙ rooted in
-          ap (is_among nat_eq root) long
-          ∙ or_right (nat_eq root object) (is_among nat_eq root (chain n up directory))
+          ap (is_among nat_eq root) long ∙ or_right (nat_eq root object) (is_among nat_eq root (chain n up directory))
           (ap (is_among nat_eq root) (sym (ended up files.tree.root n directory root_has_none root_met)) ∙ met)
 
 -- what is found in a tree goes on to be found
@@ -322,10 +310,7 @@ module _ (value : WorldValue) (held : IsHeld value) where
       (all_from_among (λ (filesystem : Filesystem ℕ). Ways filesystem.files) (world_of value).filesystems
       (λ filesystem m.
       let is = file_tree value held filesystem m in
-      record {
-        upward = found_upward filesystem.files is;
-        downward = found_downward filesystem.files is;
-      }))
+      record { upward = found_upward filesystem.files is; downward = found_downward filesystem.files is }))
       (nowhere_ways (no_filesystem number).files (λ number. refl))
 
   pub ways_stay_found : WaysStayFound (looks_of_value value)

@@ -25,8 +25,7 @@ plain_told count (Some node) = by node.content
     here : Content ℕ → Option (Node ℕ)
     here content = Some (record { attr = node.attr; content = content })
 
-    by : (content : Content ℕ)
-        → told_by false (as_lent (here content) (option_map (node_seen count) (here content)))
+    by : (content : Content ℕ) → told_by false (as_lent (here content) (option_map (node_seen count) (here content)))
         ≡ stat_line (here content)
     by (Directory parent entries opaque) = refl
     by (Regular bytes) = refl
@@ -72,13 +71,11 @@ module _ (value : WorldValue) (held : IsHeld value) (at : meant.Location ℕ) wh
       ≡ stat_line (node_at nat_eq (world_of value) at)
   told_is = by filesystem.overlay refl
     where
-      by : (o : Option (Overlay ℕ)) → filesystem.overlay ≡ o
-          → told_by (is_some o)
+      by : (o : Option (Overlay ℕ)) → filesystem.overlay ≡ o → told_by (is_some o)
           (as_lent (filesystem.files.tree.node at.node) (lent_by (world_of value) at.node filesystem o))
           ≡ stat_line (filesystem.files.tree.node at.node)
       by None e = plain_told (count_of filesystem.number) (filesystem.files.tree.node at.node)
-      by (Some overlay) e =
-          merged_told (filesystem.files.tree.node at.node)
+      by (Some overlay) e = merged_told (filesystem.files.tree.node at.node)
           (lent_by (world_of value) at.node filesystem (Some overlay))
           ((held.in_world.overlays.overlays_merge (mount_at nat_eq (world_of value) at).filesystem overlay e).no_mark
           at.node)

@@ -30,8 +30,7 @@ module _ (base : WorldValue) (store : StoreValue) (held : IsHeld (with_store sto
   overlay_there overlay some =
       let over = is_over store count overlay some in
       let number : counted count ≡ counted over.entry.count =
-      sym (number_numbered (counted count) (filesystems_of store))
-      ∙ ap (λ (f : Filesystem ℕ). f.number) over.is in
+      sym (number_numbered (counted count) (filesystems_of store)) ∙ ap (λ (f : Filesystem ℕ). f.number) over.is in
       let is : filesystem_numbered nat_eq (world_of (with_store store base)) (counted count)
       ≡ worlds.overlay_seen (overlay_of_store store.plain over.entry) =
       ap (filesystem_numbered nat_eq (world_of (with_store store base))) number

@@ -35,8 +35,7 @@ module _ (base : WorldValue) (store : StoreValue) (value : WorldValue) (is : wit
   mounter_counted : (count : ℕ) → option_map (λ (overlay : OverlayValue). overlay.mounter) (overlay_in store count)
       ≡ option_map (λ (overlay : Overlay ℕ). overlay.mounter)
       (filesystem_numbered nat_eq (world_of value) (counted count)).overlay
-  mounter_counted count =
-      by (overlay_in store count) refl
+  mounter_counted count = by (overlay_in store count) refl
       ∙ ap (λ v. option_map (λ (overlay : Overlay ℕ). overlay.mounter)
       (filesystem_numbered nat_eq (world_of v) (counted count)).overlay) is
     where
@@ -54,8 +53,7 @@ module _ (base : WorldValue) (store : StoreValue) (value : WorldValue) (is : wit
   pub mounter_shown : (mount shown : ℕ) → counted shown ≡ (mount_numbered nat_eq (world_of value) mount).filesystem
       → option_map (λ (overlay : OverlayValue). overlay.mounter) (overlay_in store shown)
       ≡ mounter_on (world_of value) mount
-  mounter_shown mount shown shows =
-      mounter_counted shown
+  mounter_shown mount shown shows = mounter_counted shown
       ∙ ap (λ n. option_map (λ (overlay : Overlay ℕ). overlay.mounter)
       (filesystem_numbered nat_eq (world_of value) n).overlay) shows
 
@@ -99,8 +97,7 @@ module _ (value : WorldValue) (at : meant.Location ℕ) where
   -- so all its objects are in lower ones
   pub only_below_is : IsHeld value
       → is_some (mounter_on (world_of value) at.mount) ≡ is_only_below (looks_of_value value) at
-  only_below_is held =
-      by overlay_here refl (found_without value held (mount_at nat_eq (world_of value) at).filesystem)
+  only_below_is held = by overlay_here refl (found_without value held (mount_at nat_eq (world_of value) at).filesystem)
     where
       no_object : (overlay : Overlay ℕ) → overlay_here ≡ Some overlay → (o : Option (Layer ℕ)) → overlay.upper ≡ o
           → is_some o ≡ false → (real : Option (Real ℕ)) → overlay.real at.node ≡ real → upper_object real ≡ None
@@ -112,23 +109,19 @@ module _ (value : WorldValue) (at : meant.Location ℕ) where
           ∙ ap (holds_of _) upper))
       no_object overlay e (Some layer) upper none real is = absurd (true≢false none)
 
-      by : (o : Option (Overlay ℕ)) → overlay_here ≡ o
-          → overlay_or false (λ overlay. is_some overlay.upper) o ≡ false
+      by : (o : Option (Overlay ℕ)) → overlay_here ≡ o → overlay_or false (λ overlay. is_some overlay.upper) o ≡ false
           → is_some (option_map (λ (overlay : Overlay ℕ). overlay.mounter) o)
           ≡ overlay_or false (λ overlay. lies_only_in_lowers overlay at.node) o
       by None e none = refl
-      by (Some overlay) e none =
-          sym (ap (λ o. not (is_some o))
+      by (Some overlay) e none = sym (ap (λ o. not (is_some o))
           (no_object overlay e overlay.upper refl none (overlay.real at.node) refl))
 
   -- the mounter is asked with what is lent
   pub mounter_is : (who : Credentials) → mounter_on (world_of value) at.mount ≡ Some who → (wanted : ℕ)
       → node_allows who wanted (real_of_value value at) ≡ mounter_may (looks_of_value value) at wanted
-  mounter_is who some wanted =
-      allows_alike who wanted (real_of_value value at) (node_at nat_eq (world_of value) at)
+  mounter_is who some wanted = allows_alike who wanted (real_of_value value at) (node_at nat_eq (world_of value) at)
       (lent_alike (node_at nat_eq (world_of value) at)
-      (lent_of_world (world_of value) (mount_at nat_eq (world_of value) at).filesystem at.node))
-      ∙ by overlay_here some
+      (lent_of_world (world_of value) (mount_at nat_eq (world_of value) at).filesystem at.node)) ∙ by overlay_here some
     where
       by : (o : Option (Overlay ℕ)) → option_map (λ (overlay : Overlay ℕ). overlay.mounter) o ≡ Some who
           → node_allows who wanted (node_at nat_eq (world_of value) at)
@@ -152,20 +145,17 @@ module _ (base : WorldValue) (store : StoreValue) (value : WorldValue) (is : wit
     (shows : counted shown ≡ (mount_at nat_eq (world_of value) at).filesystem) where
   pub granted_is : (wanted : ℕ) (node : Node ℕ) (granted : Bool) → real_of_value value at ≡ Some node
       → IfSome (overlay_in store shown) (λ overlay. granted ≡ node_allows overlay.mounter wanted (Some node))
-      → (overlay_in store shown ≡ None → granted ≡ true)
-      → granted ≡ mounter_may (looks_of_value value) at wanted
+      → (overlay_in store shown ≡ None → granted ≡ true) → granted ≡ mounter_may (looks_of_value value) at wanted
   granted_is wanted node granted lent overlaid plain = by (overlay_in store shown) refl overlaid
     where
       mounter : (o : Option OverlayValue) → overlay_in store shown ≡ o
           → mounter_on (world_of value) at.mount ≡ option_map (λ (overlay : OverlayValue). overlay.mounter) o
-      mounter o e =
-          sym (mounter_shown base store value is held at.mount shown shows)
+      mounter o e = sym (mounter_shown base store value is held at.mount shown shows)
           ∙ ap (option_map (λ (overlay : OverlayValue). overlay.mounter)) e
 
       by : (o : Option OverlayValue) → overlay_in store shown ≡ o
           → IfSome o (λ overlay. granted ≡ node_allows overlay.mounter wanted (Some node))
           → granted ≡ mounter_may (looks_of_value value) at wanted
       by None e allowed = plain e ∙ nobody_is value at (mounter None e) wanted
-      by (Some overlay) e allowed =
-          allowed ∙ ap (node_allows overlay.mounter wanted) (sym lent)
+      by (Some overlay) e allowed = allowed ∙ ap (node_allows overlay.mounter wanted) (sym lent)
           ∙ mounter_is value at overlay.mounter (mounter (Some overlay) e) wanted

@@ -16,8 +16,7 @@ use Rattle.vt_mounting.specs.Detach.Looking.{looks_of_value}
 -- no overlay that is found has an upper layer
 pub found_without : (value : WorldValue) → IsHeld value → (number : ℕ)
     → of_overlay false (λ overlay. is_some overlay.upper) (filesystem_numbered nat_eq (world_of value) number) ≡ false
-found_without value held number =
-    ⊎_elim (λ none. none)
+found_without value held number = ⊎_elim (λ none. none)
     (λ missing. ap (of_overlay false (λ overlay. is_some overlay.upper)) missing.0)
     (numbered_all (λ (f : Filesystem ℕ). of_overlay false (λ overlay. is_some overlay.upper) f ≡ false) number
     (world_of value).filesystems held.overlays.read_only)
@@ -25,8 +24,7 @@ found_without value held number =
 module _ (value : WorldValue) (held : IsHeld value) (at : meant.Location ℕ)
     (asked : has_no_upper (looks_of_value value) at ≡ false) where
   plain_there : (filesystem_at nat_eq (world_of value) at).overlay ≡ None
-  plain_there =
-      by (filesystem_at nat_eq (world_of value) at).overlay
+  plain_there = by (filesystem_at nat_eq (world_of value) at).overlay
       (found_without value held (mount_at nat_eq (world_of value) at).filesystem) asked
     where
       by : (o : Option (Overlay ℕ)) → overlay_or false (λ overlay. is_some overlay.upper) o ≡ false

@@ -14,8 +14,7 @@ use Rattle.vt_group.proofs.IndexLemmas.{any_flat}
 -- going up from a mount meets another, in at most so many steps
 abbrev pub meets : List (Mount ℕ) → ℕ → ℕ → ℕ → Bool
 meets mounts top zero number = nat_eq number top
-meets mounts top (suc steps) number =
-    nat_eq number top || holds_of (λ place. meets mounts top steps place.mount)
+meets mounts top (suc steps) number = nat_eq number top || holds_of (λ place. meets mounts top steps place.mount)
     (mount_in nat_eq mounts number).mount_point
 
 -- a climb that begins at the top meets it
@@ -27,8 +26,7 @@ met_here mounts top (suc steps) number same = ap
 
 -- one that ends elsewhere does not
 pub met_nowhere : (mounts : List (Mount ℕ)) (top steps number : ℕ) → nat_eq number top ≡ false
-    → (mount_in nat_eq mounts number).mount_point ≡ None
-    → meets mounts top steps number ≡ false
+    → (mount_in nat_eq mounts number).mount_point ≡ None → meets mounts top steps number ≡ false
 met_nowhere mounts top zero number other none = other
 met_nowhere mounts top (suc steps) number other none = λ i. other i
     || holds_of (λ place. meets mounts top steps place.mount) (none i)
@@ -43,8 +41,7 @@ met_above mounts top steps number place other is = λ i. other i
 any_either : {A : Type 0} (one other : A → Bool) (list : List A)
     → list_any (λ a. one a || other a) list ≡ (list_any one list || list_any other list)
 any_either one other [] = refl
-any_either one other (a ∷ rest) =
-    ap (λ b. (one a || other a) || b) (any_either one other rest)
+any_either one other (a ∷ rest) = ap (λ b. (one a || other a) || b) (any_either one other rest)
     ∙ mixed (one a) (other a) (list_any one rest) (list_any other rest)
   where
     mixed : (x y p q : Bool) → ((x || y) || (p || q)) ≡ ((x || p) || (y || q))
@@ -61,8 +58,7 @@ any_alike one other (a ∷ rest) same = λ i. same a i || any_alike one other re
 
 module _ (mounts : List (Mount ℕ)) (one : any_pair (λ (a b : Mount ℕ). nat_eq a.number b.number) mounts ≡ false) where
   -- a mount is a child just where its mount point is on that mount
-  child_stands : (top number : ℕ)
-      → list_any (λ child. nat_eq number child.number) (children nat_eq mounts top)
+  child_stands : (top number : ℕ) → list_any (λ child. nat_eq number child.number) (children nat_eq mounts top)
       ≡ holds_of (λ place. nat_eq place.mount top) (mount_in nat_eq mounts number).mount_point
   child_stands top number = same_truth _ _ there back
     where
@@ -85,8 +81,7 @@ module _ (mounts : List (Mount ℕ)) (one : any_pair (λ (a b : Mount ℕ). nat_
           → list_any (λ child. nat_eq number child.number) (children nat_eq mounts top) ≡ true
       back stands =
           let mount = mount_in nat_eq mounts number in
-          ⊎_elim
-          (λ m. any_from_among (λ child. nat_eq number child.number) (children nat_eq mounts top) mount
+          ⊎_elim (λ m. any_from_among (λ child. nat_eq number child.number) (children nat_eq mounts top) mount
           (among-filter (stands_on nat_eq top) mounts mount m (on mount mount.mount_point ∙ stands))
           (ap (nat_eq number) (number_found mounts number) ∙ nat_eq_itself number))
           (λ none. absurd (true≢false (sym stands
@@ -106,8 +101,7 @@ module _ (mounts : List (Mount ℕ)) (one : any_pair (λ (a b : Mount ℕ). nat_
           (children nat_eq mounts top)
           ≡ holds_of (λ up. meets mounts top steps up.mount) (mount_in nat_eq mounts place.mount).mount_point)
           → list_any (λ child. nat_eq number child.number) (children nat_eq mounts top)
-          ≡ holds_of (λ place. nat_eq place.mount top) o
-          → list_any (λ child. nat_eq number child.number
+          ≡ holds_of (λ place. nat_eq place.mount top) o → list_any (λ child. nat_eq number child.number
           || holds_of (λ place. meets mounts child.number steps place.mount) o) (children nat_eq mounts top)
           ≡ holds_of (λ place. meets mounts top (suc steps) place.mount) o
       by None later first =
@@ -115,16 +109,14 @@ module _ (mounts : List (Mount ℕ)) (one : any_pair (λ (a b : Mount ℕ). nat_
           ∙ (λ i. first i || list_any-never (children nat_eq mounts top) i)
       by (Some place) later first =
           any_either (λ child. nat_eq number child.number) (λ child. meets mounts child.number steps place.mount)
-          (children nat_eq mounts top)
-          ∙ (λ i. first i || later place i)
+          (children nat_eq mounts top) ∙ (λ i. first i || later place i)
 
   -- a mount is in a tree just where a climb from it meets the top
   pub met_in_tree : (steps : ℕ) (top : Mount ℕ) (number : ℕ)
       → list_any (λ other. nat_eq other.number number) (tree_from nat_eq steps mounts top)
       ≡ meets mounts top.number steps number
   met_in_tree zero top number = or-false (nat_eq top.number number) ∙ turned top.number number
-  met_in_tree (suc steps) top number =
-      (λ i. turned top.number number i
+  met_in_tree (suc steps) top number = (λ i. turned top.number number i
       || (any_flat (λ other. nat_eq other.number number) (tree_from nat_eq steps mounts)
       (children nat_eq mounts top.number)
       ∙ any_alike _ _ (children nat_eq mounts top.number) (λ child. met_in_tree steps child number)
@@ -132,11 +124,8 @@ module _ (mounts : List (Mount ℕ)) (one : any_pair (λ (a b : Mount ℕ). nat_
 
 -- in as many steps as there are mounts, going up meets what the tree has
 pub met_from : (mounts : List (Mount ℕ)) → any_pair (λ (a b : Mount ℕ). nat_eq a.number b.number) mounts ≡ false
-    → (top number steps : ℕ)
-    → steps ≡ length mounts
-    → meets mounts top steps number
+    → (top number steps : ℕ) → steps ≡ length mounts → meets mounts top steps number
     ≡ list_any (λ other. nat_eq other.number number) (mount_tree nat_eq mounts (mount_in nat_eq mounts top))
-met_from mounts one top number steps all =
-    ap (λ n. meets mounts top n number) all
+met_from mounts one top number steps all = ap (λ n. meets mounts top n number) all
     ∙ ap (λ t. meets mounts t (length mounts) number) (sym (number_found mounts top))
     ∙ sym (met_in_tree mounts one (length mounts) (mount_in nat_eq mounts top) number)

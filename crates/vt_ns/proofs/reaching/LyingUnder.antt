@@ -16,15 +16,12 @@ use Rattle.vt_ns.specs.LyingUnder.{lies_under}
 
 -- what is in another filesystem does not
 pub lies_apart : (value : WorldValue) (top directory : NodeRef) → IsHeld value → is_small_node top ≡ true
-    → is_small_node directory ≡ true
-    → nat_eq directory.filesystem.count top.filesystem.count ≡ false
+    → is_small_node directory ≡ true → nat_eq directory.filesystem.count top.filesystem.count ≡ false
     → lies_under value (counted top.filesystem.count) (number_of top) (number_of directory) ≡ false
 lies_apart value top directory held small directory_small other =
     nowhere_under (filesystem_numbered nat_eq (world_of value) (counted top.filesystem.count)).files (number_of top)
-    (number_of directory)
-    (in_no_other value held (counted top.filesystem.count) directory directory_small
+    (number_of directory) (in_no_other value held (counted top.filesystem.count) directory directory_small
     (counted_test top.filesystem.count directory.filesystem.count
-    ∙ turned top.filesystem.count directory.filesystem.count ∙ other))
-    ∙ nodes_test top directory small directory_small
+    ∙ turned top.filesystem.count directory.filesystem.count ∙ other)) ∙ nodes_test top directory small directory_small
     ∙ ap (λ b. b && (nat_eq top.slot directory.slot && same_birth top.birth directory.birth))
     (turned top.filesystem.count directory.filesystem.count ∙ other)

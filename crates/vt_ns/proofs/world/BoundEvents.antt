@@ -26,8 +26,7 @@ use Rattle.vt_ns.specs.LyingUnder.{lies_under}
 pub place_mounted : (value : WorldValue) (place : Location)
     → is_located_well nat_eq (world_of value) (location_of place) ≡ true
     → is_mounted value.mounts (counted place.mount.count) ≡ true
-place_mounted value place well =
-    found_some (counted place.mount.count) (mounts_in value.mounts)
+place_mounted value place well = found_some (counted place.mount.count) (mounts_in value.mounts)
     (and_parts (is_among nat_eq (counted place.mount.count)
     (map (λ (mount : meant.Mount ℕ). mount.number) (mounts_in value.mounts))) _ well).0
 
@@ -46,7 +45,6 @@ pub parts_found : (kept value : WorldValue) (is : kept ≡ value) → IsHeld kep
     → ((world : World ℕ) → IsSeen world kept.mounts kept.groups → ReachesAs world (lies_under value)
     → map mount_of parts ≡ parts_of nat_eq world (location_of place))
     → map mount_of found ≡ parts_of nat_eq (world_of kept) (location_of place)
-parts_found kept value is whole place parts found same made =
-    ap (map mount_of) same
+parts_found kept value is whole place parts found same made = ap (map mount_of) same
     ∙ made (world_of kept) (is_seen kept whole)
     (λ filesystem top directory. ap (λ (v : WorldValue). lies_under v filesystem top directory) (sym is))

@@ -36,11 +36,8 @@ filtered_alike p q (id ∷ ids) (mount ∷ mounts) same agree =
 
 filter_reverse : {A : Type 0} (p : A → Bool) (xs : List A) → filter p (reverse xs) ≡ reverse (filter p xs)
 filter_reverse p [] = refl
-filter_reverse {A} p (x ∷ xs) =
-    ap (filter p) (reverse-append (x ∷ []) xs)
-    ∙ filter_append (reverse xs) (x ∷ [])
-    ∙ ap (λ l. l ++ filter p (x ∷ [])) (filter_reverse p xs)
-    ∙ by (p x)
+filter_reverse {A} p (x ∷ xs) = ap (filter p) (reverse-append (x ∷ []) xs) ∙ filter_append (reverse xs) (x ∷ [])
+    ∙ ap (λ l. l ++ filter p (x ∷ [])) (filter_reverse p xs) ∙ by (p x)
   where
     filter_append : (one other : List A) → filter p (one ++ other) ≡ filter p one ++ filter p other
     filter_append [] other = refl
@@ -65,20 +62,17 @@ module _ (mounts : List (Mount ℕ)) where
   pub numbers-bindable : (depth : ℕ) (mount : Mount ℕ)
       → numbers (bindable_tree nat_eq depth mounts mount) ≡ bindable_numbers mounts depth mount.number
   numbers-bindable zero mount = refl
-  numbers-bindable (suc depth) mount =
-      ap (λ l. mount.number ∷ l)
+  numbers-bindable (suc depth) mount = ap (λ l. mount.number ∷ l)
       (flat-numbers (bindable_tree nat_eq depth mounts) (bindable_numbers mounts depth) (numbers-bindable depth)
       (bindable_children nat_eq mounts mount.number))
 
-  come-last : (waiting : List Branch) (branch : Branch)
-      → bindable_to_come mounts (waiting ++ branch ∷ [])
+  come-last : (waiting : List Branch) (branch : Branch) → bindable_to_come mounts (waiting ++ branch ∷ [])
       ≡ bindable_numbers mounts branch.depth (counted branch.mount.count) ++ bindable_to_come mounts waiting
   come-last [] branch = sym (append-nil (bindable_numbers mounts branch.depth (counted branch.mount.count)))
   come-last (other ∷ waiting) branch =
       ap (λ l. l ++ bindable_numbers mounts other.depth (counted other.mount.count)) (come-last waiting branch)
       ∙ append_assoc (bindable_numbers mounts branch.depth (counted branch.mount.count))
-      (bindable_to_come mounts waiting)
-      (bindable_numbers mounts other.depth (counted other.mount.count))
+      (bindable_to_come mounts waiting) (bindable_numbers mounts other.depth (counted other.mount.count))
 
   come-reversed : (depth : ℕ) (waiting : List Branch) (ids : List MountId)
       → bindable_to_come mounts (waiting ++ map (branch_of depth) (reverse ids))
@@ -96,8 +90,7 @@ module _ (mounts : List (Mount ℕ)) where
 
   -- what is chosen of some children comes first
   pub chosen-come : (depth : ℕ) (waiting : List Branch) (p : MountId → Bool) (ids : List MountId)
-      (chosen : List (Mount ℕ))
-      → counts (filter p ids) ≡ numbers chosen
+      (chosen : List (Mount ℕ)) → counts (filter p ids) ≡ numbers chosen
       → bindable_to_come mounts (waiting ++ map (branch_of depth) (filter p (reverse ids)))
       ≡ numbers (flat_map (bindable_tree nat_eq depth mounts) chosen) ++ bindable_to_come mounts waiting
   chosen-come depth waiting p ids chosen same =
@@ -121,26 +114,22 @@ module _ (mounts : List (Mount ℕ)) where
       → counts (filter p ids) ≡ numbers (bindable_children nat_eq mounts (counted next.mount.count))
       → bindable_to_come mounts (waiting ++ next ∷ [])
       ≡ counted next.mount.count ∷ bindable_to_come mounts (waiting ++ map (branch_of depth) (filter p (reverse ids)))
-  next-deep waiting next depth p ids deep kids =
-      come-last waiting next
+  next-deep waiting next depth p ids deep kids = come-last waiting next
       ∙ ap (λ depth. bindable_numbers mounts depth (counted next.mount.count) ++ bindable_to_come mounts waiting) deep
-      ∙ ap (λ l. counted next.mount.count ∷ l)
-      (ap (λ l. l ++ bindable_to_come mounts waiting)
+      ∙ ap (λ l. counted next.mount.count ∷ l) (ap (λ l. l ++ bindable_to_come mounts waiting)
       (sym (flat-numbers (bindable_tree nat_eq depth mounts) (bindable_numbers mounts depth) (numbers-bindable depth)
       (bindable_children nat_eq mounts (counted next.mount.count))))
       ∙ sym (chosen-come depth waiting p ids (bindable_children nat_eq mounts (counted next.mount.count)) kids))
 
 -- one more of the tree is told
 pub told-more : (tree : List MountId) (id : MountId) (mounts : List (Mount ℕ)) (before after : List Branch)
-    (whole : List ℕ)
-    → bindable_to_come mounts before ≡ counted id.count ∷ bindable_to_come mounts after
+    (whole : List ℕ) → bindable_to_come mounts before ≡ counted id.count ∷ bindable_to_come mounts after
     → counts tree ++ bindable_to_come mounts before ≡ whole
     → counts (tree ++ id ∷ []) ++ bindable_to_come mounts after ≡ whole
 told-more tree id mounts before after whole next is =
     ap (λ l. l ++ bindable_to_come mounts after) (map-append (λ id. counted id.count) tree (id ∷ []))
     ∙ append_assoc (counts tree) (counted id.count ∷ []) (bindable_to_come mounts after)
-    ∙ ap (λ l. counts tree ++ l) (sym next)
-    ∙ is
+    ∙ ap (λ l. counts tree ++ l) (sym next) ∙ is
 
 -- at last the list has the whole tree
 pub told-all : (tree : List MountId) (whole : List ℕ) → counts tree ++ [] ≡ whole → counts tree ≡ whole
@@ -153,19 +142,15 @@ abbrev pub bindable : List (Mount ℕ) → MountId → Bool
 bindable mounts id = not (is_unbindable (mount_in nat_eq mounts (counted id.count)).propagation)
 
 module _ (mounts : List (Mount ℕ)) (one : any_pair (λ (a b : Mount ℕ). nat_eq a.number b.number) mounts ≡ false)
-    (number : ℕ)
-    (ids : List MountId) (kids : counts ids ≡ numbers (children nat_eq mounts number)) where
+    (number : ℕ) (ids : List MountId) (kids : counts ids ≡ numbers (children nat_eq mounts number)) where
   child_is : (id : MountId) (mount : Mount ℕ) → Among mount (children nat_eq mounts number)
-      → counted id.count ≡ mount.number
-      → mount_in nat_eq mounts (counted id.count) ≡ mount
-  child_is id mount m same =
-      ap (mount_in nat_eq mounts) same
+      → counted id.count ≡ mount.number → mount_in nat_eq mounts (counted id.count) ≡ mount
+  child_is id mount m same = ap (mount_in nat_eq mounts) same
       ∙ found_itself mounts one mount (among-from_filter (stands_on nat_eq number) mounts mount m).0
 
   -- the children that code keeps are those that may be bound
   pub bindable_kids : counts (filter (bindable mounts) ids) ≡ numbers (bindable_children nat_eq mounts number)
-  bindable_kids =
-      filtered_alike (bindable mounts) (λ mount. not (is_unbindable mount.propagation)) ids
+  bindable_kids = filtered_alike (bindable mounts) (λ mount. not (is_unbindable mount.propagation)) ids
       (children nat_eq mounts number) kids
       (λ id mount m same. ap (λ (x : Mount ℕ). not (is_unbindable x.propagation)) (child_is id mount m same))
 
@@ -173,8 +158,7 @@ module _ (mounts : List (Mount ℕ)) (one : any_pair (λ (a b : Mount ℕ). nat_
   pub bound_kids : (under : Mount ℕ → Bool)
       → counts (filter (λ id. bindable mounts id && under (mount_in nat_eq mounts (counted id.count))) ids)
       ≡ numbers (filter under (bindable_children nat_eq mounts number))
-  bound_kids under =
-      filtered_alike (λ id. bindable mounts id && under (mount_in nat_eq mounts (counted id.count)))
+  bound_kids under = filtered_alike (λ id. bindable mounts id && under (mount_in nat_eq mounts (counted id.count)))
       (λ mount. not (is_unbindable mount.propagation) && under mount) ids (children nat_eq mounts number) kids
       (λ id mount m same. ap (λ (x : Mount ℕ). not (is_unbindable x.propagation) && under x) (child_is id mount m same))
       ∙ ap numbers (sym (filter_twice (children nat_eq mounts number)))
@@ -189,16 +173,13 @@ module _ (mounts : List (Mount ℕ)) (one : any_pair (λ (a b : Mount ℕ). nat_
               → filter under (filter (λ mount. not (is_unbindable mount.propagation)) list)
               ≡ filter (λ mount. not (is_unbindable mount.propagation) && under mount) list
               → filter under (cond b (mount ∷ filter (λ mount. not (is_unbindable mount.propagation)) list)
-              (filter (λ mount. not (is_unbindable mount.propagation)) list))
-              ≡ cond (b && under mount) (mount
+              (filter (λ mount. not (is_unbindable mount.propagation)) list)) ≡ cond (b && under mount) (mount
               ∷ filter (λ mount. not (is_unbindable mount.propagation) && under mount) list)
               (filter (λ mount. not (is_unbindable mount.propagation) && under mount) list)
-          by true true e later = (λ i. cond (e i) (mount ∷ later i) (later i))
-              ∙ (λ i. cond (sym e i) (mount ∷ filter
+          by true true e later = (λ i. cond (e i) (mount ∷ later i) (later i)) ∙ (λ i. cond (sym e i) (mount ∷ filter
               (λ mount. not (is_unbindable mount.propagation) && under mount) list)
               (filter (λ mount. not (is_unbindable mount.propagation) && under mount) list))
-          by true false e later = (λ i. cond (e i) (mount ∷ later i) (later i))
-              ∙ (λ i. cond (sym e i) (mount ∷ filter
+          by true false e later = (λ i. cond (e i) (mount ∷ later i) (later i)) ∙ (λ i. cond (sym e i) (mount ∷ filter
               (λ mount. not (is_unbindable mount.propagation) && under mount) list)
               (filter (λ mount. not (is_unbindable mount.propagation) && under mount) list))
           by false c e later = later

@@ -97,8 +97,7 @@ lacks_alike : (a b : Option (Overlay ℕ)) → option_map layers a ≡ option_ma
 lacks_alike a b same = lacks_by_layers a ∙ ap lacking same ∙ sym (lacks_by_layers b)
 
 module _ (value : WorldValue) (held : IsHeld value) (location : Location ℕ) (change : Change ℕ)
-    (filesystems : Filesystems)
-    (made : ChangesFiles value location change filesystems) where
+    (filesystems : Filesystems) (made : ChangesFiles value location change filesystems) where
   abbrev world : World ℕ
   world = world_of value
 
@@ -110,8 +109,7 @@ module _ (value : WorldValue) (held : IsHeld value) (location : Location ℕ) (c
       (Trees.changed nat_eq (filesystem_at nat_eq world location).files change)
 
   no_overlay : (filesystem_at nat_eq world location).overlay ≡ None
-  no_overlay =
-      ap (λ (f : Filesystem ℕ). f.overlay)
+  no_overlay = ap (λ (f : Filesystem ℕ). f.overlay)
       (ap (filesystem_numbered nat_eq world) made.shows ∙ found_plain_one value held made.entry made.among)
 
   -- the change of the world is that of one filesystem
@@ -121,12 +119,10 @@ module _ (value : WorldValue) (held : IsHeld value) (location : Location ℕ) (c
 
   -- it leaves each overlay its layers, so no descriptor is open for writing in one
   pub change_keeps_writers : (fresh : Fresh ℕ) → WritersHaveLayers (changed_first fresh)
-  change_keeps_writers fresh =
-      subst WritersHaveLayers (sym (changed_is fresh))
+  change_keeps_writers fresh = subst WritersHaveLayers (sym (changed_is fresh))
       (writers_alike world (with_filesystem nat_eq world changed_files) (λ at.
       lacks_alike (filesystem_at nat_eq (with_filesystem nat_eq world changed_files) at).overlay
-      (filesystem_at nat_eq world at).overlay
-      (subst (λ w. layers_at w (mount_at nat_eq world at).filesystem
+      (filesystem_at nat_eq world at).overlay (subst (λ w. layers_at w (mount_at nat_eq world at).filesystem
       ≡ layers_at world (mount_at nat_eq world at).filesystem) (changed_is fresh)
       (changed_layers fresh world location change (mount_at nat_eq world at).filesystem)))
       (λ test. refl) held.overlays.writers)
@@ -150,25 +146,20 @@ module _ (value : WorldValue) (held : IsHeld value) (location : Location ℕ) (c
   pub changed_regrouped : (fresh : Fresh ℕ) (gone : List ℕ)
       → with_change nat_eq fresh (regrouped nat_eq (detached_world gone world)) location change
       ≡ regrouped nat_eq (detached_world gone (changed_first fresh))
-  changed_regrouped fresh gone =
-      by (loses (detached_world gone world))
+  changed_regrouped fresh gone = by (loses (detached_world gone world))
       ∙ ap (λ b. regrouped_by nat_eq b (detached_world gone (changed_first fresh)))
       (ap (λ w. loses (detached_world gone w)) (sym (changed_is fresh)))
     where
       by : (b : Bool) → with_change nat_eq fresh (regrouped_by nat_eq b (detached_world gone world)) location change
           ≡ regrouped_by nat_eq b (detached_world gone (changed_first fresh))
       by false = changed_detached fresh gone
-      by true =
-          ap (λ n. filesystem_changed nat_eq fresh (regrouped_by nat_eq true (detached_world gone world))
-          (filesystem_numbered nat_eq world n)
-          (filesystem_numbered nat_eq world n).overlay change)
+      by true = ap (λ n. filesystem_changed nat_eq fresh (regrouped_by nat_eq true (detached_world gone world))
+          (filesystem_numbered nat_eq world n) (filesystem_numbered nat_eq world n).overlay change)
           (shown-mapped (inheriting nat_eq (detached_world gone world)) (λ mount. refl) (λ mount. refl)
-          (detached_world gone world).mounts location.mount
-          ∙ shown-mapped (detached_in gone) (pending_number gone)
+          (detached_world gone world).mounts location.mount ∙ shown-mapped (detached_in gone) (pending_number gone)
           (pending_filesystem gone) world.mounts location.mount)
           ∙ ap (λ overlay. filesystem_changed nat_eq fresh (regrouped_by nat_eq true (detached_world gone world))
-          (filesystem_at nat_eq world location)
-          overlay change) no_overlay
+          (filesystem_at nat_eq world location) overlay change) no_overlay
           ∙ ap (λ w. regrouped_by nat_eq true (detached_world gone w)) (sym (changed_is fresh))
 
   module _ (name : TaskName) (permit : Permit ℕ) (permits : Permits value name permit) (gone : List ℕ)
@@ -183,8 +174,7 @@ module _ (value : WorldValue) (held : IsHeld value) (location : Location ℕ) (c
     -- what the permit leaves before the sweep, whatever numbers are handed in
     leaves : (supply : Fresh ℕ) → (apply nat_eq supply world permits.task permit).world
         ≡ regrouped nat_eq (detached_world gone (changed_first fresh))
-    leaves supply =
-        applied supply ∙ changed_regrouped supply gone
+    leaves supply = applied supply ∙ changed_regrouped supply gone
         ∙ ap (λ w. regrouped nat_eq (detached_world gone w)) (changed_is supply ∙ sym (changed_is fresh))
 
     -- the invariants of a world before the sweep
@@ -192,8 +182,7 @@ module _ (value : WorldValue) (held : IsHeld value) (location : Location ℕ) (c
     IsReady one = IsUnderWay one × OverlayInvariants nat_eq one
 
     last_under_way : IsReady (regrouped nat_eq (detached_world gone (changed_first fresh)))
-    last_under_way =
-        subst IsReady (leaves fresh)
+    last_under_way = subst IsReady (leaves fresh)
         (let ready = given_permits_are_under_way_without_upper world fresh permits.task permit held.in_world
         held.overlays.read_only permits.given in (ready.0, ready.1))
 
@@ -258,8 +247,7 @@ module _ (value : WorldValue) (held : IsHeld value) (location : Location ℕ) (c
 
     -- the world with the tree changed has its invariants, and counts what is in it
     pub changed_first_is_held : IsHeld (with_filesystems value filesystems)
-    changed_first_is_held =
-        change_is_held value held location change filesystems made
+    changed_first_is_held = change_is_held value held location change filesystems made
         (any_same_worlds_are_worlds (settled nat_eq (changed_first fresh))
         (world_of (with_filesystems value filesystems))
         (change_is_swept value held location change filesystems made fresh)
@@ -272,28 +260,24 @@ module _ (value : WorldValue) (held : IsHeld value) (location : Location ℕ) (c
         permits.given.called held.given (λ k. refl) named))
         (same_worlds_have_layers_alike (settled nat_eq (changed_first fresh))
         (world_of (with_filesystems value filesystems))
-        (change_is_swept value held location change filesystems made fresh)
-        (sweeps_keep_writers (changed_first fresh)
+        (change_is_swept value held location change filesystems made fresh) (sweeps_keep_writers (changed_first fresh)
         (change_keeps_writers fresh)))
 
     abbrev number : ℕ
     number = filesystem_of world location
 
     filesystem_is : filesystem_at nat_eq world location ≡ filesystem_seen made.entry
-    filesystem_is =
-        ap (filesystem_numbered nat_eq world) made.shows ∙ found_plain_one value held made.entry made.among
+    filesystem_is = ap (filesystem_numbered nat_eq world) made.shows ∙ found_plain_one value held made.entry made.among
 
     seen_among : Among (filesystem_at nat_eq world location) world.filesystems
-    seen_among =
-        subst (λ f. Among f world.filesystems) (sym filesystem_is)
+    seen_among = subst (λ f. Among f world.filesystems) (sym filesystem_is)
         (plain_one_among value held.overlays.merged made.entry made.among)
 
     abbrev changed_plainly : World ℕ
     changed_plainly = with_filesystem nat_eq world changed_files
 
     changed_among : Among changed_files changed_plainly.filesystems
-    changed_among =
-        subst (λ f. Among f changed_plainly.filesystems)
+    changed_among = subst (λ f. Among f changed_plainly.filesystems)
         (ap (λ b. cond b changed_files (filesystem_at nat_eq world location))
         (eq-eqb changed_files.number (filesystem_at nat_eq world location).number refl))
         (among-map (replaced_if_numbered nat_eq changed_files) world.filesystems
@@ -316,25 +300,21 @@ module _ (value : WorldValue) (held : IsHeld value) (location : Location ℕ) (c
         (placed : mount.mount_point ≡ Some place)
         (at : place.node ≡ object) (shows : filesystem_of world place ≡ number) where
       changes_tree : ChangesTree (filesystem_at nat_eq world location).files changed_files.files (object ∷ [])
-      changes_tree =
-          subst (ChangesTree (filesystem_at nat_eq world location).files changed_files.files) lost_is
+      changes_tree = subst (ChangesTree (filesystem_at nat_eq world location).files changed_files.files) lost_is
           (changes_keep_names (filesystem_at nat_eq world location).files change
           (among_from_all (λ (f : Filesystem ℕ). IsListedTree f.files) world.filesystems
-          (worlds_have_trees world held.in_world) (filesystem_at nat_eq world location) seen_among)
-          listed_after may)
+          (worlds_have_trees world held.in_world) (filesystem_at nat_eq world location) seen_among) listed_after may)
 
       -- the filesystem that is changed is one of the world
       filesystem_listed : is_among nat_eq number (map (λ (f : Filesystem ℕ). f.number) world.filesystems) ≡ true
-      filesystem_listed =
-          is_among_numbers number (map (λ (f : Filesystem ℕ). f.number) world.filesystems)
+      filesystem_listed = is_among_numbers number (map (λ (f : Filesystem ℕ). f.number) world.filesystems)
           (subst (λ n. Among n (map (λ (f : Filesystem ℕ). f.number) world.filesystems)) (sym made.shows)
           (among-map (λ (f : Filesystem ℕ). f.number) world.filesystems (filesystem_seen made.entry)
           (plain_one_among value held.overlays.merged made.entry made.among)))
 
       located : (f : Filesystem ℕ) → nat_eq f.number number ≡ true
           → is_among nat_eq object (located_in nat_eq changed_plainly f.number) ≡ true
-      located f same =
-          is_among_numbers object (located_in nat_eq changed_plainly f.number)
+      located f same = is_among_numbers object (located_in nat_eq changed_plainly f.number)
           (subst (λ n. Among n (located_in nat_eq changed_plainly f.number)) at
           (among-map (λ (one : Location ℕ). one.node)
           (filter (λ (one : Location ℕ). nat_eq f.number (mount_at nat_eq world one).filesystem)
@@ -349,8 +329,7 @@ module _ (value : WorldValue) (held : IsHeld value) (location : Location ℕ) (c
           (ap (nat_eq f.number) shows ∙ same))))
 
       used : (f : Filesystem ℕ) → nat_eq f.number number ≡ true → is_inode_used changed_plainly f object ≡ true
-      used f same =
-          or_second (nat_eq object f.files.tree.root) _
+      used f same = or_second (nat_eq object f.files.tree.root) _
           (is_among_left object ((named_in f.files ++ located_in nat_eq changed_plainly f.number)
           ++ layers_in nat_eq changed_plainly f.number)
           (flat_map (objects_of_overlay nat_eq f.number) changed_plainly.filesystems)
@@ -360,8 +339,7 @@ module _ (value : WorldValue) (held : IsHeld value) (location : Location ℕ) (c
 
       -- so it stays, in plain filesystems and in overlays
       stays_in : (chosen : Filesystem ℕ → Bool) → let_go_in chosen changed_plainly (number, object) ≡ changed_plainly
-      stays_in chosen =
-          ap (λ all. record changed_plainly { filesystems = all })
+      stays_in chosen = ap (λ all. record changed_plainly { filesystems = all })
           (map_same (let_go_in_of chosen changed_plainly (number, object)) changed_plainly.filesystems
           (λ f m. by f (chosen f) (nat_eq f.number number) refl))
         where
@@ -378,8 +356,7 @@ module _ (value : WorldValue) (held : IsHeld value) (location : Location ℕ) (c
       no_object : (all : List (Filesystem ℕ))
           → flat_map (uppers_of_inode_in (number, object)) (map (replaced_if_numbered nat_eq changed_files) all) ≡ []
       no_object [] = refl
-      no_object (f ∷ rest) =
-          λ i. by (nat_eq changed_files.number f.number) refl i ++ no_object rest i
+      no_object (f ∷ rest) = λ i. by (nat_eq changed_files.number f.number) refl i ++ no_object rest i
         where
           neither : (b : Bool) (none : List Inode) → none ≡ [] → cond b none [] ≡ []
           neither true none e = e
@@ -390,8 +367,7 @@ module _ (value : WorldValue) (held : IsHeld value) (location : Location ℕ) (c
           by true e =
               neither (nat_eq changed_files.number number) (overlay_or [] (uppers_in object) changed_files.overlay)
               (ap (overlay_or [] (uppers_in object)) no_overlay)
-          by false e =
-              ap (λ b. cond b (overlay_or [] (uppers_in object) f.overlay) [])
+          by false e = ap (λ b. cond b (overlay_or [] (uppers_in object) f.overlay) [])
               (swap_eq f.number number ∙ ap (λ n. nat_eq n f.number) (sym files_numbered) ∙ e)
 
       object_stays : let_go_all_inodes changed_plainly ((number, object) ∷ []) ≡ changed_plainly
@@ -401,8 +377,7 @@ module _ (value : WorldValue) (held : IsHeld value) (location : Location ℕ) (c
 
       -- after the change nothing goes that nothing used before
       pub nothing_goes : settled nat_eq (changed_first fresh) ≡ changed_first fresh
-      nothing_goes =
-          subst (λ w. settled nat_eq w ≡ w) (sym (changed_is fresh))
+      nothing_goes = subst (λ w. settled nat_eq w ≡ w) (sym (changed_is fresh))
           (unnamed_go_with_overlays world number changed_files.files (object ∷ [])
           (worlds_are_settled world held.in_world) held.in_world.files.one_filesystem filesystem_listed
           (ap is_overlay filesystem_is) changes_tree ∙ object_stays)
@@ -436,16 +411,14 @@ module _ (value : WorldValue) (held : IsHeld value) (location : Location ℕ) (c
           })))
 
       left_world : IsWorld nat_eq (settled nat_eq (regrouped nat_eq last))
-      left_world =
-          subst (λ w. IsWorld nat_eq (settled nat_eq w)) (leaves fresh)
+      left_world = subst (λ w. IsWorld nat_eq (settled nat_eq w)) (leaves fresh)
           (given_permits_give_no_upper world fresh permits.task permit held.in_world held.overlays.read_only
           permits.given).0
 
       -- They leave their groups at once, and all mounts get the types that the groups then tell.
       module _ (groups : Grouping) (follows : TakesAway value.groups groups gone) where
         has_after : Has (regrouped nat_eq after) groups
-        has_after =
-            subst (λ one. Has one groups) (taken_regroups (world_of value_changed) gone closed)
+        has_after = subst (λ one. Has one groups) (taken_regroups (world_of value_changed) gone closed)
             (follows (world_of value_changed) changed_first_is_held.groups changed_first_is_held.in_world.mounts.groups)
 
         abbrev typed : World ℕ
@@ -467,24 +440,20 @@ module _ (value : WorldValue) (held : IsHeld value) (location : Location ℕ) (c
             (left_writers value held permits.task permit permits.given))
 
         has_typed : Has (settled nat_eq typed) groups
-        has_typed =
-            settled_typed_has after groups has_after
+        has_typed = settled_typed_has after groups has_after
             (detached_is_private (world_of value_changed) gone changed_first_is_held.in_world.mounts.nowhere)
 
         typed_then_detached : (mounts : List MountEntry) (others : Filesystems) (overlays : List Merged)
-            → LeaveInTurn gone (kept_of (with_filesystems value filesystems))
-            (kept_with mounts others overlays)
+            → LeaveInTurn gone (kept_of (with_filesystems value filesystems)) (kept_with mounts others overlays)
             → IsDone value name permit (typed_value groups (remade_with value mounts others overlays value.tasks))
         typed_then_detached mounts others overlays turn =
             let untyped = remade_with value mounts others overlays value.tasks in
             let new = typed_value groups untyped in
             let held_first = changed_first_is_held in
             let detaching = all_detached value_changed [] (in_use_of after) gone
-            (kept_of (with_filesystems value filesystems))
-            (kept_with mounts others overlays)
+            (kept_of (with_filesystems value filesystems)) (kept_with mounts others overlays)
             (detaching_begins value_changed [] [] (world_of value_changed)
-            (kept_of (with_filesystems value filesystems))
-            (held_is_kept value_changed held_first) gone closed) turn in
+            (kept_of (with_filesystems value filesystems)) (held_is_kept value_changed held_first) gone closed) turn in
             let lost = detaching.lost in
             let kept_last = subst (λ one. IsKeptBut value_changed [] [] [] lost one
             (kept_with mounts others overlays)) detaching.ends detaching.is in
@@ -506,20 +475,17 @@ module _ (value : WorldValue) (held : IsHeld value) (location : Location ℕ) (c
                   (settled nat_eq (apply nat_eq (λ k. 0) world permits.task permit).world) (world_of new)
                   (subst (λ w. SameWorlds (settled nat_eq w) (world_of new)) (sym (leaves (λ k. 0))) same)
                   (permits_keep_to_numbers (is_counted_before value.next) (λ k. 0) world permits.task permit
-                  permits.given.called held.given (λ k. refl) is_named))
-                  writers_after;
+                  permits.given.called held.given (λ k. refl) is_named)) writers_after;
               becomes = becomes_so value name permit new permits.task permits.called
                   (subst (λ w. SameWorlds (settled nat_eq w) (world_of new)) (sym (leaves fresh)) same);
             }
 
       -- a change and then a detachment do what the permit does
       pub changed_then_detached : (mounts : List MountEntry) (groups : Grouping) (others : Filesystems)
-          (overlays : List Merged)
-          → LeaveTogether gone (kept_of (with_filesystems value filesystems)) value.groups
+          (overlays : List Merged) → LeaveTogether gone (kept_of (with_filesystems value filesystems)) value.groups
           (kept_with mounts others overlays) groups
           → IsDone value name permit (record (remade_with value mounts others overlays value.tasks) { groups = groups })
-      changed_then_detached mounts groups others overlays together =
-          subst (λ all. IsDone value name permit
+      changed_then_detached mounts groups others overlays together = subst (λ all. IsDone value name permit
           (record (remade_with value all others overlays value.tasks) { groups = groups }))
           (sym (together.types (has_ordered (world_of value) value.groups held.groups) (own_types value held)))
           (typed_then_detached groups together.groups together.entries others overlays together.turn)

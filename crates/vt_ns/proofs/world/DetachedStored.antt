@@ -41,16 +41,14 @@ module _ (base : WorldValue) (store : StoreValue) (held : IsHeld (with_store sto
     -- what is collected leaves what the world with the changed tree keeps
     pub collected_leave : LeaveTogether gone (kept_of (with_filesystems value plain)) base.groups (kept mounts last)
         groups
-    collected_leave =
-        subst (λ k. LeaveTogether gone k base.groups (kept mounts last) groups)
+    collected_leave = subst (λ k. LeaveTogether gone k base.groups (kept mounts last) groups)
         (λ i. kept_with base.mounts plain (kept_is base store i).overlays)
         (subst (λ numbers. LeaveTogether numbers (kept base.mounts (record store { plain = plain })) base.groups
         (kept mounts last) groups) are left)
 
     -- and the world then has the store that is left
     pub left_is_stored : OverlaysLeft store.overlays last.overlays → (name : TaskName) (permit : Permit ℕ)
-        → Permits value name permit
-        → IsDone value name permit
+        → Permits value name permit → IsDone value name permit
         (record (remade_with value mounts last.plain (map merged_of last.overlays) base.tasks) { groups = groups })
         → IsDone value name permit (with_store last (record base { mounts = mounts; groups = groups }))
     left_is_stored overlays name permit permits is =

@@ -51,8 +51,7 @@ use Rattle.vt_mounting.proofs.detach.Remaining.{remade_with}
 use Rattle.vt_mounting.proofs.detach.Staying.{IsDone}
 
 module _ (value : WorldValue) (held : IsHeld value) (name : TaskName) (parent : Location) (entry : List ℕ)
-    (directory : Location)
-    (small : IsSmall parent) (small_directory : is_small_node directory.node ≡ true)
+    (directory : Location) (small : IsSmall parent) (small_directory : is_small_node directory.node ≡ true)
     (permits : Permits value name (ToRemoveDirectory (location_of parent) entry (location_of directory))) where
   abbrev world : World ℕ
   world = world_of value
@@ -83,15 +82,12 @@ module _ (value : WorldValue) (held : IsHeld value) (name : TaskName) (parent : 
   directory_seen = Removing.directory_seen value held name parent entry directory small small_slot permits
 
   sees : SeesTo world permits.task permit
-  sees = given_permits_are_seen_to world (supply_of value permit) permits.task permit held.in_world
-      permits.given
+  sees = given_permits_are_seen_to world (supply_of value permit) permits.task permit held.in_world permits.given
 
   -- what is collected are the mounts on the directory, with their descendants
-  pub collected_are : (numbers : List ℕ)
-      → numbers ≡ flat_map (tree_numbers (mounts_in value.mounts))
+  pub collected_are : (numbers : List ℕ) → numbers ≡ flat_map (tree_numbers (mounts_in value.mounts))
       (map (λ (mount : Mount ℕ). mount.number)
-      (filter (stands_over (number_of directory.node)) (mounts_in value.mounts)))
-      → numbers ≡ gone
+      (filter (stands_over (number_of directory.node)) (mounts_in value.mounts))) → numbers ≡ gone
   collected_are numbers is = is ∙ trees_collected value held directory small_directory names.1.reached.there
 
   closed : HasChildrenOf gone world.mounts
@@ -103,15 +99,12 @@ module _ (value : WorldValue) (held : IsHeld value) (name : TaskName) (parent : 
 
   -- the change can be made to the inodes that are kept
   change_fits : (inodes : Inodes ℕ) → inodes ≡ inodes_seen parent_seen.entry → Fits inodes change
-  change_fits inodes same =
-      given_changes_fit world (supply_of value permit) permits.task permit (location_of parent)
-      change inodes held.in_world permits.given refl
-      (ap tree_of same
+  change_fits inodes same = given_changes_fit world (supply_of value permit) permits.task permit (location_of parent)
+      change inodes held.in_world permits.given refl (ap tree_of same
       ∙ ap (λ filesystem. filesystem.files.tree) (sym (located_filesystem value held parent parent_seen)))
 
   -- where no mount stands on it
-  pub alone_is_removed : gone ≡ [] → (filesystems : Filesystems)
-      → ChangesInodes parent.node.filesystem.count
+  pub alone_is_removed : gone ≡ [] → (filesystems : Filesystems) → ChangesInodes parent.node.filesystem.count
       (λ inodes. changed nat_eq inodes change) value.filesystems filesystems
       → IsFilesEvent value name permit (with_filesystems value filesystems)
   alone_is_removed none filesystems changes =
@@ -120,8 +113,7 @@ module _ (value : WorldValue) (held : IsHeld value) (name : TaskName) (parent : 
 
   -- a directory on which mounts stand is removed with them
   pub directory_is_removed : (filesystems others : Filesystems) (overlays : List Merged)
-      (mounts : List MountEntry) (groups : Grouping) → gone ≢ []
-      → ChangesInodes parent.node.filesystem.count
+      (mounts : List MountEntry) (groups : Grouping) → gone ≢ [] → ChangesInodes parent.node.filesystem.count
       (λ inodes. changed nat_eq inodes change) value.filesystems filesystems
       → LeaveTogether gone (kept_of (with_filesystems value filesystems)) value.groups
       (kept_with mounts others overlays) groups
@@ -142,8 +134,7 @@ module _ (value : WorldValue) (held : IsHeld value) (name : TaskName) (parent : 
       let reached : NamesWhatIsThere world permits.task (ToChange (location_of parent) change) =
       (names.0.reached, tt) in
       let named : permit_named (is_counted_before value.next) (ToChange (location_of parent) change) ≡ true =
-      (λ i. parent_seen.named i && (nodes_named value.next parent.node i
-      && nodes_named value.next directory.node i)) in
+      (λ i. parent_seen.named i && (nodes_named value.next parent.node i && nodes_named value.next directory.node i)) in
       let is_named : permit_named (is_counted_before value.next) permit
       ≡ true = (λ i. parent_seen.named i && directory_seen.named i) in
       let on = one_on value held directory small_directory (λ none. some (ap (trees_numbers world) none)) in
@@ -160,8 +151,7 @@ module _ (base : WorldValue) (store : StoreValue) (held : IsHeld (with_store sto
     (parent : Location) (entry : List ℕ) (directory : Location)
     (small : IsSmall parent) (small_directory : is_small_node directory.node ≡ true)
     (permits : Permits (with_store store base) name
-    (ToRemoveDirectory (location_of parent) entry (location_of directory)))
-    (ids : List MountId)
+    (ToRemoveDirectory (location_of parent) entry (location_of directory))) (ids : List MountId)
     (collected : map (λ id. counted id.count) ids ≡ flat_map (tree_numbers (mounts_in base.mounts))
     (map (λ (mount : Mount ℕ). mount.number)
     (filter (stands_over (number_of directory.node)) (mounts_in base.mounts)))) where
@@ -172,16 +162,13 @@ module _ (base : WorldValue) (store : StoreValue) (held : IsHeld (with_store sto
   trees = trees_numbers (world_of (with_store store base)) (tops_on (with_store store base) directory)
 
   are : map (λ id. counted id.count) ids ≡ trees
-  are =
-      collected_are (with_store store base) held name parent entry directory small small_directory permits
+  are = collected_are (with_store store base) held name parent entry directory small small_directory permits
       (map (λ id. counted id.count) ids) collected
 
   -- the mounts that are collected leave with the directory
-  pub directory_goes : length ids ≢ 0 → (plain : Filesystems)
-      → ChangesInodes parent.node.filesystem.count
+  pub directory_goes : length ids ≢ 0 → (plain : Filesystems) → ChangesInodes parent.node.filesystem.count
       (λ inodes. changed nat_eq inodes (Remove (number_of parent.node) entry (number_of directory.node)))
-      store.plain plain
-      → (mounts : List MountEntry) (groups : Grouping) (last : StoreValue)
+      store.plain plain → (mounts : List MountEntry) (groups : Grouping) (last : StoreValue)
       → LeaveTogether (map (λ id. counted id.count) ids) (kept base.mounts (record store { plain = plain }))
       base.groups (kept mounts last) groups → OverlaysLeft store.overlays last.overlays
       → IsDone (with_store store base) name removed (with_store last (record base { mounts = mounts; groups = groups }))
@@ -192,12 +179,10 @@ module _ (base : WorldValue) (store : StoreValue) (held : IsHeld (with_store sto
       (collected_leave base store held ids trees are plain mounts groups last left))
 
   -- it goes alone where none is collected
-  pub directory_goes_alone : length ids ≡ 0 → (plain : Filesystems)
-      → ChangesInodes parent.node.filesystem.count
+  pub directory_goes_alone : length ids ≡ 0 → (plain : Filesystems) → ChangesInodes parent.node.filesystem.count
       (λ inodes. changed nat_eq inodes (Remove (number_of parent.node) entry (number_of directory.node)))
       store.plain plain
       → IsFilesEvent (with_store store base) name removed (with_store (record store { plain = plain }) base)
-  directory_goes_alone none plain changes =
-      files_stored base store held name removed permits plain
+  directory_goes_alone none plain changes = files_stored base store held name removed permits plain
       (alone_is_removed (with_store store base) held name parent entry directory small small_directory permits
       (none_goes base store held ids trees are none) plain changes)

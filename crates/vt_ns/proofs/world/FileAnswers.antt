@@ -43,10 +43,8 @@ module _ (value : WorldValue) (held : IsHeld value) (name : TaskName) (file : Lo
     (small : IsSmall file)
     (permits : Permits value name (ToChange (location_of file) (SetBytes (number_of file.node) bytes))) where
   -- bytes are written to the file
-  pub write_is_done : (filesystems : Filesystems)
-      → ChangesInodes file.node.filesystem.count
-      (λ inodes. changed nat_eq inodes (SetBytes (number_of file.node) bytes))
-      value.filesystems filesystems
+  pub write_is_done : (filesystems : Filesystems) → ChangesInodes file.node.filesystem.count
+      (λ inodes. changed nat_eq inodes (SetBytes (number_of file.node) bytes)) value.filesystems filesystems
       → IsFilesEvent value name (ToChange (location_of file) (SetBytes (number_of file.node) bytes))
       (with_filesystems value filesystems)
   write_is_done filesystems changes =
@@ -55,8 +53,7 @@ module _ (value : WorldValue) (held : IsHeld value) (name : TaskName) (file : Lo
 
 -- link(2)
 module _ (value : WorldValue) (held : IsHeld value) (name : TaskName) (directory : Location) (entry : List ℕ)
-    (object : NodeRef)
-    (small : IsSmall directory) (small_object : object.slot < 18446744073709551616)
+    (object : NodeRef) (small : IsSmall directory) (small_object : object.slot < 18446744073709551616)
     (permits : Permits value name (ToChange (location_of directory)
     (AddName (number_of directory.node) entry (number_of object)))) where
   linked_there : is_some ((filesystem_at nat_eq (world_of value) (location_of directory)).files.tree.node
@@ -66,53 +63,41 @@ module _ (value : WorldValue) (held : IsHeld value) (name : TaskName) (directory
 
   pub linked_is_kept : is_some ((files_at value.filesystems directory.node.filesystem.count).tree.node
       (number_of object)) ≡ true
-  linked_is_kept =
-      kept_there value held directory
+  linked_is_kept = kept_there value held directory
       (change_at value held name directory small (AddName (number_of directory.node) entry (number_of object)) permits)
       (number_of object) linked_there
 
   -- a link stays in one filesystem
   pub linked_in : object.filesystem ≡ directory.node.filesystem
-  linked_in =
-      also_there value held directory
+  linked_in = also_there value held directory
       (change_at value held name directory small (AddName (number_of directory.node) entry (number_of object)) permits)
       object small_object linked_there
 
   -- a link is made, or the tree stays
   pub link_is_answered : (filesystems : Filesystems) (result : Result (Unit {0}) AllocError)
-      → OnOk result (ChangesInodes directory.node.filesystem.count
-      (λ inodes. changed nat_eq inodes
+      → OnOk result (ChangesInodes directory.node.filesystem.count (λ inodes. changed nat_eq inodes
       (AddName (number_of directory.node) entry (number_of object))) value.filesystems filesystems)
-      → OnErr result (filesystems ≡ value.filesystems)
-      → IsAnswered value name (ToChange (location_of directory)
-      (AddName (number_of directory.node) entry (number_of object)))
-      (with_filesystems value filesystems) result
+      → OnErr result (filesystems ≡ value.filesystems) → IsAnswered value name (ToChange (location_of directory)
+      (AddName (number_of directory.node) entry (number_of object))) (with_filesystems value filesystems) result
   link_is_answered filesystems result ok err =
       let seen = change_at value held name directory small
       (AddName (number_of directory.node) entry (number_of object)) permits in
       answered value held name (ToChange (location_of directory)
-      (AddName (number_of directory.node) entry (number_of object))) filesystems
-      result
-      (OnOk_then result
+      (AddName (number_of directory.node) entry (number_of object))) filesystems result (OnOk_then result
       (change_is_done value held name directory small
       (AddName (number_of directory.node) entry (number_of object)) permits filesystems
-      (λ i. nodes_named value.next directory.node i
-      && nodes_named value.next object i)
+      (λ i. nodes_named value.next directory.node i && nodes_named value.next object i)
       (inode_is_there ((inodes_seen seen.entry).inode (number_of object))
       (ap (λ filesystem. is_some (filesystem.files.tree.node (number_of object)))
-      (sym (located_filesystem value held directory seen)) ∙ linked_there))
-      (λ number other. tt)) ok)
-      err
+      (sym (located_filesystem value held directory seen)) ∙ linked_there)) (λ number other. tt)) ok) err
 
 -- unlink(2)
 module _ (value : WorldValue) (held : IsHeld value) (name : TaskName) (directory : Location) (entry : List ℕ)
-    (object : NodeRef)
-    (small : IsSmall directory) (small_object : object.slot < 18446744073709551616)
+    (object : NodeRef) (small : IsSmall directory) (small_object : object.slot < 18446744073709551616)
     (permits : Permits value name (ToChange (location_of directory)
     (Remove (number_of directory.node) entry (number_of object)))) where
   seen : IsLocated value directory
-  seen = change_at value held name directory small
-      (Remove (number_of directory.node) entry (number_of object)) permits
+  seen = change_at value held name directory small (Remove (number_of directory.node) entry (number_of object)) permits
 
   unlinked_there : is_some ((filesystem_at nat_eq (world_of value) (location_of directory)).files.tree.node
       (number_of object)) ≡ true
@@ -123,8 +108,7 @@ module _ (value : WorldValue) (held : IsHeld value) (name : TaskName) (directory
       (located_filesystem value held directory seen)
       ∙ (tree_of_entry value held seen.entry seen.among).alive (number_of directory.node) entry (number_of object)
       (ap (λ filesystem. entry_at filesystem.files.tree (number_of directory.node) entry)
-      (sym (located_filesystem value held directory seen))
-      ∙ sees.1.named)
+      (sym (located_filesystem value held directory seen)) ∙ sees.1.named)
 
   pub unlinked_is_kept : is_some ((files_at value.filesystems directory.node.filesystem.count).tree.node
       (number_of object)) ≡ true
@@ -135,16 +119,11 @@ module _ (value : WorldValue) (held : IsHeld value) (name : TaskName) (directory
   unlinked_in = also_there value held directory seen object small_object unlinked_there
 
   -- a name is removed
-  pub unlink_is_done : (filesystems : Filesystems)
-      → ChangesInodes directory.node.filesystem.count
+  pub unlink_is_done : (filesystems : Filesystems) → ChangesInodes directory.node.filesystem.count
       (λ inodes. changed nat_eq inodes
       (Remove (number_of directory.node) entry (number_of object))) value.filesystems filesystems
       → IsFilesEvent value name (ToChange (location_of directory)
-      (Remove (number_of directory.node) entry (number_of object)))
-      (with_filesystems value filesystems)
-  unlink_is_done filesystems changes =
-      change_is_done value held name directory small
+      (Remove (number_of directory.node) entry (number_of object))) (with_filesystems value filesystems)
+  unlink_is_done filesystems changes = change_is_done value held name directory small
       (Remove (number_of directory.node) entry (number_of object)) permits filesystems
-      (λ i. nodes_named value.next directory.node i
-      && nodes_named value.next object i)
-      tt (λ number other. tt) changes
+      (λ i. nodes_named value.next directory.node i && nodes_named value.next object i) tt (λ number other. tt) changes

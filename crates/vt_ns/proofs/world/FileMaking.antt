@@ -57,15 +57,12 @@ new_in_slot count slot small node fits = by node.content fits
     by : (content : Content ℕ)
         → IsNewIn (inode_number count slot) (node_seen count (record { attr = node.attr; content = content }))
         → IsNewIn slot (record { attr = node.attr; content = content })
-    by (Directory parent entries opaque) new =
-        ⊎_elim
-        (λ same.
+    by (Directory parent entries opaque) new = ⊎_elim (λ same.
         let up : exchanged count parent ≡ inode_number count slot = cc in
         let names : map (renamed_entry (exchanged count) (exchanged count)) entries ≡ [] = cc in
         let mark : opaque ≡ false = cc in
         inl (λ i. Directory (exchanged_same count parent slot (up ∙ sym (exchanged_slot count slot small)) i)
-        (no_entries entries names i) (mark i)))
-        (λ none. absurd (true≢false none)) new
+        (no_entries entries names i) (mark i))) (λ none. absurd (true≢false none)) new
     by (Regular bytes) new = inr refl
     by (Symlink text) new = inr refl
     by Whiteout new = inr refl
@@ -97,8 +94,7 @@ next_of_entry value at entry count shows found is =
     quarter = omega arith
 
 module _ (value : WorldValue) (held : IsHeld value) (name : TaskName) (directory : Location) (entry : List ℕ)
-    (node : Node ℕ)
-    (small : IsSmall directory)
+    (node : Node ℕ) (small : IsSmall directory)
     (asked : Permits value name (ToMake (location_of directory) entry (node_in directory node))) where
   -- what is made is made in no overlay
   directory_plain : IsPlainAt value directory
@@ -111,8 +107,7 @@ module _ (value : WorldValue) (held : IsHeld value) (name : TaskName) (directory
       let fits = permit_fits value held name (ToMake (location_of directory) entry (node_in directory node)) asked in
       (located value held directory small directory_plain fits.names.reached.there).born_here
 
-  permits : Permits value name (ToMake (location_of directory) entry
-      (node_seen directory.node.filesystem.count node))
+  permits : Permits value name (ToMake (location_of directory) entry (node_seen directory.node.filesystem.count node))
   permits = subst (λ n. Permits value name (ToMake (location_of directory) entry n))
       (made_in_tree directory here node) asked
 
@@ -125,14 +120,12 @@ module _ (value : WorldValue) (held : IsHeld value) (name : TaskName) (directory
       located value held directory small directory_plain (permit_fits value held name permit permits).names.reached.there
 
   sees : MayBeMade (world_of value) (location_of directory) entry (node_seen directory.node.filesystem.count node)
-  sees =
-      given_permits_are_seen_to (world_of value) (supply_of value permit) permits.task permit held.in_world
+  sees = given_permits_are_seen_to (world_of value) (supply_of value permit) permits.task permit held.in_world
       permits.given
 
   -- it is new in its directory
   pub new_in_directory : IsNewIn directory.node.slot node
-  new_in_directory =
-      new_in_slot directory.node.filesystem.count directory.node.slot small node
+  new_in_directory = new_in_slot directory.node.filesystem.count directory.node.slot small node
       (subst (λ number. IsNewIn number (node_seen directory.node.filesystem.count node))
       (here_number directory.node here) sees.fits)
 
@@ -143,8 +136,7 @@ module _ (value : WorldValue) (held : IsHeld value) (name : TaskName) (directory
       → Fits inodes (change (next_inode value (location_of directory)))
   fits_next inodes same =
       given_changes_fit (world_of value) (supply_of value permit) permits.task permit (location_of directory)
-      (change (next_inode value (location_of directory))) inodes held.in_world
-      permits.given refl
+      (change (next_inode value (location_of directory))) inodes held.in_world permits.given refl
       (ap tree_of same ∙ ap (λ filesystem. filesystem.files.tree)
       (sym (located_filesystem value held directory directory_seen)))
 
@@ -156,8 +148,7 @@ module _ (value : WorldValue) (held : IsHeld value) (name : TaskName) (directory
 
   -- an inode is made under its name
   pub make_is_done : (filesystems : Filesystems) (made : NodeRef)
-      → is_own_number made.filesystem.count (number_of made) ≡ true
-      → made.filesystem ≡ directory.node.filesystem
+      → is_own_number made.filesystem.count (number_of made) ≡ true → made.filesystem ≡ directory.node.filesystem
       → number_of made ≡ next_seen (entry_at value.filesystems directory.node.filesystem.count)
       → ChangesInodes directory.node.filesystem.count
       (λ inodes. changed nat_eq inodes (change (number_of made))) value.filesystems filesystems
@@ -168,20 +159,16 @@ module _ (value : WorldValue) (held : IsHeld value) (name : TaskName) (directory
       (with_filesystems value filesystems)) (sym (made_in_tree directory here node))
       (files_are_changed value name permit (location_of directory) (change (number_of made)) filesystems held permits
       (record {
-        named = λ i. directory_seen.named i
-            && new_is_named (is_counted_before value.next) (number_of directory.node)
-            (node_seen directory.node.filesystem.count node)
-            (nodes_named value.next directory.node) sees.fits i;
+        named = λ i. directory_seen.named i && new_is_named (is_counted_before value.next) (number_of directory.node)
+            (node_seen directory.node.filesystem.count node) (nodes_named value.next directory.node) sees.fits i;
         rest = odds (supply_of value permit);
-        applied =
-            ap (λ n. with_change nat_eq (odds (supply_of value permit)) (world_of value) (location_of directory)
+        applied = ap (λ n. with_change nat_eq (odds (supply_of value permit)) (world_of value) (location_of directory)
             (change n)) next_is;
         named_supply = λ k. number_of made;
         are_named = λ k. nodes_named value.next made;
         named_rest = λ k. number_of made;
         applied_named = refl;
-      })
-      (record {
+      }) (record {
         entry = directory_seen.entry;
         among = directory_seen.among;
         found = directory_seen.found;
@@ -189,19 +176,14 @@ module _ (value : WorldValue) (held : IsHeld value) (name : TaskName) (directory
         fits = subst (λ n. Fits (inodes_seen directory_seen.entry) (change n)) next_is
             (fits_next (inodes_seen directory_seen.entry) refl);
         links = tt;
-        changes =
-            subst (λ count. ChangesInodes count
+        changes = subst (λ count. ChangesInodes count
             (λ inodes. changed nat_eq inodes (change (number_of made))) value.filesystems filesystems)
             (sym directory_seen.count_is) changes;
-        own = λ n other same.
-            true≢false (sym (ap (λ count. is_own_number count (number_of made))
-            (directory_seen.count_is ∙ ap (λ filesystem. filesystem.count) (sym inside))
-            ∙ own_made)
+        own = λ n other same. true≢false (sym (ap (λ count. is_own_number count (number_of made))
+            (directory_seen.count_is ∙ ap (λ filesystem. filesystem.count) (sym inside)) ∙ own_made)
             ∙ ap (is_own_number directory_seen.entry.count) (sym same) ∙ other);
       }))
     where
       next_is : next_inode value (location_of directory) ≡ number_of made
-      next_is =
-          next_of_entry value (location_of directory) directory_seen.entry directory.node.filesystem.count
-          directory_seen.shows directory_seen.found directory_seen.count_is
-          ∙ sym number
+      next_is = next_of_entry value (location_of directory) directory_seen.entry directory.node.filesystem.count
+          directory_seen.shows directory_seen.found directory_seen.count_is ∙ sym number

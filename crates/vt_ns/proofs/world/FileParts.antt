@@ -45,8 +45,7 @@ open_there value held name permit permits file fits held_open =
     (all_locations (world_of value)) held.in_world.tasks.locations_live file
     (among-flat_map locations_of (world_of value).tasks permits.task file
     (found_among (λ (other : Task ℕ). same_name permits.task.name other.name)
-    (world_of value).tasks permits.task permits.given.called)
-    (inr (inr (subst (λ location. Among location
+    (world_of value).tasks permits.task permits.given.called) (inr (inr (subst (λ location. Among location
     (map (λ (descriptor : Descriptor ℕ). descriptor.location) permits.task.descriptors)) held_open.4
     (among-map (λ (descriptor : Descriptor ℕ). descriptor.location) permits.task.descriptors held_open.1
     (found_among (λ (descriptor : Descriptor ℕ). nat_eq held_open.0 descriptor.number) permits.task.descriptors
@@ -81,15 +80,12 @@ module _ (value : WorldValue) (held : IsHeld value) (name : TaskName) (file : Lo
   permit = ToWritePart (location_of file) offset (byte ∷ rest)
 
   sees : SeesTo (world_of value) permits.task permit
-  sees =
-      given_permits_are_seen_to (world_of value) (supply_of value permit) permits.task permit held.in_world
+  sees = given_permits_are_seen_to (world_of value) (supply_of value permit) permits.task permit held.in_world
       permits.given
 
   -- the file stands where the world has it
   file_seen : IsLocated value file
-  file_seen =
-      located value held file small
-      (changed_is_plain value held name permit permits (location_of file) _ refl)
+  file_seen = located value held file small (changed_is_plain value held name permit permits (location_of file) _ refl)
       (open_there value held name permit permits (location_of file) (λ descriptor. descriptor.writes) sees.0)
 
   abbrev change : Change ℕ
@@ -108,8 +104,7 @@ module _ (value : WorldValue) (held : IsHeld value) (name : TaskName) (file : Lo
 
   same_node : (files_at value.filesystems file.node.filesystem.count).tree.node (number_of file.node)
       ≡ node_at nat_eq (world_of value) (location_of file)
-  same_node =
-      ap (λ inodes. (tree_of inodes).node (number_of file.node)) (located_inodes value file file_seen)
+  same_node = ap (λ inodes. (tree_of inodes).node (number_of file.node)) (located_inodes value file file_seen)
       ∙ ap (λ filesystem. filesystem.files.tree.node (number_of file.node))
       (sym (located_filesystem value held file file_seen))
 
@@ -119,23 +114,18 @@ module _ (value : WorldValue) (held : IsHeld value) (name : TaskName) (file : Lo
       × (offset + length (byte ∷ rest) ≤ largest_file)
   part_fits = (
     (change_fits here (located_inodes value file file_seen)).0,
-    ltb-false largest_file
-        (offset + length (byte ∷ rest)) sees.1,
+    ltb-false largest_file (offset + length (byte ∷ rest)) sees.1,
   )
 
   part_is_answered : (filesystems : Filesystems) (result : Result (Unit {0}) AllocError)
       → OnOk result (ChangesInodes file.node.filesystem.count
-      (λ inodes. changed nat_eq inodes (SetBytes (number_of file.node)
-      (overwritten offset (byte ∷ rest)
+      (λ inodes. changed nat_eq inodes (SetBytes (number_of file.node) (overwritten offset (byte ∷ rest)
       (bytes_in ((files_at value.filesystems file.node.filesystem.count).tree.node (number_of file.node))))))
-      value.filesystems filesystems)
-      → OnErr result (filesystems ≡ value.filesystems)
+      value.filesystems filesystems) → OnErr result (filesystems ≡ value.filesystems)
       → IsAnswered value name permit (with_filesystems value filesystems) result
-  part_is_answered filesystems result ok err =
-      answered value held name permit filesystems result
+  part_is_answered filesystems result ok err = answered value held name permit filesystems result
       (OnOk_then result (λ changes.
-      files_are_changed value name permit (location_of file) change filesystems held permits
-      (record {
+      files_are_changed value name permit (location_of file) change filesystems held permits (record {
         named = file_seen.named;
         rest = supply_of value permit;
         applied = refl;
@@ -143,27 +133,21 @@ module _ (value : WorldValue) (held : IsHeld value) (name : TaskName) (file : Lo
         are_named = λ k. refl;
         named_rest = λ k. 0;
         applied_named = refl;
-      })
-      (record {
+      }) (record {
         entry = file_seen.entry;
         among = file_seen.among;
         found = file_seen.found;
         shows = file_seen.shows;
         fits = change_fits (inodes_seen file_seen.entry) refl;
         links = tt;
-        changes =
-            subst (λ node. ChangesInodes file_seen.entry.count
-            (λ inodes. changed nat_eq inodes
+        changes = subst (λ node. ChangesInodes file_seen.entry.count (λ inodes. changed nat_eq inodes
             (SetBytes (number_of file.node) (overwritten offset (byte ∷ rest) (bytes_in node))))
-            value.filesystems filesystems) same_node
-            (subst (λ count. ChangesInodes count
-            (λ inodes. changed nat_eq inodes (SetBytes (number_of file.node)
-            (overwritten offset (byte ∷ rest)
+            value.filesystems filesystems) same_node (subst (λ count. ChangesInodes count
+            (λ inodes. changed nat_eq inodes (SetBytes (number_of file.node) (overwritten offset (byte ∷ rest)
             (bytes_in ((files_at value.filesystems file.node.filesystem.count).tree.node (number_of file.node))))))
             value.filesystems filesystems) (sym file_seen.count_is) changes);
         own = λ number other. tt;
-      })) ok)
-      err
+      })) ok) err
 
 -- a part of a file is written, or the file stays
 pub write_part_is_answered : (value : WorldValue) → IsHeld value
@@ -171,11 +155,9 @@ pub write_part_is_answered : (value : WorldValue) → IsHeld value
     → Permits value name (ToWritePart (location_of file) offset bytes) → (length bytes ≡ 0 → ⊥)
     → (filesystems : Filesystems) (result : Result (Unit {0}) AllocError)
     → OnOk result (ChangesInodes file.node.filesystem.count
-    (λ inodes. changed nat_eq inodes (SetBytes (number_of file.node)
-    (overwritten offset bytes (bytes_in
+    (λ inodes. changed nat_eq inodes (SetBytes (number_of file.node) (overwritten offset bytes (bytes_in
     ((files_at value.filesystems file.node.filesystem.count).tree.node (number_of file.node))))))
-    value.filesystems filesystems)
-    → OnErr result (filesystems ≡ value.filesystems)
+    value.filesystems filesystems) → OnErr result (filesystems ≡ value.filesystems)
     → IsAnswered value name (ToWritePart (location_of file) offset bytes) (with_filesystems value filesystems) result
 write_part_is_answered value held name file offset [] small permits some filesystems result ok err = absurd (some refl)
 write_part_is_answered value held name file offset (byte ∷ rest) small permits some filesystems result ok err =
@@ -186,8 +168,7 @@ pub write_part_fits : (value : WorldValue) → IsHeld value
     → (name : TaskName) (file : Location) (offset : ℕ) (bytes : List ℕ) → IsSmall file
     → Permits value name (ToWritePart (location_of file) offset bytes) → (length bytes ≡ 0 → ⊥)
     → (is_directory_node ((files_at value.filesystems file.node.filesystem.count).tree.node (number_of file.node))
-    ≡ false)
-    × (offset + length bytes ≤ largest_file)
+    ≡ false) × (offset + length bytes ≤ largest_file)
 write_part_fits value held name file offset [] small permits some = absurd (some refl)
 write_part_fits value held name file offset (byte ∷ rest) small permits some =
     part_fits value held name file offset byte rest small permits

@@ -31,16 +31,12 @@ use Rattle.vt_mounting.proofs.detach.FilesSeen.{IsLocated, IsPlainAt, also_there
 
 -- where no mount stands on a location none is detached with it
 pub nothing_detached : (value : WorldValue) → IsHeld value → (at : meant.Location ℕ)
-    → mounts_on nat_eq (world_of value) at ≡ []
-    → without_mounts_on nat_eq (world_of value) at ≡ world_of value
-nothing_detached value held at none =
-    ap (trees_taken_away nat_eq (world_of value)) none
-    ∙ nothing_taken (world_of value)
-    ∙ regrouped_living (world_of value) held.in_world.mounts.groups
+    → mounts_on nat_eq (world_of value) at ≡ [] → without_mounts_on nat_eq (world_of value) at ≡ world_of value
+nothing_detached value held at none = ap (trees_taken_away nat_eq (world_of value)) none
+    ∙ nothing_taken (world_of value) ∙ regrouped_living (world_of value) held.in_world.mounts.groups
 
 module _ (value : WorldValue) (held : IsHeld value) (name : TaskName) (parent : Location) (entry : List ℕ)
-    (directory : Location)
-    (small : IsSmall parent) (small_directory : IsSmall directory)
+    (directory : Location) (small : IsSmall parent) (small_directory : IsSmall directory)
     (permits : Permits value name (ToRemoveDirectory (location_of parent) entry (location_of directory))) where
   abbrev permit : Permit ℕ
   permit = ToRemoveDirectory (location_of parent) entry (location_of directory)
@@ -55,14 +51,12 @@ module _ (value : WorldValue) (held : IsHeld value) (name : TaskName) (parent : 
       located value held parent small parent_plain (permit_fits value held name permit permits).names.0.reached.there
 
   sees : SeesTo (world_of value) permits.task permit
-  sees =
-      given_permits_are_seen_to (world_of value) (supply_of value permit) permits.task permit held.in_world
+  sees = given_permits_are_seen_to (world_of value) (supply_of value permit) permits.task permit held.in_world
       permits.given
 
   -- and so does the directory, which is on the same mount
   pub directory_seen : IsLocated value directory
-  directory_seen =
-      located value held directory small_directory
+  directory_seen = located value held directory small_directory
       (ap (λ mount. is_overlay (filesystem_numbered nat_eq (world_of value)
       (mount_numbered nat_eq (world_of value) mount).filesystem)) sees.0 ∙ parent_plain)
       (permit_fits value held name permit permits).names.1.reached.there
@@ -72,14 +66,11 @@ module _ (value : WorldValue) (held : IsHeld value) (name : TaskName) (parent : 
 
   removed_there : is_some ((filesystem_at nat_eq (world_of value) (location_of parent)).files.tree.node
       (number_of directory.node)) ≡ true
-  removed_there =
-      ap (λ filesystem. is_some (filesystem.files.tree.node (number_of directory.node)))
+  removed_there = ap (λ filesystem. is_some (filesystem.files.tree.node (number_of directory.node)))
       (located_filesystem value held parent parent_seen)
       ∙ (tree_of_entry value held parent_seen.entry parent_seen.among).alive (number_of parent.node) entry
-      (number_of directory.node)
-      (ap (λ filesystem. entry_at filesystem.files.tree (number_of parent.node) entry)
-      (sym (located_filesystem value held parent parent_seen))
-      ∙ sees.1.named)
+      (number_of directory.node) (ap (λ filesystem. entry_at filesystem.files.tree (number_of parent.node) entry)
+      (sym (located_filesystem value held parent parent_seen)) ∙ sees.1.named)
 
   pub removed_is_kept : is_some ((files_at value.filesystems parent.node.filesystem.count).tree.node
       (number_of directory.node)) ≡ true
@@ -93,8 +84,7 @@ module _ (value : WorldValue) (held : IsHeld value) (name : TaskName) (parent : 
   change_fits : (inodes : Inodes ℕ) → inodes ≡ inodes_seen parent_seen.entry → Fits inodes change
   change_fits inodes same =
       given_changes_fit (world_of value) (supply_of value permit) permits.task permit (location_of parent)
-      change inodes held.in_world permits.given refl
-      (ap tree_of same
+      change inodes held.in_world permits.given refl (ap tree_of same
       ∙ ap (λ filesystem. filesystem.files.tree) (sym (located_filesystem value held parent parent_seen)))
 
   -- it can be removed
@@ -108,8 +98,7 @@ module _ (value : WorldValue) (held : IsHeld value) (name : TaskName) (parent : 
       (λ inodes. changed nat_eq inodes change) value.filesystems filesystems
       → IsFilesEvent value name permit (with_filesystems value filesystems)
   removal_is_done none filesystems changes =
-      files_are_changed value name permit (location_of parent) change filesystems held permits
-      (record {
+      files_are_changed value name permit (location_of parent) change filesystems held permits (record {
         named = λ i. parent_seen.named i && directory_seen.named i;
         rest = supply_of value permit;
         applied = ap (λ world. with_change nat_eq (supply_of value permit) world (location_of parent) change)
@@ -119,8 +108,7 @@ module _ (value : WorldValue) (held : IsHeld value) (name : TaskName) (parent : 
         named_rest = λ k. 0;
         applied_named = ap (λ world. with_change nat_eq (λ k. 0) world (location_of parent) change)
             (nothing_detached value held (location_of directory) none);
-      })
-      (record {
+      }) (record {
         entry = parent_seen.entry;
         among = parent_seen.among;
         found = parent_seen.found;

@@ -35,8 +35,7 @@ use Rattle.vt_mounting.proofs.detach.Places.{located_is_named}
 use Rattle.vt_mounting.proofs.detach.FilesSeen.{IsLocated, IsPlainAt, also_there, kept_there, located, located_filesystem, located_inodes}
 
 module _ (value : WorldValue) (held : IsHeld value) (name : TaskName) (from : Location) (old : List ℕ) (to : Location)
-    (new : List ℕ)
-    (object : Location) (replaced : Option Location) (small : IsSmall from) (small_to : IsSmall to)
+    (new : List ℕ) (object : Location) (replaced : Option Location) (small : IsSmall from) (small_to : IsSmall to)
     (small_object : IsSmall object)
     (permits : Permits value name (ToRename (location_of from) old (location_of to) new (location_of object)
     (option_map location_of replaced))) where
@@ -53,8 +52,7 @@ module _ (value : WorldValue) (held : IsHeld value) (name : TaskName) (from : Lo
   -- the rename may be made
   pub sees : MayBeRenamed (world_of value) (location_of from) old (location_of to) new (location_of object)
       (option_map location_of replaced)
-  sees =
-      given_permits_are_seen_to (world_of value) (supply_of value permit) permits.task permit held.in_world
+  sees = given_permits_are_seen_to (world_of value) (supply_of value permit) permits.task permit held.in_world
       permits.given
 
   -- nothing is renamed in an overlay
@@ -62,8 +60,7 @@ module _ (value : WorldValue) (held : IsHeld value) (name : TaskName) (from : Lo
   from_plain = changed_is_plain value held name permit permits (location_of from) _ refl
 
   plain_there : (at : Location) → (location_of at).mount ≡ (location_of from).mount → IsPlainAt value at
-  plain_there at same =
-      ap (λ mount. is_overlay (filesystem_numbered nat_eq (world_of value)
+  plain_there at same = ap (λ mount. is_overlay (filesystem_numbered nat_eq (world_of value)
       (mount_numbered nat_eq (world_of value) mount).filesystem)) same ∙ from_plain
 
   -- the directory of the old name stands where the world has it
@@ -80,8 +77,7 @@ module _ (value : WorldValue) (held : IsHeld value) (name : TaskName) (from : Lo
   same_there : (at : Location) → (location_of at).mount ≡ (location_of from).mount
       → is_located_well nat_eq (world_of value) (location_of at) ≡ true
       → is_some ((filesystem_at nat_eq (world_of value) (location_of from)).files.tree.node (number_of at.node)) ≡ true
-  same_there at same well =
-      ap (λ mount. is_some ((filesystem_numbered nat_eq (world_of value)
+  same_there at same well = ap (λ mount. is_some ((filesystem_numbered nat_eq (world_of value)
       (mount_numbered nat_eq (world_of value) mount).filesystem).files.tree.node (number_of at.node)))
       (sym same) ∙ (and_parts (is_among nat_eq (location_of at).mount
       (map (λ mount. mount.number) (world_of value).mounts))
@@ -89,8 +85,7 @@ module _ (value : WorldValue) (held : IsHeld value) (name : TaskName) (from : Lo
       (location_of at).node) well).1
 
   same_filesystem : (at : Location) → IsSmall at → (location_of at).mount ≡ (location_of from).mount
-      → is_located_well nat_eq (world_of value) (location_of at) ≡ true
-      → at.node.filesystem ≡ from.node.filesystem
+      → is_located_well nat_eq (world_of value) (location_of at) ≡ true → at.node.filesystem ≡ from.node.filesystem
   same_filesystem at small_at same well =
       also_there value held from from_seen at.node small_at (same_there at same well)
 
@@ -141,8 +136,7 @@ module _ (value : WorldValue) (held : IsHeld value) (name : TaskName) (from : Lo
       → ChangesInodes from.node.filesystem.count (λ inodes. changed nat_eq inodes change) value.filesystems filesystems
       → IsFilesEvent value name permit (with_filesystems value filesystems)
   rename_alone_is_done none filesystems changes =
-      files_are_changed value name permit (location_of from) change filesystems held permits
-      (record {
+      files_are_changed value name permit (location_of from) change filesystems held permits (record {
         named = is_named;
         rest = supply_of value permit;
         applied = ap (λ world. with_change nat_eq (supply_of value permit) world (location_of from) change)
@@ -152,8 +146,7 @@ module _ (value : WorldValue) (held : IsHeld value) (name : TaskName) (from : Lo
         named_rest = λ k. 0;
         applied_named = ap (λ world. with_change nat_eq (λ k. 0) world (location_of from) change)
             (nothing_replaced replaced none);
-      })
-      (record {
+      }) (record {
         entry = from_seen.entry;
         among = from_seen.among;
         found = from_seen.found;

@@ -56,8 +56,7 @@ inserted_goes new (first ∷ rest) = by (nat_lt new.number first.number) (insert
     }
 
 module _ (value : WorldValue) (whole : IsHeld value) (name : TaskName) (task : Task ℕ)
-    (found : task_called (world_of value) name ≡ Some task)
-    (descriptor : Descriptor ℕ)
+    (found : task_called (world_of value) name ≡ Some task) (descriptor : Descriptor ℕ)
     (well : is_located_well nat_eq (world_of value) descriptor.location ≡ true) where
   abbrev opens : Task ℕ
   opens = record task { descriptors = inserted descriptor task.descriptors }
@@ -97,15 +96,13 @@ module _ (value : WorldValue) (whole : IsHeld value) (name : TaskName) (task : T
   -- no mount goes where a file is opened
   pub opened_stays : without_dead_mounts nat_eq (world_of (after value (replaced opens value.tasks)))
       ≡ world_of (after value (replaced opens value.tasks))
-  opened_stays =
-      mounts_go_one_by_one (world_of (after value (replaced opens value.tasks))) []
+  opened_stays = mounts_go_one_by_one (world_of (after value (replaced opens value.tasks))) []
       (mounts_but (world_of value) (replaced opens value.tasks) [] (worlds_are_in_use (world_of value) whole.in_world)
       (mounts_of_worlds_stand (world_of value) whole.in_world)
       (only_left value whole (replaced opens value.tasks) (used_by descriptor ∷ []) [] opened_moves))
 
   -- each namespace has as many tasks as before
-  pub opened_tasks : (namespace : ℕ)
-      → times (λ one. nat_eq namespace one.namespace) (replaced opens value.tasks)
+  pub opened_tasks : (namespace : ℕ) → times (λ one. nat_eq namespace one.namespace) (replaced opens value.tasks)
       ≡ times (λ one. nat_eq namespace one.namespace) value.tasks
   opened_tasks namespace =
       let moved = times_replaced name value.tasks task opens whole.in_world.tasks.one_task found refl
@@ -116,11 +113,9 @@ module _ (value : WorldValue) (whole : IsHeld value) (name : TaskName) (task : T
 pub file_is_opened : (value : WorldValue) (name : TaskName) (opened : OpenFile) (mounts : List MountEntry)
     (filesystems : Filesystems) (overlays : List Merged) (tasks : Tasks)
     → IsHeld value → Permits value name (ToOpen (location_of opened.location) (access_of opened.access))
-    → is_small_node opened.location.node ≡ true
-    → tasks ≡ changed_called name (with_open opened) value.tasks
+    → is_small_node opened.location.node ≡ true → tasks ≡ changed_called name (with_open opened) value.tasks
     → kept_with mounts filesystems overlays ≡ with_location opened.location (opens_for_writing (access_of opened.access))
-    (kept_of value)
-    → IsDone value name (ToOpen (location_of opened.location) (access_of opened.access))
+    (kept_of value) → IsDone value name (ToOpen (location_of opened.location) (access_of opened.access))
     (remade value mounts filesystems tasks)
 file_is_opened value name opened mounts filesystems overlays tasks whole permits few is is_kept =
     let task = permits.task in
@@ -142,23 +137,19 @@ file_is_opened value name opened mounts filesystems overlays tasks whole permits
     (is_kept ∙ (λ i. with_use (counted opened.location.mount.count)
     (sym (seen_where_located value whole opened.location few well) i, number_of opened.location.node)
     (opens_for_writing access) (kept_of value)))
-    (opened_stays value whole name task permits.called descriptor well) name (ToOpen file access) task
-    (record {
+    (opened_stays value whole name task permits.called descriptor well) name (ToOpen file access) task (record {
       called = permits.called;
       given = permits.given;
       named = located_is_named value whole file well;
       applied = λ fresh. ap (λ b. with_task (with_copy nat_eq b fresh (world_of value) file) opens)
           (opens_copy_nothing (world_of value) (supply_of value (ToOpen file access)) task file access
           whole.overlays.read_only whole.overlays.writers permits.given);
-    })
-    (opened_tasks value whole name task permits.called descriptor well))
+    }) (opened_tasks value whole name task permits.called descriptor well))
 
 -- the task may open another file
 pub may_open_more : (value : WorldValue) → IsHeld value
     → (name : TaskName) (file : meant.Location ℕ) (access : spoken.Access)
     → Permits value name (ToOpen file access) → MayOpenMore (called name value.tasks)
-may_open_more value whole name file access permits =
-    subst MayOpenMore (sym permits.called)
+may_open_more value whole name file access permits = subst MayOpenMore (sym permits.called)
     (leb-false _ _ (given_permits_are_seen_to (world_of value) (supply_of value (ToOpen file access)) permits.task
-    (ToOpen file access)
-    whole.in_world permits.given).1)
+    (ToOpen file access) whole.in_world permits.given).1)

@@ -65,8 +65,7 @@ module _ (value : WorldValue) (whole : IsHeld value) (count : ℕ) (tasks : Task
         cond (nat_eq count one.count) (more_tasks one) one) value.namespaces entry m in
         let was = among_from_all (CountsWhatIsInIt (world_of value)) value.namespaces whole.namespaces from.0 from.1 in
         subst (λ (one : NamespaceEntry). one.tasks ≡ times (λ task. nat_eq (counted one.count) task.namespace) tasks)
-        (sym from.2)
-        (counts_so from.0 was.tasks (nat_eq count from.0.count)
+        (sym from.2) (counts_so from.0 was.tasks (nat_eq count from.0.count)
         (counted_test from.0.count count ∙ swap_eq from.0.count count));
   }
     where
@@ -77,8 +76,7 @@ module _ (value : WorldValue) (whole : IsHeld value) (count : ℕ) (tasks : Task
 
       counts_so : (entry : NamespaceEntry)
           → entry.tasks ≡ times (λ task. nat_eq (counted entry.count) task.namespace) value.tasks
-          → (b : Bool) → nat_eq (counted entry.count) (counted count) ≡ b
-          → (cond b (more_tasks entry) entry).tasks
+          → (b : Bool) → nat_eq (counted entry.count) (counted count) ≡ b → (cond b (more_tasks entry) entry).tasks
           ≡ times (λ task. nat_eq (counted (cond b (more_tasks entry) entry).count) task.namespace) tasks
       counts_so entry was true e =
           let later = more (counted entry.count) in
@@ -92,8 +90,7 @@ module _ (value : WorldValue) (whole : IsHeld value) (count : ℕ) (tasks : Task
 -- The child is where its parent is.
 
 module _ (value : WorldValue) (whole : IsHeld value) (name : TaskName) (task : Task ℕ)
-    (found : task_called (world_of value) name ≡ Some task)
-    (credentials : Credentials) where
+    (found : task_called (world_of value) name ≡ Some task) (credentials : Credentials) where
   -- the tasks with a child behind its parent
   abbrev pub tasks_forked : Tasks
   tasks_forked = with_child_behind task (child_of task credentials) value.tasks
@@ -107,8 +104,7 @@ module _ (value : WorldValue) (whole : IsHeld value) (name : TaskName) (task : T
   -- the root and the working directory are there
   place_there : (place : meant.Location ℕ) → Among place (locations_of task)
       → is_located_well nat_eq (world_of value) place ≡ true
-  place_there place m =
-      passes (is_located_well nat_eq (world_of value))
+  place_there place m = passes (is_located_well nat_eq (world_of value))
       (all_locations (world_of value)) whole.in_world.tasks.locations_live place
       (subst (λ all. Among place all) (sym (ap locations_in split.was ∙ locations_around split.front task split.back))
       (among-append_right (locations_in split.front) (locations_of task ++ locations_in split.back) place
@@ -141,8 +137,7 @@ module _ (value : WorldValue) (whole : IsHeld value) (name : TaskName) (task : T
   }
 
   forked_stays : without_dead_mounts nat_eq (world_of (after value tasks_forked)) ≡ world_of (after value tasks_forked)
-  forked_stays =
-      mounts_go_one_by_one (world_of (after value tasks_forked)) []
+  forked_stays = mounts_go_one_by_one (world_of (after value tasks_forked)) []
       (mounts_but (world_of value) tasks_forked [] (worlds_are_in_use (world_of value) whole.in_world)
       (mounts_of_worlds_stand (world_of value) whole.in_world)
       (only_left value whole tasks_forked (standing task.root ∷ standing task.directory ∷ []) [] forked_moves))
@@ -161,21 +156,16 @@ module _ (value : WorldValue) (whole : IsHeld value) (name : TaskName) (task : T
       → (root directory : Location) → location_of root ≡ task.root → location_of directory ≡ task.directory
       → is_small_node root.node ≡ true → is_small_node directory.node ≡ true
       → (mounts : List MountEntry) (filesystems : Filesystems) (overlays : List Merged)
-      → kept_with mounts filesystems overlays ≡ with_location directory false
-      (with_location root false (kept_of value))
+      → kept_with mounts filesystems overlays ≡ with_location directory false (with_location root false (kept_of value))
       → IsDone value name (ToFork credentials)
       (remade_in value mounts filesystems (with_task_more count value.namespaces) tasks_forked)
   forked_done permits is_task count in_namespace root directory root_is directory_is root_few directory_few mounts
       filesystems overlays is_kept =
       remains_done_in value whole tasks_forked (standing task.root ∷ standing task.directory ∷ []) [] forked_moves
-      mounts filesystems overlays (with_task_more count value.namespaces)
-      (is_kept ∙ seen)
-      (task_is_counted value whole count tasks_forked
-      (λ namespace. forked_inside namespace
+      mounts filesystems overlays (with_task_more count value.namespaces) (is_kept ∙ seen)
+      (task_is_counted value whole count tasks_forked (λ namespace. forked_inside namespace
       ∙ ap (λ number. times (λ one. nat_eq namespace one.namespace) value.tasks + one_if (nat_eq namespace number))
-      (sym in_namespace)))
-      forked_stays name (ToFork credentials) task
-      (record {
+      (sym in_namespace))) forked_stays name (ToFork credentials) task (record {
         called = found;
         given = subst (λ one. IsGiven (supply_of value (ToFork credentials)) (world_of value) one
             (ToFork credentials)) is_task permits.given;
@@ -187,25 +177,19 @@ module _ (value : WorldValue) (whole : IsHeld value) (name : TaskName) (task : T
           → is_located_well nat_eq (world_of value) place ≡ true → (k : Kept)
           → with_location at false k ≡ with_use place.mount
           ((mount_at nat_eq (world_of value) place).filesystem, place.node) false k
-      use_at place at is few well k =
-          (λ i. with_use (counted at.mount.count) (
-            sym (seen_where_located value whole at few
-                (subst (λ one. is_located_well nat_eq (world_of value) one ≡ true)
-                (sym is) well)) i,
-            number_of at.node,
-          ) false k)
-          ∙ ap (λ (one : meant.Location ℕ). with_use one.mount
+      use_at place at is few well k = (λ i. with_use (counted at.mount.count) (
+        sym (seen_where_located value whole at few
+            (subst (λ one. is_located_well nat_eq (world_of value) one ≡ true) (sym is) well)) i,
+        number_of at.node,
+      ) false k) ∙ ap (λ (one : meant.Location ℕ). with_use one.mount
           ((mount_at nat_eq (world_of value) one).filesystem, one.node) false k) is
 
-      seen : with_location directory false (with_location root false (kept_of value))
-          ≡ with_use task.directory.mount
+      seen : with_location directory false (with_location root false (kept_of value)) ≡ with_use task.directory.mount
           ((mount_at nat_eq (world_of value) task.directory).filesystem, task.directory.node) false
           (with_use task.root.mount ((mount_at nat_eq (world_of value) task.root).filesystem, task.root.node) false
           (kept_of value))
-      seen =
-          use_at task.directory directory directory_is directory_few directory_there
-          (with_location root false (kept_of value))
-          ∙ ap (with_use task.directory.mount
+      seen = use_at task.directory directory directory_is directory_few directory_there
+          (with_location root false (kept_of value)) ∙ ap (with_use task.directory.mount
           ((mount_at nat_eq (world_of value) task.directory).filesystem, task.directory.node) false)
           (use_at task.root root root_is root_few root_there (kept_of value))
 
@@ -214,8 +198,7 @@ pub may_fork : (value : WorldValue) → IsHeld value → (name : TaskName) (cred
     → Permits value name (ToFork credentials) → MayFork (called name value.tasks)
 may_fork value whole name credentials permits =
     let sees = given_permits_are_seen_to (world_of value) (supply_of value (ToFork credentials)) permits.task
-    (ToFork credentials)
-    whole.in_world permits.given in
+    (ToFork credentials) whole.in_world permits.given in
     subst MayFork (sym permits.called) (leb-false _ _ sees.0, leb-false _ _ sees.1)
 
 -- the tasks after a fork, with its child counted in its namespace and where it is
@@ -232,11 +215,9 @@ task_is_forked value whole name credentials permits own is root_few directory_fe
     tasks counted_so forked_so is_kept =
     let same : task_of own ≡ permits.task = same_Some (task_of own) permits.task (is ∙ permits.called) in
     subst (λ all. IsDone value name (ToFork credentials) (remade_in value mounts filesystems all tasks))
-    (sym counted_so)
-    (subst (λ all. IsDone value name (ToFork credentials)
+    (sym counted_so) (subst (λ all. IsDone value name (ToFork credentials)
     (remade_in value mounts filesystems (with_task_more own.namespace.count value.namespaces) all))
     (sym (forked_so ∙ ap (forked_by credentials value.tasks) permits.called))
     (forked_done value whole name permits.task permits.called credentials permits refl own.namespace.count
-    (ap (λ one. one.namespace) same)
-    own.root own.directory (ap (λ one. one.root) same)
+    (ap (λ one. one.namespace) same) own.root own.directory (ap (λ one. one.root) same)
     (ap (λ one. one.directory) same) root_few directory_few mounts filesystems overlays is_kept))

@@ -35,14 +35,12 @@ named_once base store held count =
 -- a directory that may be listed is there
 pub listed_there : (value : WorldValue) → IsHeld value → (name : TaskName) (directory : meant.Location ℕ)
     → Permits value name (ToList directory) → is_some (node_at nat_eq (world_of value) directory) ≡ true
-listed_there value held name directory permits =
-    directory_there (node_at nat_eq (world_of value) directory)
+listed_there value held name directory permits = directory_there (node_at nat_eq (world_of value) directory)
     (given_permits_are_seen_to (world_of value) (supply_of value (ToList directory)) permits.task (ToList directory)
     held.in_world permits.given)
 
 -- namespaces as they are kept
-pub namespaces_kept : (kept : List (NamespaceId × Kept))
-    → map (λ (id : NamespaceId). counted id.count) (keys_of kept)
+pub namespaces_kept : (kept : List (NamespaceId × Kept)) → map (λ (id : NamespaceId). counted id.count) (keys_of kept)
     ≡ map (λ (namespace : Namespace ℕ). namespace.number) (map namespace_of (entries_of kept))
 namespaces_kept [] = refl
 namespaces_kept (one ∷ rest) = ap (λ numbers. counted one.0.count ∷ numbers) (namespaces_kept rest)

@@ -131,6 +131,5 @@ module _ (value : WorldValue) (held : IsHeld value) (at : Location) (small : is_
           (subst (λ all. Among top all) (sym is) (inl refl)) in
           by top from.0 top.mount_point refl
           (sym (or-false (is_point nat_eq world (mount_at nat_eq world (location_of at)).filesystem
-          (number_of at.node) top))
-          ∙ ap (list_any (λ (point : ℕ × ℕ). is_point nat_eq world point.0 point.1 top))
+          (number_of at.node) top)) ∙ ap (list_any (λ (point : ℕ × ℕ). is_point nat_eq world point.0 point.1 top))
           (sym (points_are value held at small)) ∙ from.1)

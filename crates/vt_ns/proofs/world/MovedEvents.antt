@@ -37,8 +37,7 @@ module _ (value : WorldValue) (whole : IsHeld value) (name : TaskName) (number :
     (permits : Permits value name (ToMove number (location_of place))) where
   -- the new mount point is a location of the world
   pub move_place_there : is_located_well nat_eq (world_of value) (location_of place) ≡ true
-  move_place_there =
-      (permit_fits value whole name
+  move_place_there = (permit_fits value whole name
       (ToMove number (location_of place)) permits).names.destination.directory.reached.there
 
   -- the mount that moves is attached
@@ -78,8 +77,7 @@ module _ (value : WorldValue) (number : ℕ)
           let same : mount ≡ mount_of top =
           same_numbered (mounts_in value.mounts) (ascending_once (mounts_in value.mounts) ascending) mount
           (mount_numbered nat_eq (world_of value) number) (tree_among mount m) top_there
-          (eqb-true mount.number (counted top.number.count) e ∙ ap (λ (x : Mount ℕ). x.number) top_is)
-          ∙ sym top_is in
+          (eqb-true mount.number (counted top.number.count) e ∙ ap (λ (x : Mount ℕ). x.number) top_is) ∙ sym top_is in
           ap (λ (x : Mount ℕ). record mount { filesystem = x.filesystem; root = x.root }) (sym same)
 
   -- the tree that code lists is that of the mount that moves
@@ -87,8 +85,7 @@ module _ (value : WorldValue) (number : ℕ)
       → AreOf ids (mount_tree nat_eq (mounts_in value.mounts) (mount_numbered nat_eq (world_of value) number))
       → bound_mounts (record { mount = top.number; node = top.root }) (mounts_in value.mounts) ids
       ≡ mount_tree nat_eq (mounts_in value.mounts) (mount_numbered nat_eq (world_of value) number)
-  tree_below ids are =
-      picked (rooted_at source) (mounts_in value.mounts) tree ids are
+  tree_below ids are = picked (rooted_at source) (mounts_in value.mounts) tree ids are
       (λ mount m. ascending_found (mounts_in value.mounts) ascending mount (tree_among mount m))
       ∙ map_same (rooted_at source) tree same_rooted
 
@@ -97,18 +94,15 @@ pub moved_in_store : (base : WorldValue) (store : StoreValue) → IsHeld (with_s
     → (name : TaskName) (number : ℕ) (place : Location) (left : Option Location) (mounts : List MountEntry)
     (plain : Filesystems) → Permits (with_store store base) name (ToMove number (location_of place))
     → is_shared (mount_at nat_eq (world_of (with_store store base)) (location_of place)).propagation ≡ false
-    → is_small_node place.node ≡ true
-    → ((point : Location) → left ≡ Some point → is_small_node point.node ≡ true)
+    → is_small_node place.node ≡ true → ((point : Location) → left ≡ Some point → is_small_node point.node ≡ true)
     → option_map location_of left ≡ (mount_numbered nat_eq (world_of (with_store store base)) number).mount_point
     → shown plain ≡ unpinned_at left (pinned_in (inode_of place.node) (shown store.plain))
     → mounts ≡ changed number (λ entry. record entry {
       mount = record entry.mount { mount_point = Some (location_of place) };
-    }) base.mounts
-    → IsDone (with_store store base) name (ToMove number (location_of place))
+    }) base.mounts → IsDone (with_store store base) name (ToMove number (location_of place))
     (with_store (record store { plain = plain }) (record base { mounts = mounts }))
 moved_in_store base store held name number place left mounts plain permits alone small small_left left_is shown_is
-    moved =
-    same_in_store base (record base { mounts = mounts }) store (record store { plain = plain }) held refl name
+    moved = same_in_store base (record base { mounts = mounts }) store (record store { plain = plain }) held refl name
     (ToMove number (location_of place)) permits
     (subst (λ entries. IsDone (with_store store base) name (ToMove number (location_of place))
     (remade (with_store store base) entries plain base.tasks)) (sym moved)

@@ -85,14 +85,11 @@ use Rattle.vt_mounting.proofs.detach.Staying.{IsDone, after, becomes_so}
 -- a new inode has one use
 used_when_made : (inodes : Inodes ℕ) (directory : ℕ) (name : List ℕ) (number : ℕ) (node : Node ℕ)
     → uses_in ((changed nat_eq inodes (Make directory name number node)).inode number) ≡ 1
-used_when_made inodes directory name number node =
-    ap (λ b. uses_in (cond b (Some (record { node = node; uses = 1 }))
-    ((with_changed nat_eq inodes directory (node_with_entry name number)).inode number)))
-    (eq-eqb number number refl)
+used_when_made inodes directory name number node = ap (λ b. uses_in (cond b (Some (record { node = node; uses = 1 }))
+    ((with_changed nat_eq inodes directory (node_with_entry name number)).inode number))) (eq-eqb number number refl)
 
 module _ (value : WorldValue) (held : IsHeld value) (name : TaskName) (directory : Location) (entry : List ℕ)
-    (node : Node ℕ)
-    (access : spoken.Access) (small : IsSmall directory)
+    (node : Node ℕ) (access : spoken.Access) (small : IsSmall directory)
     (asked : Permits value name (ToOpenNew (location_of directory) entry (node_in directory node) access)) where
   -- what is made is made in no overlay
   directory_plain : IsPlainAt value directory
@@ -135,14 +132,11 @@ module _ (value : WorldValue) (held : IsHeld value) (name : TaskName) (directory
   directory_seen = located value held directory small directory_plain permit_is_fit.names.0.reached.there
 
   sees : MayBeMade (world_of value) (location_of directory) entry (node_seen count node) × HasRoom permits.task
-  sees =
-      given_permits_are_seen_to (world_of value) handed permits.task permit held.in_world
-      permits.given
+  sees = given_permits_are_seen_to (world_of value) handed permits.task permit held.in_world permits.given
 
   -- the new file is new in its directory
   pub new_in_directory : IsNewIn directory.node.slot node
-  new_in_directory =
-      new_in_slot count directory.node.slot small node
+  new_in_directory = new_in_slot count directory.node.slot small node
       (subst (λ number. IsNewIn number (node_seen count node)) (here_number directory.node here) sees.0.fits)
 
   -- the task may open another file
@@ -153,10 +147,8 @@ module _ (value : WorldValue) (held : IsHeld value) (name : TaskName) (directory
   change number = Make (number_of directory.node) entry number (node_seen count node)
 
   fits_next : (inodes : Inodes ℕ) → inodes ≡ inodes_seen directory_seen.entry → Fits inodes (change next_number)
-  fits_next inodes same =
-      given_changes_fit (world_of value) handed permits.task permit (location_of directory)
-      (change next_number) inodes held.in_world
-      permits.given refl
+  fits_next inodes same = given_changes_fit (world_of value) handed permits.task permit (location_of directory)
+      (change next_number) inodes held.in_world permits.given refl
       (ap tree_of same ∙ ap (λ filesystem. filesystem.files.tree)
       (sym (located_filesystem value held directory directory_seen)))
 
@@ -185,8 +177,7 @@ module _ (value : WorldValue) (held : IsHeld value) (name : TaskName) (directory
       ∙ ap (λ o. next_seen (unwrap_or o (no_entry count))) (sym has_filesystem)
 
   named : permit_named (is_counted_before value.next) making ≡ true
-  named =
-      λ i. directory_seen.named i
+  named = λ i. directory_seen.named i
       && new_is_named (is_counted_before value.next) (number_of directory.node) (node_seen count node)
       (nodes_named value.next directory.node) sees.0.fits i
 
@@ -207,17 +198,14 @@ module _ (value : WorldValue) (held : IsHeld value) (name : TaskName) (directory
   module _ (made_in : Filesystems) (made : NodeRef) (small_made : is_small_node made ≡ true)
       (own_made : is_own_number made.filesystem.count (number_of made) ≡ true)
       (inside : made.filesystem ≡ directory.node.filesystem)
-      (number : number_of made ≡ next_seen (entry_at value.filesystems count))
-      (changes : ChangesInodes count
+      (number : number_of made ≡ next_seen (entry_at value.filesystems count)) (changes : ChangesInodes count
       (λ inodes. changed nat_eq inodes (change (number_of made))) value.filesystems made_in) where
     abbrev mid : WorldValue
     mid = with_filesystems value made_in
 
     next_is : next_number ≡ number_of made
-    next_is =
-        next_of_entry value (location_of directory) directory_seen.entry count directory_seen.shows
-        directory_seen.found directory_seen.count_is
-        ∙ sym number
+    next_is = next_of_entry value (location_of directory) directory_seen.entry count directory_seen.shows
+        directory_seen.found directory_seen.count_is ∙ sym number
 
     is_made : ChangesFiles value (location_of directory) (change (number_of made)) made_in
     is_made = record {
@@ -228,14 +216,11 @@ module _ (value : WorldValue) (held : IsHeld value) (name : TaskName) (directory
       fits = subst (λ n. Fits (inodes_seen directory_seen.entry) (change n)) next_is
           (fits_next (inodes_seen directory_seen.entry) refl);
       links = tt;
-      changes =
-          subst (λ n. ChangesInodes n (λ inodes.
+      changes = subst (λ n. ChangesInodes n (λ inodes.
           changed nat_eq inodes (change (number_of made))) value.filesystems made_in)
           (sym directory_seen.count_is) changes;
-      own = λ n other same.
-          true≢false (sym (ap (λ k. is_own_number k (number_of made))
-          (directory_seen.count_is ∙ ap (λ filesystem. filesystem.count) (sym inside))
-          ∙ own_made)
+      own = λ n other same. true≢false (sym (ap (λ k. is_own_number k (number_of made))
+          (directory_seen.count_is ∙ ap (λ filesystem. filesystem.count) (sym inside)) ∙ own_made)
           ∙ ap (is_own_number directory_seen.entry.count) (sym same) ∙ other);
     }
 
@@ -250,15 +235,13 @@ module _ (value : WorldValue) (held : IsHeld value) (name : TaskName) (directory
         (is_change value held (location_of directory) (change (number_of made)) made_in is_made) tt
 
     same_tasks : (rest : Fresh ℕ) → (with_made rest).tasks ≡ value.tasks
-    same_tasks rest =
-        ap (λ (world : World ℕ). world.tasks) (sym (nothing_goes rest)
+    same_tasks rest = ap (λ (world : World ℕ). world.tasks) (sym (nothing_goes rest)
         ∙ only_files_change_beside_overlays rest (world_of value) (location_of directory) (inodes_seen is_made.entry)
         (change (number_of made))
         (is_change value held (location_of directory) (change (number_of made)) made_in is_made))
 
     made_same : (rest : Fresh ℕ) → SameWorlds (with_made rest) (world_of mid)
-    made_same rest =
-        subst (λ world. SameWorlds world (world_of mid)) (nothing_goes rest)
+    made_same rest = subst (λ world. SameWorlds world (world_of mid)) (nothing_goes rest)
         (change_is_swept value held (location_of directory) (change (number_of made)) made_in is_made rest)
 
     -- it is a world
@@ -284,8 +267,7 @@ module _ (value : WorldValue) (held : IsHeld value) (name : TaskName) (directory
           namespaces = all_namespaces_kept world handed task making is serves found making_fits;
           tasks = record {
             one_task = all_permits_keep_names world handed task making is serves found making_fits;
-            small_tasks =
-                ap (λ (world : World ℕ). list_all is_within_limits world.tasks) is_applied
+            small_tasks = ap (λ (world : World ℕ). list_all is_within_limits world.tasks) is_applied
                 ∙ ap (list_all is_within_limits) (same_tasks (odds handed)) ∙ held.in_world.tasks.small_tasks;
             forks_counted = all_permits_keep_counting_forks world handed task making is serves found making_fits;
             locations_live = locations_stay world handed task making is serves found making_fits tt;
@@ -296,13 +278,11 @@ module _ (value : WorldValue) (held : IsHeld value) (name : TaskName) (directory
         }
 
     overlays_ready : OverlayInvariants nat_eq (apply nat_eq handed (world_of value) permits.task making).world
-    overlays_ready =
-        overlays_in (apply nat_eq handed (world_of value) permits.task making).world
+    overlays_ready = overlays_in (apply nat_eq handed (world_of value) permits.task making).world
         (apply nat_eq handed (world_of value) permits.task permit).world refl under_way.1
 
     mid_is_world : IsWorld nat_eq (world_of mid)
-    mid_is_world =
-        any_same_worlds_are_worlds (settled nat_eq (with_made (odds handed))) (world_of mid)
+    mid_is_world = any_same_worlds_are_worlds (settled nat_eq (with_made (odds handed))) (world_of mid)
         (change_is_swept value held (location_of directory) (change (number_of made)) made_in is_made (odds handed))
         (subst (λ world. IsWorld nat_eq (settled nat_eq world)) is_applied
         (settling_leaves_every_world (apply nat_eq handed (world_of value) permits.task making).world unsettled
@@ -310,8 +290,7 @@ module _ (value : WorldValue) (held : IsHeld value) (name : TaskName) (directory
 
     -- what holds of each world holds once the file is made
     pub mid_held : IsHeld mid
-    mid_held =
-        change_is_held value held (location_of directory) (change (number_of made)) made_in is_made mid_is_world
+    mid_held = change_is_held value held (location_of directory) (change (number_of made)) made_in is_made mid_is_world
         (any_same_worlds_keep_to_numbers (is_counted_before value.next)
         (settled nat_eq (apply nat_eq (λ k. number_of made) (world_of value) permits.task making).world) (world_of mid)
         (change_is_swept value held (location_of directory) (change (number_of made)) made_in is_made
@@ -411,19 +390,15 @@ module _ (value : WorldValue) (held : IsHeld value) (name : TaskName) (directory
 
     -- the world that the sweep leaves has the invariants
     settled_is_world : IsWorld nat_eq (settled nat_eq next)
-    settled_is_world =
-        any_same_worlds_are_worlds (settled nat_eq (opened_at (odds handed))) (settled nat_eq next)
-        (opened_alike (odds handed))
-        (subst (λ world. IsWorld nat_eq (settled nat_eq world)) opened_applied
+    settled_is_world = any_same_worlds_are_worlds (settled nat_eq (opened_at (odds handed))) (settled nat_eq next)
+        (opened_alike (odds handed)) (subst (λ world. IsWorld nat_eq (settled nat_eq world)) opened_applied
         (given_permits_give_no_upper (world_of value) handed permits.task permit held.in_world
         held.overlays.read_only permits.given).0)
 
     -- no descriptor is open for writing in an overlay
     writers_after : WritersHaveLayers (settled nat_eq next)
-    writers_after =
-        same_worlds_have_layers_alike (settled nat_eq (opened_at (odds handed))) (settled nat_eq next)
-        (opened_alike (odds handed))
-        (subst (λ world. WritersHaveLayers (settled nat_eq world)) opened_applied
+    writers_after = same_worlds_have_layers_alike (settled nat_eq (opened_at (odds handed))) (settled nat_eq next)
+        (opened_alike (odds handed)) (subst (λ world. WritersHaveLayers (settled nat_eq world)) opened_applied
         (left_writers value held permits.task permit permits.given))
 
     -- a use of its mount and of its inode
@@ -435,10 +410,8 @@ module _ (value : WorldValue) (held : IsHeld value) (name : TaskName) (directory
 
       moved : kept_with mounts filesystems overlays
           ≡ with_use (counted directory.mount.count) (inode_at (world_of mid) (location_of file))
-          (opens_for_writing access)
-          (kept_of (with_filesystems value made_in))
-      moved =
-          is_kept ∙ (λ i. with_use (counted directory.mount.count)
+          (opens_for_writing access) (kept_of (with_filesystems value made_in))
+      moved = is_kept ∙ (λ i. with_use (counted directory.mount.count)
           (sym (seen_where_located mid mid_held file small_made file_located) i, number_of made)
           (opens_for_writing access) (kept_of (with_filesystems value made_in)))
 
@@ -479,8 +452,7 @@ module _ (value : WorldValue) (held : IsHeld value) (name : TaskName) (directory
           → opened ≡ changed_called name (λ task. with_descriptor task (location_of file) access) value.tasks
           → IsDone value name (ToOpenNew (location_of directory) entry (node_in directory node) access)
           (remade mid mounts filesystems opened)
-      new_opens opened is =
-          subst (λ n. IsDone value name (ToOpenNew (location_of directory) entry n access)
+      new_opens opened is = subst (λ n. IsDone value name (ToOpenNew (location_of directory) entry n access)
           (remade mid mounts filesystems opened)) (sym (made_in_tree directory here node))
           (subst (λ all. IsDone value name permit (remade mid mounts filesystems all))
           (sym (is ∙ ap (changed_by (λ task.

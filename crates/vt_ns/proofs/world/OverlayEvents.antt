@@ -50,15 +50,12 @@ kept_as_it_is lower small plain =
     count = omega arith
 
     born : number_of lower.directory ≡ inode_number lower.filesystem.count lower.directory.slot
-    born =
-        here_number lower.directory (own_birth lower.filesystem.count lower.directory small plain)
+    born = here_number lower.directory (own_birth lower.filesystem.count lower.directory small plain)
         ∙ ap (λ n. inode_number n lower.directory.slot)
         (sym (own_count lower.filesystem.count lower.directory small plain))
 
     slot : exchanged (counted lower.filesystem.count / 4) (number_of lower.directory) ≡ lower.directory.slot
-    slot =
-        ap (λ n. exchanged n (number_of lower.directory)) count
-        ∙ ap (exchanged lower.filesystem.count) born
+    slot = ap (λ n. exchanged n (number_of lower.directory)) count ∙ ap (exchanged lower.filesystem.count) born
         ∙ exchanged_number lower.filesystem.count lower.directory.slot small
 
 -- all overlays have lower counts than the next one
@@ -76,8 +73,7 @@ module _ (value : WorldValue) (whole : IsHeld value) (name : TaskName) (new : To
     (permits : PermitsOverlay value name new) where
   may : MayBeMounted (world_of value) (supply_of value (overlay_permit permits.task new)) permits.task
       (location_of new.destination) (overlay_of permits.task new) (flags_of new.flags)
-  may =
-      given_overlays_may_be_mounted (world_of value) (supply_of value (overlay_permit permits.task new)) permits.task
+  may = given_overlays_may_be_mounted (world_of value) (supply_of value (overlay_permit permits.task new)) permits.task
       (location_of new.destination) (overlay_of permits.task new) (flags_of new.flags) whole.in_world permits.given
 
   -- the destination is on a mount that is there
@@ -108,8 +104,7 @@ module _ (value : WorldValue) (whole : IsHeld value) (name : TaskName) (new : To
       by (lower ∷ lowers) e = omega arith
 
   -- What is kept of it
-  module _ (lowers : List LayerRef)
-      (lowers_are : lowers ≡ map (λ lower. layer_kept (layer_of lower)) new.lowers.items)
+  module _ (lowers : List LayerRef) (lowers_are : lowers ≡ map (λ lower. layer_kept (layer_of lower)) new.lowers.items)
       (mounter : Credentials) (mounter_is : mounter ≡ permits.task.credentials) where
     abbrev pub kept_so : OverlayValue
     kept_so = record { number = record { count = value.next }; lowers = lowers; mounter = mounter }
@@ -125,8 +120,7 @@ module _ (value : WorldValue) (whole : IsHeld value) (name : TaskName) (new : To
     }
 
     pub layers_are_kept : AreLayers value.filesystems lowers
-    layers_are_kept =
-        subst (AreLayers value.filesystems) (sym lowers_again)
+    layers_are_kept = subst (AreLayers value.filesystems) (sym lowers_again)
         (kept_layers value whole (overlay_of permits.task new) refl may.layers).0
 
     pub some_kept : 0 < length lowers
@@ -138,6 +132,5 @@ module _ (value : WorldValue) (whole : IsHeld value) (name : TaskName) (new : To
     -- its root is the directory of its highest layer
     pub root_is_top : (top : LayerRef) → slice_get lowers 0 ≡ Some top → top.directory.slot < 18446744073709551616
         → inode_number value.next top.directory.slot ≡ (merged_tree value.filesystems kept_so).root
-    root_is_top top first small =
-        root_number_is value.filesystems kept_so layers_are_kept top first
+    root_is_top top first small = root_number_is value.filesystems kept_so layers_are_kept top first
         (exchanged_number top.directory.filesystem.count top.directory.slot small)

@@ -45,14 +45,11 @@ module _ (base : WorldValue) (store : StoreValue) (whole : IsHeld (with_store st
     (new : ToMountOverlay) (permits : PermitsOverlay (with_store store base) name new) (lowers : List LayerRef)
     (lowers_are : lowers ≡ map (λ lower. layer_kept (layer_of lower)) new.lowers.items)
     (mounter : Credentials) (mounter_is : mounter ≡ permits.task.credentials)
-    (top : LayerRef) (top_is : slice_get lowers 0 ≡ Some top)
-    (small : top.directory.slot < 18446744073709551616)
-    (mount : Mount)
-    (mount_is : mount_of mount
+    (top : LayerRef) (top_is : slice_get lowers 0 ≡ Some top) (small : top.directory.slot < 18446744073709551616)
+    (mount : Mount) (mount_is : mount_of mount
     ≡ new_mount (counted base.next) (inode_number base.next top.directory.slot) (flags_of new.flags))
     (graft : Graft) (tree_is : graft.tree.now ≡ mount ∷ []) (place_is : graft.place ≡ new.destination)
-    (binds : graft.moves ≡ false)
-    (parts_are : map mount_of graft.parts.now
+    (binds : graft.moves ≡ false) (parts_are : map mount_of graft.parts.now
     ≡ parts_of nat_eq (world_of (with_store store base)) (location_of graft.place))
     (counts : Counts) (first : counts.first ≡ base.next + 1) (step : counts.step ≡ 2)
     (ascending : are_ascending (mounts_in base.mounts) ≡ true)
@@ -66,17 +63,14 @@ module _ (base : WorldValue) (store : StoreValue) (whole : IsHeld (with_store st
   given_there : IsGivenToTask (supply_of value (MeansToMerge (location_of graft.place) (overlay_of permits.task new)
       (flags_of new.flags))) (world_of value) permits.task
       (MeansToMerge (location_of graft.place) (overlay_of permits.task new) (flags_of new.flags))
-  given_there =
-      subst (λ (place : Location). IsGivenToTask (supply_of value (MeansToMerge (location_of place)
+  given_there = subst (λ (place : Location). IsGivenToTask (supply_of value (MeansToMerge (location_of place)
       (overlay_of permits.task new) (flags_of new.flags))) (world_of value) permits.task
       (MeansToMerge (location_of place) (overlay_of permits.task new) (flags_of new.flags)))
       (sym place_is) permits.given
 
   tree_seen : map mount_of graft.tree.now
       ≡ new_mount (counted base.next) (overlay_of_store store.plain entry).root (flags_of new.flags) ∷ []
-  tree_seen =
-      ap (map mount_of) tree_is
-      ∙ ap (λ (one : meant.Mount ℕ). one ∷ [])
+  tree_seen = ap (map mount_of) tree_is ∙ ap (λ (one : meant.Mount ℕ). one ∷ [])
       (mount_is ∙ ap (λ root. new_mount (counted base.next) root (flags_of new.flags))
       (root_is_top value whole name new permits lowers lowers_are mounter mounter_is top top_is small))
 
@@ -108,7 +102,6 @@ module _ (base : WorldValue) (store : StoreValue) (whole : IsHeld (with_store st
       subst (λ (place : Location). SameWorlds (left_by value permits.task (MeansToMerge (location_of place)
       (overlay_of permits.task new) (flags_of new.flags))) (world_of then)) place_is done.1 in (
         done.0,
-        λ other found.
-            subst (λ (one : Task ℕ). SameWorlds (left_by value one (overlay_permit one new)) (world_of then))
+        λ other found. subst (λ (one : Task ℕ). SameWorlds (left_by value one (overlay_permit one new)) (world_of then))
             (same_Some permits.task other (sym permits.called ∙ found)) same,
       )

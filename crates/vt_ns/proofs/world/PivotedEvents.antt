@@ -49,10 +49,8 @@ no_rest above (suc most) a none =
 module _ (value : WorldValue) (whole : IsHeld value) (name : TaskName) (number : ℕ) (put : At)
     (permits : Permits value name (ToPivot number (location_of put))) where
   -- what is found is there
-  pub new_is_found :
-      is_some (find (λ (mount : Mount ℕ). nat_eq number mount.number) (mounts_in value.mounts)) ≡ true
-  new_is_found =
-      found_there number (find (λ (mount : Mount ℕ). nat_eq number mount.number) (mounts_in value.mounts))
+  pub new_is_found : is_some (find (λ (mount : Mount ℕ). nat_eq number mount.number) (mounts_in value.mounts)) ≡ true
+  new_is_found = found_there number (find (λ (mount : Mount ℕ). nat_eq number mount.number) (mounts_in value.mounts))
       (ap is_some (may value whole name number put permits).own)
 
   pub new_is_placed : is_some (mount_numbered nat_eq (world_of value) number).mount_point ≡ true
@@ -64,8 +62,7 @@ module _ (value : WorldValue) (whole : IsHeld value) (name : TaskName) (number :
       by : (point : Option (Location ℕ)) → (mount_numbered nat_eq (world_of value) number).mount_point ≡ point
           → is_some point ≡ true
       by (Some place) e = refl
-      by None e =
-          absurd (true≢false (sym ((may value whole name number put permits).below_root 0)
+      by None e = absurd (true≢false (sym ((may value whole name number put permits).below_root 0)
           ∙ ap (list_any (λ (location : Location ℕ). nat_eq permits.task.root.mount location.mount))
           (no_rest (λ (location : Location ℕ). (Looks.mount_at (looks_of nat_eq (world_of value)) location).mount_point)
           (looks_of nat_eq (world_of value)).mount_count here e)))
@@ -76,25 +73,21 @@ module _ (value : WorldValue) (whole : IsHeld value) (name : TaskName) (number :
 
     pub root_is_found : is_some (find (λ (mount : Mount ℕ). nat_eq (counted held.root.mount.count) mount.number)
         (mounts_in value.mounts)) ≡ true
-    root_is_found =
-        found_there (counted held.root.mount.count)
+    root_is_found = found_there (counted held.root.mount.count)
         (find (λ (mount : Mount ℕ). nat_eq (counted held.root.mount.count) mount.number) (mounts_in value.mounts))
         (ap (λ (one : Task ℕ). is_some (mount_at nat_eq (world_of value) one.root).namespace) caller_is
         ∙ ap is_some (may value whole name number put permits).own_root)
 
-    module _ (root new : Attached) (left entered point : At)
-        (root_is : Some (mount_of root)
+    module _ (root new : Attached) (left entered point : At) (root_is : Some (mount_of root)
         ≡ find (λ (mount : Mount ℕ). nat_eq (counted held.root.mount.count) mount.number) (mounts_in value.mounts))
-        (new_is : Some (mount_of new)
-        ≡ find (λ (mount : Mount ℕ). nat_eq number mount.number) (mounts_in value.mounts))
+        (new_is : Some (mount_of new) ≡ find (λ (mount : Mount ℕ). nat_eq number mount.number) (mounts_in value.mounts))
         (left_is : location_of left ≡ root_of (mount_of root))
         (entered_is : location_of entered ≡ root_of (mount_of new))
         (point_is : Some (location_of point) ≡ (mount_numbered nat_eq (world_of value) number).mount_point)
         (moved : ℕ) (moved_is : moved ≡ all_places_at (counted held.namespace.count) (location_of left) value.tasks)
       where
         root_so : mount_of root ≡ mount_at nat_eq (world_of value) permits.task.root
-        root_so =
-            ap (λ o. unwrap_or o (no_mount (counted held.root.mount.count))) root_is
+        root_so = ap (λ o. unwrap_or o (no_mount (counted held.root.mount.count))) root_is
             ∙ ap (λ (one : Task ℕ). mount_at nat_eq (world_of value) one.root) caller_is
 
         new_so : mount_of new ≡ mount_numbered nat_eq (world_of value) number
@@ -132,16 +125,14 @@ module _ (value : WorldValue) (whole : IsHeld value) (name : TaskName) (number :
             tasks_so =
             let inside : counted held.namespace.count ≡ permits.task.namespace =
             ap (λ (one : Task ℕ). one.namespace) caller_is in
-            let as_many = moved_is
-            ∙ (λ i. all_places_at (inside i) ((left_is ∙ ap root_of root_so) i) value.tasks) in
+            let as_many = moved_is ∙ (λ i. all_places_at (inside i) ((left_is ∙ ap root_of root_so) i) value.tasks) in
             subst (λ all. IsDone value name (ToPivot number (location_of put)) (remade value mounts filesystems all))
             (sym (tasks_so ∙ (λ i. map (pivoted_task nat_eq (inside i) (root_so i) (new_so i)) value.tasks)))
             (root_is_changed value whole name number put permits entered left point
             (entered_is ∙ ap root_of new_so) (left_is ∙ ap root_of root_so) (sym point_is)
             put_small entered_small left_small point_small between mounts pinned_files left_files filesystems overlays
             (kept_with held_mounts held_files held_overlays)
-            (pivoted_so ∙ (λ i. map (pivoted_entry (root_so i) (new_so i) (location_of put)) value.mounts))
-            pinned_so
+            (pivoted_so ∙ (λ i. map (pivoted_entry (root_so i) (new_so i) (location_of put)) value.mounts)) pinned_so
             (held_so ∙ ap (λ n. with_uses n entered
             (kept_with between pinned_files (map merged_seen value.overlays))) as_many)
             (left_so ∙ ap (λ n. without_uses n left (kept_with held_mounts held_files held_overlays)) as_many)

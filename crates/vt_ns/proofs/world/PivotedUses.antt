@@ -67,8 +67,7 @@ total_map : (weight : Mount ℕ → ℕ) (change : Mount ℕ → Mount ℕ) (mou
 total_map weight change [] = refl
 total_map weight change (mount ∷ rest) = ap (λ n. weight (change mount) + n) (total_map weight change rest)
 
-sums : (f g h a b c : Mount ℕ → ℕ)
-    → ((mount : Mount ℕ) → (f mount + g mount) + h mount ≡ (a mount + b mount) + c mount)
+sums : (f g h a b c : Mount ℕ → ℕ) → ((mount : Mount ℕ) → (f mount + g mount) + h mount ≡ (a mount + b mount) + c mount)
     → (mounts : List (Mount ℕ))
     → (total f mounts + total g mounts) + total h mounts ≡ (total a mounts + total b mounts) + total c mounts
 sums f g h a b c each [] = refl
@@ -144,8 +143,7 @@ module _ (root new : Mount ℕ) (put : Location ℕ) where
   pub kept_showing : (mounts : List (Mount ℕ)) (number : ℕ)
       → times (λ (mount : Mount ℕ). nat_eq number mount.filesystem) (map pivoting mounts)
       ≡ times (λ (mount : Mount ℕ). nat_eq number mount.filesystem) mounts
-  kept_showing mounts number =
-      times_kept (λ (mount : Mount ℕ). nat_eq number mount.filesystem) pivoting
+  kept_showing mounts number = times_kept (λ (mount : Mount ℕ). nat_eq number mount.filesystem) pivoting
       (λ mount. ap (nat_eq number) (kept_filesystem mount)) mounts
 
   kept_roots : (mounts : List (Mount ℕ)) → map root_of (map pivoting mounts) ≡ map root_of mounts
@@ -169,8 +167,7 @@ module _ (root new : Mount ℕ) (put : Location ℕ) where
     one_pivots another mount =
         (λ i. (point_weight (pivoting mount) + cond (nat_eq_turned new.number mount.number i) (point_weight mount) 0)
         + cond (nat_eq_turned root.number mount.number i) (point_weight mount) 0)
-        ∙ by (nat_eq mount.number new.number) refl (nat_eq mount.number root.number) refl
-        ∙ (λ i. (point_weight mount
+        ∙ by (nat_eq mount.number new.number) refl (nat_eq mount.number root.number) refl ∙ (λ i. (point_weight mount
         + cond (nat_eq_turned mount.number new.number i) (weight_at root.mount_point) 0)
         + cond (nat_eq_turned mount.number root.number i) (weight put) 0)
       where
@@ -179,15 +176,13 @@ module _ (root new : Mount ℕ) (put : Location ℕ) where
             (cond c (record mount { mount_point = Some put }) mount)).mount_point
             + cond b (point_weight mount) 0) + cond c (point_weight mount) 0
             ≡ (point_weight mount + cond b (weight_at root.mount_point) 0) + cond c (weight put) 0
-        by true e true f =
-            absurd (true≢false (sym (eq-eqb new.number root.number
+        by true e true f = absurd (true≢false (sym (eq-eqb new.number root.number
             (sym (eqb-true mount.number new.number e) ∙ eqb-true mount.number root.number f)) ∙ another))
         by true e false f = omega arith
         by false e true f = omega arith
         by false e false f = refl
 
-    points_weigh : (mounts : List (Mount ℕ))
-        → any_pair (λ (a b : Mount ℕ). nat_eq a.number b.number) mounts ≡ false
+    points_weigh : (mounts : List (Mount ℕ)) → any_pair (λ (a b : Mount ℕ). nat_eq a.number b.number) mounts ≡ false
         → Among root mounts → Among new mounts → nat_eq new.number root.number ≡ false
         → total point_weight (map pivoting mounts) + point_weight new ≡ total point_weight mounts + weight put
     points_weigh mounts one root_there new_there another =
@@ -216,8 +211,7 @@ module _ (root new : Mount ℕ) (put : Location ℕ) where
     points_count [] = refl
     points_count (mount ∷ rest) = by mount.mount_point (points_count rest)
       where
-        by : (point : Option (Location ℕ))
-            → count_in mounts k n (filter_map (λ (one : Mount ℕ). one.mount_point) rest)
+        by : (point : Option (Location ℕ)) → count_in mounts k n (filter_map (λ (one : Mount ℕ). one.mount_point) rest)
             ≡ total (point_weight place_weight) rest
             → count_in mounts k n (cons_option point (filter_map (λ (one : Mount ℕ). one.mount_point) rest))
             ≡ weight_at place_weight point + total (point_weight place_weight) rest
@@ -232,9 +226,7 @@ module _ (root new : Mount ℕ) (put : Location ℕ) where
     -- locations of tasks
     locations_count : (tasks : Tasks) → count_in mounts k n (flat_map locations_of tasks)
         ≡ uses (λ location. is_inode k n ((mount_in nat_eq mounts location.mount).filesystem, location.node)) tasks
-    locations_count tasks =
-        sym (count_places mounts k n (flat_map locations_of tasks))
-        ∙ counted_so (is_inode k n)
+    locations_count tasks = sym (count_places mounts k n (flat_map locations_of tasks)) ∙ counted_so (is_inode k n)
         (λ (location : Location ℕ). ((mount_in nat_eq mounts location.mount).filesystem, location.node))
         (flat_map locations_of tasks)
 
@@ -255,8 +247,7 @@ module _ (world : World ℕ) (namespace : ℕ) (root new : Mount ℕ) (put : Loc
   leaving = replicate moved (standing (root_of root))
 
   -- the uses of a mount
-  pub mount_uses_pivot : (number : ℕ)
-      → mount_uses pivoted_world number + times (is_use_on number) leaving
+  pub mount_uses_pivot : (number : ℕ) → mount_uses pivoted_world number + times (is_use_on number) leaving
       ≡ mount_uses world number + times (is_use_on number) coming
   mount_uses_pivot number =
       let test : Location ℕ → Bool = λ (location : Location ℕ). nat_eq number location.mount in
@@ -275,15 +266,12 @@ module _ (world : World ℕ) (namespace : ℕ) (root new : Mount ℕ) (put : Loc
   pub writes_pivot : (number : ℕ) (tasks : Tasks)
       → writes_of number (map (pivoted_task nat_eq namespace root new) tasks) ≡ writes_of number tasks
   writes_pivot number [] = refl
-  writes_pivot number (task ∷ rest) =
-      λ i. by (nat_eq namespace task.namespace) i + writes_pivot number rest i
+  writes_pivot number (task ∷ rest) = λ i. by (nat_eq namespace task.namespace) i + writes_pivot number rest i
     where
-      by : (b : Bool)
-          → writes_of_task number (cond b (record task {
-            root = pivoted_location nat_eq root new task.root;
-            directory = pivoted_location nat_eq root new task.directory;
-          }) task)
-          ≡ writes_of_task number task
+      by : (b : Bool) → writes_of_task number (cond b (record task {
+        root = pivoted_location nat_eq root new task.root;
+        directory = pivoted_location nat_eq root new task.directory;
+      }) task) ≡ writes_of_task number task
       by true = refl
       by false = refl
 
@@ -294,12 +282,10 @@ module _ (world : World ℕ) (namespace : ℕ) (root new : Mount ℕ) (put : Loc
       times_kept (λ (task : Task ℕ). nat_eq number task.namespace) (pivoted_task nat_eq namespace root new)
       (λ task. ap (nat_eq number) (by task (nat_eq namespace task.namespace))) tasks
     where
-      by : (task : Task ℕ) (b : Bool)
-          → (cond b (record task {
-            root = pivoted_location nat_eq root new task.root;
-            directory = pivoted_location nat_eq root new task.directory;
-          }) task).namespace
-          ≡ task.namespace
+      by : (task : Task ℕ) (b : Bool) → (cond b (record task {
+        root = pivoted_location nat_eq root new task.root;
+        directory = pivoted_location nat_eq root new task.directory;
+      }) task).namespace ≡ task.namespace
       by task true = refl
       by task false = refl
 
@@ -321,8 +307,7 @@ module _ (world : World ℕ) (namespace : ℕ) (root new : Mount ℕ) (put : Loc
   module _ (one : any_pair (λ (a b : Mount ℕ). nat_eq a.number b.number) world.mounts ≡ false)
       (root_there : Among root world.mounts) (new_there : Among new world.mounts)
       (another : nat_eq new.number root.number ≡ false) where
-    counts : (k n : ℕ)
-        → times (nat_eq n) (located_in nat_eq world k) + times (is_inode k n) gained
+    counts : (k n : ℕ) → times (nat_eq n) (located_in nat_eq world k) + times (is_inode k n) gained
         ≡ times (nat_eq n) (located_in nat_eq pivoted_world k) + times (is_inode k n) lost
     counts k n =
         let mounts = world.mounts in

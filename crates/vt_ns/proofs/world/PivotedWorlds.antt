@@ -125,10 +125,8 @@ module _ (value : WorldValue) (whole : IsHeld value) (name : TaskName) (number :
   one_number = whole.in_world.mounts.one_number
 
   another : nat_eq new.number root.number ≡ false
-  another =
-      (λ i. nat_eq (number_found (mounts_in value.mounts) number i)
-      (number_found (mounts_in value.mounts) permits.task.root.mount i))
-      ∙ may.another
+  another = (λ i. nat_eq (number_found (mounts_in value.mounts) number i)
+      (number_found (mounts_in value.mounts) permits.task.root.mount i)) ∙ may.another
 
   root_there : Among root (mounts_in value.mounts)
   root_there = found_is_there (mounts_in value.mounts) permits.task.root.mount (ap is_some may.own_root)
@@ -159,9 +157,7 @@ module _ (value : WorldValue) (whole : IsHeld value) (name : TaskName) (number :
       (λ mount. ap (nat_eq filesystem) (kept_filesystem root new place mount))
 
   living_is : in_use_of next ≡ next
-  living_is =
-      ap (without_dead_filesystems nat_eq) mounts_stay
-      ∙ ap (λ all. record next { filesystems = all })
+  living_is = ap (without_dead_filesystems nat_eq) mounts_stay ∙ ap (λ all. record next { filesystems = all })
       (filter_all (filesystem_lives nat_eq next) next.filesystems (λ f m.
       same_lives f ∙ passes (filesystem_lives nat_eq before) before.filesystems in_use.filesystems f m))
     where
@@ -169,8 +165,7 @@ module _ (value : WorldValue) (whole : IsHeld value) (name : TaskName) (number :
       in_use = worlds_are_in_use before whole.in_world
 
       mounts_stay : without_dead_mounts nat_eq next ≡ next
-      mounts_stay =
-          ap (with_mounts next) (filter_all (mount_lives nat_eq next) next.mounts (λ mount m.
+      mounts_stay = ap (with_mounts next) (filter_all (mount_lives nat_eq next) next.mounts (λ mount m.
           (loses before namespace permits.task.root.mount number place in_use (mounts_of_worlds_stand before whole.in_world)
           (ap is_some may.own_root) (ap is_some may.own)).live mount m refl))
 
@@ -179,8 +174,7 @@ module _ (value : WorldValue) (whole : IsHeld value) (name : TaskName) (number :
           || list_any (λ merged. has_layer_on nat_eq f.number merged && same_mounted merged.number i) before.filesystems
 
   same_groups : Has (settled nat_eq next) value.groups
-  same_groups =
-      changed_has value whole next change refl (λ group. refl) (kept_number root new place)
+  same_groups = changed_has value whole next change refl (λ group. refl) (kept_number root new place)
       (kept_part root new place (λ mount. mount.namespace) (λ mount point. refl))
       (kept_part root new place (λ mount. mount.propagation) (λ mount point. refl))
 
@@ -194,13 +188,11 @@ module _ (value : WorldValue) (whole : IsHeld value) (name : TaskName) (number :
       (inodes_there value whole was m (place ∷ locations more) located)
     where
       located : (at : Location ℕ) → Among at (place ∷ locations more) → is_located_well nat_eq before at ≡ true
-      located at n =
-          ⊎_elim (λ same. ap (is_located_well nat_eq before) same ∙ place_located)
+      located at n = ⊎_elim (λ same. ap (is_located_well nat_eq before) same ∙ place_located)
           (λ later. let from = among-from_map (λ (one : Use). one.location) more at later in
           ap (is_located_well nat_eq before)
           (from.2 ∙ ap (λ (one : Use). one.location) (among-replicate moving (standing (root_of new)) from.0 from.1))
-          ∙ root_located new new_there)
-          n
+          ∙ root_located new new_there) n
 
   -- What is counted once all is done
 
@@ -216,37 +208,32 @@ module _ (value : WorldValue) (whole : IsHeld value) (name : TaskName) (number :
     root_inode : (at : At) → is_small_node at.node ≡ true → (mount : Mount ℕ)
         → Among mount (mounts_in value.mounts) → location_of at ≡ root_of mount
         → inode_of at.node ≡ inode_at before (root_of mount)
-    root_inode at small mount m is =
-        (λ i. (
-          sym (seen_where_located value whole at small
-              (ap (is_located_well nat_eq before) is ∙ root_located mount m)) i,
-          number_of at.node,
-        ))
-        ∙ ap (inode_at before) is
+    root_inode at small mount m is = (λ i. (
+      sym (seen_where_located value whole at small
+          (ap (is_located_well nat_eq before) is ∙ root_located mount m)) i,
+      number_of at.node,
+    )) ∙ ap (inode_at before) is
 
     point_inode : inode_of point.node ≡ inode_at before (location_of point)
-    point_inode =
-        λ i. (
-          sym (seen_where_located value whole point point_small
-              (mount_point_located value whole number permits.task.namespace (location_of point) may.own point_is)) i,
-          number_of point.node,
-        )
+    point_inode = λ i. (
+      sym (seen_where_located value whole point point_small
+          (mount_point_located value whole number permits.task.namespace (location_of point) may.own point_is)) i,
+      number_of point.node,
+    )
 
     with_uses_so : (n : ℕ) (k : Kept)
         → with_uses n entered k ≡ folded (gain before) k (replicate n (standing (root_of new)))
     with_uses_so zero k = refl
     with_uses_so (suc n) k =
         (λ i. with_use (entered_is i).mount (root_inode entered entered_small new new_there entered_is i) false
-        (with_uses_so n k i))
-        ∙ sym (folded_again (gain before) k n (standing (root_of new)))
+        (with_uses_so n k i)) ∙ sym (folded_again (gain before) k n (standing (root_of new)))
 
     without_uses_so : (n : ℕ) (k : Kept)
         → without_uses n left k ≡ folded (lose before) k (replicate n (standing (root_of root)))
     without_uses_so zero k = refl
     without_uses_so (suc n) k =
         (λ i. released_use (left_is i).mount (root_inode left left_small root root_there left_is i) false
-        (without_uses_so n k i))
-        ∙ sym (folded_again (lose before) k n (standing (root_of root)))
+        (without_uses_so n k i)) ∙ sym (folded_again (lose before) k n (standing (root_of root)))
 
     module _ (between mounts : List MountEntry) (pinned_files held_files : Filesystems) (filesystems : Filesystems)
         (overlays : List Merged) (held : Kept) (pivoted_so : between ≡ map (pivoted_entry root new place) value.mounts)
@@ -259,8 +246,7 @@ module _ (value : WorldValue) (whole : IsHeld value) (name : TaskName) (number :
 
       all_so : kept_with mounts held_files overlays ≡ moved_kept before more less
           (kept_with between pinned_files (map merged_seen value.overlays))
-      all_so =
-          left_so ∙ without_uses_so moving held
+      all_so = left_so ∙ without_uses_so moving held
           ∙ ap (λ k. folded (lose before) k less) (held_so ∙ with_uses_so moving
           (kept_with between pinned_files (map merged_seen value.overlays)))
 
@@ -268,37 +254,29 @@ module _ (value : WorldValue) (whole : IsHeld value) (name : TaskName) (number :
       final entry = folded_entry more less (pivoted_entry root new place entry)
 
       entries_are : mounts ≡ map final value.mounts
-      entries_are =
-          ap (λ (k : Kept). k.mounts) all_so ∙ mounts_moved before more less
+      entries_are = ap (λ (k : Kept). k.mounts) all_so ∙ mounts_moved before more less
           (kept_with between pinned_files (map merged_seen value.overlays))
           ∙ ap (map (folded_entry more less)) pivoted_so
           ∙ map_twice (folded_entry more less) (pivoted_entry root new place) value.mounts
 
       mounts_are : next.mounts ≡ mounts_in mounts
-      mounts_are =
-          map_twice change (λ (entry : MountEntry). entry.mount) value.mounts
+      mounts_are = map_twice change (λ (entry : MountEntry). entry.mount) value.mounts
           ∙ sym (ap (λ (k : Kept). mounts_in k.mounts) all_so
           ∙ same_moved_mounts before more less (kept_with between pinned_files (map merged_seen value.overlays))
           ∙ ap mounts_in pivoted_so
           ∙ map_twice (λ (entry : MountEntry). entry.mount) (pivoted_entry root new place) value.mounts)
 
       shown_are : shown filesystems ≡ map (exchanged_shown gets loses_uses) (shown value.filesystems)
-      shown_are =
-          unpinned_so
-          ∙ (λ i. unpinned_in (point_inode i)
-          ((ap (λ (k : Kept). k.filesystems) all_so
-          ∙ filesystems_moved before more less
-          (kept_with between pinned_files (map merged_seen value.overlays))
+      shown_are = unpinned_so ∙ (λ i. unpinned_in (point_inode i) ((ap (λ (k : Kept). k.filesystems) all_so
+          ∙ filesystems_moved before more less (kept_with between pinned_files (map merged_seen value.overlays))
           ∙ ap (map (exchanged_shown (inodes_of_uses before more) (inodes_of_uses before less)))
           (pinned_so ∙ ap (λ one. pinned_in one (shown value.filesystems)) put_inode)) i))
           ∙ map_twice _ _ (pinned_in (inode_at before place) (shown value.filesystems))
           ∙ map_twice _ _ (shown value.filesystems)
           ∙ map_alike _ (exchanged_shown gets loses_uses) (shown value.filesystems) (λ one m.
-          ap (λ inodes. record one { inodes = inodes })
-          (sym (folded_last (unpinned_if (counted one.count))
+          ap (λ inodes. record one { inodes = inodes }) (sym (folded_last (unpinned_if (counted one.count))
           (folded (pinned_if (counted one.count)) one.inodes gets)
-          (inodes_of_uses before less) (inode_at before (location_of point))))
-          ∙ ap (λ o. exchanged_shown gets
+          (inodes_of_uses before less) (inode_at before (location_of point)))) ∙ ap (λ o. exchanged_shown gets
           (inodes_of_uses before less ++ map (inode_at before) (option_to_list o)) one) (sym point_is))
 
       -- as many uses as an entry counts
@@ -344,12 +322,10 @@ module _ (value : WorldValue) (whole : IsHeld value) (name : TaskName) (number :
 
       same_numbers : map (λ (f : Filesystem ℕ). f.number) (filesystems_seen value.filesystems)
           ≡ map (λ (entry : FilesystemEntry). counted entry.count) filesystems
-      same_numbers =
-          map_twice (λ (f : Filesystem ℕ). f.number) filesystem_seen value.filesystems
+      same_numbers = map_twice (λ (f : Filesystem ℕ). f.number) filesystem_seen value.filesystems
           ∙ sym (map_twice (λ (one : Shown). counted one.count) shown_entry value.filesystems)
           ∙ sym (map_twice (λ (one : Shown). counted one.count) (exchanged_shown gets loses_uses)
-          (shown value.filesystems))
-          ∙ sym (ap (map (λ (one : Shown). counted one.count)) shown_are)
+          (shown value.filesystems)) ∙ sym (ap (map (λ (one : Shown). counted one.count)) shown_are)
           ∙ map_twice (λ (one : Shown). counted one.count) shown_entry filesystems
 
       swept : IsSwept value next gets loses_uses new_value
@@ -360,8 +336,7 @@ module _ (value : WorldValue) (whole : IsHeld value) (name : TaskName) (number :
         mounts = ap (λ (world : World ℕ). world.mounts) living_is ∙ mounts_are;
         numbers = ap (λ (world : World ℕ). map (λ (f : Filesystem ℕ). f.number)
             (filter is_plain_one world.filesystems)) living_is
-            ∙ ap (map (λ (f : Filesystem ℕ). f.number)) (plain_ones_are value whole.overlays)
-            ∙ same_numbers;
+            ∙ ap (map (λ (f : Filesystem ℕ). f.number)) (plain_ones_are value whole.overlays) ∙ same_numbers;
         entries = λ entry m. let from = shown_was entry m in record {
           was = from.0;
           among = from.1;
@@ -407,6 +382,5 @@ module _ (value : WorldValue) (whole : IsHeld value) (name : TaskName) (number :
       }
 
       pub root_is_changed : IsDone value name (ToPivot number (location_of put)) new_value
-      root_is_changed =
-          finished value whole name (ToPivot number (location_of put)) permits.task next applied
+      root_is_changed = finished value whole name (ToPivot number (location_of put)) permits.task next applied
           gets loses_uses new_value swept same_groups counts refl

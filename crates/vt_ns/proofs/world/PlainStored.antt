@@ -37,15 +37,13 @@ module _ (base : WorldValue) (store : StoreValue) (held : IsHeld (with_store sto
   -- so an event that changes files alone
   pub files_stored : IsFilesEvent (with_store store base) name permit (with_filesystems (with_store store base) plain)
       → IsFilesEvent (with_store store base) name permit (with_store (record store { plain = plain }) base)
-  files_stored is =
-      subst (IsFilesEvent (with_store store base) name permit) (overlays_stay base is.held is.becomes) is
+  files_stored is = subst (IsFilesEvent (with_store store base) name permit) (overlays_stay base is.held is.becomes) is
 
   -- also where it may be refused memory
   pub answered_stored : (result : Result (Unit {0}) AllocError) → OnErr result (plain ≡ store.plain)
       → IsAnswered (with_store store base) name permit (with_filesystems (with_store store base) plain) result
       → IsAnswered (with_store store base) name permit (with_store (record store { plain = plain }) base) result
-  answered_stored (Ok done) kept is =
-      subst (λ new. IsAnswered (with_store store base) name permit new (Ok done))
+  answered_stored (Ok done) kept is = subst (λ new. IsAnswered (with_store store base) name permit new (Ok done))
       (overlays_stay base is.held is.ok) is
   answered_stored (Err refused) kept is =
       record { held = subst (λ all. IsHeld (with_store (record store { plain = all }) base)) (sym kept) held; ok = tt }

@@ -86,8 +86,7 @@ module _ (value : WorldValue) (whole : IsHeld value) where
           let from = among-from_map point_seen points (mount.number, other)
           (looked_up mount.number (map point_seen points) other e) in
           ap (is_located_well nat_eq world)
-          (sym (same_Some other place is) ∙ ap (λ (pair : ℕ × Location ℕ). pair.1) from.2)
-          ∙ each from.0 from.1
+          (sym (same_Some other place is) ∙ ap (λ (pair : ℕ × Location ℕ). pair.1) from.2) ∙ each from.0 from.1
 
   taken_located : (points : List Point)
       → ((point : Point) → Among point points → is_located_well nat_eq world (location_of point.place) ≡ true)
@@ -99,8 +98,7 @@ module _ (value : WorldValue) (whole : IsHeld value) where
       (among-append (points_taken rest value.mounts) (taken_at point (with_points rest value.mounts)) at m)
     where
       here : (b : Bool) → Among at (cond b (point.place ∷ []) []) → is_located_well nat_eq world (location_of at) ≡ true
-      here true n =
-          ⊎_elim (λ same. ap (λ (one : At). is_located_well nat_eq world (location_of one)) same
+      here true n = ⊎_elim (λ same. ap (λ (one : At). is_located_well nat_eq world (location_of one)) same
           ∙ each point (inl refl)) (λ none. absurd none) n
       here false n = absurd n
 
@@ -129,20 +127,15 @@ module _ (value : WorldValue) (whole : IsHeld value) where
               (among-map (λ (one : MountEntry). one.mount) (with_points rest value.mounts) entry found)) in
               ⊎_elim (λ same. ap (is_located_well nat_eq world) same
               ∙ located_moved rest (λ one l. each one (inr l)) from.0 from.1 other
-              (ap (λ (x : Mount ℕ). x.mount_point) (sym from.2) ∙ f))
-              (λ none. absurd none) k
+              (ap (λ (x : Mount ℕ). x.mount_point) (sym from.2) ∙ f)) (λ none. absurd none) k
 
   -- the inodes there are those that the definitions see
   inodes_are : (ats : List At) → ((at : At) → Among at ats → is_located_well nat_eq world (location_of at) ≡ true)
-      → list_all is_small ats ≡ true
-      → inodes_of_points ats ≡ map (inode_at world) (map location_of ats)
+      → list_all is_small ats ≡ true → inodes_of_points ats ≡ map (inode_at world) (map location_of ats)
   inodes_are [] there small = refl
   inodes_are (at ∷ rest) there small =
       let parts = and_parts (is_small at) (list_all is_small rest) small in
-      λ i. (
-        sym (seen_where_located value whole at parts.0 (there at (inl refl))) i,
-        number_of at.node,
-      )
+      λ i. (sym (seen_where_located value whole at parts.0 (there at (inl refl))) i, number_of at.node)
       ∷ inodes_are rest (λ one m. there one (inr m)) parts.1 i
 
   -- and they are there
@@ -151,8 +144,7 @@ module _ (value : WorldValue) (whole : IsHeld value) where
       → AreThere (counted was.count) (inodes_seen was) (map (inode_at world) places)
   inodes_there was m places there =
       all_pass (λ inode. not (nat_eq (counted was.count) inode.0) || is_some ((inodes_seen was).inode inode.1))
-      (map (inode_at world) places)
-      (λ inode n. let from = among-from_map (inode_at world) places inode n in
+      (map (inode_at world) places) (λ inode n. let from = among-from_map (inode_at world) places inode n in
       ap (λ (one : Inode). not (nat_eq (counted was.count) one.0) || is_some ((inodes_seen was).inode one.1)) from.2
       ∙ by from.0 (nat_eq (counted was.count) (mount_at nat_eq world from.0).filesystem) refl (there from.0 from.1))
     where
@@ -161,17 +153,14 @@ module _ (value : WorldValue) (whole : IsHeld value) where
       some_inode (Some inode) = refl
 
       by : (place : Location ℕ) (b : Bool) → nat_eq (counted was.count) (mount_at nat_eq world place).filesystem ≡ b
-          → is_located_well nat_eq world place ≡ true
-          → (not b || is_some ((inodes_seen was).inode place.node)) ≡ true
+          → is_located_well nat_eq world place ≡ true → (not b || is_some ((inodes_seen was).inode place.node)) ≡ true
       by place true e well =
           let number : counted was.count ≡ (mount_at nat_eq world place).filesystem = eqb-true _ _ e in
           let seen : is_there nat_eq world (mount_at nat_eq world place).filesystem place.node
           ≡ true = (and_parts _ _ well).1 in
           sym (some_inode ((inodes_seen was).inode place.node))
-          ∙ ap (λ (f : Filesystem ℕ). is_some (f.files.tree.node place.node))
-          (sym (found_plain_one value whole was m)
-          ∙ ap (filesystem_numbered nat_eq world) number)
-          ∙ seen
+          ∙ ap (λ (f : Filesystem ℕ). is_some (f.files.tree.node place.node)) (sym (found_plain_one value whole was m)
+          ∙ ap (filesystem_numbered nat_eq world) number) ∙ seen
       by place false e well = refl
 
 -- The mounts at their new mount points
@@ -201,8 +190,7 @@ module _ (value : WorldValue) (whole : IsHeld value) (points : List Point) (may 
   after = moved_world value points
 
   same_mount : (n : ℕ) → (mount_in nat_eq after.mounts n).namespace ≡ (mount_in nat_eq before.mounts n).namespace
-  same_mount n =
-      ap (λ o. (unwrap_or o (no_mount n)).namespace) (found_mapped moved (λ mount. refl) before.mounts n)
+  same_mount n = ap (λ o. (unwrap_or o (no_mount n)).namespace) (found_mapped moved (λ mount. refl) before.mounts n)
       ∙ by (find (λ (mount : Mount ℕ). nat_eq n mount.number) before.mounts)
     where
       by : (o : Option (Mount ℕ)) → (unwrap_or (option_map moved o) (no_mount n)).namespace
@@ -215,8 +203,7 @@ module _ (value : WorldValue) (whole : IsHeld value) (points : List Point) (may 
     one_number = pair_mapped moved (λ mount. refl) before.mounts ∙ whole.in_world.mounts.one_number;
     nowhere = all_pass is_nowhere_or_attached after.mounts
         (λ mount m. let from = among-from_map moved before.mounts mount m in
-        ap is_nowhere_or_attached from.2
-        ∙ outside from.0 (is_some from.0.namespace) refl
+        ap is_nowhere_or_attached from.2 ∙ outside from.0 (is_some from.0.namespace) refl
         (passes is_nowhere_or_attached before.mounts whole.in_world.mounts.nowhere from.0 from.1)
         (may.outside from.0 from.1));
     on_attached = all_pass (stands_on_attached after) after.mounts
@@ -243,10 +230,8 @@ module _ (value : WorldValue) (whole : IsHeld value) (points : List Point) (may 
           ∙ ap (λ b. b && true) (ap is_some (same_mount place.mount) ∙ may.attached mount m place e)
 
   located : LocationsStand after
-  located =
-      subst (λ numbers. list_all (λ (location : Location ℕ). is_among nat_eq location.mount numbers)
-      (all_locations before) ≡ true)
-      (sym (map_twice (λ (mount : Mount ℕ). mount.number) moved before.mounts))
+  located = subst (λ numbers. list_all (λ (location : Location ℕ). is_among nat_eq location.mount numbers)
+      (all_locations before) ≡ true) (sym (map_twice (λ (mount : Mount ℕ). mount.number) moved before.mounts))
       (Roots.locations_of_worlds_stand before whole.in_world)
 
   in_use : MountsInUseBut [] after
@@ -257,8 +242,7 @@ module _ (value : WorldValue) (whole : IsHeld value) (points : List Point) (may 
       ∙ passes (mount_lives nat_eq before) before.mounts (worlds_are_in_use before whole.in_world).mounts from.0 from.1)
 
   mounted : FilesystemsInUse after
-  mounted =
-      all_pass (filesystem_lives nat_eq after) before.filesystems (λ f m.
+  mounted = all_pass (filesystem_lives nat_eq after) before.filesystems (λ f m.
       lives_alike before after refl
       (λ number. any-map (λ (mount : Mount ℕ). nat_eq number mount.filesystem) moved before.mounts (λ mount. refl)) f
       ∙ passes (filesystem_lives nat_eq before) before.filesystems
@@ -294,26 +278,22 @@ module _ (value : WorldValue) (whole : IsHeld value) (points : List Point) (may 
         ∙ planned_shown (points_taken points value.mounts) left [] (shown value.filesystems)
 
     taken_is : inodes_of_points (points_taken points value.mounts) ++ [] ≡ gained
-    taken_is =
-        append-nil (inodes_of_points (points_taken points value.mounts))
+    taken_is = append-nil (inodes_of_points (points_taken points value.mounts))
         ∙ inodes_are value whole (points_taken points value.mounts)
         (taken_located value whole points may.each) taken_small
 
     left_is : inodes_of_points left ≡ lost
-    left_is =
-        inodes_are value whole left (λ at m. left_located value whole points may.each (location_of at)
+    left_is = inodes_are value whole left (λ at m. left_located value whole points may.each (location_of at)
         (subst (Among (location_of at)) left_are (among-map location_of left at m))) left_small
         ∙ ap (map (inode_at before)) left_are
 
     uses_exchanged : (filesystem : ℕ) → Exchanges gained lost filesystem before after
-    uses_exchanged filesystem =
-        subst (λ all. Exchanges gained lost filesystem before (with_mounts before all))
+    uses_exchanged filesystem = subst (λ all. Exchanges gained lost filesystem before (with_mounts before all))
         (points_are_moved value.mounts points)
         (points_are_uses before value.mounts points refl whole.in_world.mounts.one_number filesystem)
 
     merged_after : map merged_seen value.overlays ≡ map (merged_in after) (filter is_overlay after.filesystems)
-    merged_after =
-        (held_is_kept value whole).merged
+    merged_after = (held_is_kept value whole).merged
         ∙ map_alike (merged_in before) (merged_in after) (filter is_overlay before.filesystems) (λ overlay m. λ i. record {
           number = overlay.number;
           mounts = sym (showing overlay.number) i;
@@ -355,8 +335,7 @@ module _ (value : WorldValue) (whole : IsHeld value) (points : List Point) (may 
       mounts = mounts_are ∙ map_itself (mounts_in mounts);
       uses = all_from_among (CountsItsUses after) mounts (λ entry m.
           let was = among_from_all (CountsItsUses before) (with_points points value.mounts)
-          (points_count before points value.mounts whole.mounts)
-          entry (subst (Among entry) entries_are m) in
+          (points_count before points value.mounts whole.mounts) entry (subst (Among entry) entries_are m) in
           record { uses = was.uses; writers = was.writers });
       held = whole;
       numbers = ap (map (λ (f : Filesystem ℕ). f.number)) (plain_ones_are value whole.overlays)

@@ -37,8 +37,7 @@ pub record CountsTasks (value : WorldValue) (namespaces : List NamespaceEntry) (
 
 module _ (value : WorldValue) (whole : IsHeld value) (tasks : Tasks) (more less : List Use)
     (moves : Moves value tasks more less)
-    (mounts : List MountEntry) (filesystems : Filesystems) (overlays : List Merged)
-    (namespaces : List NamespaceEntry)
+    (mounts : List MountEntry) (filesystems : Filesystems) (overlays : List Merged) (namespaces : List NamespaceEntry)
     (is_kept : kept_with mounts filesystems overlays ≡ moved_kept (world_of value) more less (kept_of value))
     (inside : CountsTasks value namespaces tasks)
     (stay : without_dead_mounts nat_eq (world_of (after value tasks)) ≡ world_of (after value tasks)) where

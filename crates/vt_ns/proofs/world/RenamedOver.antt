@@ -60,10 +60,8 @@ tops_on_replaced value None = []
 tops_on_replaced value (Some other) = tops_on value other
 
 module _ (value : WorldValue) (held : IsHeld value) (name : TaskName) (from : Location) (old : List ℕ) (to : Location)
-    (new : List ℕ)
-    (object : Location) (replaced : Option Location) (small : IsSmall from) (small_to : IsSmall to)
-    (small_object : IsSmall object)
-    (small_replaced : IfSome replaced (λ other. is_small_node other.node ≡ true))
+    (new : List ℕ) (object : Location) (replaced : Option Location) (small : IsSmall from) (small_to : IsSmall to)
+    (small_object : IsSmall object) (small_replaced : IfSome replaced (λ other. is_small_node other.node ≡ true))
     (permits : Permits value name (ToRename (location_of from) old (location_of to) new (location_of object)
     (option_map location_of replaced))) where
   abbrev world : World ℕ
@@ -112,11 +110,9 @@ module _ (value : WorldValue) (held : IsHeld value) (name : TaskName) (from : Lo
 
   taken : (o : Option Location) → without_replaced nat_eq world (option_map location_of o)
       ≡ regrouped nat_eq (detached_world (trees_numbers world (tops_on_replaced value o)) world)
-  taken None =
-      sym (regrouped_living world held.in_world.mounts.groups)
+  taken None = sym (regrouped_living world held.in_world.mounts.groups)
       ∙ ap (λ mounts. regrouped nat_eq (with_mounts world mounts)) (map_itself world.mounts)
-  taken (Some other) =
-      taken_regroups world (trees_numbers world (tops_on value other))
+  taken (Some other) = taken_regroups world (trees_numbers world (tops_on value other))
       (trees_have_children world held.in_world.mounts (tops_on value other))
 
   applied : (supply : Fresh ℕ) → (apply nat_eq supply world permits.task permit).world
@@ -137,8 +133,7 @@ module _ (value : WorldValue) (held : IsHeld value) (name : TaskName) (from : Lo
   facts : (other : Location) → replaced ≡ Some other
       → (names_lost (filesystem_at nat_eq world (location_of from)).files change ≡ number_of other.node ∷ [])
       × ((location_of other).mount ≡ (location_of from).mount)
-  facts other is =
-      by (entry_at (filesystem_at nat_eq world (location_of to)).files.tree (number_of to.node) new) refl
+  facts other is = by (entry_at (filesystem_at nat_eq world (location_of to)).files.tree (number_of to.node) new) refl
       (sym (ap (option_map location_of) is) ∙ sees.replaces)
     where
       by : (o : Option ℕ) → entry_at (filesystem_at nat_eq world (location_of to)).files.tree (number_of to.node) new
@@ -149,8 +144,7 @@ module _ (value : WorldValue) (held : IsHeld value) (name : TaskName) (from : Lo
       by None e h = absurd cc
       by (Some n) e h =
           let same : location_of other ≡ record { mount = (location_of to).mount; node = n } = same_Some _ _ h in (
-            ap option_to_list
-                (ap (λ m. entry_at (filesystem_numbered nat_eq world
+            ap option_to_list (ap (λ m. entry_at (filesystem_numbered nat_eq world
                 (mount_numbered nat_eq world m).filesystem).files.tree (number_of to.node) new) (sym sees.to_mount) ∙ e)
                 ∙ ap (λ k. k ∷ []) (sym (ap (λ (l : meant.Location ℕ). l.node) same)),
             ap (λ (l : meant.Location ℕ). l.mount) same ∙ sees.to_mount,
@@ -195,8 +189,7 @@ module _ (value : WorldValue) (held : IsHeld value) (name : TaskName) (from : Lo
       } in
       let reached : NamesWhatIsThere world permits.task (ToChange (location_of from) change) = (names.0.reached, tt) in
       let named : permit_named (is_counted_before value.next) (ToChange (location_of from) change) ≡ true =
-      (λ i. seen.named i && (nodes_named value.next from.node i
-      && nodes_named value.next to.node i
+      (λ i. seen.named i && (nodes_named value.next from.node i && nodes_named value.next to.node i
       && nodes_named value.next object.node i)) in
       let is_named = Renaming.is_named value held name from old to new object replaced small small_to small_object permits in
       let on = some_on replaced refl small_replaced some in
@@ -204,8 +197,7 @@ module _ (value : WorldValue) (held : IsHeld value) (name : TaskName) (from : Lo
       (location_of from) change filesystems made name permit permits gone reached named is_named applied
       (nothing_goes value held (location_of from) change filesystems made name permit permits gone reached named is_named applied
       on.inode on.lost (record { named = sees.moves.named; in_directory = sees.moves.in_directory }) on.mount on.among
-      on.place on.placed on.at on.shows)
-      closed mounts groups others overlays together
+      on.place on.placed on.at on.shows) closed mounts groups others overlays together
 
 -- What code does with its store
 
@@ -214,27 +206,22 @@ module _ (base : WorldValue) (store : StoreValue) (held : IsHeld (with_store sto
     (small : IsSmall from) (small_to : IsSmall to) (small_object : IsSmall object)
     (small_replaced : IfSome replaced (λ other. is_small_node other.node ≡ true))
     (permits : Permits (with_store store base) name (ToRename (location_of from) old (location_of to) new
-    (location_of object) (option_map location_of replaced)))
-    (ids : List MountId)
+    (location_of object) (option_map location_of replaced))) (ids : List MountId)
     (collected : map (λ id. counted id.count) ids ≡ trees_of_replaced (mounts_in base.mounts) replaced) where
   abbrev renamed : Permit ℕ
-  renamed =
-      ToRename (location_of from) old (location_of to) new (location_of object) (option_map location_of replaced)
+  renamed = ToRename (location_of from) old (location_of to) new (location_of object) (option_map location_of replaced)
 
   abbrev trees : List ℕ
   trees = trees_numbers (world_of (with_store store base)) (tops_on_replaced (with_store store base) replaced)
 
   are : map (λ id. counted id.count) ids ≡ trees
-  are =
-      replaced_collected (with_store store base) held name from old to new object replaced small small_to small_object
+  are = replaced_collected (with_store store base) held name from old to new object replaced small small_to small_object
       small_replaced permits (map (λ id. counted id.count) ids) collected
 
   -- the mounts that are collected leave with what is replaced
-  pub rename_over : length ids ≢ 0 → (plain : Filesystems)
-      → ChangesInodes from.node.filesystem.count
+  pub rename_over : length ids ≢ 0 → (plain : Filesystems) → ChangesInodes from.node.filesystem.count
       (λ inodes. changed nat_eq inodes (Move (number_of from.node) old (number_of to.node) new (number_of object.node)))
-      store.plain plain
-      → (mounts : List MountEntry) (groups : Grouping) (last : StoreValue)
+      store.plain plain → (mounts : List MountEntry) (groups : Grouping) (last : StoreValue)
       → LeaveTogether (map (λ id. counted id.count) ids) (kept base.mounts (record store { plain = plain }))
       base.groups (kept mounts last) groups → OverlaysLeft store.overlays last.overlays
       → IsDone (with_store store base) name renamed (with_store last (record base { mounts = mounts; groups = groups }))
@@ -246,13 +233,11 @@ module _ (base : WorldValue) (store : StoreValue) (held : IsHeld (with_store sto
       (collected_leave base store held ids trees are plain mounts groups last left))
 
   -- none leaves where none is collected
-  pub rename_stays : length ids ≡ 0 → (plain : Filesystems)
-      → ChangesInodes from.node.filesystem.count
+  pub rename_stays : length ids ≡ 0 → (plain : Filesystems) → ChangesInodes from.node.filesystem.count
       (λ inodes. changed nat_eq inodes (Move (number_of from.node) old (number_of to.node) new (number_of object.node)))
       store.plain plain
       → IsFilesEvent (with_store store base) name renamed (with_store (record store { plain = plain }) base)
-  rename_stays none plain changes =
-      files_stored base store held name renamed permits plain
+  rename_stays none plain changes = files_stored base store held name renamed permits plain
       (Renaming.rename_alone_is_done (with_store store base) held name from old to new object replaced small small_to
       small_object permits
       (nothing_on_replaced (with_store store base) held name from old to new object replaced small small_to small_object

@@ -22,8 +22,7 @@ pub kept_is : (base : WorldValue) (store : StoreValue) → kept base.mounts stor
 kept_is base store = λ i. record (kept base.mounts store) { overlays = overlays_are i }
   where
     overlays_are : map merged_of store.overlays ≡ map merged_seen (overlays_of_store store)
-    overlays_are =
-        map_alike merged_of (λ entry. merged_seen (overlay_of_store store.plain entry)) store.overlays
+    overlays_are = map_alike merged_of (λ entry. merged_seen (overlay_of_store store.plain entry)) store.overlays
         (λ entry m. ap (λ layers. record (merged_of entry) { layers = layers })
         (sym (map_twice (λ (layer : Layer ℕ). (layer.filesystem, layer.directory)) layer_seen entry.overlay.lowers)))
         ∙ sym (map_twice merged_seen (overlay_of_store store.plain) store.overlays)
@@ -39,12 +38,9 @@ same_in_store base new_base old new held same name permit permits done =
     subst (IsDone (with_store old base) name permit)
     (store_stays base new_base old new permits.task permit held permits.given there.held
     (there.becomes permits.task permits.called)
-    (were_there old.overlays new.overlays (left_itself old.overlays new.overlays same)))
-    there
+    (were_there old.overlays new.overlays (left_itself old.overlays new.overlays same))) there
   where
     there : IsDone (with_store old base) name permit
         (record new_base { filesystems = new.plain; overlays = map (overlay_of_store old.plain) new.overlays })
-    there =
-        subst (λ (all : Overlays). IsDone (with_store old base) name permit
-        (record new_base { filesystems = new.plain; overlays = map (overlay_of_store old.plain) all }))
-        (sym same) done
+    there = subst (λ (all : Overlays). IsDone (with_store old base) name permit
+        (record new_base { filesystems = new.plain; overlays = map (overlay_of_store old.plain) all })) (sym same) done

@@ -45,16 +45,14 @@ module _ (value : WorldValue) (whole : IsHeld value) (name : TaskName) (number :
   named_contained = by recursive
     where
       by : (b : Bool) → All (Contains (mounts_in value.mounts)) (named_mounts nat_eq (world_of value) number b)
-      by true =
-          all_from_among (Contains (mounts_in value.mounts)) (named_mounts nat_eq world number true) (λ mount m.
+      by true = all_from_among (Contains (mounts_in value.mounts)) (named_mounts nat_eq world number true) (λ mount m.
           contains_from_among (mounts_in value.mounts) mount
           (in_tree value whole number permits.task.namespace own mount m).0)
       by false =
           all_from_among (Contains (mounts_in value.mounts)) (mount_numbered nat_eq world number ∷ []) (λ mount m.
           ⊎_elim (λ same. contains_from_among (mounts_in value.mounts) mount
           (subst (λ one. Among one (mounts_in value.mounts)) (sym same)
-          (found_is_there (mounts_in value.mounts) number (ap is_some own))))
-          (λ none. absurd none) m)
+          (found_is_there (mounts_in value.mounts) number (ap is_some own)))) (λ none. absurd none) m)
 
   once : OneNumberAMount (named_mounts nat_eq (world_of value) number recursive)
   once = by recursive
@@ -99,8 +97,7 @@ module _ (value : WorldValue) (whole : IsHeld value) (name : TaskName) (number :
     done_after : (later : ℕ) → counted_after word value.next (numbers_of named) ≡ later → IsDoneBy later
         → IsDone value name (ToSetType number word recursive)
         (record value { mounts = mounts; groups = groups; next = next })
-    done_after later same is =
-        subst (λ entries. IsDone value name (ToSetType number word recursive)
+    done_after later same is = subst (λ entries. IsDone value name (ToSetType number word recursive)
         (record value { mounts = entries; groups = groups; next = next })) (sym kinds.1)
         (subst (λ one. IsDone value name (ToSetType number word recursive)
         (record value { mounts = map (retyped_entry kinds.0) value.mounts; groups = groups; next = one }))
@@ -112,8 +109,7 @@ module _ (value : WorldValue) (whole : IsHeld value) (name : TaskName) (number :
         → counted_after word value.next (numbers_of named) ≡ value.next
         → IsDone value name (ToSetType number word recursive)
         (record value { mounts = mounts; groups = groups; next = next })
-    unshared_done any same =
-        done_after value.next same
+    unshared_done any same = done_after value.next same
         (types_are_changed value whole name number word recursive permits kinds.0 groups
         (λ numbers lacks. seen_by numbers lacks (any numbers)))
 
@@ -129,8 +125,7 @@ module _ (value : WorldValue) (whole : IsHeld value) (name : TaskName) (number :
 
 -- the named mounts get their type
 pub types_done : (value : WorldValue) → IsHeld value → (name : TaskName) (number : ℕ) (word : TypeWord) (recursive : Bool)
-    → Permits value name (ToSetType number word recursive)
-    → (mounts : List MountEntry) (groups : Grouping) (next : ℕ)
+    → Permits value name (ToSetType number word recursive) → (mounts : List MountEntry) (groups : Grouping) (next : ℕ)
     → IsRetyped word value.next next (numbers_of
     (named_mounts nat_eq (world_of value) number recursive)) value.groups groups value.mounts mounts
     → IsDone value name (ToSetType number word recursive)

@@ -61,8 +61,7 @@ regrouped_places world number = by (list_any (lost_a_group nat_eq world) world.m
     by : (b : Bool) → (mount_numbered nat_eq (regrouped_by nat_eq b world) number).mount_point
         ≡ (mount_numbered nat_eq world number).mount_point
     by false = refl
-    by true =
-        ap (λ o. (unwrap_or o (no_mount number)).mount_point)
+    by true = ap (λ o. (unwrap_or o (no_mount number)).mount_point)
         (found_mapped (inheriting nat_eq world) (λ mount. refl) world.mounts number)
         ∙ found (find (λ (mount : Mount ℕ). nat_eq number mount.number) world.mounts)
 
@@ -94,27 +93,21 @@ fallen_to world gone number place falls =
     by (Some mount) e is =
         let its = eqb-true number mount.number
         (found_it (λ (x : Mount ℕ). nat_eq number x.number) world.mounts mount e).1 in
-        ap (λ b. (cond b (detached mount)
-        (record mount {
-          mount_point = option_map
-              (mount_point_left nat_eq world gone) mount.mount_point;
-        })).mount_point)
-        (ap (is_going nat_eq gone) (sym its) ∙ falls.0) ∙ is
+        ap (λ b. (cond b (detached mount) (record mount {
+          mount_point = option_map (mount_point_left nat_eq world gone) mount.mount_point;
+        })).mount_point) (ap (is_going nat_eq gone) (sym its) ∙ falls.0) ∙ is
 
 -- groups that grow by nothing stay
 pub nothing_grows : (world : World ℕ) (old new : Grouping) → Has world old → GrowsTo old new [] [] → new ≡ old
-nothing_grows world old new has grows =
-    has_one_grouping world new old
-    (grows world world has (record {
-      order = has.order;
-      peers = refl;
-      master = λ group. refl;
-      stay = λ group there. there;
-      begin = all_from_among (λ (entry : ℕ × Option ℕ). is_some entry.1 ≡ true → HasGroup world entry.0) []
-          (λ entry m. absurd m);
-      named = λ group lacks there. absurd (true≢false (sym there ∙ lacks));
-    }))
-    has
+nothing_grows world old new has grows = has_one_grouping world new old (grows world world has (record {
+  order = has.order;
+  peers = refl;
+  master = λ group. refl;
+  stay = λ group there. there;
+  begin = all_from_among (λ (entry : ℕ × Option ℕ). is_some entry.1 ≡ true → HasGroup world entry.0) []
+      (λ entry m. absurd m);
+  named = λ group lacks there. absurd (true≢false (sym there ∙ lacks));
+})) has
 
 -- mounts that get other mount points keep their types
 points_typed : (groups : Grouping) (entries : List MountEntry) → AreTyped groups entries → (points : List Point)
@@ -151,8 +144,7 @@ gone_together value whole name permit task policy is gone points alike regroups 
     (kept_with mounts filesystems overlays) groups =
     subst (λ before. LeaveTogether gone (kept_with go.between go.files go.merged) before (kept_with mounts filesystems overlays) groups)
     (nothing_grows world value.groups go.groups whole.groups go.grown) go.together in
-    let moved_typed : AreTyped value.groups go.between =
-    subst (AreTyped value.groups) (sym
+    let moved_typed : AreTyped value.groups go.between = subst (AreTyped value.groups) (sym
     (ap (λ (k : Kept). k.mounts) go.moved ∙ append-nil (with_points points value.mounts)))
     (points_typed value.groups value.mounts (own_types value whole) points) in
     let taken : Has (taken_away nat_eq world gone) groups =
@@ -162,8 +154,7 @@ gone_together value whole name permit task policy is gone points alike regroups 
     (moved_then_detached value whole name permit task policy is gone points groups
     (same_groups policy (taken_away nat_eq world gone) groups alike taken)
     (alike ∙ ap (without_dead_groups nat_eq) regroups
-    ∙ regrouped_is_typed start groups (subst (λ one. Has one groups) regroups taken))
-    (λ point m.
+    ∙ regrouped_is_typed start groups (subst (λ one. Has one groups) regroups taken)) (λ point m.
     ap (λ (w : World ℕ). (mount_numbered nat_eq w (counted point.mount.count)).mount_point) alike
     ∙ fallen_to world gone (counted point.mount.count) (location_of point.place)
     (among_from_all (FallsTo world gone) (map point_seen points) falls (point_seen point)
@@ -178,22 +169,19 @@ goes_alike one other same = λ i number. list_any-IsPermutation (nat_eq number) 
 
 -- where a mount stands once those that go are detached
 abbrev left_where : World ℕ → (ℕ → Bool) → Location ℕ → Location ℕ
-left_where world goes place =
-    last_or place (chain (length world.mounts)
+left_where world goes place = last_or place (chain (length world.mounts)
     (λ (at : Location ℕ). if goes at.mount then (mount_at nat_eq world at).mount_point else None) place)
 
 taken_alike : (world : World ℕ) (one other : List ℕ) → IsPermutation one other
     → taken_away nat_eq world one ≡ taken_away nat_eq world other
-taken_alike world one other same =
-    ap (λ (goes : ℕ → Bool). regrouped nat_eq (with_mounts world
+taken_alike world one other same = ap (λ (goes : ℕ → Bool). regrouped nat_eq (with_mounts world
     (map (λ (mount : Mount ℕ). if goes mount.number then detached mount
     else record mount { mount_point = option_map (left_where world goes) mount.mount_point }) world.mounts)))
     (goes_alike one other same)
 
 leaves_alike : (world : World ℕ) (one other : List ℕ) (points : List (ℕ × Location ℕ)) → IsPermutation one other
     → LeavesBy world one points → LeavesBy world other points
-leaves_alike world one other points same leaves =
-    sym (taken_alike world one other same) ∙ leaves
+leaves_alike world one other points same leaves = sym (taken_alike world one other same) ∙ leaves
     ∙ ap (λ (goes : ℕ → Bool). regrouped nat_eq (with_mounts world
     (map (λ (mount : Mount ℕ). if goes mount.number then detached mount else moved_by points mount) world.mounts)))
     (goes_alike one other same)
@@ -224,8 +212,7 @@ gone_in_any_order value whole name permit task policy is planned gone points sam
 
 -- a mount is unmounted with those at its receivers
 pub unmounted_everywhere : (value : WorldValue) → IsHeld value → (name : TaskName) (number : ℕ)
-    → Permits value name (ToUnmount number)
-    → (planned gone : List ℕ) (points : List Point) → IsPermutation planned gone
+    → Permits value name (ToUnmount number) → (planned gone : List ℕ) (points : List Point) → IsPermutation planned gone
     → planned ≡ going nat_eq (world_of value) (mount_numbered nat_eq (world_of value) number)
     → LeavesBy (world_of value) planned (map point_seen points)
     → All (FallsTo (world_of value) planned) (map point_seen points)
@@ -240,16 +227,14 @@ unmounted_everywhere value whole name number permits planned gone points same pl
       given = permits.given;
       named = attached_is_named value whole number (ap is_some names.0);
       applied = λ fresh. refl;
-    })
-    planned gone points same
+    }) planned gone points same
     (ap (λ all. without_dead_groups nat_eq (taken_away nat_eq (world_of value) all)) (sym planned_is))
 
 -- a mount and its descendants, with what propagation detaches with each of them: umount(2) with MNT_DETACH
 pub unmounted_lazily : (value : WorldValue) → IsHeld value → (name : TaskName) (number : ℕ)
     → Permits value name (ToUnmountLazily number)
     → (planned gone : List ℕ) (points : List Point) → IsPermutation planned gone
-    → planned ≡ gone_lazily (world_of value) number
-    → LeavesBy (world_of value) planned (map point_seen points)
+    → planned ≡ gone_lazily (world_of value) number → LeavesBy (world_of value) planned (map point_seen points)
     → All (FallsTo (world_of value) planned) (map point_seen points)
     → (mounts : List MountEntry) (groups : Grouping) (filesystems : Filesystems) (overlays : List Merged)
     → GoTogether gone points (kept_of value) value.groups (kept_with mounts filesystems overlays) groups
@@ -258,13 +243,10 @@ pub unmounted_lazily : (value : WorldValue) → IsHeld value → (name : TaskNam
 unmounted_lazily value whole name number permits planned gone points same planned_is =
     let names = (permit_fits value whole name (ToUnmountLazily number) permits).names in
     gone_in_any_order value whole name (ToUnmountLazily number) permits.task
-    (lazily_unmounted nat_eq (world_of value) number)
-    (record {
+    (lazily_unmounted nat_eq (world_of value) number) (record {
       called = permits.called;
       given = permits.given;
       named = attached_is_named value whole number (ap is_some names.0);
       applied = λ fresh. refl;
-    })
-    planned gone points same
-    (lazy_unmounts_are_at_once (world_of value) number whole.in_world.mounts
+    }) planned gone points same (lazy_unmounts_are_at_once (world_of value) number whole.in_world.mounts
     ∙ ap (λ all. without_dead_groups nat_eq (taken_away nat_eq (world_of value) all)) (sym planned_is))

@@ -85,11 +85,9 @@ outside_is_placeless mount is none = by mount.mount_point refl
 module _ (value : WorldValue) (whole : IsHeld value) (name : TaskName) (permit : Permit ℕ) (task : Task ℕ)
     (policy : World ℕ)
     (is : IsApplied value name permit task policy) (gone : List ℕ) (points : List Point) (groups : Grouping)
-    (has : Has policy groups)
-    (same : without_dead_groups nat_eq policy
+    (has : Has policy groups) (same : without_dead_groups nat_eq policy
     ≡ typed_world groups (with_mounts (world_of value)
-    (map (left_by gone (map point_seen points)) (world_of value).mounts)))
-    (tells : (point : Point) → Among point points
+    (map (left_by gone (map point_seen points)) (world_of value).mounts))) (tells : (point : Point) → Among point points
     → (mount_numbered nat_eq policy (counted point.mount.count)).mount_point ≡ Some (location_of point.place)) where
   abbrev world : World ℕ
   world = world_of value
@@ -102,8 +100,7 @@ module _ (value : WorldValue) (whole : IsHeld value) (name : TaskName) (permit :
   final mount = typed_by groups (left_by gone (map point_seen points) mount)
 
   under_way : IsUnderWay policy
-  under_way =
-      subst IsUnderWay (is.applied (supply_of value permit))
+  under_way = subst IsUnderWay (is.applied (supply_of value permit))
       (given_permits_are_under_way_without_upper world (supply_of value permit) task permit whole.in_world
       whole.overlays.read_only is.given).0
 
@@ -132,31 +129,27 @@ module _ (value : WorldValue) (whole : IsHeld value) (name : TaskName) (permit :
       → ((final mount).namespace ≡ None) × ((final mount).mount_point ≡ None)
   final_gone mount e = (
     ap (λ b. (cond b (detached mount) (moved mount)).namespace) e,
-    ap
-        (λ b. (cond b (detached mount) (moved mount)).mount_point) e,
+    ap (λ b. (cond b (detached mount) (moved mount)).mount_point) e,
   )
 
   final_stays : (mount : Mount ℕ) → is_going nat_eq gone mount.number ≡ false
       → ((final mount).namespace ≡ mount.namespace) × ((final mount).mount_point ≡ (moved mount).mount_point)
   final_stays mount e = (
     ap (λ b. (cond b (detached mount) (moved mount)).namespace) e,
-    ap
-        (λ b. (cond b (detached mount) (moved mount)).mount_point) e,
+    ap (λ b. (cond b (detached mount) (moved mount)).mount_point) e,
   )
 
   final_among : (mount : Mount ℕ) → Among mount world.mounts → Among (final mount) policy.mounts
   final_among mount m = subst (Among (final mount)) (sym same_mounts) (among-map final world.mounts mount m)
 
   final_found : (mount : Mount ℕ) → Among mount world.mounts → mount_numbered nat_eq policy mount.number ≡ final mount
-  final_found mount m =
-      ap (mount_numbered nat_eq policy) (sym (final_number mount))
+  final_found mount m = ap (mount_numbered nat_eq policy) (sym (final_number mount))
       ∙ found_itself policy.mounts under_way.mounts.one_number (final mount) (final_among mount m)
 
   -- a mount that is attached then was so before, and does not go
   attached_before : (number : ℕ) → is_some (mount_numbered nat_eq policy number).namespace ≡ true
       → (is_going nat_eq gone number ≡ false) × (is_some (mount_numbered nat_eq world number).namespace ≡ true)
-  attached_before number attached =
-      by (find (λ (x : Mount ℕ). nat_eq number x.number) world.mounts) refl
+  attached_before number attached = by (find (λ (x : Mount ℕ). nat_eq number x.number) world.mounts) refl
       (sym (ap (λ (x : Mount ℕ). is_some x.namespace) (ap (λ all. mount_in nat_eq all number) same_mounts
       ∙ ap (λ o. unwrap_or o (no_mount number)) (found_mapped final final_number world.mounts number))) ∙ attached)
     where
@@ -177,10 +170,8 @@ module _ (value : WorldValue) (whole : IsHeld value) (name : TaskName) (permit :
 
   -- the mount that it stands on is attached
   parent_attached : (mount : Mount ℕ) → Among mount policy.mounts → (place : Location ℕ)
-      → mount.mount_point ≡ Some place
-      → is_some (mount_at nat_eq policy place).namespace ≡ true
-  parent_attached mount m place at =
-      ap is_some (sym (parent_inside policy under_way.mounts.one_number
+      → mount.mount_point ≡ Some place → is_some (mount_at nat_eq policy place).namespace ≡ true
+  parent_attached mount m place at = ap is_some (sym (parent_inside policy under_way.mounts.one_number
       (λ x n. among_from_all (λ (y : Mount ℕ). Stands nat_eq policy y.number) policy.mounts under_way.mounts.standing
       x n) mount m place at))
       ∙ placed_is_attached mount (passes is_nowhere_or_attached policy.mounts under_way.mounts.nowhere mount m)
@@ -195,15 +186,13 @@ module _ (value : WorldValue) (whole : IsHeld value) (name : TaskName) (permit :
       attached = (attached_before place.mount (parent_attached mount m place at)).1
 
       among : is_among nat_eq place.mount (map (λ (x : Mount ℕ). x.number) world.mounts) ≡ true
-      among =
-          is_among_numbers place.mount (map (λ (x : Mount ℕ). x.number) world.mounts)
+      among = is_among_numbers place.mount (map (λ (x : Mount ℕ). x.number) world.mounts)
           (subst (λ n. Among n (map (λ (x : Mount ℕ). x.number) world.mounts)) (number_found world.mounts place.mount)
           (among-map (λ (x : Mount ℕ). x.number) world.mounts (mount_in nat_eq world.mounts place.mount)
           (found_is_there world.mounts place.mount attached)))
 
       there_after : is_there nat_eq policy (mount_at nat_eq policy place).filesystem place.node ≡ true
-      there_after =
-          directory_there (node_at nat_eq policy place)
+      there_after = directory_there (node_at nat_eq policy place)
           (passes (is_directory_at nat_eq policy) (option_to_list mount.mount_point)
           (and_parts (is_directory_node ((filesystem_numbered nat_eq policy mount.filesystem).files.tree.node mount.root))
           (list_all (is_directory_at nat_eq policy) (option_to_list mount.mount_point))
@@ -211,8 +200,7 @@ module _ (value : WorldValue) (whole : IsHeld value) (name : TaskName) (permit :
           (subst (λ o. Among place (option_to_list o)) (sym at) (inl refl)))
 
       shows : (mount_at nat_eq world place).filesystem ≡ (mount_at nat_eq policy place).filesystem
-      shows =
-          sym (ap (λ all. (mount_in nat_eq all place.mount).filesystem) same_mounts
+      shows = sym (ap (λ all. (mount_in nat_eq all place.mount).filesystem) same_mounts
           ∙ shown-mapped final final_number final_filesystem world.mounts place.mount)
 
       there_before : is_there nat_eq world (mount_at nat_eq world place).filesystem place.node
@@ -237,8 +225,7 @@ module _ (value : WorldValue) (whole : IsHeld value) (name : TaskName) (permit :
 
   may : MayMove value points
   may = record {
-    each = λ point m.
-        place_is_there (mount_numbered nat_eq policy (counted point.mount.count))
+    each = λ point m. place_is_there (mount_numbered nat_eq policy (counted point.mount.count))
         (placed_among policy.mounts (counted point.mount.count) (location_of point.place) (tells point m))
         (location_of point.place) (tells point m);
     attached = λ mount m place at. attached mount m place at (is_going nat_eq gone mount.number) refl;
@@ -248,10 +235,8 @@ module _ (value : WorldValue) (whole : IsHeld value) (name : TaskName) (permit :
       attached : (mount : Mount ℕ) → Among mount world.mounts → (place : Location ℕ)
           → (moved mount).mount_point ≡ Some place
           → (b : Bool) → is_going nat_eq gone mount.number ≡ b → is_some (mount_at nat_eq world place).namespace ≡ true
-      attached mount m place at true goes =
-          passes (λ (one : Location ℕ). is_some (mount_at nat_eq world one).namespace)
-          (option_to_list mount.mount_point)
-          (passes (stands_on_attached world) world.mounts
+      attached mount m place at true goes = passes (λ (one : Location ℕ). is_some (mount_at nat_eq world one).namespace)
+          (option_to_list mount.mount_point) (passes (stands_on_attached world) world.mounts
           (mounts_of_worlds_stand world whole.in_world).on_attached mount m) place
           (subst (λ o. Among place (option_to_list o)) (sym at ∙ gone_stays mount m goes) (inl refl))
       attached mount m place at false goes =
@@ -260,12 +245,9 @@ module _ (value : WorldValue) (whole : IsHeld value) (name : TaskName) (permit :
 
       outside : (mount : Mount ℕ) → Among mount world.mounts → is_some mount.namespace ≡ false → (b : Bool)
           → is_going nat_eq gone mount.number ≡ b → (moved mount).mount_point ≡ None
-      outside mount m none true goes =
-          gone_stays mount m goes
+      outside mount m none true goes = gone_stays mount m goes
           ∙ outside_is_placeless mount (passes is_nowhere_or_attached world.mounts whole.in_world.mounts.nowhere mount m) none
-      outside mount m none false goes =
-          sym (final_stays mount goes).1
-          ∙ outside_is_placeless (final mount)
+      outside mount m none false goes = sym (final_stays mount goes).1 ∙ outside_is_placeless (final mount)
           (passes is_nowhere_or_attached policy.mounts under_way.mounts.nowhere (final mount) (final_among mount m))
           (ap is_some (final_stays mount goes).0 ∙ none)
 
@@ -280,9 +262,7 @@ module _ (value : WorldValue) (whole : IsHeld value) (name : TaskName) (permit :
       by : (was : Mount ℕ) → Among was world.mounts → (moved was).mount_point ≡ Some place → (b : Bool)
           → is_going nat_eq gone was.number ≡ b → is_going nat_eq gone was.number ≡ true
       by was n at true e = e
-      by was n at false e =
-          absurd (true≢false (sym on
-          ∙ (attached_before place.mount
+      by was n at false e = absurd (true≢false (sym on ∙ (attached_before place.mount
           (parent_attached (final was) (final_among was n) place ((final_stays was e).1 ∙ at))).0))
 
   -- the mounts move first, and are detached then
@@ -290,11 +270,9 @@ module _ (value : WorldValue) (whole : IsHeld value) (name : TaskName) (permit :
   start = detached_world gone (moved_world value points)
 
   start_is : with_mounts world (map (left_by gone (map point_seen points)) world.mounts) ≡ start
-  start_is =
-      ap (with_mounts world)
+  start_is = ap (with_mounts world)
       (map_alike (left_by gone (map point_seen points)) (λ mount. detached_in gone (moved mount)) world.mounts
-      (λ mount m. by mount (is_going nat_eq gone mount.number))
-      ∙ sym (map_twice (detached_in gone) moved world.mounts))
+      (λ mount m. by mount (is_going nat_eq gone mount.number)) ∙ sym (map_twice (detached_in gone) moved world.mounts))
     where
       by : (mount : Mount ℕ) (b : Bool)
           → cond b (detached mount) (moved mount) ≡ cond b (detached (moved mount)) (moved mount)
@@ -320,10 +298,8 @@ module _ (value : WorldValue) (whole : IsHeld value) (name : TaskName) (permit :
       twice false o = refl
 
   settled_typed_has : Has (settled nat_eq typed) groups
-  settled_typed_has =
-      settled_has typed groups typed_has (λ mount m dead.
-      ap is_ungrouped (stays_private mount
-      (passes is_nowhere_or_attached policy.mounts under_way.mounts.nowhere mount
+  settled_typed_has = settled_has typed groups typed_has (λ mount m dead.
+      ap is_ungrouped (stays_private mount (passes is_nowhere_or_attached policy.mounts under_way.mounts.nowhere mount
       (subst (Among mount) (sym (ap (λ (w : World ℕ). w.mounts) same_typed)) m)) false
       (or_false_left (is_some mount.namespace) (is_located nat_eq typed mount.number) dead)))
 
@@ -353,8 +329,7 @@ module _ (value : WorldValue) (whole : IsHeld value) (name : TaskName) (permit :
         finished_as value whole name permit task policy is typed alike come detaching.lost (typed_value groups untyped)
         (swept_typed groups untyped value start come detaching.lost
         (detached_swept value start come detaching.lost untyped overlays kept_last refl refl
-        (same_files_keep value world start refl (keeps_itself value whole.overlays)) refl refl))
-        settled_typed_has
+        (same_files_keep value world start refl (keeps_itself value whole.overlays)) refl refl)) settled_typed_has
         (counts_typed groups untyped
         (detached_counted value start come detaching.lost untyped overlays kept_last refl refl
         (all_from_among (CountsWhatIsInIt (world_of untyped)) value.namespaces (λ entry m.

@@ -65,28 +65,23 @@ module _ (count slot : ℕ) (small : slot < 18446744073709551616) where
     where
       by : (propagation : Propagation ℕ)
           → list_all (λ group. group % 4 == 1) (option_to_list (source_of propagation)) ≡ true
-          → entry.mount.number % 4 ≡ 1
-          → is_among nat_eq number (flat_map used_by_mount (mounts_in rest)) ≡ false
+          → entry.mount.number % 4 ≡ 1 → is_among nat_eq number (flat_map used_by_mount (mounts_in rest)) ≡ false
           → is_among nat_eq number ((entry.mount.number ∷ option_to_list (source_of propagation))
           ++ flat_map used_by_mount (mounts_in rest)) ≡ false
-      by (Shared group) e one none =
-          λ i. not_odd entry.mount.number one i
+      by (Shared group) e one none = λ i. not_odd entry.mount.number one i
           || (not_odd group (eqb-true (group % 4) 1 (and_parts (group % 4 == 1) true e).0) i || none i)
-      by (Slave master) e one none =
-          λ i. not_odd entry.mount.number one i
+      by (Slave master) e one none = λ i. not_odd entry.mount.number one i
           || (not_odd master (eqb-true (master % 4) 1 (and_parts (master % 4 == 1) true e).0) i || none i)
       by Private e one none = λ i. not_odd entry.mount.number one i || none i
       by Unbindable e one none = λ i. not_odd entry.mount.number one i || none i
 
-  in_no_filesystem : (all : List (Filesystem ℕ))
-      → ((f : Filesystem ℕ) → Among f all
+  in_no_filesystem : (all : List (Filesystem ℕ)) → ((f : Filesystem ℕ) → Among f all
       → (nat_eq number f.number ≡ false) × (is_among nat_eq number f.files.numbers ≡ false))
       → is_among nat_eq number (flat_map used_by_filesystem all) ≡ false
   in_no_filesystem [] none = refl
   in_no_filesystem (f ∷ rest) none =
       let first = none f (inl refl) in
-      (λ i. first.0 i
-      || (list_any-append (nat_eq number) f.files.numbers (flat_map used_by_filesystem rest)
+      (λ i. first.0 i || (list_any-append (nat_eq number) f.files.numbers (flat_map used_by_filesystem rest)
       ∙ (λ j. first.1 j || in_no_filesystem rest (λ other m. none other (inr m)) j)) i)
 
   in_no_namespace : (all : List NamespaceEntry)
@@ -113,22 +108,19 @@ module _ (value : WorldValue) (whole : IsHeld value)
 
   -- no filesystem has an inode of this number
   in_none : (f : Filesystem ℕ) → Among f (world_of value).filesystems → f.files.tree.node (number_of node) ≡ None
-  in_none f m =
-      ap (λ (g : Filesystem ℕ). g.files.tree.node (number_of node)) (sym (found f m))
+  in_none f m = ap (λ (g : Filesystem ℕ). g.files.tree.node (number_of node)) (sym (found f m))
       ∙ by (nat_eq f.number (counted node.filesystem.count)) refl
     where
       by : (b : Bool) → nat_eq f.number (counted node.filesystem.count) ≡ b
           → (filesystem_numbered nat_eq (world_of value) f.number).files.tree.node (number_of node) ≡ None
-      by true e =
-          ap (λ n. (filesystem_numbered nat_eq (world_of value) n).files.tree.node (number_of node))
+      by true e = ap (λ n. (filesystem_numbered nat_eq (world_of value) n).files.tree.node (number_of node))
           (eqb-true f.number (counted node.filesystem.count) e) ∙ missing
       by false e = in_no_other value whole f.number node small_node e
 
   -- nor this number itself
   numbered_otherwise : (f : Filesystem ℕ) → Among f (world_of value).filesystems → nat_eq (number_of node) f.number ≡ false
   numbered_otherwise f m =
-      let root = among_from_all HasOwnNodes (world_of value).filesystems (own_nodes value whole) f m
-      f.files.tree.root
+      let root = among_from_all HasOwnNodes (world_of value).filesystems (own_nodes value whole) f m f.files.tree.root
       (directory_there (f.files.tree.node f.files.tree.root)
       (among_from_all (λ (g : Filesystem ℕ). IsTree g.files.tree) (world_of value).filesystems
       whole.in_world.files.trees f m).root_directory) in
@@ -136,11 +128,9 @@ module _ (value : WorldValue) (whole : IsHeld value)
 
   -- a number that is not counted yet is not in use
   pub is_unused : is_in_use (world_of value) (number_of node) ≡ false
-  is_unused =
-      list_any-append (nat_eq (number_of node))
+  is_unused = list_any-append (nat_eq (number_of node))
       (flat_map used_by_mount (world_of value).mounts ++ flat_map used_by_filesystem (world_of value).filesystems)
-      (map (λ (namespace : Namespace ℕ). namespace.number) (world_of value).namespaces)
-      ∙ (λ i.
+      (map (λ (namespace : Namespace ℕ). namespace.number) (world_of value).namespaces) ∙ (λ i.
       (list_any-append (nat_eq (number_of node)) (flat_map used_by_mount (world_of value).mounts)
       (flat_map used_by_filesystem (world_of value).filesystems)
       ∙ (λ j. in_no_mount born node.slot small_slot value.mounts odd sources j
@@ -148,8 +138,7 @@ module _ (value : WorldValue) (whole : IsHeld value)
         numbered_otherwise f m,
         among_from_all (λ (g : Filesystem ℕ). ListsNumbers nat_eq g.files) (world_of value).filesystems
             whole.in_world.files.numbers f m (number_of node) ∙ ap is_some (in_none f m),
-      )) j)) i
-      || in_no_namespace born node.slot small_slot value.namespaces i)
+      )) j)) i || in_no_namespace born node.slot small_slot value.namespaces i)
 
 -- nothing is found in a filesystem that is not counted yet
 none_there : (value : WorldValue) → IsHeld value → (node : NodeRef) → value.next ≤ node.filesystem.count
@@ -169,8 +158,7 @@ none_there value whole node above =
 
 -- what is small is so by test
 small_again : (node : NodeRef) → IsSmall node → is_small_node node ≡ true
-small_again node small =
-    λ i. lt-ltb node.filesystem.count 18446744073709551616 small.filesystem i
+small_again node small = λ i. lt-ltb node.filesystem.count 18446744073709551616 small.filesystem i
     && (lt-ltb node.slot 18446744073709551616 small.slot i && by node.birth small.birth i)
   where
     by : (birth : Birth) → IsSmallBirth birth → is_small_birth birth ≡ true
@@ -192,8 +180,7 @@ module _ (value : WorldValue) (whole : IsHeld value) (small_next : value.next < 
       root = record { filesystem = record { count = value.next }; slot = 0; birth = Here }
 
       small_root : is_small_node root ≡ true
-      small_root =
-          λ i. lt-ltb value.next 18446744073709551616 small_next i
+      small_root = λ i. lt-ltb value.next 18446744073709551616 small_next i
           && (lt-ltb 0 18446744073709551616 (omega arith) i && true)
 
   -- so no number of a node of the next filesystem is in use
@@ -203,8 +190,7 @@ module _ (value : WorldValue) (whole : IsHeld value) (small_next : value.next < 
     counted_before = λ other used.
         used_numbers_are_named (is_counted_before value.next) (world_of value) whole.given (leaves_two value.next) other
         used;
-    nodes = λ node small same.
-        is_unused value whole odd sources node (small_again node small)
+    nodes = λ node small same. is_unused value whole odd sources node (small_again node small)
         (none_there value whole node (let count = ap (λ id. id.count) same in omega (arith, count)));
   }
 
@@ -223,8 +209,7 @@ module _ (value : WorldValue) (whole : IsHeld value) (small_next : value.next < 
         → Some (inode_number count slot) ≡ option_map next_seen (entry_of value.filesystems count)
         → (inodes_at value.filesystems count).inode (inode_number count slot) ≡ None
         → IsVacant value (next_inode value location)
-    next_is_vacant slot small next none =
-        subst (IsVacant value)
+    next_is_vacant slot small next none = subst (IsVacant value)
         (sym (next_at ∙ ap (λ o. unwrap_or o (inode_number value.next 0)) (sym next)))
         (by (entry_of value.filesystems count) refl next)
       where
@@ -237,8 +222,7 @@ module _ (value : WorldValue) (whole : IsHeld value) (small_next : value.next < 
             let same = eqb-true count entry.count there.1 in
             record {
               even = is_even count slot small;
-              unused =
-                  is_unused value whole odd sources
+              unused = is_unused value whole odd sources
                   (record { filesystem = record { count = count }; slot = slot; birth = Here })
                   (λ i. lt-ltb count 18446744073709551616 (omega (arith, low, same, small_next)) i
                   && (lt-ltb slot 18446744073709551616 small i && true))
@@ -247,8 +231,7 @@ module _ (value : WorldValue) (whole : IsHeld value) (small_next : value.next < 
                   ∙ ap (λ (f : Filesystem ℕ). f.files.tree.node (inode_number count slot))
                   (found_plain_one value whole entry there.0)
                   ∙ ap (λ o. node_in ((inodes_seen (unwrap_or o (no_entry count))).inode (inode_number count slot)))
-                  (sym e)
-                  ∙ ap node_in none);
+                  (sym e) ∙ ap node_in none);
             }
 
     -- in a filesystem that is no plain one

@@ -32,8 +32,7 @@ by_entry : (tree : Tree ℕ) (directory : ℕ) (name : List ℕ) (path : List (L
     → entry_at tree directory name ≡ found
     → cuts (view_of (layer_in tree directory)) (name ∷ path) ≡ cut_on tree (name ∷ path) directory
 by_entry tree directory name path None rest none = rw none (any_none tree directory name (prefixes path) none)
-by_entry tree directory name path (Some next) rest some =
-    rw some (ap (λ rest. hides (tree.node next) || rest)
+by_entry tree directory name path (Some next) rest some = rw some (ap (λ rest. hides (tree.node next) || rest)
     (any_some tree directory next name (prefixes path) some ∙ rest next))
 
 pub cuts_on : (tree : Tree ℕ) (path : List (List ℕ)) (directory : ℕ)

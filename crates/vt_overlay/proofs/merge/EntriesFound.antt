@@ -33,8 +33,7 @@ module _ (fs : Filesystems) (top : MergedDirectory) (name : List ℕ) (lent : Op
     entry_lent found at =
         at ∙ ap (λ t. entry_at t (inode_of top.directory) name) (tree_lent fs top.directory.filesystem.count lent is)
 
-    module _ (object : InodeRef) (beside : object.filesystem ≡ top.directory.filesystem)
-        (leads : Some (inode_of object)
+    module _ (object : InodeRef) (beside : object.filesystem ≡ top.directory.filesystem) (leads : Some (inode_of object)
         ≡ entry_at (tree_seen top.directory.filesystem.count lent) (inode_of top.directory) name) where
       pub is_entry : IsEntry fs name (record { above = top; object = object })
       is_entry = record { filesystem = beside; leads = sym (entry_lent (Some (inode_of object)) leads) }
@@ -57,8 +56,7 @@ module _ (fs : Filesystems) (top : MergedDirectory) (name : List ℕ) (lent : Op
         directory_further directory b e =
             subst (λ o. IfSome o (IsMergedAt fs layers (path ++ name ∷ []))) (sym e) (by b)
           where
-            by : (b : Bool)
-                → IfSome (if b then Some (record { layer = top.layer; directory = object }) else None)
+            by : (b : Bool) → IfSome (if b then Some (record { layer = top.layer; directory = object }) else None)
                 (IsMergedAt fs layers (path ++ name ∷ []))
             by true = merged_further
             by false = tt
@@ -75,8 +73,7 @@ module _ (fs : Filesystems) (merged : List MergedDirectory) (index : ℕ) (defau
   step : (found : Option ℕ) → entry_at (opened fs here.directory).tree (inode_of here.directory) name ≡ found
       → shown_in (placed_views fs (drop index merged)) (name ∷ [])
       ≡ own_shows (view_of (opened fs here.directory)) here.layer found lower
-  step found at =
-      ap (λ l. shown_in (placed_views fs l) (name ∷ [])) (drop_more merged index default within)
+  step found at = ap (λ l. shown_in (placed_views fs l) (name ∷ [])) (drop_more merged index default within)
       ∙ ap (λ o. own_shows (view_of (opened fs here.directory)) here.layer o lower) at
 
   pub goes_lower : entry_at (opened fs here.directory).tree (inode_of here.directory) name ≡ None
@@ -85,16 +82,14 @@ module _ (fs : Filesystems) (merged : List MergedDirectory) (index : ℕ) (defau
 
   pub shows_first : (found : LayerEntry) → found.above ≡ here → IsEntry fs name found
       → shown_in (placed_views fs (drop index merged)) (name ∷ []) ≡ entry_shown fs found
-  shows_first found same is =
-      step (Some (inode_of found.object))
+  shows_first found same is = step (Some (inode_of found.object))
       (ap (λ (top : MergedDirectory). entry_at (opened fs top.directory).tree (inode_of top.directory) name) (sym same)
       ∙ is.leads)
       ∙ ap (λ (top : MergedDirectory). entry_shown fs (record { above = top; object = found.object })) (sym same)
 
 -- the first entry of the directories that are merged at a path decides what layers show there
 module _ (fs : Filesystems) (layers : List LayerRef) (path : List (List ℕ)) (name : List ℕ)
-    (merged : List MergedDirectory) (found : Option LayerEntry)
-    (is_merged : (rest : List (List ℕ)) → rest ≢ []
+    (merged : List MergedDirectory) (found : Option LayerEntry) (is_merged : (rest : List (List ℕ)) → rest ≢ []
     → shown_in (placed_views fs merged) rest ≡ shown (layers_of fs layers) (path ++ rest))
     (shows : shown_in (placed_views fs merged) (name ∷ []) ≡ then_some found (entry_shown fs)) where
   abbrev shown_there : Option (Shown ℕ)

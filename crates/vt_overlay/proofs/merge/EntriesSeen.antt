@@ -12,5 +12,4 @@ pub entry_seen : (f : ℕ) (lent : Option TreeValue) (tree : TreeValue) (slot nu
     → option_map (exchanged f) (entry_named name (entries_of node.content)) ≡ entry_at (tree_seen f lent) number name
 entry_seen f lent tree slot number name node lends same is =
     ap (λ o. option_map (exchanged f) (entry_named name (entries_in o))) (sym is)
-    ∙ sym (entry_by_numbers f (inodes_of tree) slot name)
-    ∙ (λ i. entry_at (tree_seen f (sym lends i)) (same i) name)
+    ∙ sym (entry_by_numbers f (inodes_of tree) slot name) ∙ (λ i. entry_at (tree_seen f (sym lends i)) (same i) name)

@@ -49,8 +49,7 @@ length-names_up tree zero directory = refl
 length-names_up tree (suc len) directory = ap suc (length-names_up tree len directory)
 
 pub name_at : (tree : Tree ℕ) (directory steps index len : ℕ) → len ≡ suc (steps + index)
-    → slice_get (names_up tree len directory) index
-    ≡ Some (unwrap_or (name_up tree (climbed tree steps directory)) [])
+    → slice_get (names_up tree len directory) index ≡ Some (unwrap_or (name_up tree (climbed tree steps directory)) [])
 name_at tree directory steps index zero e = absurd (let no : ⊥ = omega (arith, e) in no)
 name_at tree directory steps zero (suc len) e =
     let is : len ≡ steps = omega (arith, e) in
@@ -60,13 +59,9 @@ name_at tree directory steps (suc index) (suc len) e = name_at tree directory st
 -- one more directory with a name
 pub named_more : (tree : Tree ℕ) (directory len : ℕ) → AreNamed tree len directory
     → is_some (name_up tree (climbed tree len directory)) ≡ true → AreNamed tree (len + 1) directory
-named_more tree directory len named last steps within =
-    ⊎_elim
-    (λ before. named steps before)
-    (λ past.
+named_more tree directory len named last steps within = ⊎_elim (λ before. named steps before) (λ past.
     let same : steps ≡ len = omega (arith, within, past) in
-    ap (λ n. is_some (name_up tree (climbed tree n directory))) same ∙ last)
-    (cases_lt steps len)
+    ap (λ n. is_some (name_up tree (climbed tree n directory))) same ∙ last) (cases_lt steps len)
 
 some_found : (object : ℕ) (entries : Entries ℕ) → list_any (nat_eq object) (map (λ entry. entry.1) entries) ≡ true
     → is_some (find (λ entry. nat_eq object entry.1) entries) ≡ true
@@ -103,8 +98,7 @@ module _ (f : ℕ) (tree : TreeValue) where
   parent_renamed slot None = refl
   parent_renamed slot (Some node) = by node.content
     where
-      by : (content : Content ℕ)
-          → parent_in (number slot) (Some (renamed_node (exchanged f) (exchanged f)
+      by : (content : Content ℕ) → parent_in (number slot) (Some (renamed_node (exchanged f) (exchanged f)
           (record { attr = node.attr; content = content })))
           ≡ number (parent_in slot (Some (record { attr = node.attr; content = content })))
       by (Directory parent entries opaque) = refl
@@ -125,13 +119,11 @@ module _ (f : ℕ) (tree : TreeValue) where
 
   -- the names so far lead down to where the way began
   abbrev pub LeadsDown : ℕ → ℕ → Type 0
-  LeadsDown lower steps =
-      led seen (number (here lower steps)) (names_up slots steps lower) ≡ Some (number lower)
+  LeadsDown lower steps = led seen (number (here lower steps)) (names_up slots steps lower) ≡ Some (number lower)
 
   -- each path from the top leads to where the way has come, with few names
   abbrev pub ComesFromAbove : ℕ → ℕ → ℕ → Type 0
-  ComesFromAbove top lower steps =
-      (path : List (List ℕ)) → led seen (number top) path ≡ Some (number lower)
+  ComesFromAbove top lower steps = (path : List (List ℕ)) → led seen (number top) path ≡ Some (number lower)
       → (front : List (List ℕ)) × (led seen (number top) front ≡ Some (number (here lower steps)))
       × (length front + steps < (inodes_of tree).count)
 
@@ -145,8 +137,7 @@ module _ (f : ℕ) (tree : TreeValue) where
         (plain_by_numbers f (inodes_of tree) Bool (λ A node. is_directory_node node) object ∙ is)
 
     sorted : (slot : ℕ) → is_sorted name_cmp (entries_in (slots.node slot)) ≡ true
-    sorted slot =
-        sym (plain_by_numbers f (inodes_of tree) Bool (λ A node. is_sorted name_cmp (entries_in node)) slot)
+    sorted slot = sym (plain_by_numbers f (inodes_of tree) Bool (λ A node. is_sorted name_cmp (entries_in node)) slot)
         ∙ conditions.in_order (number slot)
 
     -- its name leads back to it
@@ -173,8 +164,7 @@ module _ (f : ℕ) (tree : TreeValue) where
         (sym (entry_seen (above slot) name) ∙ ap (λ p. entry_at seen p name) up ∙ leads) in
         true≢false (sym (some_found slot (entries_in (slots.node (above slot)))
         (entry_to slots (above slot) name slot there))
-        ∙ sym (some_name (find (λ entry. nat_eq slot entry.1) (entries_in (slots.node (above slot)))))
-        ∙ none)
+        ∙ sym (some_name (find (λ entry. nat_eq slot entry.1) (entries_in (slots.node (above slot))))) ∙ none)
 
     pub above_is_directory : (slot : ℕ) → IsDirectory seen (number slot) → IsDirectory seen (number (above slot))
     above_is_directory slot is =
@@ -187,8 +177,7 @@ module _ (f : ℕ) (tree : TreeValue) where
 
       pub leads_from_above : (steps next : ℕ) → next ≡ suc steps → LeadsDown lower steps
           → is_some (name_up slots (here lower steps)) ≡ true → LeadsDown lower next
-      leads_from_above steps next e so_far named =
-          subst (LeadsDown lower) (sym e)
+      leads_from_above steps next e so_far named = subst (LeadsDown lower) (sym e)
           (ap (option_and_then (λ n. led seen n (names_up slots steps lower))) (name_leads (here lower steps) named) ∙ so_far)
 
       abbrev own : FilesystemEntry
@@ -209,16 +198,14 @@ module _ (f : ℕ) (tree : TreeValue) where
           omega (arith, below, counted)
 
       pub comes_from_above : (steps : ℕ) → steps ≡ 0 → ComesFromAbove top lower steps
-      comes_from_above steps e =
-          subst (ComesFromAbove top lower) (sym e) (λ path leads.
+      comes_from_above steps e = subst (ComesFromAbove top lower) (sym e) (λ path leads.
           (path, leads, let short = shorter path leads in omega (arith, short)))
 
       -- a path to a place below the top has a last name
       last_step : (slot : ℕ) (front : List (List ℕ)) → led seen (number top) front ≡ Some (number slot) → top ≢ slot
           → (before : List (List ℕ)) × (name : List ℕ) × (directory : ℕ) × (suc (length before) ≡ length front)
           × (led seen (number top) before ≡ Some directory) × (entry_at seen directory name ≡ Some (number slot))
-      last_step slot [] e other =
-          absurd (other (exchanged_same f top slot (same_Some (number top) (number slot) e)))
+      last_step slot [] e other = absurd (other (exchanged_same f top slot (same_Some (number top) (number slot) e)))
       last_step slot (name ∷ front) e other =
           let last = last_of (name ∷ front) (not_empty name front) in
           let step = found (λ directory. entry_at seen directory last.1) (led seen (number top) last.0) (number slot)
@@ -227,8 +214,7 @@ module _ (f : ℕ) (tree : TreeValue) where
 
       pub came_from_above : (steps next : ℕ) → next ≡ suc steps → top ≢ here lower steps → ComesFromAbove top lower steps
           → ComesFromAbove top lower next
-      came_from_above steps next e other so_far =
-          subst (ComesFromAbove top lower) (sym e) (λ path leads.
+      came_from_above steps next e other so_far = subst (ComesFromAbove top lower) (sym e) (λ path leads.
           let far = so_far path leads in
           let last = last_step (here lower steps) far.0 far.1 other in
           let up : last.2 ≡ number (here lower (suc steps)) =

@@ -51,9 +51,7 @@ module _ (fs : Filesystems) (layers : List LayerRef) (place : ℕ) (default : La
 
       pub shows_here : (result : Option (Shown ℕ))
           → result ≡ visible (view_of (opened fs inode)) place (inode_of inode) → result ≡ left_from place
-      shows_here result shown =
-          shown
-          ∙ (λ i. visible (view_in (same i)) place (inode_of inode))
+      shows_here result shown = shown ∙ (λ i. visible (view_in (same i)) place (inode_of inode))
           ∙ sym (found ∙ (λ i. shown_over view place (option_map inode_of (is i)) cut (left_from (place + 1))))
 
       pub in_tree : (result : Option Real) → IfSome result (λ real. real ≡ record { layer = place; inode = inode })
@@ -62,7 +60,6 @@ module _ (fs : Filesystems) (layers : List LayerRef) (place : ℕ) (default : La
       in_tree None none = none
       in_tree (Some real) is_real =
           ap (λ (r : Real). option_map (λ (layer : LayerRef). layer.directory.filesystem) (slice_get layers r.layer))
-          is_real
-          ∙ ap (option_map (λ (layer : LayerRef). layer.directory.filesystem))
+          is_real ∙ ap (option_map (λ (layer : LayerRef). layer.directory.filesystem))
           (slice_get-get_or layers place default within)
           ∙ ap Some (sym same ∙ ap (λ (r : Real). r.inode.filesystem) (sym is_real))

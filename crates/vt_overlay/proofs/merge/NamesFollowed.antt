@@ -22,23 +22,18 @@ module _ (tree : Tree ℕ) (here : ℕ) (names : List (List ℕ)) (index : ℕ) 
 
   -- where a name is missing they lead nowhere, and hide nothing more
   pub stops : None ≡ entry_at tree here name → None ≡ led tree here (drop index names)
-  stops none =
-      ap (option_and_then (λ next. led tree next rest)) none
+  stops none = ap (option_and_then (λ next. led tree next rest)) none
       ∙ ap (led tree here) (sym (drop_named names index name is))
 
   pub stops_cut : None ≡ entry_at tree here name → cut_on tree (drop index names) here ≡ false
-  stops_cut none =
-      ap (λ l. cut_on tree l here) (drop_named names index name is)
+  stops_cut none = ap (λ l. cut_on tree l here) (drop_named names index name is)
       ∙ ap (λ o. cut_by tree o (cut_on tree rest)) (sym none)
 
   -- else they go on from there
   module _ (next : ℕ) (at : Some next ≡ entry_at tree here name) where
     pub goes_on : led tree here (drop index names) ≡ led tree next rest
-    goes_on =
-        ap (led tree here) (drop_named names index name is)
-        ∙ ap (option_and_then (λ n. led tree n rest)) (sym at)
+    goes_on = ap (led tree here) (drop_named names index name is) ∙ ap (option_and_then (λ n. led tree n rest)) (sym at)
 
     pub goes_on_cut : cut_on tree (drop index names) here ≡ (hides (tree.node next) || cut_on tree rest next)
-    goes_on_cut =
-        ap (λ l. cut_on tree l here) (drop_named names index name is)
+    goes_on_cut = ap (λ l. cut_on tree l here) (drop_named names index name is)
         ∙ ap (λ o. cut_by tree o (cut_on tree rest)) (sym at)

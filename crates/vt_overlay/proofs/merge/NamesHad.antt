@@ -42,17 +42,14 @@ pub names_more : (fs : Filesystems) (merged : List MergedDirectory) (index : ℕ
     (all kept new : List (List ℕ)) → index < length merged
     → IsPermutation (all ++ names_had fs (drop index merged)) (names_had fs merged)
     → IsPermutation kept (names_in ((files_at fs (get_or merged index default).directory.filesystem.count).tree.node
-    (inode_of (get_or merged index default).directory)))
-    → new ≡ all ++ kept
+    (inode_of (get_or merged index default).directory))) → new ≡ all ++ kept
     → IsPermutation (new ++ names_had fs (drop (index + 1) merged)) (names_had fs merged)
-names_more fs merged index default all kept new within so_far is grown =
-    IsPermutation-trans _ _ _
+names_more fs merged index default all kept new within so_far is grown = IsPermutation-trans _ _ _
     (subst (λ l. IsPermutation l (all ++ names_had fs (drop index merged)))
     (sym (ap (λ l. l ++ rest) grown ∙ append_assoc all kept rest))
     (subst (λ l. IsPermutation (all ++ (kept ++ rest)) (all ++ names_had fs l))
     (sym (drop_more merged index default within))
-    (IsPermutation-append_right all (kept ++ rest) (own ++ rest) (IsPermutation-append_left rest kept own is))))
-    so_far
+    (IsPermutation-append_right all (kept ++ rest) (own ++ rest) (IsPermutation-append_left rest kept own is)))) so_far
   where
     own : List (List ℕ)
     own = names_in ((files_at fs (get_or merged index default).directory.filesystem.count).tree.node
@@ -63,8 +60,7 @@ names_more fs merged index default all kept new within so_far is grown =
 
 -- what one directory shows under a name, and those below it
 abbrev pub own_shows : View ℕ → ℕ → Option ℕ → Option (Shown ℕ) → Option (Shown ℕ)
-own_shows view layer found lower =
-    shown_over view layer (option_and_then (λ next. Some next) found)
+own_shows view layer found lower = shown_over view layer (option_and_then (λ next. Some next) found)
     (hides (then_some (option_and_then (λ next. Some next) found) view.node) || false) lower
 
 pub when_is_some : {A : Type 0} (b : Bool) (a : A) → is_some (when b a) ≡ b
@@ -89,16 +85,14 @@ pub shown_is_had : (fs : Filesystems) (merged : List MergedDirectory) (name : Li
     → is_some (shown_in (placed_views fs merged) (name ∷ [])) ≡ true
     → list_any (is_name name) (names_had fs merged) ≡ true
 shown_is_had fs [] name shows = absurd (true≢false (sym shows))
-shown_is_had fs (top ∷ merged) name shows =
-    any_appended (is_name name) (names_in own) (names_had fs merged)
+shown_is_had fs (top ∷ merged) name shows = any_appended (is_name name) (names_in own) (names_had fs merged)
     ∙ ap (λ b. b || list_any (is_name name) (names_had fs merged)) (sym (is_some-find name_cmp name (entries_in own)))
     ∙ by (entry_at (opened fs top.directory).tree (inode_of top.directory) name) shows (shown_is_had fs merged name)
   where
     own : Option (Node ℕ)
     own = (opened fs top.directory).tree.node (inode_of top.directory)
 
-    by : (found : Option ℕ)
-        → is_some (own_shows (view_of (opened fs top.directory)) top.layer found
+    by : (found : Option ℕ) → is_some (own_shows (view_of (opened fs top.directory)) top.layer found
         (shown_in (placed_views fs merged) (name ∷ []))) ≡ true
         → (is_some (shown_in (placed_views fs merged) (name ∷ [])) ≡ true
         → list_any (is_name name) (names_had fs merged) ≡ true)

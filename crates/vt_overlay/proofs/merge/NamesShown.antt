@@ -57,8 +57,7 @@ looked_white false white shows found is some same = absurd (true≢false (sym so
 pub any_inserted : (name key : List ℕ) (keys : List (Bor (List ℕ))) (one : Bor (List ℕ)) → one.now ≡ key
     → list_any (λ one. is_name name one.now) (insert_key (λ a b. pointwise nat_eq a.now b.now) keys one)
     ≡ (list_any (λ one. is_name name one.now) keys || is_name name key)
-any_inserted name key keys one is =
-    by (list_any (λ b. pointwise nat_eq one.now b.now) keys) refl
+any_inserted name key keys one is = by (list_any (λ b. pointwise nat_eq one.now b.now) keys) refl
   where
     hits : Bor (List ℕ) → Bool
     hits one = is_name name one.now
@@ -68,17 +67,13 @@ any_inserted name key keys one is =
     by true there = sym (present (is_name name key) refl)
       where
         present : (c : Bool) → is_name name key ≡ c → (list_any hits keys || c) ≡ list_any hits keys
-        present true same =
-            ap (λ b. b || true)
+        present true same = ap (λ b. b || true)
             (ap (λ n. list_any (λ b. is_name n b.now) keys) (same_name name key same)
-            ∙ ap (λ n. list_any (λ b. is_name n b.now) keys) (sym is)
-            ∙ sym (among_whites one.now keys) ∙ there)
+            ∙ ap (λ n. list_any (λ b. is_name n b.now) keys) (sym is) ∙ sym (among_whites one.now keys) ∙ there)
             ∙ sym (ap (λ n. list_any (λ b. is_name n b.now) keys) (same_name name key same)
-            ∙ ap (λ n. list_any (λ b. is_name n b.now) keys) (sym is)
-            ∙ sym (among_whites one.now keys) ∙ there)
+            ∙ ap (λ n. list_any (λ b. is_name n b.now) keys) (sym is) ∙ sym (among_whites one.now keys) ∙ there)
         present false same = or_false (list_any hits keys)
-    by false there =
-        list_any-append hits keys (one ∷ [])
+    by false there = list_any-append hits keys (one ∷ [])
         ∙ ap (λ b. list_any hits keys || b) (or_false (is_name name one.now) ∙ ap (is_name name) is)
 
 grow_yes : (old white any : Bool) → ((old || (white && any)) || (white && true)) ≡ (old || (white && (any || true)))
@@ -103,11 +98,9 @@ pub whites_grown : (fs : Filesystems) (top : MergedDirectory) (name key : List �
 whites_grown fs top name key old any so_far new white is is_white grown =
     grown ∙ ap (λ b. b || (white && is_name name key)) is ∙ by (is_name name key) refl
   where
-    by : (b : Bool) → is_name name key ≡ b
-        → ((old || (is_white_under fs top name && any)) || (white && b))
+    by : (b : Bool) → is_name name key ≡ b → ((old || (is_white_under fs top name && any)) || (white && b))
         ≡ (old || (is_white_under fs top name && (any || b)))
-    by true same =
-        ap (λ b. (old || (is_white_under fs top name && any)) || (b && true))
+    by true same = ap (λ b. (old || (is_white_under fs top name && any)) || (b && true))
         (is_white ∙ ap (is_white_under fs top) (sym (same_name name key same)))
         ∙ grow_yes old (is_white_under fs top name) any
     by false same = grow_no old (is_white_under fs top name) any white
@@ -117,8 +110,7 @@ had_is_shown : (fs : Filesystems) (merged : List MergedDirectory) (name : List �
     → list_any (λ top. is_white_under fs top name) merged ≡ false
     → list_any (is_name name) (names_had fs merged) ≡ is_some (shown_in (placed_views fs merged) (name ∷ []))
 had_is_shown fs [] name none = refl
-had_is_shown fs (top ∷ merged) name none =
-    list_any-append (is_name name) (own_names fs top) (names_had fs merged)
+had_is_shown fs (top ∷ merged) name none = list_any-append (is_name name) (own_names fs top) (names_had fs merged)
     ∙ ap (λ b. b || list_any (is_name name) (names_had fs merged))
     (sym (is_some-find name_cmp name (entries_in ((opened fs top.directory).tree.node (inode_of top.directory)))))
     ∙ by (entry_at (opened fs top.directory).tree (inode_of top.directory) name)
@@ -134,14 +126,12 @@ had_is_shown fs (top ∷ merged) name none =
     by None white rest = rest
     by (Some object) white rest =
         sym (when_is_some (not (is_kind_in White ((opened fs top.directory).tree.node object)))
-        (record { layer = top.layer; object = object })
-        ∙ ap not white)
+        (record { layer = top.layer; object = object }) ∙ ap not white)
 
 -- a name leads to a whiteout in a directory if it is one of those that do
 own_white : (fs : Filesystems) (top : MergedDirectory) (name : List ℕ)
     → (is_white_under fs top name && list_any (is_name name) (own_names fs top)) ≡ is_white_under fs top name
-own_white fs top name =
-    ap (λ b. is_white_under fs top name && b)
+own_white fs top name = ap (λ b. is_white_under fs top name && b)
     (sym (is_some-find name_cmp name (entries_in ((opened fs top.directory).tree.node (inode_of top.directory)))))
     ∙ by (entry_at (opened fs top.directory).tree (inode_of top.directory) name)
   where
@@ -156,10 +146,8 @@ module _ {A : Type 0} where
   hit name key = is_name name key.items
 
   has_name : (all : List (Vec ℕ A)) (names : List (List ℕ)) (name : List ℕ)
-      → IsPermutation (map (λ one. one.items) all) names
-      → list_any (hit name) all ≡ list_any (is_name name) names
-  has_name all names name had =
-      sym (list_any_of_map (is_name name) (λ (key : Vec ℕ A). key.items) all)
+      → IsPermutation (map (λ one. one.items) all) names → list_any (hit name) all ≡ list_any (is_name name) names
+  has_name all names name had = sym (list_any_of_map (is_name name) (λ (key : Vec ℕ A). key.items) all)
       ∙ list_any-IsPermutation (is_name name) (map (λ one. one.items) all) names had
 
   -- the whiteouts of one directory more
@@ -169,11 +157,9 @@ module _ {A : Type 0} where
       → IsPermutation (map (λ one. one.items) kept) (own_names fs (get_or merged index default))
       → new ≡ (so_far || (is_white_under fs (get_or merged index default) name && list_any (hit name) kept))
       → new ≡ list_any (λ top. is_white_under fs top name) (take (index + 1) merged)
-  whites_more fs merged index default kept name so_far new within is had grown =
-      grown
+  whites_more fs merged index default kept name so_far new within is had grown = grown
       ∙ ap (λ b. so_far || (is_white_under fs here name && b)) (has_name kept (own_names fs here) name had)
-      ∙ ap (λ b. so_far || b) (own_white fs here name)
-      ∙ ap (λ b. b || is_white_under fs here name) is
+      ∙ ap (λ b. so_far || b) (own_white fs here name) ∙ ap (λ b. b || is_white_under fs here name) is
       ∙ sym (list_any_more (λ top. is_white_under fs top name) merged index default within)
     where
       here : MergedDirectory
@@ -200,9 +186,7 @@ module _ {A : Type 0} where
 
     pub passing_shown : (kept : List (Vec ℕ A))
         → kept ≡ filter (λ key. not (white key.items) || shows key.items) all → list_any (hit name) kept ≡ shows name
-    passing_shown kept filtered =
-        ap (list_any (hit name)) filtered
+    passing_shown kept filtered = ap (list_any (hit name)) filtered
         ∙ any-filter_same (hit name) (λ key. not (white key.items) || shows key.items) (not (white name) || shows name)
         (λ key e. ap (λ one. not (white one) || shows one) (sym (same_name name key.items e))) all
-        ∙ ap (λ b. (not (white name) || shows name) && b) (has_name all (names_had fs merged) name had)
-        ∙ looked
+        ∙ ap (λ b. (not (white name) || shows name) && b) (has_name all (names_had fs merged) name had) ∙ looked

@@ -60,32 +60,23 @@ same_names : (names : List (List ℕ)) (entries : Entries (Unit {0})) → T (is_
     → T (is_sorted name_cmp entries)
     → ((q : List ℕ) → list_any (is_name q) names ≡ list_any (is_name q) (map (λ e. e.0) entries))
     → names ≡ map (λ e. e.0) entries
-same_names names entries p q alike =
-    sym (names-marked names)
-    ∙ ap (map (λ e. e.0))
-    (same_entries name_cmp nat_list_cmp_total same_name-Equal (marked names) entries p q
-    (λ name. same_presence _ _
-    (is_some-find name_cmp name (marked names)
-    ∙ ap (list_any (is_name name)) (names-marked names)
-    ∙ alike name
+same_names names entries p q alike = sym (names-marked names) ∙ ap (map (λ e. e.0))
+    (same_entries name_cmp nat_list_cmp_total same_name-Equal (marked names) entries p q (λ name. same_presence _ _
+    (is_some-find name_cmp name (marked names) ∙ ap (list_any (is_name name)) (names-marked names) ∙ alike name
     ∙ sym (is_some-find name_cmp name entries))))
 
 -- a name is among those that are shown if something is shown there
 pub name_is_shown : (layers : List (OpenLayer ℕ)) (path : List (List ℕ)) (name : List ℕ)
     → list_any (is_name name) (names_shown layers path) ≡ is_some (shown layers (path ++ name ∷ []))
-name_is_shown layers path name =
-    same_truth _ _
-    (λ has.
+name_is_shown layers path name = same_truth _ _ (λ has.
     let seen = (names_are_those_shown layers path name).0 (Contains-from_any same_name name (names_shown layers path) has)
-    in ap is_some ((computed layers (path ++ name ∷ []) seen.0).1 seen.1))
-    (by (shown layers (path ++ name ∷ [])) refl)
+    in ap is_some ((computed layers (path ++ name ∷ []) seen.0).1 seen.1)) (by (shown layers (path ++ name ∷ [])) refl)
   where
     by : (o : Option (Shown ℕ)) → shown layers (path ++ name ∷ []) ≡ o → is_some o ≡ true
         → list_any (is_name name) (names_shown layers path) ≡ true
     by None e h = absurd (true≢false (sym h))
     by (Some seen) e h =
-        let has = (names_are_those_shown layers path name).1
-        (seen, (computed layers (path ++ name ∷ []) seen).0 e) in
+        let has = (names_are_those_shown layers path name).1 (seen, (computed layers (path ++ name ∷ []) seen).0 e) in
         name_found name (names_shown layers path) has.0 has.1 has.2
 
 -- what comes twice in a row is once as much there
@@ -136,8 +127,7 @@ module _ {A : Type 0} where
   is_sorted-bytes_of : (keys : List (Vec ℕ A)) → IsStrictlySortedBy key_cmp keys
       → T (is_sorted name_cmp (marked (bytes_of keys)))
   is_sorted-bytes_of [] h = tt
-  is_sorted-bytes_of (key ∷ keys) h =
-      T_and _ _ (below_all-bytes_of key keys (sorted_head key_cmp key keys h))
+  is_sorted-bytes_of (key ∷ keys) h = T_and _ _ (below_all-bytes_of key keys (sorted_head key_cmp key keys h))
       (is_sorted-bytes_of keys (sorted_tail key_cmp key keys h))
 
   module _ (fs : Filesystems) (merged : List MergedDirectory) (layers : List (OpenLayer ℕ)) (path : List (List ℕ))
@@ -157,25 +147,17 @@ module _ {A : Type 0} where
         ≡ shown layers (path ++ rest)) where
       -- what is left has the names that are shown
       has_name : (name : List ℕ) → list_any (is_name name) (bytes_of once) ≡ shows name
-      has_name name =
-          list_any_of_map (is_name name) (λ (key : Vec ℕ A). key.items) once
-          ∙ ap (list_any (hit name)) deduped
-          ∙ any_dedup key_eq (hit name)
+      has_name name = list_any_of_map (is_name name) (λ (key : Vec ℕ A). key.items) once
+          ∙ ap (list_any (hit name)) deduped ∙ any_dedup key_eq (hit name)
           (λ x y e. ap (is_name name) (same_name x.items y.items (sym (texts_ties x.items y.items) ∙ e))) sorted
-          ∙ sym (list_any-IsPermutation (hit name) kept sorted permuted)
-          ∙ kept_shown name
+          ∙ sym (list_any-IsPermutation (hit name) kept sorted permuted) ∙ kept_shown name
 
       pub names_are : bytes_of once ≡ names_shown layers path
-      names_are =
-          same_names (bytes_of once) (where_key name_cmp test (names_at (map view_of layers) path))
-          (is_sorted-bytes_of once
-          (subst (IsStrictlySortedBy key_cmp) (sym deduped)
+      names_are = same_names (bytes_of once) (where_key name_cmp test (names_at (map view_of layers) path))
+          (is_sorted-bytes_of once (subst (IsStrictlySortedBy key_cmp) (sym deduped)
           (IsStrictlySortedBy-dedup key_cmp_total (λ x y. texts_ties x.items y.items) sorted in_order)))
           (is_sorted-where_key name_cmp test (names_at (map view_of layers) path)
-          (names_sorted (map view_of layers) path))
-          (λ name.
-          has_name name
-          ∙ ap is_some (is_merged (name ∷ []) (λ empty. cc))
-          ∙ sym (name_is_shown layers path name)
+          (names_sorted (map view_of layers) path)) (λ name. has_name name
+          ∙ ap is_some (is_merged (name ∷ []) (λ empty. cc)) ∙ sym (name_is_shown layers path name)
           ∙ ap (list_any (is_name name)) (sym (names-where_key test (names_at (map view_of layers) path))))
           ∙ names-where_key test (names_at (map view_of layers) path)

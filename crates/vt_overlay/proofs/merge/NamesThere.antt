@@ -48,8 +48,7 @@ passes_there test name (first ∷ names) passes there =
     by false e there rest = later (test first) (rest there)
 
 first_there : (name : List ℕ) (names : List (List ℕ)) → list_any (is_name name) (name ∷ names) ≡ true
-first_there name names =
-    ap (λ o. is_eq o || list_any (is_name name) names) (tied_itself nat_list_cmp_total name)
+first_there name names = ap (λ o. is_eq o || list_any (is_name name) names) (tied_itself nat_list_cmp_total name)
 
 -- whether merged directories show something under a name of one of them
 abbrev pub shows_under : Filesystems → List MergedDirectory → List ℕ → Bool
@@ -84,7 +83,6 @@ module _ (fs : Filesystems) (merged : List MergedDirectory) (layers : List (Open
       by : (names : List (List ℕ)) → names_shown layers path ≡ names → not (is_empty_list names) ≡ false
       by [] e = refl
       by (name ∷ names) e =
-          let here : shows name ≡ true =
-          shows_is name ∙ ap (list_any (is_name name)) e ∙ first_there name names in
+          let here : shows name ≡ true = shows_is name ∙ ap (list_any (is_name name)) e ∙ first_there name names in
           absurd (true≢false (sym (passes_there shows name (names_had fs merged) here (shown_is_had fs merged name here))
           ∙ any_flat shows (own_names fs) merged ∙ none))

@@ -48,19 +48,15 @@ one_placed fs layers merged new place default within grown =
 
 -- a list that is written over by one of its own length is that one
 pub refilled : {X : Type 0} (xs ws : List X) → length ws ≡ length xs → refill (length xs) xs ws ≡ ws
-refilled xs ws same =
-    take-append-le (length xs) ws (drop (length ws) xs) (omega (arith, same))
+refilled xs ws same = take-append-le (length xs) ws (drop (length ws) xs) (omega (arith, same))
     ∙ take_all (length xs) ws (omega (arith, same))
 
 -- what was not moved yet is where it was
 pub same_there : {X : Type 0} (now old : List X) (index : ℕ) (default : X)
     → ((place : ℕ) → index ≤ place → drop place now ≡ drop place old) → get_or now index default ≡ get_or old index default
-same_there now old index default same =
-    ap (λ n. get_or now n default) (omega arith)
-    ∙ sym (get_or-drop index now 0 default)
-    ∙ ap (λ l. get_or l 0 default) (same index (omega arith))
-    ∙ get_or-drop index old 0 default
-    ∙ ap (λ n. get_or old n default) (omega arith)
+same_there now old index default same = ap (λ n. get_or now n default) (omega arith)
+    ∙ sym (get_or-drop index now 0 default) ∙ ap (λ l. get_or l 0 default) (same index (omega arith))
+    ∙ get_or-drop index old 0 default ∙ ap (λ n. get_or old n default) (omega arith)
 
 -- one more, if there is one
 pub All-option : {X : Type 0} (P : X → Type 0) (o : Option X) → IfSome o P → All P (option_to_list o)
@@ -78,8 +74,7 @@ module _ (fs : Filesystems) (name : List ℕ) (old now new : List MergedDirector
   here top = placed_of fs top
 
   abbrev Found : MergedDirectory → Type 0
-  Found top = (lower : List (PlacedLayer ℕ))
-      → placed_layers fs (option_to_list directory) ++ (if h then [] else lower)
+  Found top = (lower : List (PlacedLayer ℕ)) → placed_layers fs (option_to_list directory) ++ (if h then [] else lower)
       ≡ directory_over (here top) (entry_at (here top).open_layer.tree (here top).open_layer.directory name) lower
 
   same : get_or now index default ≡ get_or old index default
@@ -87,25 +82,20 @@ module _ (fs : Filesystems) (name : List ℕ) (old now new : List MergedDirector
 
   pub last_kept : Found (get_or now index default) → h ≡ true
       → placed_layers fs (take count new) ≡ directories_under (placed_layers fs old) name
-  last_kept found =
-      last_one fs name old (take kept now) (take count new) index default directory h within so_far
+  last_kept found = last_one fs name old (take kept now) (take count new) index default directory h within so_far
       (subst Found same found) grown
 
   pub next_kept : Found (get_or now index default) → h ≡ false
       → placed_layers fs (take count new) ++ directories_under (placed_layers fs (drop (index + 1) old)) name
       ≡ directories_under (placed_layers fs old) name
-  next_kept found =
-      next_one fs name old (take kept now) (take count new) index default directory h within so_far
+  next_kept found = next_one fs name old (take kept now) (take count new) index default directory h within so_far
       (subst Found same found) grown
 
-  pub led_kept : (layers : List LayerRef) (path : List (List ℕ))
-      → (IsMergedAt fs layers path (get_or now index default)
-      → IfSome directory (IsMergedAt fs layers (path ++ name ∷ [])))
-      → All (IsMergedAt fs layers path) old
+  pub led_kept : (layers : List LayerRef) (path : List (List ℕ)) → (IsMergedAt fs layers path (get_or now index default)
+      → IfSome directory (IsMergedAt fs layers (path ++ name ∷ []))) → All (IsMergedAt fs layers path) old
       → All (IsMergedAt fs layers (path ++ name ∷ [])) (take kept now)
       → All (IsMergedAt fs layers (path ++ name ∷ [])) (take count new)
-  led_kept layers path found all kept_led =
-      subst (All (IsMergedAt fs layers (path ++ name ∷ []))) (sym grown)
+  led_kept layers path found all kept_led = subst (All (IsMergedAt fs layers (path ++ name ∷ []))) (sym grown)
       (All-append (IsMergedAt fs layers (path ++ name ∷ [])) (take kept now) (option_to_list directory) kept_led
       (All-option (IsMergedAt fs layers (path ++ name ∷ [])) directory
       (found (subst (IsMergedAt fs layers path) (sym same) (all index default within)))))

@@ -34,8 +34,7 @@ module _ (fs : Filesystems) (top : MergedDirectory) (name : List ℕ) (lent : Op
 
     pub nothing_found : None ≡ entry_at (tree_seen f lent) (inode_of top.directory) name
         → (lower : List (PlacedLayer ℕ)) → lower ≡ directory_over (placed_of fs top) found lower
-    nothing_found none lower =
-        ap (λ o. directory_over (placed_of fs top) o lower)
+    nothing_found none lower = ap (λ o. directory_over (placed_of fs top) o lower)
         (none ∙ ap (λ t. entry_at t (inode_of top.directory) name) (tree_lent fs f lent is))
 
     module _ (object : InodeRef) (same : object.filesystem ≡ top.directory.filesystem)
@@ -55,21 +54,18 @@ module _ (fs : Filesystems) (top : MergedDirectory) (name : List ℕ) (lent : Op
             layer = top.layer;
             open_layer = record { tree = tree; directory = inode_of object };
           } ∷ [] else []) ++ (if h then [] else lower)
-      by true h lower =
-          (λ i. record {
-            layer = top.layer;
-            open_layer = record { tree = (files_at fs (same i).count).tree; directory = inode_of object };
-          } ∷ (if h then [] else lower))
+      by true h lower = (λ i. record {
+        layer = top.layer;
+        open_layer = record { tree = (files_at fs (same i).count).tree; directory = inode_of object };
+      } ∷ (if h then [] else lower))
       by false h lower = refl
 
       pub object_found : (directory : Option MergedDirectory) (h : Bool)
           → directory ≡ (if is_directory_node (node_in (tree_seen object.filesystem.count lent)) then Some own else None)
-          → h ≡ hides (node_in (tree_seen object.filesystem.count lent))
-          → (lower : List (PlacedLayer ℕ))
+          → h ≡ hides (node_in (tree_seen object.filesystem.count lent)) → (lower : List (PlacedLayer ℕ))
           → placed_layers fs (option_to_list directory) ++ (if h then [] else lower)
           ≡ directory_over (placed_of fs top) found lower
-      object_found directory h d e lower =
-          (λ i. placed_layers fs (option_to_list (d i)) ++ (if e i then [] else lower))
+      object_found directory h d e lower = (λ i. placed_layers fs (option_to_list (d i)) ++ (if e i then [] else lower))
           ∙ (λ i. placed_layers fs (option_to_list (if is_directory_node (node_in (seen i)) then Some own else None))
           ++ (if hides (node_in (seen i)) then [] else lower))
           ∙ by (is_directory_node (node_in tree)) (hides (node_in tree)) lower

@@ -46,8 +46,7 @@ module _ (top : PlacedLayer ℕ) (name first : List ℕ) (rest : List (List ℕ)
   abbrev Shows : ℕ → Option (Node ℕ) → Type 0
   Shows object node =
       shown_in (views ((if is_directory_node node then own object ∷ [] else []) ++ (if hides node then [] else under)))
-      path
-      ≡ over (led tree object path) (hides node || cut_on tree path object)
+      path ≡ over (led tree object path) (hides node || cut_on tree path object)
 
   -- what is no directory has nothing under it
   nothing : (object : ℕ) → entries_in (tree.node object) ≡ [] → led tree object path ≡ None
@@ -64,28 +63,23 @@ module _ (top : PlacedLayer ℕ) (name first : List ℕ) (rest : List (List ℕ)
   of_content object attr (Directory parent entries false) is =
       (λ i. shown_over (view_of (own object).open_layer) top.layer (led tree object path)
       (cuts_on tree path object i) (below i))
-  of_content object attr (Regular bytes) is =
-      sym (ap (λ o. over o true) (nothing object (ap entries_in is)))
-  of_content object attr (Symlink text) is =
-      sym (ap (λ o. over o true) (nothing object (ap entries_in is)))
-  of_content object attr Whiteout is =
-      sym (ap (λ o. over o true) (nothing object (ap entries_in is)))
+  of_content object attr (Regular bytes) is = sym (ap (λ o. over o true) (nothing object (ap entries_in is)))
+  of_content object attr (Symlink text) is = sym (ap (λ o. over o true) (nothing object (ap entries_in is)))
+  of_content object attr Whiteout is = sym (ap (λ o. over o true) (nothing object (ap entries_in is)))
 
   of_node : (object : ℕ) (node : Option (Node ℕ)) → tree.node object ≡ node → Shows object node
   of_node object None is =
       below ∙ sym (λ i. over (nothing object (ap entries_in is) i) (nothing_cut object (ap entries_in is) i))
   of_node object (Some node) is = of_content object node.attr node.content is
 
-  of_entry : (found : Option ℕ)
-      → shown_in (views (directory_over top found under)) path
+  of_entry : (found : Option ℕ) → shown_in (views (directory_over top found under)) path
       ≡ over (option_and_then (λ next. led tree next path) found) (cut_by tree found (cut_on tree path))
   of_entry None = below
   of_entry (Some object) = of_node object (tree.node object) refl
 
 -- the same for all
 shown_under : (layers : List (PlacedLayer ℕ)) (name first : List ℕ) (rest : List (List ℕ))
-    → shown_in (views (directories_under layers name)) (first ∷ rest)
-    ≡ shown_in (views layers) (name ∷ first ∷ rest)
+    → shown_in (views (directories_under layers name)) (first ∷ rest) ≡ shown_in (views layers) (name ∷ first ∷ rest)
 shown_under [] name first rest = refl
 shown_under (top ∷ lower) name first rest =
     of_entry top name first rest lower (directories_under lower name) (shown_under lower name first rest)
@@ -111,57 +105,46 @@ module _ (fs : Filesystems) (name : List ℕ) (above merged new : List MergedDir
 
   pub one_more : index < length above
       → placed_layers fs merged ++ directories_under (placed_layers fs (drop index above)) name
-      ≡ directories_under (placed_layers fs above) name
-      → ((lower : List (PlacedLayer ℕ))
+      ≡ directories_under (placed_layers fs above) name → ((lower : List (PlacedLayer ℕ))
       → placed_layers fs (option_to_list directory) ++ (if h then [] else lower)
       ≡ directory_over here (entry_at here.open_layer.tree here.open_layer.directory name) lower)
       → new ≡ merged ++ option_to_list directory
       → placed_layers fs new ++ (if h then [] else below_index) ≡ directories_under (placed_layers fs above) name
-  one_more within so_far found grown =
-      ap (λ l. placed_layers fs l ++ (if h then [] else below_index)) grown
+  one_more within so_far found grown = ap (λ l. placed_layers fs l ++ (if h then [] else below_index)) grown
       ∙ ap (λ l. l ++ (if h then [] else below_index)) (map-append (placed_of fs) merged (option_to_list directory))
       ∙ append_assoc (placed_layers fs merged) (placed_layers fs (option_to_list directory))
-      (if h then [] else below_index)
-      ∙ ap (λ l. placed_layers fs merged ++ l) (found below_index)
+      (if h then [] else below_index) ∙ ap (λ l. placed_layers fs merged ++ l) (found below_index)
       ∙ ap (λ l. placed_layers fs merged ++ directories_under (placed_layers fs l) name)
-      (sym (drop_more above index default within))
-      ∙ so_far
+      (sym (drop_more above index default within)) ∙ so_far
 
   -- it is the last one, or others follow
   module _ (within : index < length above)
       (so_far : placed_layers fs merged ++ directories_under (placed_layers fs (drop index above)) name
-      ≡ directories_under (placed_layers fs above) name)
-      (found : (lower : List (PlacedLayer ℕ))
+      ≡ directories_under (placed_layers fs above) name) (found : (lower : List (PlacedLayer ℕ))
       → placed_layers fs (option_to_list directory) ++ (if h then [] else lower)
       ≡ directory_over here (entry_at here.open_layer.tree here.open_layer.directory name) lower)
       (grown : new ≡ merged ++ option_to_list directory) where
     pub last_one : h ≡ true → placed_layers fs new ≡ directories_under (placed_layers fs above) name
-    last_one hidden =
-        sym (append-nil (placed_layers fs new))
+    last_one hidden = sym (append-nil (placed_layers fs new))
         ∙ ap (λ b. placed_layers fs new ++ (if b then [] else below_index)) (sym hidden)
         ∙ one_more within so_far found grown
 
-    pub next_one : h ≡ false
-        → placed_layers fs new ++ below_index ≡ directories_under (placed_layers fs above) name
-    next_one open_below =
-        ap (λ b. placed_layers fs new ++ (if b then [] else below_index)) (sym open_below)
+    pub next_one : h ≡ false → placed_layers fs new ++ below_index ≡ directories_under (placed_layers fs above) name
+    next_one open_below = ap (λ b. placed_layers fs new ++ (if b then [] else below_index)) (sym open_below)
         ∙ one_more within so_far found grown
 
 -- none is left
 pub all_merged : (fs : Filesystems) (name : List ℕ) (above merged : List MergedDirectory) (index : ℕ)
-    → length above ≤ index
-    → placed_layers fs merged ++ directories_under (placed_layers fs (drop index above)) name
+    → length above ≤ index → placed_layers fs merged ++ directories_under (placed_layers fs (drop index above)) name
     ≡ directories_under (placed_layers fs above) name
     → placed_layers fs merged ≡ directories_under (placed_layers fs above) name
-all_merged fs name above merged index past so_far =
-    sym (append-nil (placed_layers fs merged))
+all_merged fs name above merged index past so_far = sym (append-nil (placed_layers fs merged))
     ∙ sym (at_drop_all (λ l. placed_layers fs merged ++ directories_under (placed_layers fs l) name) above index past)
     ∙ so_far
 
 -- what is merged so shows what was shown under the name
 pub shows : (fs : Filesystems) (name : List ℕ) (above merged : List MergedDirectory)
-    → placed_layers fs merged ≡ directories_under (placed_layers fs above) name
-    → (path : List (List ℕ)) → path ≢ []
+    → placed_layers fs merged ≡ directories_under (placed_layers fs above) name → (path : List (List ℕ)) → path ≢ []
     → shown_in (views (placed_layers fs merged)) path ≡ shown_in (views (placed_layers fs above)) (name ∷ path)
 shows fs name above merged is path some =
     ap (λ l. shown_in (views l) path) is ∙ shown_under_name (placed_layers fs above) name path some

@@ -49,8 +49,7 @@ module _ {A B : Type 0} where
 
 module _ (world : World ℕ) (copying : Copying) (origin : Mount ℕ) where
   abbrev nearest : Option ℕ → Option ℕ
-  nearest master =
-      nearest_image nat_eq world (supply copying) (parts_seen copying) (mount_of copying.destination)
+  nearest master = nearest_image nat_eq world (supply copying) (parts_seen copying) (mount_of copying.destination)
       (twig copying origin) master
 
   type_by_master-nearest_master_of : (kind : Propagation ℕ) → type_by_master copying (nearest_master_of world copying kind) origin kind
@@ -68,14 +67,12 @@ module _ (world : World ℕ) (copying : Copying) (origin : Mount ℕ) where
   abbrev formed : ℕ → Option ℕ → Option (ℕ × Option ℕ)
   formed group master = formed_if (is_member_of nat_eq group (mount_of copying.destination)) group master
 
-  image_of-above_of : (kind : Propagation ℕ)
-      → then_some (group_of kind) (λ group. formed group
+  image_of-above_of : (kind : Propagation ℕ) → then_some (group_of kind) (λ group. formed group
       (option_map (image_seen copying origin) (above_of world copying kind)))
       ≡ then_some (group_of kind) (λ group. formed group (nearest (world.master group)))
   image_of-above_of (Shared group) = by (is_member_of nat_eq group (mount_of copying.destination)) (world.master group)
     where
-      by : (member : Bool) (master : Option ℕ)
-          → formed_if member group
+      by : (member : Bool) (master : Option ℕ) → formed_if member group
           (option_map (image_seen copying origin) (if member then None else nearest_part world copying master))
           ≡ formed_if member group (nearest master)
       by true master = refl
@@ -100,8 +97,7 @@ module _ (world : World ℕ) (kept : List MountEntry) (grouping : Grouping) (see
       chain_ends (master_in grouping) n it (same_master it has ∙ none) ∙ sym (chain_ends world.master n it none)
   chains_alike (suc n) group (has_master it above has some later) =
       chain_goes_on (master_in grouping) n it above (same_master it has ∙ some)
-      ∙ ap (λ l. it ∷ l) (chains_alike n above later)
-      ∙ sym (chain_goes_on world.master n it above some)
+      ∙ ap (λ l. it ∷ l) (chains_alike n above later) ∙ sym (chain_goes_on world.master n it above some)
 
   up_alike : (group : ℕ) → Lives members world.master group
       → groups_up (as_kept kept grouping) group ≡ groups_up world group
@@ -124,8 +120,7 @@ module _ (world : World ℕ) (kept : List MountEntry) (grouping : Grouping) (see
           (found_in (λ (one : Mount ℕ). nat_eq place.mount one.number) world.mounts mount e).0
 
   life_of_parts : (place : Location ℕ) (part : Mount ℕ) → Among part (parts_of nat_eq world place) → HasLife part
-  life_of_parts place part m = ⊎_elim
-      (λ e. subst HasLife (sym e) (life_at place))
+  life_of_parts place part m = ⊎_elim (λ e. subst HasLife (sym e) (life_at place))
       (λ l. life_of part (receivers_there world (mount_at nat_eq world place) part
       (among-from_filter (takes_part nat_eq world place)
       (receivers_of nat_eq world (mount_at nat_eq world place)) part l).0)) m
@@ -154,8 +149,7 @@ module _ (world : World ℕ) (kept : List MountEntry) (grouping : Grouping) (see
         ∙ sym (ap (nearest_image nat_eq world new parts destination one) none)
     above_alike group (has_master it above has some later) =
         ap (nearest_image nat_eq (as_kept kept grouping) new parts destination one) (same_master it has ∙ some)
-        ∙ nearest_alike above later
-        ∙ sym (ap (nearest_image nat_eq world new parts destination one) some)
+        ∙ nearest_alike above later ∙ sym (ap (nearest_image nat_eq world new parts destination one) some)
 
   -- Copies and groups, where the first part is the mount at the destination
 
@@ -177,8 +171,7 @@ module _ (world : World ℕ) (kept : List MountEntry) (grouping : Grouping) (see
     abbrev graft_at : Mount ℕ → meant.Graft ℕ
     graft_at destination = record {
       destination = place;
-      twigs = map (grown_at destination)
-          (tree_seen copying);
+      twigs = map (grown_at destination) (tree_seen copying);
       moves = copying.graft.moves;
     }
 
@@ -196,18 +189,15 @@ module _ (world : World ℕ) (kept : List MountEntry) (grouping : Grouping) (see
     copied_in_world : (part : Mount ℕ) → HasLife part → (origin : Mount ℕ)
         → copied (as_kept kept grouping) copying part origin
         ≡ copy_at nat_eq world (supply copying) graft (parts_seen copying) part (grown origin)
-    copied_in_world part life origin =
-        (λ i. record origin {
-          number = copy_number nat_eq (supply copying) (graft_seen copying) part.number origin.number;
-          namespace = part.namespace;
-          mount_point = Some (copy_mount_point nat_eq (supply copying) (graft_seen copying) part.number origin);
-          propagation =
-              if is_destination nat_eq (graft_seen copying) part.number then (twig copying origin).propagation
-              else (type_by_master-nearest_master_of (as_kept kept grouping) copying origin part.propagation
-              ∙ type_alike (supply copying) (parts_seen copying) (mount_of copying.destination)
-              (twig copying origin) part.propagation life) i;
-        })
-        ∙ (λ i. copy_with (at i) part origin)
+    copied_in_world part life origin = (λ i. record origin {
+      number = copy_number nat_eq (supply copying) (graft_seen copying) part.number origin.number;
+      namespace = part.namespace;
+      mount_point = Some (copy_mount_point nat_eq (supply copying) (graft_seen copying) part.number origin);
+      propagation = if is_destination nat_eq (graft_seen copying) part.number then (twig copying origin).propagation
+          else (type_by_master-nearest_master_of (as_kept kept grouping) copying origin part.propagation
+          ∙ type_alike (supply copying) (parts_seen copying) (mount_of copying.destination)
+          (twig copying origin) part.propagation life) i;
+    }) ∙ (λ i. copy_with (at i) part origin)
 
     abbrev made_with : Mount ℕ → Mount ℕ → Mount ℕ → Option (ℕ × Option ℕ)
     made_with destination part origin =
@@ -220,8 +210,7 @@ module _ (world : World ℕ) (kept : List MountEntry) (grouping : Grouping) (see
         ))
 
     abbrev new_with : Mount ℕ → Option ℕ → ℕ → Option (ℕ × Option ℕ)
-    new_with origin master group =
-        when (not (is_member_of nat_eq group (mount_of copying.destination)))
+    new_with origin master group = when (not (is_member_of nat_eq group (mount_of copying.destination)))
         (image nat_eq (supply copying) (mount_of copying.destination) (twig copying origin) group, master)
 
     made_in_world : (part : Mount ℕ) → HasLife part → (origin : Mount ℕ)
@@ -239,8 +228,7 @@ module _ (world : World ℕ) (kept : List MountEntry) (grouping : Grouping) (see
             ≡ then_some (group_of kind) (λ group.
             new_with origin (nearest_image nat_eq world (supply copying) (parts_seen copying)
             (mount_of copying.destination) (twig copying origin) (world.master group)) group)
-        by (Shared group) living =
-            ap (λ master. new_with origin master group)
+        by (Shared group) living = ap (λ master. new_with origin master group)
             (above_alike (supply copying) (parts_seen copying) (mount_of copying.destination)
             (twig copying origin) group (living group refl))
         by (Slave master) living = refl
@@ -253,25 +241,21 @@ module _ (world : World ℕ) (kept : List MountEntry) (grouping : Grouping) (see
 
       -- the copies that code makes are those that are planned
       pub copies_planned : flat_map (λ part. map (copied (as_kept kept grouping) copying part) (tree_seen copying))
-          (parts_seen copying)
-          ≡ planned_copies world copying.graft copying.counts
-      copies_planned =
-          flat_map_alike (λ part. map (copied (as_kept kept grouping) copying part) (tree_seen copying))
+          (parts_seen copying) ≡ planned_copies world copying.graft copying.counts
+      copies_planned = flat_map_alike (λ part. map (copied (as_kept kept grouping) copying part) (tree_seen copying))
           (copies_at nat_eq world (supply copying) graft (parts_seen copying)) (parts_seen copying) (λ part m.
           map_alike (copied (as_kept kept grouping) copying part)
           (λ origin. copy_at nat_eq world (supply copying) graft (parts_seen copying) part (grown origin))
           (copied_in_world part (life_of_part part m)) (tree_seen copying)
           ∙ sym (map_twice (copy_at nat_eq world (supply copying) graft (parts_seen copying) part) grown
-          (tree_seen copying)))
-          ∙ ap (λ (parts : List (Mount ℕ)). flat_map
+          (tree_seen copying))) ∙ ap (λ (parts : List (Mount ℕ)). flat_map
           (copies_at nat_eq world (copies_from nat_eq (counts_from copying.counts) parts (tree_seen copying))
           (graft_of nat_eq world (copies_from nat_eq (counts_from copying.counts) parts
           (tree_seen copying)) place copying.graft.moves (tree_seen copying)) parts) parts) are
 
       -- and so are the groups
       pub groups_planned : flat_map (λ part. filter_map (made (as_kept kept grouping) copying part) (tree_seen copying))
-          (parts_seen copying)
-          ≡ planned_groups world copying.graft copying.counts
+          (parts_seen copying) ≡ planned_groups world copying.graft copying.counts
       groups_planned =
           flat_map_alike (λ part. filter_map (made (as_kept kept grouping) copying part) (tree_seen copying))
           (λ part. filter_map (group_made nat_eq world (supply copying) graft (parts_seen copying) part) graft.twigs)
@@ -280,8 +264,7 @@ module _ (world : World ℕ) (kept : List MountEntry) (grouping : Grouping) (see
           (λ origin. group_made nat_eq world (supply copying) graft (parts_seen copying) part (grown origin))
           (made_in_world part (life_of_part part m)) (tree_seen copying)
           ∙ sym (filter_map_twice (group_made nat_eq world (supply copying) graft (parts_seen copying) part) grown
-          (tree_seen copying)))
-          ∙ ap (λ (parts : List (Mount ℕ)). all_groups_made nat_eq world
+          (tree_seen copying))) ∙ ap (λ (parts : List (Mount ℕ)). all_groups_made nat_eq world
           (copies_from nat_eq (counts_from copying.counts) parts (tree_seen copying))
           (graft_of nat_eq world (copies_from nat_eq (counts_from copying.counts) parts
           (tree_seen copying)) place copying.graft.moves (tree_seen copying)) parts) are
@@ -293,8 +276,7 @@ first_in (mount ∷ rest) = Some mount
 
 -- the first part is the mount of the event
 pub first_part : (parts : List Kept) (first : Kept) → Some first ≡ slice_get parts 0
-    → (at : Mount ℕ) (rest : List (Mount ℕ)) → map mount_of parts ≡ at ∷ rest
-    → mount_of first ≡ at
+    → (at : Mount ℕ) (rest : List (Mount ℕ)) → map mount_of parts ≡ at ∷ rest → mount_of first ≡ at
 unfolding first_in
 first_part [] first is at rest e = absurd (true≢false (ap is_some is))
 first_part (part ∷ parts) first is at rest e = ap mount_of (same_Some first part is)

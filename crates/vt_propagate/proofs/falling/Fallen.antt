@@ -22,28 +22,22 @@ module _ (mounts : List (Mount ℕ)) (gone : List ℕ) (number : ℕ) (mount : M
     ≡ numbered mounts number) where
   -- a mount that goes gets no new mount point
   pub left_none : is_going nat_eq gone number ≡ true → None ≡ point_left_of mounts gone number
-  left_none is =
-      sym (ap (λ b. if b then None else option_map (λ place. (
-        mount.number,
-        mount_point_left nat_eq
-            (of_mounts mounts) gone place,
-      )) mount.mount_point)
-      (ap (is_going nat_eq gone) (sym (numbered-number mounts number mount found)) ∙ is))
+  left_none is = sym (ap (λ b. if b then None else option_map (λ place. (
+    mount.number,
+    mount_point_left nat_eq (of_mounts mounts) gone place,
+  )) mount.mount_point) (ap (is_going nat_eq gone) (sym (numbered-number mounts number mount found)) ∙ is))
       ∙ ap (λ o. then_some o (point_left mounts gone)) found
 
   -- one that stays gets the place that is left below it
   pub left_some : is_going nat_eq gone number ≡ false → (place : Location ℕ) → mount.mount_point ≡ Some place
       → Some (number, mount_point_left nat_eq (of_mounts mounts) gone place) ≡ point_left_of mounts gone number
-  left_some stays place at =
-      ap (λ n. Some (n, mount_point_left nat_eq (of_mounts mounts) gone place))
+  left_some stays place at = ap (λ n. Some (n, mount_point_left nat_eq (of_mounts mounts) gone place))
       (numbered-number mounts number mount found)
       ∙ ap (option_map (λ place. (mount.number, mount_point_left nat_eq (of_mounts mounts) gone place))) (sym at)
       ∙ sym (ap (λ b. if b then None else option_map (λ place. (
         mount.number,
-        mount_point_left nat_eq
-            (of_mounts mounts) gone place,
-      )) mount.mount_point)
-      (ap (is_going nat_eq gone) (sym (numbered-number mounts number mount found)) ∙ stays))
+        mount_point_left nat_eq (of_mounts mounts) gone place,
+      )) mount.mount_point) (ap (is_going nat_eq gone) (sym (numbered-number mounts number mount found)) ∙ stays))
       ∙ ap (λ o. then_some o (point_left mounts gone)) found
 
 -- Lists of pairs
@@ -66,8 +60,7 @@ module _ {B : Type 0} where
   pair_found number (pair ∷ rest) b m = by (nat_eq number pair.0) refl (pair_found number rest b)
     where
       by : (t : Bool) → nat_eq number pair.0 ≡ t → (Among (number, b) rest → is_some (lookup (nat_eq number) rest)
-          ≡ true)
-          → is_some (cond t (Some pair.1) (lookup (nat_eq number) rest)) ≡ true
+          ≡ true) → is_some (cond t (Some pair.1) (lookup (nat_eq number) rest)) ≡ true
       by true is later = refl
       by false is later = ⊎_elim (λ e. absurd (true≢false (sym (eq-eqb number pair.0 (ap (λ p. p.0) e)) ∙ is))) later m
 
@@ -81,20 +74,17 @@ module _ (world : World ℕ) (up : are_ascending world.mounts ≡ true) (gone : 
   left place = mount_point_left nat_eq world gone place
 
   -- what an entry tells of the mount with its number
-  entry_tells : (mount : Mount ℕ) → Among mount world.mounts → (place : Location ℕ)
-      → Among (mount.number, place) points
+  entry_tells : (mount : Mount ℕ) → Among mount world.mounts → (place : Location ℕ) → Among (mount.number, place) points
       → option_map left mount.mount_point ≡ Some place
   entry_tells mount m place among =
       let on = among-from_flat_map (points_left_on world.mounts gone) gone (mount.number, place) among in
       let from = among-from_filter_map (point_left_of world.mounts gone)
-      (numbers_of (children nat_eq world.mounts on.0))
-      (mount.number, place) on.2 in
+      (numbers_of (children nat_eq world.mounts on.0)) (mount.number, place) on.2 in
       by from.0 (numbered world.mounts from.0) refl from.2
     where
       told : (other : Mount ℕ) → Among other world.mounts → (b : Bool)
           → (if b then None else option_map {U = ℕ × Location ℕ} (λ at. (other.number, left at)) other.mount_point)
-          ≡ Some (mount.number, place)
-          → option_map left mount.mount_point ≡ Some place
+          ≡ Some (mount.number, place) → option_map left mount.mount_point ≡ Some place
       told other l true e = absurd (true≢false (sym (ap is_some e)))
       told other l false e = point other.mount_point refl e
         where
@@ -104,8 +94,7 @@ module _ (world : World ℕ) (up : are_ascending world.mounts ≡ true) (gone : 
           point None f e = absurd (true≢false (sym (ap is_some e)))
           point (Some at) f e =
               let pair = same_Some (other.number, left at) (mount.number, place) e in
-              let same : other ≡ mount =
-              same_Some other mount (sym (numbered_among world.mounts up other l)
+              let same : other ≡ mount = same_Some other mount (sym (numbered_among world.mounts up other l)
               ∙ ap (numbered world.mounts) (ap (λ p. p.0) pair) ∙ numbered_among world.mounts up mount m) in
               ap (λ x. option_map left x.mount_point) (sym same) ∙ ap (option_map left) f ∙ ap (λ p. Some p.1) pair
 
@@ -119,13 +108,11 @@ module _ (world : World ℕ) (up : are_ascending world.mounts ≡ true) (gone : 
 
   -- a mount on one that goes has an entry
   has_entry : (mount : Mount ℕ) → Among mount world.mounts → is_going nat_eq gone mount.number ≡ false
-      → (place : Location ℕ)
-      → mount.mount_point ≡ Some place → is_going nat_eq gone place.mount ≡ true
+      → (place : Location ℕ) → mount.mount_point ≡ Some place → is_going nat_eq gone place.mount ≡ true
       → Among (mount.number, left place) points
   has_entry mount m stays place at goes =
       among-flat_map (points_left_on world.mounts gone) gone place.mount (mount.number, left place)
-      (among_numbers gone place.mount goes)
-      (among-filter_map (point_left_of world.mounts gone) (numbers_of
+      (among_numbers gone place.mount goes) (among-filter_map (point_left_of world.mounts gone) (numbers_of
       (children nat_eq world.mounts place.mount)) mount.number (mount.number, left place)
       (among-map (λ x. x.number) (children nat_eq world.mounts place.mount) mount
       (among-filter (stands_on nat_eq place.mount) world.mounts mount m
@@ -143,11 +130,9 @@ module _ (world : World ℕ) (up : are_ascending world.mounts ≡ true) (gone : 
       unmoved absent (Some place) at = ap Some (choose (is_going nat_eq gone place.mount) refl)
         where
           choose : (b : Bool) → is_going nat_eq gone place.mount ≡ b → left place ≡ place
-          choose true goes =
-              absurd (true≢false (sym (pair_found mount.number points (left place)
+          choose true goes = absurd (true≢false (sym (pair_found mount.number points (left place)
               (has_entry mount m stays place at goes)) ∙ ap is_some absent))
-          choose false goes =
-              end-here (mount_point_of_parent nat_eq world gone) (length world.mounts) place
+          choose false goes = end-here (mount_point_of_parent nat_eq world gone) (length world.mounts) place
               (ap (λ b. if b then (mount_in nat_eq world.mounts place.mount).mount_point else None) goes)
 
       by : (o : Option (Location ℕ)) → lookup (nat_eq mount.number) points ≡ o → option_map left mount.mount_point
@@ -182,8 +167,7 @@ module _ (world : World ℕ) (up : are_ascending world.mounts ≡ true) (gone : 
       told : (entry : ℕ × Location ℕ) (other : Mount ℕ) → Among other world.mounts → (b : Bool)
           → is_going nat_eq gone other.number ≡ b
           → (if b then None else option_map {U = ℕ × Location ℕ} (λ at. (other.number, left at)) other.mount_point)
-          ≡ Some entry
-          → FallsTo world gone entry
+          ≡ Some entry → FallsTo world gone entry
       told entry other l true stays e = absurd (true≢false (sym (ap is_some e)))
       told entry other l false stays e = point other.mount_point refl e
         where
@@ -191,13 +175,11 @@ module _ (world : World ℕ) (up : are_ascending world.mounts ≡ true) (gone : 
               → option_map {U = ℕ × Location ℕ} (λ at. (other.number, left at)) o ≡ Some entry
               → FallsTo world gone entry
           point None f h = absurd (true≢false (sym (ap is_some h)))
-          point (Some at) f h =
-              subst (FallsTo world gone) (same_Some (other.number, left at) entry h) (
-                stays,
-                ap (λ o. option_map left (unwrap_or o (no_mount other.number)).mount_point)
-                    (numbered_among world.mounts up other l)
-                    ∙ ap (option_map left) f,
-              )
+          point (Some at) f h = subst (FallsTo world gone) (same_Some (other.number, left at) entry h) (
+            stays,
+            ap (λ o. option_map left (unwrap_or o (no_mount other.number)).mount_point)
+                (numbered_among world.mounts up other l) ∙ ap (option_map left) f,
+          )
 
       by : (entry : ℕ × Location ℕ) (number : ℕ) (o : Option (Mount ℕ)) → numbered world.mounts number ≡ o
           → then_some o (point_left world.mounts gone) ≡ Some entry → FallsTo world gone entry

@@ -38,8 +38,7 @@ tree_alone world mount childless (suc depth) =
 -- so that the invariants of mounts are kept where it is detached
 pub alone_keeps_mounts : (world : World ℕ) (number : ℕ) → MountInvariants nat_eq world
     → has_child nat_eq world number ≡ false → MountInvariants nat_eq (without_one world number)
-alone_keeps_mounts world number kept childless =
-    subst (λ gone. MountInvariants nat_eq (taken_away nat_eq world gone))
+alone_keeps_mounts world number kept childless = subst (λ gone. MountInvariants nat_eq (taken_away nat_eq world gone))
     (ap (λ tree. map (λ (mount : Mount ℕ). mount.number) (tree ++ []))
     (tree_alone world (mount_numbered nat_eq world number)
     (ap (has_child nat_eq world) (number_found world.mounts number) ∙ childless) (length world.mounts))
@@ -73,8 +72,7 @@ parts_together (number ∷ rest) = ap (λ list. number ∷ list) (parts_together
 
 -- mounts that go one by one leave, once swept, what they leave at once
 pub one_by_one_are_swept_once : OneByOneAreSweptOnce
-one_by_one_are_swept_once world numbers trees uppers reals kept turns =
-    swept_as_parts (settled nat_eq world) numbers
+one_by_one_are_swept_once world numbers trees uppers reals kept turns = swept_as_parts (settled nat_eq world) numbers
     ∙ parts_are_swept_once world (each_alone numbers) trees uppers reals (turns_keep world numbers kept turns)
     ∙ ap (λ gone. settled nat_eq (taken_away nat_eq world gone)) (parts_together numbers)
 
@@ -89,8 +87,7 @@ module _ (world : World ℕ) (goes : ℕ → Bool) where
   left_by place = last_or place (chain (length world.mounts) falls_by place)
 
   abbrev after_by : Mount ℕ → Mount ℕ
-  after_by mount =
-      if goes mount.number then detached mount
+  after_by mount = if goes mount.number then detached mount
       else record mount { mount_point = option_map left_by mount.mount_point }
 
   abbrev taken_by : World ℕ
@@ -132,8 +129,7 @@ sweeps_do_not_count : (namespaces : List (Namespace ℕ)) (numbers : List ℕ) (
     → with_sweeps without_one (with_namespaces now namespaces) numbers
     ≡ with_namespaces (with_sweeps without_one now numbers) namespaces
 sweeps_do_not_count namespaces [] now = refl
-sweeps_do_not_count namespaces (number ∷ rest) now =
-    ap (λ w. with_sweeps without_one (settled nat_eq w) rest)
+sweeps_do_not_count namespaces (number ∷ rest) now = ap (λ w. with_sweeps without_one (settled nat_eq w) rest)
     (namespaces_do_not_count now namespaces (number ∷ []))
     ∙ sweeps_do_not_count namespaces rest (settled nat_eq (without_one now number))
 
@@ -148,8 +144,7 @@ unlisted_namespaces_end_in_turn world numbers trees uppers reals kept turns are 
 -- a mount outside every namespace stands on none
 stands_nowhere : (number : ℕ) (mount : Mount ℕ) → is_some mount.namespace ≡ false
     → is_nowhere_or_attached mount ≡ true → stands_on nat_eq number mount ≡ false
-stands_nowhere number mount outside nowhere =
-    by mount.mount_point refl
+stands_nowhere number mount outside nowhere = by mount.mount_point refl
     (sym (ap (λ b. b || (not (is_some mount.mount_point) && is_private mount.propagation)) outside) ∙ nowhere)
   where
     by : (place : Option (Location ℕ)) → mount.mount_point ≡ place
@@ -164,8 +159,7 @@ has_child_swept : (world : World ℕ) → MountInvariants nat_eq world → (numb
     → has_child nat_eq (settled nat_eq world) number ≡ has_child nat_eq world number
 has_child_swept world kept number =
     any-filter (stands_on nat_eq number) (mount_lives nat_eq world) world.mounts (λ mount m dead.
-    stands_nowhere number mount
-    (or_parts (is_some mount.namespace) (is_located nat_eq world mount.number) dead).0
+    stands_nowhere number mount (or_parts (is_some mount.namespace) (is_located nat_eq world mount.number) dead).0
     (among_from_list_all is_nowhere_or_attached world.mounts kept.nowhere mount m))
 
 -- code has the mounts and groups that the turns leave
@@ -180,10 +174,8 @@ turns_are_seen_swept world (number ∷ rest) trees uppers reals kept turns =
       turns_are_seen_swept (without_one world number) rest
           (subst (λ fs. HasTrees (record world { filesystems = fs })) same trees)
           (subst (λ fs. UppersArePlain (record world { filesystems = fs })) same uppers)
-          (subst (λ fs. RealsAreThere (record world { filesystems = fs })) same reals)
-          after
+          (subst (λ fs. RealsAreThere (record world { filesystems = fs })) same reals) after
           (subst (λ now. GoInTurnSwept now rest)
           (one_sweep_for_mounts_with_overlays world (number ∷ []) trees uppers reals kept
-          (mounts_stand (without_one world number) after))
-          turns.1),
+          (mounts_stand (without_one world number) after)) turns.1),
     )

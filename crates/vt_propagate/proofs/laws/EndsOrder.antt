@@ -62,27 +62,22 @@ module _ (start : World ℕ) (at_first : MountInvariants nat_eq start) where
     one = mount.number
 
     deep_itself : (x : Mount ℕ) → Among x (mount ∷ left) → depth_of nat_eq start x ≡ suc (rank_of x.number)
-    deep_itself x m =
-        ap (depth_of nat_eq start) (sym (are.itself x m))
+    deep_itself x m = ap (depth_of nat_eq start) (sym (are.itself x m))
         ∙ depth_by_rank start at_first.one_number at_first.standing x.number
 
     -- what is left lies no deeper
     lies_no_deeper : (number : ℕ) → is_among nat_eq number (numbers_of (mount ∷ left)) ≡ true
         → rank_of number ≤ rank_of one
     lies_no_deeper number m =
-        let from =
-        among-from_map (λ (x : Mount ℕ). x.number) (mount ∷ left) number
+        let from = among-from_map (λ (x : Mount ℕ). x.number) (mount ∷ left) number
         (among_numbers (numbers_of (mount ∷ left)) number m) in
         let same : rank_of number ≡ rank_of from.0.number = ap rank_of from.2 in
-        ⊎_elim
-        (λ e. let equal : rank_of from.0.number ≡ rank_of one = ap (λ (x : Mount ℕ). rank_of x.number) e in
-        omega (arith, same, equal))
-        (λ later.
+        ⊎_elim (λ e. let equal : rank_of from.0.number ≡ rank_of one = ap (λ (x : Mount ℕ). rank_of x.number) e in
+        omega (arith, same, equal)) (λ later.
         let low = are.order.0 from.0 later in
         let first = deep_itself mount (inl refl) in
         let second = deep_itself from.0 from.1 in
-        omega (arith, low, first, second, same))
-        from.1
+        omega (arith, low, first, second, same)) from.1
 
     -- so that nothing stands on the next one
     none_on_it : (x : Mount ℕ) → Among x world.mounts → (place : Location ℕ) → x.mount_point ≡ Some place
@@ -98,43 +93,31 @@ module _ (start : World ℕ) (at_first : MountInvariants nat_eq start) where
         (subst (λ n. is_going nat_eq gone n ≡ true) same (are.ends mount (inl refl)))) in
         let high = rank_child start at_first.one_number at_first.standing x.number place stood_there in
         let equal : rank_of one ≡ rank_of place.mount = ap rank_of same in
-        ⊎_elim
-        (λ later. let low = lies_no_deeper x.number later in absurd (omega (arith, low, high, equal)))
-        (λ none.
-        true≢false
-        (sym (ap is_some e) ∙ ap (λ (z : Mount ℕ). is_some z.mount_point) (sym found) ∙ ap is_some none))
+        ⊎_elim (λ later. let low = lies_no_deeper x.number later in absurd (omega (arith, low, high, equal))) (λ none.
+        true≢false (sym (ap is_some e) ∙ ap (λ (z : Mount ℕ). is_some z.mount_point) (sym found) ∙ ap is_some none))
         (are.done x.number ended)
 
     has_none : has_child nat_eq world one ≡ false
-    has_none =
-        none_from_among (stands_on nat_eq one) world.mounts (λ x m.
+    has_none = none_from_among (stands_on nat_eq one) world.mounts (λ x m.
         false_from_ne_true (stands_on nat_eq one x) (λ on. by x m x.mount_point refl on))
       where
         by : (x : Mount ℕ) → Among x world.mounts → (place : Option (Location ℕ)) → x.mount_point ≡ place
             → stands_on nat_eq one x ≡ true → ⊥
         by x m None e on = true≢false (sym on ∙ ap (holds_of (λ p. nat_eq one p.mount)) e)
-        by x m (Some place) e on =
-            none_on_it x m place e
+        by x m (Some place) e on = none_on_it x m place e
             (eqb-true one place.mount (sym (ap (holds_of (λ p. nat_eq one p.mount)) e) ∙ on))
 
     -- and when it is detached alone, the rest is left
     next_left : AreLeft (without_one world one) left
     next_left = record {
       kept = alone_keeps_mounts world one are.kept has_none;
-      stays = λ number place e.
-          are.stays number place (none_falls world one has_none number place
+      stays = λ number place e. are.stays number place (none_falls world one has_none number place
           (stood world (one ∷ []) (mount_numbered nat_eq world number) place
           (sym (ap (λ (m : Mount ℕ). m.mount_point) (taken world (one ∷ []) number)) ∙ e)).1);
-      done = λ number ended.
-          ⊎_elim
-          (λ later.
-          ⊎_elim
-          (λ same. inr (ap (λ n. (mount_numbered nat_eq (without_one world one) n).mount_point) same
-          ∙ ap (λ (m : Mount ℕ). m.mount_point)
-          (detached_by_number world (one ∷ []) one (head_among one one [] refl))))
-          inl
-          (among_cases number one (numbers_of left) later))
-          (λ none. inr (root_stays world (one ∷ []) number none))
+      done = λ number ended. ⊎_elim (λ later.
+          ⊎_elim (λ same. inr (ap (λ n. (mount_numbered nat_eq (without_one world one) n).mount_point) same
+          ∙ ap (λ (m : Mount ℕ). m.mount_point) (detached_by_number world (one ∷ []) one (head_among one one [] refl))))
+          inl (among_cases number one (numbers_of left) later)) (λ none. inr (root_stays world (one ∷ []) number none))
           (are.done number ended);
       order = are.order.1;
       ends = λ x m. are.ends x (inr m);
@@ -151,8 +134,7 @@ module _ (start : World ℕ) (at_first : MountInvariants nat_eq start) where
 
   -- what is sorted is what ends
   from_sorted : (x : Mount ℕ) → Among x sorted → Among x (filter (is_in_ended nat_eq start) start.mounts)
-  from_sorted x m =
-      ⊎_elim (λ none. absurd none) (λ there. there)
+  from_sorted x m = ⊎_elim (λ none. absurd none) (λ there. there)
       (among_all_inserted start (filter (is_in_ended nat_eq start) start.mounts) [] x m)
 
   ends_with_sorted : (number : ℕ) → is_among nat_eq number gone ≡ true
@@ -160,14 +142,11 @@ module _ (start : World ℕ) (at_first : MountInvariants nat_eq start) where
   ends_with_sorted number ended =
       let ones = filter (is_in_ended nat_eq start) start.mounts in
       let from = among-from_map (λ (x : Mount ℕ). x.number) ones number (among_numbers gone number ended) in
-      is_among_numbers (numbers_of sorted) number
-      (subst (λ n. Among n (numbers_of sorted)) (sym from.2)
-      (among-map (λ (x : Mount ℕ). x.number) sorted from.0
-      (all_inserted_among start ones [] from.0 (inr from.1))))
+      is_among_numbers (numbers_of sorted) number (subst (λ n. Among n (numbers_of sorted)) (sym from.2)
+      (among-map (λ (x : Mount ℕ). x.number) sorted from.0 (all_inserted_among start ones [] from.0 (inr from.1))))
 
   sorted_end : (x : Mount ℕ) → Among x sorted → is_among nat_eq x.number gone ≡ true
-  sorted_end x m =
-      is_among_numbers gone x.number
+  sorted_end x m = is_among_numbers gone x.number
       (among-map (λ (y : Mount ℕ). y.number) (filter (is_in_ended nat_eq start) start.mounts) x (from_sorted x m))
 
   all_left : AreLeft start sorted
@@ -177,16 +156,14 @@ module _ (start : World ℕ) (at_first : MountInvariants nat_eq start) where
     done = λ number ended. inl (ends_with_sorted number ended);
     order = all_in_order start (filter (is_in_ended nat_eq start) start.mounts) [] tt;
     ends = sorted_end;
-    itself = λ x m.
-        found_itself start.mounts at_first.one_number x
+    itself = λ x m. found_itself start.mounts at_first.one_number x
         (among-from_filter (is_in_ended nat_eq start) start.mounts x (from_sorted x m)).0;
   }
 
   sorted_are_ended : AreEnded start (ended_in_turn start)
   sorted_are_ended number = by (is_among nat_eq number (numbers_of sorted)) refl (is_among nat_eq number gone) refl
     where
-      by : (b : Bool) → is_among nat_eq number (numbers_of sorted) ≡ b
-          → (c : Bool) → is_among nat_eq number gone ≡ c
+      by : (b : Bool) → is_among nat_eq number (numbers_of sorted) ≡ b → (c : Bool) → is_among nat_eq number gone ≡ c
           → is_among nat_eq number (numbers_of sorted) ≡ is_among nat_eq number gone
       by true e c f =
           let from =

@@ -50,28 +50,23 @@ others_do_not_count world tasks namespaces gone = by (list_any (lost_a_group nat
 -- a mount that is not there is in no namespace that ends
 ended_is_found : (world : World ℕ) → MountInvariants nat_eq world → (number : ℕ)
     → is_among nat_eq number (ended_mounts world) ≡ is_in_ended nat_eq world (mount_numbered nat_eq world number)
-ended_is_found world kept number =
-    by (is_among nat_eq number (ended_mounts world)) refl
+ended_is_found world kept number = by (is_among nat_eq number (ended_mounts world)) refl
     (is_in_ended nat_eq world (mount_numbered nat_eq world number)) refl
   where
     ends : Mount ℕ → Bool
     ends = is_in_ended nat_eq world
 
     there : ends (mount_numbered nat_eq world number) ≡ true → is_among nat_eq number (ended_mounts world) ≡ true
-    there is =
-        ⊎_elim
-        (λ m.
+    there is = ⊎_elim (λ m.
         is_among_numbers (ended_mounts world) number
         (subst (λ n. Among n (ended_mounts world)) (number_found world.mounts number)
         (among-map (λ (x : Mount ℕ). x.number) (filter ends world.mounts) (mount_numbered nat_eq world number)
         (among-filter ends world.mounts (mount_numbered nat_eq world number) m is))))
-        (λ none. absurd (true≢false (sym is ∙ ap ends none)))
-        (found_or_none world.mounts number)
+        (λ none. absurd (true≢false (sym is ∙ ap ends none))) (found_or_none world.mounts number)
 
     ending : is_among nat_eq number (ended_mounts world) ≡ true → ends (mount_numbered nat_eq world number) ≡ true
     ending m =
-        let from =
-        among-from_map (λ (x : Mount ℕ). x.number) (filter ends world.mounts) number
+        let from = among-from_map (λ (x : Mount ℕ). x.number) (filter ends world.mounts) number
         (among_numbers (ended_mounts world) number m) in
         let old = among-from_filter ends world.mounts from.0 from.1 in
         ap (λ n. ends (mount_numbered nat_eq world n)) from.2
@@ -119,8 +114,7 @@ module _ (world : World ℕ) (tasks : List (Task ℕ)) (kept : MountInvariants n
 
   -- the same namespaces are left
   same_listed : filter has_one listed ≡ filter has_one world.namespaces
-  same_listed =
-      filter_twice has_one (has_tasks nat_eq world) has_one (λ namespace.
+  same_listed = filter_twice has_one (has_tasks nat_eq world) has_one (λ namespace.
       by (has_tasks nat_eq world namespace) (has_one namespace) (none_of_fewer namespace)) world.namespaces
     where
       by : (b c : Bool) → (b ≡ false → c ≡ false) → c ≡ (b && c)
@@ -150,8 +144,7 @@ module _ (world : World ℕ) (tasks : List (Task ℕ)) (kept : MountInvariants n
       ap not (none_from_among (λ (n : Namespace ℕ). nat_eq number n.number && has_one n) world.namespaces (λ n m.
       by (nat_eq number n.number) (has_tasks nat_eq world n) (has_one n)
       (none_among (λ (n : Namespace ℕ). nat_eq number n.number && has_tasks nat_eq world n) world.namespaces
-      (dead (is_live_in (has_tasks nat_eq world) world.namespaces number) e) n m)
-      (none_of_fewer n)))
+      (dead (is_live_in (has_tasks nat_eq world) world.namespaces number) e) n m) (none_of_fewer n)))
     where
       dead : (b : Bool) → not b ≡ true → b ≡ false
       dead true f = absurd (true≢false (sym f))
@@ -162,8 +155,7 @@ module _ (world : World ℕ) (tasks : List (Task ℕ)) (kept : MountInvariants n
       by false b c e none = refl
 
   -- and what did not end then ends as it does at once
-  ends_alike : (o : Option ℕ)
-      → holds_of (λ number. not (is_live_in has_one listed number)) o
+  ends_alike : (o : Option ℕ) → holds_of (λ number. not (is_live_in has_one listed number)) o
       ≡ holds_of (λ number. not (is_live_in has_one world.namespaces number)) o
   ends_alike None = refl
   ends_alike (Some number) = ap not (live_then number)
@@ -172,40 +164,31 @@ module _ (world : World ℕ) (tasks : List (Task ℕ)) (kept : MountInvariants n
   same_gone : (kept_then : MountInvariants nat_eq ended_before) (kept_first : MountInvariants nat_eq not_ended)
       (number : ℕ)
       → is_among nat_eq number (first ++ ended_mounts ended_before) ≡ is_among nat_eq number (ended_mounts not_ended)
-  same_gone kept_then kept_first number =
-      list_any-append (nat_eq number) first (ended_mounts ended_before)
+  same_gone kept_then kept_first number = list_any-append (nat_eq number) first (ended_mounts ended_before)
       ∙ (λ i. ended_is_found world kept number i || ended_is_found ended_before kept_then number i)
-      ∙ by (is_in_ended nat_eq world it) refl
-      ∙ sym (ended_is_found not_ended kept_first number)
+      ∙ by (is_in_ended nat_eq world it) refl ∙ sym (ended_is_found not_ended kept_first number)
     where
       it : Mount ℕ
       it = mount_numbered nat_eq world number
 
-      by : (b : Bool) → is_in_ended nat_eq world it ≡ b
-          → (is_in_ended nat_eq world it
+      by : (b : Bool) → is_in_ended nat_eq world it ≡ b → (is_in_ended nat_eq world it
           || is_in_ended nat_eq ended_before (mount_numbered nat_eq ended_before number))
           ≡ is_in_ended nat_eq not_ended it
-      by true e =
-          ap (λ b. b || is_in_ended nat_eq ended_before (mount_numbered nat_eq ended_before number)) e
+      by true e = ap (λ b. b || is_in_ended nat_eq ended_before (mount_numbered nat_eq ended_before number)) e
           ∙ sym (ends_still it.namespace e)
-      by false e =
-          ap (λ b. b || is_in_ended nat_eq ended_before (mount_numbered nat_eq ended_before number)) e
+      by false e = ap (λ b. b || is_in_ended nat_eq ended_before (mount_numbered nat_eq ended_before number)) e
           ∙ ap (holds_of (λ n. not (is_live_in has_one listed n)))
-          (kept_by_number world first number (ended_is_found world kept number ∙ e)).namespace
-          ∙ ends_alike it.namespace
+          (kept_by_number world first number (ended_is_found world kept number ∙ e)).namespace ∙ ends_alike it.namespace
 
   -- namespaces that end in turn leave the groups that they leave at once
   pub ends_at_once : MountInvariants nat_eq ended_before → MountInvariants nat_eq not_ended
       → without_dead_groups nat_eq (namespaces_ended nat_eq ended_before)
       ≡ without_dead_groups nat_eq (namespaces_ended nat_eq not_ended)
-  ends_at_once kept_then kept_first =
-      ap (λ w. without_dead_groups nat_eq (with_namespaces w (filter has_one listed)))
+  ends_at_once kept_then kept_first = ap (λ w. without_dead_groups nat_eq (with_namespaces w (filter has_one listed)))
       (others_do_not_count taken tasks listed (ended_mounts ended_before))
       ∙ ap (λ namespaces. with_others (without_dead_groups nat_eq (taken_away nat_eq taken (ended_mounts ended_before)))
-      tasks namespaces) same_listed
-      ∙ ap (λ w. with_others w tasks (filter has_one world.namespaces))
-      (taken_twice world first (ended_mounts ended_before) kept
-      ∙ ap (without_dead_groups nat_eq)
+      tasks namespaces) same_listed ∙ ap (λ w. with_others w tasks (filter has_one world.namespaces))
+      (taken_twice world first (ended_mounts ended_before) kept ∙ ap (without_dead_groups nat_eq)
       (taken_in_any_order world (first ++ ended_mounts ended_before) (ended_mounts not_ended)
       (same_gone kept_then kept_first)))
       ∙ ap (λ w. without_dead_groups nat_eq (with_namespaces w (filter has_one world.namespaces)))
@@ -230,8 +213,7 @@ others_keep_mounts world tasks namespaces kept = record {
 -- nor do they care for a task that ends, with its namespace or not
 ended_task_keeps_mounts : (world : World ℕ) (name : TaskName) → MountInvariants nat_eq world
     → MountInvariants nat_eq (ended_task world name)
-ended_task_keeps_mounts world name kept =
-    ended_namespaces_keep_mounts (without_task world name)
+ended_task_keeps_mounts world name kept = ended_namespaces_keep_mounts (without_task world name)
     (others_keep_mounts world (without_task world name).tasks world.namespaces kept)
 
 each_keeps_mounts : (world : World ℕ) (names : List TaskName) → MountInvariants nat_eq world
@@ -254,8 +236,7 @@ tasks_left world (name ∷ names) = tasks_left (without_task world name) names
 left_are_fewer : (names : List TaskName) (tasks : List (Task ℕ)) (task : Task ℕ) → Among task (folded less tasks names)
     → Among task tasks
 left_are_fewer [] tasks task m = m
-left_are_fewer (name ∷ names) tasks task m =
-    (among-from_filter (λ (t : Task ℕ). not (same_name name t.name)) tasks task
+left_are_fewer (name ∷ names) tasks task m = (among-from_filter (λ (t : Task ℕ). not (same_name name t.name)) tasks task
     (left_are_fewer names (less tasks name) task m)).0
 
 -- so that a test which one of them passes was passed before
@@ -265,22 +246,19 @@ has_fewer test tasks names e = by (list_any test tasks) refl
   where
     by : (b : Bool) → list_any test tasks ≡ b → list_any test tasks ≡ true
     by true f = f
-    by false f =
-        absurd (true≢false (sym e ∙ none_from_among test (folded less tasks names) (λ task m.
+    by false f = absurd (true≢false (sym e ∙ none_from_among test (folded less tasks names) (λ task m.
         none_among test tasks f task (left_are_fewer names tasks task m))))
 
 -- tasks that end after namespaces have ended, or before
 tasks_then : (world : World ℕ) (names : List TaskName) → MountInvariants nat_eq world
     → settled nat_eq (namespaces_ended nat_eq (without_tasks (namespaces_ended nat_eq world) names))
     ≡ settled nat_eq (namespaces_ended nat_eq (without_tasks world names))
-tasks_then world names kept =
-    ap (λ w. settled nat_eq (namespaces_ended nat_eq w))
+tasks_then world names kept = ap (λ w. settled nat_eq (namespaces_ended nat_eq w))
     (tasks_left (namespaces_ended nat_eq world) names
     ∙ ap (λ tasks. with_others before (folded less tasks names) before.namespaces)
     (tasks-taken_away world (ended_mounts world)))
     ∙ sym (settled_without_groups (namespaces_ended nat_eq (with_others before tasks before.namespaces)))
-    ∙ ap (settled nat_eq)
-    (ends_at_once world tasks kept
+    ∙ ap (settled nat_eq) (ends_at_once world tasks kept
     (λ namespace e. has_fewer (λ (t : Task ℕ). nat_eq namespace.number t.namespace) world.tasks names e)
     (others_keep_mounts before tasks before.namespaces (ended_namespaces_keep_mounts world kept))
     (others_keep_mounts world tasks world.namespaces kept))
@@ -302,13 +280,11 @@ all_end_alike (name ∷ names) world kept =
     let before = namespaces_ended nat_eq world in
     all_end_alike names (without_task before name)
     (others_keep_mounts before (without_task before name).tasks before.namespaces
-    (ended_namespaces_keep_mounts world kept))
-    ∙ tasks_then world (name ∷ names) kept
+    (ended_namespaces_keep_mounts world kept)) ∙ tasks_then world (name ∷ names) kept
 
 -- tasks that exit in turn leave, once swept, what they leave at once
 pub exits_are_at_once : ExitsAreAtOnce
 exits_are_at_once world name names trees uppers reals kept =
     one_sweep_for_all_exits_with_overlays world (name ∷ names) trees uppers reals
-    (each_keeps_mounts world (name ∷ names) kept)
-    ∙ all_end_alike names (without_task world name)
+    (each_keeps_mounts world (name ∷ names) kept) ∙ all_end_alike names (without_task world name)
     (others_keep_mounts world (without_task world name).tasks world.namespaces kept)

@@ -28,8 +28,7 @@ reverse-first x xs = reverse-append (x ∷ []) xs
 
 among-reverse : (xs : List ℕ) (x : ℕ) → Among x (reverse xs) → Among x xs
 among-reverse [] x m = m
-among-reverse (y ∷ ys) x m =
-    ⊎_elim (λ l. inr (among-reverse ys x l)) (λ l. ⊎_elim inl (λ none. absurd none) l)
+among-reverse (y ∷ ys) x m = ⊎_elim (λ l. inr (among-reverse ys x l)) (λ l. ⊎_elim inl (λ none. absurd none) l)
     (among-append (reverse ys) (y ∷ []) x (subst (Among x) (reverse-first y ys) m))
 
 -- Numbers by a key
@@ -62,8 +61,7 @@ module _ (key : ℕ → ℕ) where
       λ i. heads i ∷ falling_alike xs ys first.1 second.1 (λ d. rest d (nat_eq (key x) d) refl) i
     where
       no_higher : (a b : ℕ) (mine others : List ℕ) → Falling (b ∷ others)
-          → at (key a) (a ∷ mine) ≡ at (key a) (b ∷ others)
-          → key a ≤ key b
+          → at (key a) (a ∷ mine) ≡ at (key a) (b ∷ others) → key a ≤ key b
       no_higher a b mine others falls e =
           ⊎_elim (λ it. let equal : key a ≡ key b = ap key it in omega (arith, equal)) (falls.0 a)
           (among-from_filter (λ z. nat_eq (key z) (key a)) (b ∷ others) a
@@ -76,8 +74,7 @@ module _ (key : ℕ → ℕ) where
           omega (arith, one, other)
 
       both : x ∷ at (key x) xs ≡ y ∷ at (key x) ys
-      both =
-          sym (at_its_own x xs) ∙ same (key x)
+      both = sym (at_its_own x xs) ∙ same (key x)
           ∙ filter_here (λ z. nat_eq (key z) (key x)) y ys (eq-eqb (key y) (key x) equal)
 
       heads : x ≡ y
@@ -97,8 +94,7 @@ module _ (key : ℕ → ℕ) where
 
           tails : at d xs ≡ at d ys
           tails = cc together
-      rest d false e =
-          sym (ap (λ b. cond b (x ∷ at d xs) (at d xs)) e) ∙ same d
+      rest d false e = sym (ap (λ b. cond b (x ∷ at d xs) (at d xs)) e) ∙ same d
           ∙ ap (λ b. cond b (y ∷ at d ys) (at d ys)) (ap (λ k. nat_eq k d) equal ∙ e)
 
   falling-append : (xs ys : List ℕ) → Falling xs → Falling ys
@@ -128,13 +124,11 @@ module _ (key : ℕ → ℕ) where
 
   all_at : (d : ℕ) (list : List ℕ) → ((x : ℕ) → Among x list → key x ≡ d) → at d list ≡ list
   all_at d [] all = refl
-  all_at d (x ∷ rest) all =
-      filter_here (λ y. nat_eq (key y) d) x rest (eq-eqb (key x) d (all x (inl refl)))
+  all_at d (x ∷ rest) all = filter_here (λ y. nat_eq (key y) d) x rest (eq-eqb (key x) d (all x (inl refl)))
       ∙ ap (λ list. x ∷ list) (all_at d rest (λ y m. all y (inr m)))
 
   none_at : (d : ℕ) (list : List ℕ) → ((x : ℕ) → Among x list → key x ≡ d → ⊥) → at d list ≡ []
-  none_at d list none =
-      filter_none (λ y. nat_eq (key y) d) list
+  none_at d list none = filter_none (λ y. nat_eq (key y) d) list
       (none_from_among (λ y. nat_eq (key y) d) list (λ x m. ne_eqb (key x) d (none x m)))
 
 -- The levels of a tree
@@ -160,10 +154,8 @@ module _ (world : World ℕ) (kept : MountInvariants nat_eq world) where
     where
       by : (child : Mount ℕ) → Among child world.mounts → (o : Option (Location ℕ)) → child.mount_point ≡ o
           → stands_on nat_eq x child ≡ true → key_of child.number ≡ suc (key_of x)
-      by child there None e on =
-          absurd (true≢false (sym on ∙ ap (holds_of (λ (p : Location ℕ). nat_eq x p.mount)) e))
-      by child there (Some place) e on =
-          rank_child world kept.one_number kept.standing child.number place
+      by child there None e on = absurd (true≢false (sym on ∙ ap (holds_of (λ (p : Location ℕ). nat_eq x p.mount)) e))
+      by child there (Some place) e on = rank_child world kept.one_number kept.standing child.number place
           (ap (λ (y : Mount ℕ). y.mount_point) (found_itself world.mounts kept.one_number child there) ∙ e)
           ∙ ap (λ n. suc (key_of n))
           (sym (eqb-true x place.mount (sym (ap (holds_of (λ (p : Location ℕ). nat_eq x p.mount)) e) ∙ on)))
@@ -175,13 +167,9 @@ module _ (world : World ℕ) (kept : MountInvariants nat_eq world) where
 
   no_lower : (n r : ℕ) (list : List ℕ) → AllOf r list → (x : ℕ) → Among x (levels n list) → r ≤ key_of x
   no_lower zero r list all x m = let same = all x m in omega (arith, same)
-  no_lower (suc n) r list all x m =
-      ⊎_elim
-      (λ here. let same = all x here in omega (arith, same))
-      (λ later.
+  no_lower (suc n) r list all x m = ⊎_elim (λ here. let same = all x here in omega (arith, same)) (λ later.
       let up = no_lower n (suc r) (children_of world.mounts list) (all_kids_higher r list all) x later in
-      omega (arith, up))
-      (among-append list (levels n (children_of world.mounts list)) x m)
+      omega (arith, up)) (among-append list (levels n (children_of world.mounts list)) x m)
 
   levels_fall : (n r : ℕ) (list : List ℕ) → AllOf r list → Falling key_of (reverse (levels n list))
   levels_fall zero r list all = same_falls key_of r (reverse list) (λ x m. all x (among-reverse list x m))
@@ -190,8 +178,7 @@ module _ (world : World ℕ) (kept : MountInvariants nat_eq world) where
       subst (Falling key_of) (sym (reverse-append list (levels n next)))
       (falling-append key_of (reverse (levels n next)) (reverse list)
       (levels_fall n (suc r) next (all_kids_higher r list all))
-      (same_falls key_of r (reverse list) (λ x m. all x (among-reverse list x m)))
-      (λ x y m k.
+      (same_falls key_of r (reverse list) (λ x m. all x (among-reverse list x m))) (λ x y m k.
       let same = all y (among-reverse list y k) in
       let up = no_lower n (suc r) next (all_kids_higher r list all) x (among-reverse (levels n next) x m) in
       omega (arith, same, up)))
@@ -201,8 +188,7 @@ module _ (world : World ℕ) (kept : MountInvariants nat_eq world) where
   under zero x = x ∷ []
   under (suc n) x = x ∷ flat_map (under n) (kids x)
 
-  tree_numbers : (n : ℕ) (mount : Mount ℕ)
-      → numbers_of (tree_from nat_eq n world.mounts mount) ≡ under n mount.number
+  tree_numbers : (n : ℕ) (mount : Mount ℕ) → numbers_of (tree_from nat_eq n world.mounts mount) ≡ under n mount.number
   unfolding under
   tree_numbers zero mount = refl
   tree_numbers (suc n) mount =
@@ -212,10 +198,8 @@ module _ (world : World ℕ) (kept : MountInvariants nat_eq world) where
           → (list : List (Mount ℕ))
           → numbers_of (flat_map (tree_from nat_eq n world.mounts) list) ≡ flat_map (under n) (numbers_of list)
       all_trees each [] = refl
-      all_trees each (x ∷ rest) =
-          map-append (λ (y : Mount ℕ). y.number) (tree_from nat_eq n world.mounts x)
-          (flat_map (tree_from nat_eq n world.mounts) rest)
-          ∙ (λ i. each x i ++ all_trees each rest i)
+      all_trees each (x ∷ rest) = map-append (λ (y : Mount ℕ). y.number) (tree_from nat_eq n world.mounts x)
+          (flat_map (tree_from nat_eq n world.mounts) rest) ∙ (λ i. each x i ++ all_trees each rest i)
 
   same_at : (n d r : ℕ) (list : List ℕ) → AllOf r list
       → at key_of d (flat_map (under n) list) ≡ at key_of d (levels n list)
@@ -238,26 +222,21 @@ module _ (world : World ℕ) (kept : MountInvariants nat_eq world) where
 
       all_below : (some : List ℕ) → flat_map below some ≡ flat_map (under n) (children_of world.mounts some)
       all_below [] = refl
-      all_below (x ∷ some) =
-          ap (λ rest. below x ++ rest) (all_below some)
+      all_below (x ∷ some) = ap (λ rest. below x ++ rest) (all_below some)
           ∙ sym (flat_map-append (under n) (kids x) (children_of world.mounts some))
 
-      tops : d ≡ r → (some : List ℕ) → AllOf r some
-          → ((m : ℕ) (others : List ℕ) → AllOf m others
+      tops : d ≡ r → (some : List ℕ) → AllOf r some → ((m : ℕ) (others : List ℕ) → AllOf m others
           → at key_of d (flat_map (under n) others) ≡ at key_of d (levels n others))
           → at key_of d (flat_map (λ x. x ∷ below x) some) ≡ some
       tops same [] of_them again = refl
       tops same (x ∷ some) of_them again =
           filter_here (λ y. nat_eq (key_of y) d) x (below x ++ flat_map (λ y. y ∷ below y) some)
-          (eq-eqb (key_of x) d (of_them x (inl refl) ∙ sym same))
-          ∙ ap (λ rest. x ∷ rest)
+          (eq-eqb (key_of x) d (of_them x (inl refl) ∙ sym same)) ∙ ap (λ rest. x ∷ rest)
           (filter-append (λ y. nat_eq (key_of y) d) (below x) (flat_map (λ y. y ∷ below y) some)
           ∙ (λ i. empty i ++ tops same some (λ y m. of_them y (inr m)) again i))
         where
           empty : at key_of d (below x) ≡ []
-          empty =
-              again (suc (key_of x)) (kids x) (kids_higher x)
-              ∙ none_at key_of d (levels n (kids x)) (λ y m e.
+          empty = again (suc (key_of x)) (kids x) (kids_higher x) ∙ none_at key_of d (levels n (kids x)) (λ y m e.
               let up = no_lower n (suc (key_of x)) (kids x) (kids_higher x) y m in
               let here = of_them x (inl refl) in
               absurd (omega (arith, up, here, e, same)))
@@ -265,16 +244,14 @@ module _ (world : World ℕ) (kept : MountInvariants nat_eq world) where
       skipped : nat_eq r d ≡ false → (some : List ℕ) → AllOf r some
           → at key_of d (flat_map (λ x. x ∷ below x) some) ≡ at key_of d (flat_map below some)
       skipped apart [] of_them = refl
-      skipped apart (x ∷ some) of_them =
-          ap (λ b. cond b (x ∷ at key_of d (below x ++ flat_map (λ y. y ∷ below y) some))
+      skipped apart (x ∷ some) of_them = ap (λ b. cond b (x ∷ at key_of d (below x ++ flat_map (λ y. y ∷ below y) some))
           (at key_of d (below x ++ flat_map (λ y. y ∷ below y) some)))
           (ap (λ k. nat_eq k d) (of_them x (inl refl)) ∙ apart)
           ∙ filter-append (λ y. nat_eq (key_of y) d) (below x) (flat_map (λ y. y ∷ below y) some)
           ∙ ap (λ rest. at key_of d (below x) ++ rest) (skipped apart some (λ y m. of_them y (inr m)))
           ∙ sym (filter-append (λ y. nat_eq (key_of y) d) (below x) (flat_map below some))
 
-      by : (b : Bool) → nat_eq r d ≡ b
-          → ((m : ℕ) (others : List ℕ) → AllOf m others
+      by : (b : Bool) → nat_eq r d ≡ b → ((m : ℕ) (others : List ℕ) → AllOf m others
           → at key_of d (flat_map (under n) others) ≡ at key_of d (levels n others))
           → at key_of d (flat_map (λ x. x ∷ below x) list) ≡ at key_of d (list ++ later)
       by true e again =
@@ -287,15 +264,12 @@ module _ (world : World ℕ) (kept : MountInvariants nat_eq world) where
           none_later same = none_at key_of d later (λ x m f.
               let up = no_lower n (suc r) next (all_kids_higher r list all) x m in
               absurd (omega (arith, up, f, same)))
-      by false e again =
-          skipped e list all ∙ ap (at key_of d) (all_below list)
-          ∙ again (suc r) next (all_kids_higher r list all)
-          ∙ ap (λ front. front ++ at key_of d later) (sym none_here)
+      by false e again = skipped e list all ∙ ap (at key_of d) (all_below list)
+          ∙ again (suc r) next (all_kids_higher r list all) ∙ ap (λ front. front ++ at key_of d later) (sym none_here)
           ∙ sym (filter-append (λ y. nat_eq (key_of y) d) list later)
         where
           none_here : at key_of d list ≡ []
-          none_here = none_at key_of d list (λ x m f.
-              true≢false (sym (eq-eqb r d (sym (all x m) ∙ f)) ∙ e))
+          none_here = none_at key_of d list (λ x m f. true≢false (sym (eq-eqb r d (sym (all x m) ∙ f)) ∙ e))
 
   -- Put in order
 
@@ -327,8 +301,7 @@ module _ (world : World ℕ) (kept : MountInvariants nat_eq world) where
           ≡ at key_of d (mount.number ∷ numbers_of rest)
           → at key_of d (numbers_of (cond b (other ∷ insert_deepest nat_eq world mount rest) (mount ∷ other ∷ rest)))
           ≡ at key_of d (mount.number ∷ other.number ∷ numbers_of rest)
-      by true e later =
-          ap (λ list. cond (nat_eq (key_of other.number) d) (other.number ∷ list) list) later
+      by true e later = ap (λ list. cond (nat_eq (key_of other.number) d) (other.number ∷ list) list) later
           ∙ turn (nat_eq (key_of mount.number) d) (nat_eq (key_of other.number) d) (λ f g.
           let less : depth_of nat_eq world mount < depth_of nat_eq world other =
           ltb-true (depth_of nat_eq world mount) (depth_of nat_eq world other) e in
@@ -346,10 +319,8 @@ module _ (world : World ℕ) (kept : MountInvariants nat_eq world) where
   all_inserted_at d (mount ∷ mounts) sorted all deep =
       all_inserted_at d mounts (insert_deepest nat_eq world mount sorted) (λ x m. all x (inr m))
       (λ x m. ⊎_elim (λ same. subst IsDeep (sym same) (all mount (inl refl))) (deep x)
-      (among_inserted world mount sorted x m))
-      ∙ ap (λ list. reverse (at key_of d (numbers_of mounts)) ++ list)
-      (inserted_at d mount sorted (all mount (inl refl)) deep)
-      ∙ by (nat_eq (key_of mount.number) d)
+      (among_inserted world mount sorted x m)) ∙ ap (λ list. reverse (at key_of d (numbers_of mounts)) ++ list)
+      (inserted_at d mount sorted (all mount (inl refl)) deep) ∙ by (nat_eq (key_of mount.number) d)
     where
       some : List ℕ
       some = at key_of d (numbers_of mounts)
@@ -359,8 +330,7 @@ module _ (world : World ℕ) (kept : MountInvariants nat_eq world) where
 
       by : (b : Bool) → reverse some ++ cond b (mount.number ∷ rest) rest
           ≡ reverse (cond b (mount.number ∷ some) some) ++ rest
-      by true =
-          sym (append_assoc (reverse some) (mount.number ∷ []) rest)
+      by true = sym (append_assoc (reverse some) (mount.number ∷ []) rest)
           ∙ ap (λ front. front ++ rest) (sym (reverse-first mount.number some))
       by false = refl
 
@@ -385,8 +355,7 @@ module _ (world : World ℕ) (kept : MountInvariants nat_eq world) where
   in_tree : (number : ℕ) (mount : Mount ℕ)
       → Among mount (mount_tree nat_eq world.mounts (mount_numbered nat_eq world number))
       → mount_numbered nat_eq world mount.number ≡ mount
-  in_tree number mount m = ⊎_elim
-      (λ same. ap (λ (x : Mount ℕ). mount_in nat_eq world.mounts x.number) same
+  in_tree number mount m = ⊎_elim (λ same. ap (λ (x : Mount ℕ). mount_in nat_eq world.mounts x.number) same
       ∙ ap (mount_in nat_eq world.mounts) (number_found world.mounts number) ∙ sym same)
       (λ among. found_itself world.mounts kept.one_number mount among)
       (tree_among (length world.mounts) world.mounts (mount_numbered nat_eq world number) mount m)
@@ -394,18 +363,14 @@ module _ (world : World ℕ) (kept : MountInvariants nat_eq world) where
   -- a lazy unmount takes the levels of its tree, the deepest first
   pub lazy_levels : (number : ℕ)
       → numbers_of (lazy_events world number) ≡ reverse (levels_from (length world.mounts) world.mounts (number ∷ []))
-  lazy_levels number =
-      falling_alike key_of (numbers_of (lazy_events world number)) (reverse (levels n (number ∷ [])))
+  lazy_levels number = falling_alike key_of (numbers_of (lazy_events world number)) (reverse (levels n (number ∷ [])))
       (falls_by_depth (taken_in_turn world number) (in_order world number) (λ x m.
       deep_itself x (is_itself world kept.one_number kept.standing number x m)))
-      (levels_fall n (key_of number) (number ∷ []) one)
-      (λ d.
+      (levels_fall n (key_of number) (number ∷ []) one) (λ d.
       all_inserted_at d tree [] (λ x m. deep_itself x (in_tree number x m)) (λ x m. absurd m)
-      ∙ append-nil (reverse (at key_of d (numbers_of tree)))
-      ∙ ap (λ list. reverse (at key_of d list))
+      ∙ append-nil (reverse (at key_of d (numbers_of tree))) ∙ ap (λ list. reverse (at key_of d list))
       (tree_numbers n (mount_numbered nat_eq world number) ∙ ap (under n) (number_found world.mounts number)
-      ∙ sym (append-nil (under n number)))
-      ∙ ap reverse (same_at n d (key_of number) (number ∷ []) one)
+      ∙ sym (append-nil (under n number))) ∙ ap reverse (same_at n d (key_of number) (number ∷ []) one)
       ∙ sym (at-reverse key_of d (levels n (number ∷ []))))
     where
       n : ℕ
@@ -440,8 +405,7 @@ module _ (mounts : List (Mount ℕ)) (all level : List ℕ) (n : ℕ) where
   -- one more level is taken from those that are left
   pub next_level : (more next : List ℕ) → more ≡ all ++ level → next ≡ children_of mounts level
       → more ++ levels_from n mounts next ≡ all ++ levels_from (suc n) mounts level
-  next_level more next is children =
-      (λ i. is i ++ levels_from n mounts (children i))
+  next_level more next is children = (λ i. is i ++ levels_from n mounts (children i))
       ∙ append_assoc all level (levels_from n mounts (children_of mounts level))
 
   -- and none where a level is empty

@@ -39,8 +39,7 @@ stay_twice : (gone more : List ℕ) (numbers_of : List ℕ)
     → filter (λ n. not (is_going nat_eq more n)) (filter (λ n. not (is_going nat_eq gone n)) numbers_of)
     ≡ filter (λ n. not (is_going nat_eq (gone ++ more) n)) numbers_of
 stay_twice gone more [] = refl
-stay_twice gone more (n ∷ rest) =
-    by (is_going nat_eq gone n) (is_going nat_eq more n) refl (stay_twice gone more rest)
+stay_twice gone more (n ∷ rest) = by (is_going nat_eq gone n) (is_going nat_eq more n) refl (stay_twice gone more rest)
     ∙ ap (λ b. cond (not b) (n ∷ filter (λ n. not (is_going nat_eq (gone ++ more) n)) rest)
     (filter (λ n. not (is_going nat_eq (gone ++ more) n)) rest)) (sym (list_any-append (nat_eq n) gone more))
   where
@@ -57,8 +56,7 @@ stay_twice gone more (n ∷ rest) =
         → stay (cond (not one) (n ∷ others) others) ≡ cond (not (one || other)) (n ∷ all) all
     by true other e later = later
     by false true e later = ap (λ b. cond (not b) (n ∷ stay others) (stay others)) e ∙ later
-    by false false e later =
-        ap (λ b. cond (not b) (n ∷ stay others) (stay others)) e ∙ ap (λ list. n ∷ list) later
+    by false false e later = ap (λ b. cond (not b) (n ∷ stay others) (stay others)) e ∙ ap (λ list. n ∷ list) later
 
 all_stay : (numbers_of : List ℕ) → numbers_of ≡ filter (λ n. not (is_going nat_eq [] n)) numbers_of
 all_stay [] = refl
@@ -69,18 +67,15 @@ had_members : (world : World ℕ) (gone : List ℕ) (group : ℕ)
     → has_members nat_eq (taken_away nat_eq world gone).mounts group ≡ true
     → has_members nat_eq world.mounts group ≡ true
 had_members world gone group has =
-    let member =
-    any_among (is_member_of nat_eq group) (middle world gone).mounts
+    let member = any_among (is_member_of nat_eq group) (middle world gone).mounts
     (sym (members-regrouped (middle world gone) group) ∙ has) in
     let from = among-from_map (after_going nat_eq world gone) world.mounts member.0 member.1 in
     any_from_among (is_member_of nat_eq group) world.mounts from.0 from.1
     (by from.0 (is_going nat_eq gone from.0.number) (ap (is_member_of nat_eq group) (sym from.2) ∙ member.2))
   where
-    by : (mount : Mount ℕ) (b : Bool)
-        → is_member_of nat_eq group (if b then detached mount else (record mount {
-          mount_point = option_map (mount_point_left nat_eq world gone) mount.mount_point;
-        })) ≡ true
-        → is_member_of nat_eq group mount ≡ true
+    by : (mount : Mount ℕ) (b : Bool) → is_member_of nat_eq group (if b then detached mount else (record mount {
+      mount_point = option_map (mount_point_left nat_eq world gone) mount.mount_point;
+    })) ≡ true → is_member_of nat_eq group mount ≡ true
     by mount true e = absurd (true≢false (sym e))
     by mount false e = e
 
@@ -118,8 +113,7 @@ module _ (start : World ℕ) (at_first : MountInvariants nat_eq start) (one : �
 
         by : (b : Bool) → is_going nat_eq gone mount.number ≡ b
             → going_if_there now mount ≡ going_then_if_there start gone mount.number
-        by true goes =
-            ap (λ (m : Mount ℕ). events (is_some m.namespace))
+        by true goes = ap (λ (m : Mount ℕ). events (is_some m.namespace))
             (gone_then start at_first now gone reached.so mount.number goes)
             ∙ sym (ap (λ b. if not b && is_some (mount_numbered nat_eq start mount.number).namespace
             then going_then start gone mount.number else []) goes)
@@ -152,30 +146,24 @@ module _ (start : World ℕ) (at_first : MountInvariants nat_eq start) (one : �
     -- what stands on a mount that goes covers its root
     on_root : (number : ℕ) (place : Location ℕ) → (later number).mount_point ≡ Some place
         → is_going nat_eq more place.mount ≡ true → place ≡ root_of (later place.mount)
-    on_root number place at goes =
-        same_Some place (root_of (later place.mount))
+    on_root number place at goes = same_Some place (root_of (later place.mount))
         (sym at ∙ stands_there (root_of (later place.mount)) (later number)
         (covers (later place.mount) (children nat_eq now.mounts (later place.mount).number) may (later number)
         (among-filter (stands_on nat_eq (later place.mount).number) now.mounts (later number)
-        (placed_among now.mounts number place at)
-        (on_its_parent place (later number) (later place.mount).number at
+        (placed_among now.mounts number place at) (on_its_parent place (later number) (later place.mount).number at
         (sym (number_found now.mounts place.mount))))))
       where
         no_child : place.mount ≡ mount.number → ⊥
-        no_child same =
-            true≢false (sym (on_its_parent place (later number) mount.number at same)
+        no_child same = true≢false (sym (on_its_parent place (later number) mount.number at same)
             ∙ none_among (stands_on nat_eq mount.number) now.mounts
             (childless start at_first one now mount left reached.way) (later number)
             (placed_among now.mounts number place at))
 
         may : may_go nat_eq now (later place.mount) ≡ true
-        may =
-            ⊎_elim
-            (λ itself. absurd (no_child (itself ∙ number_found now.mounts mount.number)))
+        may = ⊎_elim (λ itself. absurd (no_child (itself ∙ number_found now.mounts mount.number)))
             (λ t. subst (λ z. may_go nat_eq now z ≡ true)
             (sym (ap (mount_in nat_eq now.mounts) t.3 ∙ found_itself now.mounts reached.so.kept.one_number t.0 t.1))
-            t.2)
-            (goes_or_may now (later mount.number) place.mount goes)
+            t.2) (goes_or_may now (later mount.number) place.mount goes)
 
     falls_over : (number : ℕ) (place : Location ℕ) → Falls now more (later number) place
         → ((at : ℕ) × ((later at).mount_point ≡ Some place)) × Over start (gone ++ more) place number
@@ -188,14 +176,12 @@ module _ (start : World ℕ) (at_first : MountInvariants nat_eq start) (one : �
           (at.mount, e),
           over_further start (gone ++ more) rest at.mount number
               (over_more start gone (gone ++ more) gone_still rest at.mount (reached.so.over at.mount rest e))
-              (gone_too at.mount goes)
-              (subst (λ root. Over start (gone ++ more) root number)
+              (gone_too at.mount goes) (subst (λ root. Over start (gone ++ more) root number)
               (on_root up.0.0 at up.0.1 goes ∙ root_then start at_first now gone reached.so at.mount) up.1),
         )
 
     after_event : (b : Bool) → is_some (later mount.number).namespace ≡ b
-        → IsReached (if b then unmounted nat_eq now mount.number else now) left
-        (gone ++ (if b then more else []))
+        → IsReached (if b then unmounted nat_eq now mount.number else now) left (gone ++ (if b then more else []))
     after_event true there = record {
       way = subst (λ b. IsUnderWay start at_first one (if b then unmounted nat_eq now mount.number else now) left)
           there (next start at_first one now mount left reached.way);
@@ -204,17 +190,14 @@ module _ (start : World ℕ) (at_first : MountInvariants nat_eq start) (one : �
             (if b then unmounted nat_eq now mount.number else now) left) there
             (next start at_first one now mount left reached.way)).kept;
         mounts = ap (λ (w : World ℕ). w.mounts) (reached.at_once more);
-        over = λ number place e.
-            (falls_over number place (stood now more (later number) place
+        over = λ number place e. (falls_over number place (stood now more (later number) place
             (sym (ap (λ (m : Mount ℕ). m.mount_point) (taken now more number)) ∙ e)).1).1;
-        receivers_are = λ group has.
-            receivers_left now reached.so.kept.groups more group has
+        receivers_are = λ group has. receivers_left now reached.so.kept.groups more group has
             ∙ ap (filter (λ n. not (is_going nat_eq more n)))
             (reached.so.receivers_are group (had_members now more group has))
             ∙ stay_twice gone more (numbers_of (receivers nat_eq start group));
       };
-      at_once = λ others.
-          taken_twice now more others reached.so.kept ∙ reached.at_once (more ++ others)
+      at_once = λ others. taken_twice now more others reached.so.kept ∙ reached.at_once (more ++ others)
           ∙ ap (λ list. without_dead_groups nat_eq (taken_away nat_eq start list))
           (sym (append_assoc gone more others));
     }
@@ -309,14 +292,11 @@ module _ (start : World ℕ) (at_first : MountInvariants nat_eq start) (one : �
       → IsTaken start at_first one (counts new) (counts (drop (i + 1) items))
   taken_step gone going new items i default less more so is =
       subst (λ list. IsTaken start at_first one list (counts (drop (i + 1) items))) (sym more)
-      (taken_next (counts gone) (counts going) (counted (get_or items i default).count)
-      (counts (drop (i + 1) items))
-      (subst (λ list. IsTaken start at_first one (counts gone) (counts list)) (drop_more items i default less)
-      so) is)
+      (taken_next (counts gone) (counts going) (counted (get_or items i default).count) (counts (drop (i + 1) items))
+      (subst (λ list. IsTaken start at_first one (counts gone) (counts list)) (drop_more items i default less) so) is)
 
   -- at last all that the unmount takes are taken
   pub taken_last : (gone : List MountId) (items : List MountId) (i : ℕ) → length items ≤ i
       → IsTaken start at_first one (counts gone) (counts (drop i items)) → counts gone ≡ gone_lazily start one
-  taken_last gone items i all so =
-      taken_end (counts gone)
+  taken_last gone items i all so = taken_end (counts gone)
       (subst (λ list. IsTaken start at_first one (counts gone) (counts list)) (drop_all i items all) so)

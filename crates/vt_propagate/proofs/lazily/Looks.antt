@@ -33,8 +33,7 @@ pub record IsLeft (start : World ℕ) (now : World ℕ) (gone : List ℕ) : Type
   pub mounts : now.mounts ≡ (taken_away nat_eq start gone).mounts
   pub over : (number : ℕ) (place : Location ℕ) → (mount_numbered nat_eq now number).mount_point ≡ Some place
       → Over start gone place number
-  pub receivers_are : (group : ℕ) → has_members nat_eq now.mounts group ≡ true
-      → numbers_of (receivers nat_eq now group)
+  pub receivers_are : (group : ℕ) → has_members nat_eq now.mounts group ≡ true → numbers_of (receivers nat_eq now group)
       ≡ filter (λ number. not (is_going nat_eq gone number)) (numbers_of (receivers nat_eq start group))
 
 -- where all that stands on a mount covers its root, it is one mount at most
@@ -42,8 +41,7 @@ all_cover : (mount : Mount ℕ) (kids : List (Mount ℕ)) → any_pair (share_a_
     → ((x : Mount ℕ) → Among x kids → covers_root nat_eq mount x ≡ true) → only_cover nat_eq mount kids ≡ true
 all_cover mount [] apart all = refl
 all_cover mount (one ∷ []) apart all = all one (inl refl)
-all_cover mount (one ∷ other ∷ rest) apart all =
-    absurd (true≢false (sym (one_place_of_two (root_of mount) one other
+all_cover mount (one ∷ other ∷ rest) apart all = absurd (true≢false (sym (one_place_of_two (root_of mount) one other
     (stands_there (root_of mount) one (all one (inl refl)))
     (stands_there (root_of mount) other (all other (inr (inl refl)))))
     ∙ none_among (share_a_mount_point nat_eq one) (other ∷ rest) (or_parts _ _ apart).0 other (inl refl)))
@@ -52,8 +50,7 @@ all_cover mount (one ∷ other ∷ rest) apart all =
 pub covers : (mount : Mount ℕ) (kids : List (Mount ℕ)) → only_cover nat_eq mount kids ≡ true → (x : Mount ℕ)
     → Among x kids → covers_root nat_eq mount x ≡ true
 covers mount [] only x m = absurd m
-covers mount (one ∷ []) only x m =
-    ⊎_elim (λ same. ap (covers_root nat_eq mount) same ∙ only) (λ none. absurd none) m
+covers mount (one ∷ []) only x m = ⊎_elim (λ same. ap (covers_root nat_eq mount) same ∙ only) (λ none. absurd none) m
 covers mount (one ∷ other ∷ rest) only x m = absurd (true≢false (sym only))
 
 -- a mount stands on the mount of its mount point
@@ -80,8 +77,7 @@ module _ (start : World ℕ) (at_first : MountInvariants nat_eq start) (now : Wo
   -- one that is not has kept all but its place and its type
   pub kept_then : (number : ℕ) → is_going nat_eq gone number ≡ false
       → KeepsAllButMountPointAndType (before number) (later number)
-  kept_then number stays =
-      subst (KeepsAllButMountPointAndType (before number)) (sym (then_is number))
+  kept_then number stays = subst (KeepsAllButMountPointAndType (before number)) (sym (then_is number))
       (kept_by_number start gone number stays)
 
   -- each keeps its root
@@ -124,8 +120,7 @@ module _ (start : World ℕ) (at_first : MountInvariants nat_eq start) (now : Wo
   standing_then : (place : Location ℕ) → is_going nat_eq gone place.mount ≡ false
       → option_map (λ (m : Mount ℕ). m.number) (child_at nat_eq now.mounts place)
       ≡ standing_over start.mounts gone place
-  standing_then place there =
-      by (child_at nat_eq now.mounts place) refl (standing_over start.mounts gone place) refl
+  standing_then place there = by (child_at nat_eq now.mounts place) refl (standing_over start.mounts gone place) refl
     where
       by : (o : Option (Mount ℕ)) → child_at nat_eq now.mounts place ≡ o
           → (found : Option ℕ) → standing_over start.mounts gone place ≡ found
@@ -154,10 +149,8 @@ module _ (start : World ℕ) (at_first : MountInvariants nat_eq start) (now : Wo
     kids_before = children nat_eq start.mounts (before number).number
 
     -- where a child stood at a place, what stands there then
-    from_before : only_cover nat_eq (later number) kids ≡ true
-        → is_free_then start.mounts gone (before number) ≡ true
-    from_before only =
-        list_all_from_among (rests_on_root start.mounts gone (before number)) kids_before (λ child m.
+    from_before : only_cover nat_eq (later number) kids ≡ true → is_free_then start.mounts gone (before number) ≡ true
+    from_before only = list_all_from_among (rests_on_root start.mounts gone (before number)) kids_before (λ child m.
         by child m (covers_root nat_eq (before number) child) refl)
       where
         at_place : (child : Mount ℕ) → Among child kids_before → (o : Option (Location ℕ)) → child.mount_point ≡ o
@@ -168,8 +161,7 @@ module _ (start : World ℕ) (at_first : MountInvariants nat_eq start) (now : Wo
             false_from_ne_true _ (λ some. there (standing_over start.mounts gone place) refl some)
           where
             below : place.mount ≡ number
-            below =
-                sym (eqb-true (before number).number place.mount
+            below = sym (eqb-true (before number).number place.mount
                 (sym (ap (holds_of (λ (p : Location ℕ). nat_eq (before number).number p.mount)) e)
                 ∙ (among-from_filter (stands_on nat_eq (before number).number) start.mounts child m).1))
                 ∙ number_found start.mounts number
@@ -182,11 +174,9 @@ module _ (start : World ℕ) (at_first : MountInvariants nat_eq start) (now : Wo
                 has_fallen place top over.0 over.1 (ap (is_going nat_eq gone) below ∙ stays) in
                 let on_it : Among (later top) kids =
                 among-filter (stands_on nat_eq (later number).number) now.mounts (later top)
-                (placed_among now.mounts top place at)
-                (on_its_parent place (later top) (later number).number at
+                (placed_among now.mounts top place at) (on_its_parent place (later top) (later number).number at
                 (below ∙ sym (number_found now.mounts number))) in
-                let root : place ≡ root_of (before number) =
-                same_Some place (root_of (before number)) (sym at
+                let root : place ≡ root_of (before number) = same_Some place (root_of (before number)) (sym at
                 ∙ stands_there (root_of (later number)) (later top) (covers (later number) kids only (later top) on_it)
                 ∙ ap Some (root_then number)) in
                 true≢false (sym (stands_at_its_place (root_of (before number)) child (e ∙ ap Some root)) ∙ aside)
@@ -199,10 +189,8 @@ module _ (start : World ℕ) (at_first : MountInvariants nat_eq start) (now : Wo
             ap (λ b. b || not (holds_of (λ place. is_some (standing_over start.mounts gone place)) child.mount_point)) e
             ∙ ap not (at_place child m child.mount_point refl e)
 
-    from_later : is_free_then start.mounts gone (before number) ≡ true
-        → only_cover nat_eq (later number) kids ≡ true
-    from_later free =
-        all_cover (later number) kids
+    from_later : is_free_then start.mounts gone (before number) ≡ true → only_cover nat_eq (later number) kids ≡ true
+    from_later free = all_cover (later number) kids
         (pair-filter (share_a_mount_point nat_eq) (stands_on nat_eq (later number).number) now.mounts so.kept.one_child)
         (λ x m. let in_it = among-from_filter (stands_on nat_eq (later number).number) now.mounts x m in
         at_place x in_it.0 x.mount_point refl in_it.1)
@@ -220,8 +208,7 @@ module _ (start : World ℕ) (at_first : MountInvariants nat_eq start) (now : Wo
             at = ap (λ (y : Mount ℕ). y.mount_point) itself ∙ e
 
             below : place.mount ≡ number
-            below =
-                sym (eqb-true (later number).number place.mount
+            below = sym (eqb-true (later number).number place.mount
                 (sym (ap (holds_of (λ (p : Location ℕ). nat_eq (later number).number p.mount)) e) ∙ on))
                 ∙ number_found now.mounts number
 
@@ -238,11 +225,9 @@ module _ (start : World ℕ) (at_first : MountInvariants nat_eq start) (now : Wo
 
             by : (b : Bool) → covers_root nat_eq (before number) (before first.0) ≡ b
                 → covers_root nat_eq (later number) x ≡ true
-            by true f =
-                stands_at_its_place (root_of (later number)) x (e ∙ sym first.1
+            by true f = stands_at_its_place (root_of (later number)) x (e ∙ sym first.1
                 ∙ stands_there (root_of (before number)) (before first.0) f ∙ ap Some (sym (root_then number)))
-            by false f =
-                absurd (true≢false (sym rests_there
+            by false f = absurd (true≢false (sym rests_there
                 ∙ ap (λ b. b || not (holds_of (λ place. is_some (standing_over start.mounts gone place))
                 (before first.0).mount_point)) f
                 ∙ ap (λ o. not (holds_of (λ place. is_some (standing_over start.mounts gone place)) o)) first.1
@@ -259,19 +244,16 @@ module _ (start : World ℕ) (at_first : MountInvariants nat_eq start) (now : Wo
     where
       by : (o : Option (Mount ℕ)) → find (λ (m : Mount ℕ). nat_eq number m.number) start.mounts ≡ o
           → is_free_by_number start.mounts gone number ≡ is_free_then start.mounts gone (before number)
-      by None e =
-          absurd (true≢false (sym (ap is_some at)
+      by None e = absurd (true≢false (sym (ap is_some at)
           ∙ ap (λ o. is_some (unwrap_or o (no_mount number)).mount_point) e))
-      by (Some mount) e =
-          ap (holds_of (is_free_then start.mounts gone)) e
+      by (Some mount) e = ap (holds_of (is_free_then start.mounts gone)) e
           ∙ sym (ap (λ o. is_free_then start.mounts gone (unwrap_or o (no_mount number))) e)
 
   -- what goes at a receiver
   goes_then : (node : ℕ) (receiver : Mount ℕ) → is_going nat_eq gone receiver.number ≡ false
       → option_map (λ (m : Mount ℕ). m.number) (goes_at nat_eq now node receiver)
       ≡ free_at_then start.mounts gone (record { mount = receiver.number; node = node })
-  goes_then node receiver there =
-      by (child_at nat_eq now.mounts place) refl
+  goes_then node receiver there = by (child_at nat_eq now.mounts place) refl
       ∙ ap (λ o. then_some o (λ n. when (is_free_by_number start.mounts gone n) n)) (standing_then place there)
     where
       place : Location ℕ
@@ -284,14 +266,12 @@ module _ (start : World ℕ) (at_first : MountInvariants nat_eq start) (now : Wo
 
       by : (o : Option (Mount ℕ)) → child_at nat_eq now.mounts place ≡ o
           → option_map (λ (m : Mount ℕ). m.number) (then_some o (λ child. when (may_go nat_eq now child) child))
-          ≡ then_some (option_map (λ (m : Mount ℕ). m.number) o)
-          (λ n. when (is_free_by_number start.mounts gone n) n)
+          ≡ then_some (option_map (λ (m : Mount ℕ). m.number) o) (λ n. when (is_free_by_number start.mounts gone n) n)
       by None e = refl
       by (Some child) e =
           let t = found_later place child e in
           let point = over_falls start gone place child.number (so.over child.number place t.1) in
-          ap (λ b. option_map (λ (m : Mount ℕ). m.number) (when b child))
-          (ap (may_go nat_eq now) (sym t.0)
+          ap (λ b. option_map (λ (m : Mount ℕ). m.number) (when b child)) (ap (may_go nat_eq now) (sym t.0)
           ∙ may_go_then child.number (stays_there child.number place t.1)
           ∙ sym (free_by_number child.number point.0 point.1))
           ∙ chosen (is_free_by_number start.mounts gone child.number) child
@@ -307,8 +287,7 @@ module _ (start : World ℕ) (at_first : MountInvariants nat_eq start) (now : Wo
 
       staying : (list : List ℕ) (number : ℕ) → Among number (filter (λ n. not (is_going nat_eq gone n)) list)
           → is_going nat_eq gone number ≡ false
-      staying list number m =
-          turned (is_going nat_eq gone number)
+      staying list number m = turned (is_going nat_eq gone number)
           (among-from_filter (λ n. not (is_going nat_eq gone n)) list number m).1
         where
           turned : (b : Bool) → not b ≡ true → b ≡ false
@@ -321,12 +300,10 @@ module _ (start : World ℕ) (at_first : MountInvariants nat_eq start) (now : Wo
       each : (list : List (Mount ℕ)) → ((x : Mount ℕ) → Among x list → is_going nat_eq gone x.number ≡ false)
           → numbers_of (filter_map (goes_at nat_eq now node) list) ≡ filter_map free (numbers_of list)
       each [] there = refl
-      each (x ∷ rest) there =
-          with_first (goes_at nat_eq now node x)
+      each (x ∷ rest) there = with_first (goes_at nat_eq now node x)
           ∙ (λ i. cons_option (goes_then node x (there x (inl refl)) i) (each rest (λ y m. there y (inr m)) i))
         where
-          with_first : (o : Option (Mount ℕ))
-              → numbers_of (cons_option o (filter_map (goes_at nat_eq now node) rest))
+          with_first : (o : Option (Mount ℕ)) → numbers_of (cons_option o (filter_map (goes_at nat_eq now node) rest))
               ≡ cons_option (option_map (λ (m : Mount ℕ). m.number) o)
               (numbers_of (filter_map (goes_at nat_eq now node) rest))
           with_first None = refl
@@ -349,12 +326,9 @@ module _ (start : World ℕ) (at_first : MountInvariants nat_eq start) (now : Wo
 
   group_then : (number : ℕ) → is_going nat_eq gone number ≡ false
       → group_of (later number).propagation ≡ group_of (before number).propagation
-  group_then number stays =
-      ap (λ (m : Mount ℕ). group_of m.propagation) (then_is number ∙ taken start gone number)
-      ∙ group-inherited (middle start gone)
-      (after_going nat_eq start gone (before number)).propagation
-      ∙ ap (λ (m : Mount ℕ). group_of m.propagation)
-      (staying_is_placed start gone (before number)
+  group_then number stays = ap (λ (m : Mount ℕ). group_of m.propagation) (then_is number ∙ taken start gone number)
+      ∙ group-inherited (middle start gone) (after_going nat_eq start gone (before number)).propagation
+      ∙ ap (λ (m : Mount ℕ). group_of m.propagation) (staying_is_placed start gone (before number)
       (ap (is_going nat_eq gone) (number_found start.mounts number) ∙ stays))
 
   -- the group at a place, by the mount there
@@ -365,8 +339,7 @@ module _ (start : World ℕ) (at_first : MountInvariants nat_eq start) (now : Wo
       at : ℕ → Location ℕ × ℕ
       at group = (place, group)
 
-      by : (o : Option (Mount ℕ))
-          → option_map at (then_some o (λ (parent : Mount ℕ). group_of parent.propagation))
+      by : (o : Option (Mount ℕ)) → option_map at (then_some o (λ (parent : Mount ℕ). group_of parent.propagation))
           ≡ option_map at (group_of (unwrap_or o (no_mount place.mount)).propagation)
       by None = refl
       by (Some parent) = refl
@@ -382,19 +355,16 @@ module _ (start : World ℕ) (at_first : MountInvariants nat_eq start) (now : Wo
       where
         member : (group : ℕ) → group_of (later place.mount).propagation ≡ Some group
             → has_members nat_eq now.mounts group ≡ true
-        member group e =
-            any_from_among (is_member_of nat_eq group) now.mounts (later place.mount)
+        member group e = any_from_among (is_member_of nat_eq group) now.mounts (later place.mount)
             (⊎_elim (λ m. m) (λ none. absurd (true≢false (sym (ap is_some e)
-            ∙ ap (λ (m : Mount ℕ). is_some (group_of m.propagation)) none)))
-            (found_or_none now.mounts place.mount))
+            ∙ ap (λ (m : Mount ℕ). is_some (group_of m.propagation)) none))) (found_or_none now.mounts place.mount))
             (ap (holds_of (nat_eq group)) e ∙ eq-eqb group group refl)
 
         with_group : (o : Option ℕ) → group_of (later place.mount).propagation ≡ o
             → going_from nat_eq now (later number) place (is_some o)
             ≡ going_by start gone number (option_map (λ group. (place, group)) o)
         with_group None e = own
-        with_group (Some group) e =
-            ap (λ (o : Option ℕ). numbers_of (filter_map (goes_at nat_eq now place.node)
+        with_group (Some group) e = ap (λ (o : Option ℕ). numbers_of (filter_map (goes_at nat_eq now place.node)
             (unwrap_or (option_map (receivers nat_eq now) o) []))) e
             ∙ all_go_then place.node (numbers_of (receivers nat_eq start group)) (receivers nat_eq now group)
             (so.receivers_are group (member group e))
@@ -402,23 +372,18 @@ module _ (start : World ℕ) (at_first : MountInvariants nat_eq start) (now : Wo
         by : (b : Bool) → is_going nat_eq gone place.mount ≡ b
             → going_from nat_eq now (later number) place (is_shared (mount_at nat_eq now place).propagation)
             ≡ going_by start gone number (group_at_then start.mounts gone place)
-        by true goes =
-            ap (λ (m : Mount ℕ). going_from nat_eq now (later number) place (is_shared m.propagation))
+        by true goes = ap (λ (m : Mount ℕ). going_from nat_eq now (later number) place (is_shared m.propagation))
             (gone_then place.mount goes) ∙ own
             ∙ sym (ap (λ b. going_by start gone number (if b then None else group_at start.mounts place)) goes)
-        by false there =
-            with_group (group_of (later place.mount).propagation) refl
+        by false there = with_group (group_of (later place.mount).propagation) refl
             ∙ ap (λ o. going_by start gone number (option_map (λ group. (place, group)) o))
-            (group_then place.mount there)
-            ∙ ap (going_by start gone number) (sym (group_there place))
+            (group_then place.mount there) ∙ ap (going_by start gone number) (sym (group_there place))
             ∙ sym (ap (λ b. going_by start gone number (if b then None else group_at start.mounts place)) there)
 
     point_then : (later number).mount_point
         ≡ option_map (mount_point_left nat_eq start gone) (before number).mount_point
-    point_then =
-        ap (λ (m : Mount ℕ). m.mount_point) (then_is number ∙ taken start gone number)
-        ∙ ap (λ (m : Mount ℕ). m.mount_point)
-        (staying_is_placed start gone (before number)
+    point_then = ap (λ (m : Mount ℕ). m.mount_point) (then_is number ∙ taken start gone number)
+        ∙ ap (λ (m : Mount ℕ). m.mount_point) (staying_is_placed start gone (before number)
         (ap (is_going nat_eq gone) (number_found start.mounts number) ∙ stays))
 
     -- the point of a mount, by the mount that is found
@@ -433,8 +398,7 @@ module _ (start : World ℕ) (at_first : MountInvariants nat_eq start) (now : Wo
 
     -- What an event detaches, seen through what is gone.
     pub going_is_seen : going nat_eq now (later number) ≡ going_then start gone number
-    going_is_seen =
-        ap (going_at nat_eq now (later number)) point_then ∙ by (before number).mount_point
+    going_is_seen = ap (going_at nat_eq now (later number)) point_then ∙ by (before number).mount_point
         ∙ ap (λ o. going_by start gone number
         (then_some o (λ place. group_at_then start.mounts gone (mount_point_left nat_eq start gone place))))
         (sym found_point)

@@ -57,8 +57,7 @@ module _ (world : World ℕ) where
       let up = over_falls gone (root_of (it under)) number later in (
         up.0,
         up.1,
-        λ rest fall. up.2 rest
-            (falls (root_of (it under)) at rest
+        λ rest fall. up.2 rest (falls (root_of (it under)) at rest
             (ap (is_going nat_eq gone) (number_found world.mounts under) ∙ goes)
             (ap (λ n. (it n).mount_point) (number_found world.mounts under) ∙ e) fall),
       )
@@ -93,8 +92,7 @@ module _ (world : World ℕ) where
     over_is_found gone place child over stays zero few =
         let higher : rank_of place.mount < rank_of child = over_higher gone place child over in
         absurd (omega (arith, few, higher))
-    over_is_found gone place child (here at number e) stays (suc n) few =
-        ap (λ o. then_some o (λ (x : Mount ℕ).
+    over_is_found gone place child (here at number e) stays (suc n) few = ap (λ o. then_some o (λ (x : Mount ℕ).
         if is_going nat_eq gone x.number then over_from n world.mounts gone (root_of x) else Some x.number))
         (found_over at number e)
         ∙ ap (λ k. if is_going nat_eq gone k then over_from n world.mounts gone (root_of (it number)) else Some k)
@@ -123,8 +121,7 @@ module _ (world : World ℕ) where
         → over_from n world.mounts gone place ≡ Some child
         → Over world gone place child × (is_going nat_eq gone child ≡ false)
     found_is_over gone zero place child e = absurd (true≢false (sym (ap is_some e)))
-    found_is_over gone (suc n) place child e =
-        by (child_at nat_eq world.mounts place) refl e (found_is_over gone n)
+    found_is_over gone (suc n) place child e = by (child_at nat_eq world.mounts place) refl e (found_is_over gone n)
       where
         at : (x : Mount ℕ) → child_at nat_eq world.mounts place ≡ Some x → (it x.number).mount_point ≡ Some place
         at x f =
@@ -148,15 +145,12 @@ module _ (world : World ℕ) where
         one x f false stays g later =
             let same : x.number ≡ child = same_Some x.number child g in (
               here place child (ap (λ k. (it k).mount_point) (sym same) ∙ at x f),
-              ap (is_going nat_eq gone) (sym same)
-                  ∙ stays,
+              ap (is_going nat_eq gone) (sym same) ∙ stays,
             )
 
-        by : (o : Option (Mount ℕ)) → child_at nat_eq world.mounts place ≡ o
-            → then_some o (λ (x : Mount ℕ).
+        by : (o : Option (Mount ℕ)) → child_at nat_eq world.mounts place ≡ o → then_some o (λ (x : Mount ℕ).
             if is_going nat_eq gone x.number then over_from n world.mounts gone (root_of x) else Some x.number)
-            ≡ Some child
-            → ((p : Location ℕ) (c : ℕ) → over_from n world.mounts gone p ≡ Some c
+            ≡ Some child → ((p : Location ℕ) (c : ℕ) → over_from n world.mounts gone p ≡ Some c
             → Over world gone p c × (is_going nat_eq gone c ≡ false))
             → Over world gone place child × (is_going nat_eq gone child ≡ false)
         by None f g later = absurd (true≢false (sym (ap is_some g)))

@@ -35,8 +35,7 @@ module _ (master : ℕ → Option ℕ) (group : ℕ) where
       by zero ends None e = refl
       by zero ends (Some next) e = absurd (true≢false (sym (ap is_some e) ∙ ends))
       by (suc n) ends None e = ap (is_among nat_eq group) (chain_ends master n source e)
-      by (suc n) ends (Some next) e =
-          ap (is_among nat_eq group) (chain_goes_on master n source next e)
+      by (suc n) ends (Some next) e = ap (is_among nat_eq group) (chain_goes_on master n source next e)
           ∙ ap (λ groups. nat_eq group source || is_among nat_eq group groups)
           (sym (chain_same master n (suc n) next (omega arith) (further n next e ends)))
         where
@@ -62,8 +61,7 @@ module _ (world : World ℕ) (live : AllGroupsLive world) (gone : List ℕ) wher
   after mount = inheriting nat_eq between (after_going nat_eq world gone mount)
 
   mounts_left : left.mounts ≡ map after world.mounts
-  mounts_left =
-      mounts-regrouped between
+  mounts_left = mounts-regrouped between
       ∙ map_twice (inheriting nat_eq between) (after_going nat_eq world gone) world.mounts
 
   module _ (group : ℕ) (has : has_members nat_eq left.mounts group ≡ true) where
@@ -87,14 +85,11 @@ module _ (world : World ℕ) (live : AllGroupsLive world) (gone : List ℕ) wher
             (living_ends world source life)
 
         by : (b : Bool) → has_members nat_eq between.mounts source ≡ b → SameUp (Some source)
-        by true e =
-            ap then_up (heir_itself between source e)
-            ∙ one_up left.master group (length left.mounts) source
+        by true e = ap then_up (heir_itself between source e) ∙ one_up left.master group (length left.mounts) source
             (living_ends left source (group_lives left live_left source (members-regrouped between source ∙ e)))
             ∙ ap (λ o. nat_eq group source || then_up o) (master_inherited between source e)
             ∙ ap (λ b. nat_eq group source || b) above ∙ sym before
-        by false e =
-            ap then_up (heir_above between source ends e) ∙ above
+        by false e = ap then_up (heir_above between source ends e) ∙ above
             ∙ ap (λ b. b || before_up (world.master source)) (sym apart) ∙ sym before
           where
             apart : nat_eq group source ≡ false
@@ -147,13 +142,10 @@ module _ (world : World ℕ) (live : AllGroupsLive world) (gone : List ℕ) wher
           by : (b : Bool) → is_going nat_eq gone mount.number ≡ b
               → receives nat_eq left group (after_if (is_going nat_eq gone mount.number))
               ≡ (not (is_going nat_eq gone mount.number) && receives nat_eq world group mount)
-          by true e =
-              ap (λ b. receives nat_eq left group (after_if b)) e
+          by true e = ap (λ b. receives nat_eq left group (after_if b)) e
               ∙ sym (ap (λ b. not b && receives nat_eq world group mount) e)
-          by false e =
-              ap (λ b. receives nat_eq left group (after_if b)) e
-              ∙ ap then_up (source_then mount.propagation refl e)
-              ∙ same_source (source_of mount.propagation) refl
+          by false e = ap (λ b. receives nat_eq left group (after_if b)) e
+              ∙ ap then_up (source_then mount.propagation refl e) ∙ same_source (source_of mount.propagation) refl
               ∙ sym (ap (λ b. not b && receives nat_eq world group mount) e)
 
     number_after : (mount : Mount ℕ) → (after mount).number ≡ mount.number
@@ -189,20 +181,16 @@ module _ (world : World ℕ) (live : AllGroupsLive world) (gone : List ℕ) wher
             → numbers_of rest_then ≡ filter stay (numbers_of rest)
             → numbers_of (cond (not (is_going nat_eq gone mount.number) && b) (after mount ∷ rest_then) rest_then)
             ≡ filter stay (numbers_of (cond b (mount ∷ rest) rest))
-        by goes e false later =
-            ap (λ t. numbers_of (cond t (after mount ∷ rest_then) rest_then))
-            (none (is_going nat_eq gone mount.number))
-            ∙ later
+        by goes e false later = ap (λ t. numbers_of (cond t (after mount ∷ rest_then) rest_then))
+            (none (is_going nat_eq gone mount.number)) ∙ later
           where
             none : (t : Bool) → (not t && false) ≡ false
             none true = refl
             none false = refl
-        by true e true later =
-            ap (λ t. numbers_of (cond (not t && true) (after mount ∷ rest_then) rest_then)) e ∙ later
+        by true e true later = ap (λ t. numbers_of (cond (not t && true) (after mount ∷ rest_then) rest_then)) e ∙ later
             ∙ sym (ap (λ t. cond (not t) (mount.number ∷ filter stay (numbers_of rest))
             (filter stay (numbers_of rest))) e)
-        by false e true later =
-            ap (λ t. numbers_of (cond (not t && true) (after mount ∷ rest_then) rest_then)) e
+        by false e true later = ap (λ t. numbers_of (cond (not t && true) (after mount ∷ rest_then) rest_then)) e
             ∙ ap (λ n. n ∷ numbers_of rest_then) (number_after mount) ∙ ap (λ list. mount.number ∷ list) later
             ∙ sym (ap (λ t. cond (not t) (mount.number ∷ filter stay (numbers_of rest))
             (filter stay (numbers_of rest))) e)
@@ -210,6 +198,5 @@ module _ (world : World ℕ) (live : AllGroupsLive world) (gone : List ℕ) wher
     -- Who receives from a group that keeps a member: those that did, and are not gone.
     pub receivers_left : numbers_of (receivers nat_eq left group)
         ≡ filter (λ number. not (is_going nat_eq gone number)) (numbers_of (receivers nat_eq world group))
-    receivers_left =
-        ap (λ mounts. numbers_of (filter (receives nat_eq left group) mounts)) mounts_left
+    receivers_left = ap (λ mounts. numbers_of (filter (receives nat_eq left group) mounts)) mounts_left
         ∙ all_receive world.mounts (λ mount m. m)

@@ -35,8 +35,7 @@ module _ (mounts : List (Mount ℕ)) (up : are_ascending mounts ≡ true) (left 
     where
       stays : (child : Mount ℕ) → child_at nat_eq mounts (at part) ≡ Some child → (b : Bool)
           → option_map (λ (n : ℕ). (n, top_of_copies nat_eq copies place)) (if b then None else Some child.number)
-          ≡ Some point
-          → IsPushed part point.0
+          ≡ Some point → IsPushed part point.0
       stays child f true e = none_is_some point e
       stays child f false e =
           let found = found_in (stands_at nat_eq (at part)) mounts child f in
@@ -44,22 +43,19 @@ module _ (mounts : List (Mount ℕ)) (up : are_ascending mounts ≡ true) (left 
             child = child;
             there = found.0;
             stands = found.1;
-            number_is = ap (λ (p : Point). p.0)
-                (same_Some _ point e);
+            number_is = ap (λ (p : Point). p.0) (same_Some _ point e);
           }
 
       from : (o : Option (Mount ℕ)) → child_at nat_eq mounts (at part) ≡ o
           → option_map (λ (n : ℕ). (n, top_of_copies nat_eq copies place))
           (then_some (option_map (λ (child : Mount ℕ). child.number) o)
-          (λ n. if holds_of (nat_eq n) left then None else Some n)) ≡ Some point
-          → IsPushed part point.0
+          (λ n. if holds_of (nat_eq n) left then None else Some n)) ≡ Some point → IsPushed part point.0
       from None f e = none_is_some point e
       from (Some child) f e = stays child f (holds_of (nat_eq child.number) left) e
 
       by : (b : Bool) → (if b then None
           else option_map (λ (n : ℕ). (n, top_of_copies nat_eq copies place)) (stander mounts left (at part)))
-          ≡ Some point
-          → IsPushed part point.0
+          ≡ Some point → IsPushed part point.0
       by true e = none_is_some point e
       by false e = from (child_at nat_eq mounts (at part)) refl e
 
@@ -67,11 +63,9 @@ module _ (mounts : List (Mount ℕ)) (up : are_ascending mounts ≡ true) (left 
   ComesFrom parts point = (part : Mount ℕ) × Among part parts × IsPushed part.number point.0
 
   pushed_from : (size : ℕ) (parts copies : List (Mount ℕ)) (point : Point)
-      → Among point (pushes_from mounts left place size parts copies)
-      → ComesFrom parts point
+      → Among point (pushes_from mounts left place size parts copies) → ComesFrom parts point
   pushed_from size [] copies point m = absurd m
-  pushed_from size (part ∷ parts) copies point m =
-      by (pushed_at mounts left place part.number (take size copies)) refl
+  pushed_from size (part ∷ parts) copies point m = by (pushed_at mounts left place part.number (take size copies)) refl
       (pushed_from size parts (drop size copies) point) m
     where
       by : (o : Option Point) → pushed_at mounts left place part.number (take size copies) ≡ o
@@ -79,28 +73,23 @@ module _ (mounts : List (Mount ℕ)) (up : are_ascending mounts ≡ true) (left 
           → Among point (cons_option o (pushes_from mounts left place size parts (drop size copies)))
           → ComesFrom (part ∷ parts) point
       by None e again n = let later = again n in (later.0, inr later.1, later.2)
-      by (Some first) e again n =
-          ⊎_elim
-          (λ same. (
-            part,
-            inl refl,
-            subst (λ (x : Point). IsPushed part.number x.0) (sym same)
-                (one_pushed part.number (take size copies) first e),
-          ))
-          (λ l. let later = again l in (later.0, inr later.1, later.2)) n
+      by (Some first) e again n = ⊎_elim (λ same. (
+        part,
+        inl refl,
+        subst (λ (x : Point). IsPushed part.number x.0) (sym same)
+            (one_pushed part.number (take size copies) first e),
+      )) (λ l. let later = again l in (later.0, inr later.1, later.2)) n
 
   -- one mount stands at one part
   same_part : (p q : ℕ) (o : Option (Location ℕ)) → holds_of (same_location nat_eq (at p)) o ≡ true
       → holds_of (same_location nat_eq (at q)) o ≡ true → p ≡ q
   same_part p q None e f = absurd (true≢false (sym e))
-  same_part p q (Some x) e f =
-      eqb-true p x.mount (and_parts (nat_eq p x.mount) _ e).0
+  same_part p q (Some x) e f = eqb-true p x.mount (and_parts (nat_eq p x.mount) _ e).0
       ∙ sym (eqb-true q x.mount (and_parts (nat_eq q x.mount) _ f).0)
 
   one_part : (p q number : ℕ) → IsPushed p number → IsPushed q number → p ≡ q
   one_part p q number one two =
-      let same : one.child ≡ two.child =
-      same_Some one.child two.child
+      let same : one.child ≡ two.child = same_Some one.child two.child
       (sym (numbered_among mounts up one.child one.there) ∙ ap (numbered mounts) (one.number_is ∙ sym two.number_is)
       ∙ numbered_among mounts up two.child two.there) in
       same_part p q two.child.mount_point (ap (stands_at nat_eq (at p)) (sym same) ∙ one.stands) two.stands
@@ -108,8 +97,7 @@ module _ (mounts : List (Mount ℕ)) (up : are_ascending mounts ≡ true) (left 
   each_once : (size : ℕ) (parts copies : List (Mount ℕ)) → OneNumberAMount parts
       → any_pair (λ (a b : Point). nat_eq a.0 b.0) (pushes_from mounts left place size parts copies) ≡ false
   each_once size [] copies apart = refl
-  each_once size (part ∷ parts) copies apart =
-      by (pushed_at mounts left place part.number (take size copies)) refl
+  each_once size (part ∷ parts) copies apart = by (pushed_at mounts left place part.number (take size copies)) refl
       (each_once size parts (drop size copies) split.1)
     where
       split : (list_any (λ (b : Mount ℕ). nat_eq part.number b.number) parts ≡ false) × OneNumberAMount parts
@@ -119,14 +107,11 @@ module _ (mounts : List (Mount ℕ)) (up : are_ascending mounts ≡ true) (left 
       rest = pushes_from mounts left place size parts (drop size copies)
 
       differ : (first : Point) → pushed_at mounts left place part.number (take size copies) ≡ Some first
-          → (point : Point) → Among point rest
-          → nat_eq first.0 point.0 ≡ false
+          → (point : Point) → Among point rest → nat_eq first.0 point.0 ≡ false
       differ first e point m =
           let from = pushed_from size parts (drop size copies) point m in
           ne_eqb first.0 point.0 (λ same.
-          true≢false
-          (sym (eq-eqb part.number from.0.number
-          (one_part part.number from.0.number point.0
+          true≢false (sym (eq-eqb part.number from.0.number (one_part part.number from.0.number point.0
           (subst (IsPushed part.number) same (one_pushed part.number (take size copies) first e)) from.2))
           ∙ none_among (λ (b : Mount ℕ). nat_eq part.number b.number) parts split.0 from.0 from.1))
 
@@ -143,8 +128,7 @@ module _ (mounts : List (Mount ℕ)) (up : are_ascending mounts ≡ true) (left 
   pushed_once size parts copies apart = record {
     once = each_once size parts copies apart;
     there = list_all_from_among (λ (point : Point). is_among nat_eq point.0
-        (map (λ (mount : Mount ℕ). mount.number) mounts))
-        (pushes_from mounts left place size parts copies) (λ point m.
+        (map (λ (mount : Mount ℕ). mount.number) mounts)) (pushes_from mounts left place size parts copies) (λ point m.
         let from = pushed_from size parts copies point m in
         subst (λ n. is_among nat_eq n (map (λ (mount : Mount ℕ). mount.number) mounts) ≡ true) from.2.number_is
         (is_among_numbers (map (λ (mount : Mount ℕ). mount.number) mounts) from.2.child.number

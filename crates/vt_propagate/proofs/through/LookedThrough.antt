@@ -44,8 +44,7 @@ module _ (mounts : List (Mount ℕ)) (gone : List ℕ) where
       by None e = absurd (true≢false (ap is_some e))
       by (Some child) e =
           let same : number ≡ child.number = same_Some number child.number e in
-          ap Some same
-          ∙ sym (ap (λ b. if b then over_from most mounts gone (root_of child) else Some child.number)
+          ap Some same ∙ sym (ap (λ b. if b then over_from most mounts gone (root_of child) else Some child.number)
           (ap (is_going nat_eq gone) (sym same) ∙ stays))
 
   module _ (up : are_ascending mounts ≡ true) where
@@ -68,8 +67,7 @@ module _ (mounts : List (Mount ℕ)) (gone : List ℕ) where
             let it : mount ≡ child =
             same_Some mount child (found ∙ ap (numbered mounts) same ∙ found_child place child f) in
             ap (λ b. if b then over_from most mounts gone (root_of child) else Some child.number)
-            (ap (is_going nat_eq gone) (sym same) ∙ goes)
-            ∙ ap (λ m. over_from most mounts gone (root_of m)) (sym it)
+            (ap (is_going nat_eq gone) (sym same) ∙ goes) ∙ ap (λ m. over_from most mounts gone (root_of m)) (sym it)
 
     -- what stands at a place is a mount
     pub over_lost : (place : Location ℕ) (number : ℕ) → Some number ≡ found_number place
@@ -79,8 +77,7 @@ module _ (mounts : List (Mount ℕ)) (gone : List ℕ) where
         by : (o : Option (Mount ℕ)) → child_at nat_eq mounts place ≡ o
             → Some number ≡ option_map (λ (m : Mount ℕ). m.number) o → ⊥
         by None f e = true≢false (ap is_some e)
-        by (Some child) f e =
-            true≢false (sym (ap is_some (none ∙ ap (numbered mounts) (same_Some number child.number e)
+        by (Some child) f e = true≢false (sym (ap is_some (none ∙ ap (numbered mounts) (same_Some number child.number e)
             ∙ found_child place child f)))
 
     -- all mounts of some, by their numbers
@@ -112,10 +109,8 @@ module _ (mounts : List (Mount ℕ)) (gone : List ℕ) (mount : Mount ℕ) (kids
   -- where one does not rest on it not all do
   pub one_does_not : (default : MountId) → i < length kids → rests (counted (get_or kids i default).count) ≡ false
       → list_all rests (counts (drop i kids)) ≡ list_all rests (counts kids) → false ≡ list_all rests (counts kids)
-  one_does_not default less fails sofar =
-      sym (ap (λ list. list_all rests (counts list)) (drop_more kids i default less)
-      ∙ ap (λ b. b && list_all rests (counts (drop (i + 1) kids))) fails)
-      ∙ sofar
+  one_does_not default less fails sofar = sym (ap (λ list. list_all rests (counts list)) (drop_more kids i default less)
+      ∙ ap (λ b. b && list_all rests (counts (drop (i + 1) kids))) fails) ∙ sofar
 
   -- where all were looked at all do
   pub all_rest : length kids ≤ i → list_all rests (counts (drop i kids)) ≡ list_all rests (counts kids)

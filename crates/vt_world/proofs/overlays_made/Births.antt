@@ -42,16 +42,14 @@ module _ (trees : Filesystems) (overlay : OverlayValue) (are : AreLayers trees o
       slot = slot_at trees at.lower path;
       place_small =
           let within = slice_get_within overlay.lowers at.place at.lower at.layer in omega (arith, within, few);
-      directory_small =
-          (in_slot trees at.lower (are at.place at.lower at.layer) (without_last path) last_is.directory
+      directory_small = (in_slot trees at.lower (are at.place at.lower at.layer) (without_last path) last_is.directory
           last_is.leads).0;
       slot_small = (in_slot trees at.lower (are at.place at.lower at.layer) path at.object at.leads).0;
     }
 
     born_there : number_of (node_born trees overlay.number at.place at.lower path) ≡ number trees overlay place
     unfolding place
-    born_there =
-        ap (λ root. inode_number (born_in overlay.number.count (if root then Here
+    born_there = ap (λ root. inode_number (born_in overlay.number.count (if root then Here
         else Below at.place (slot_at trees at.lower (without_last path)) (rank_at trees at.lower path)))
         (slot_at trees at.lower path)) named
 
@@ -69,9 +67,7 @@ module _ (trees : Filesystems) (overlay : OverlayValue) (are : AreLayers trees o
 
     has_name : (p : List (List ℕ)) (it : IsAt trees overlay are p n)
         → IsNamed trees overlay place at.lower (found path at).layer p
-    has_name p it =
-        is_named trees overlay place at.lower (found path at).layer p
-        (subst (IsBorn trees overlay place p)
+    has_name p it = is_named trees overlay place at.lower (found path at).layer p (subst (IsBorn trees overlay place p)
         (same_Some it.lower at.lower (sym (found p it).layer ∙ (found path at).layer)) (found p it))
 
     tree : IsTree (files trees overlay place at.lower (found path at).layer)
@@ -81,8 +77,7 @@ module _ (trees : Filesystems) (overlay : OverlayValue) (are : AreLayers trees o
         → name_ranked (entries_in ((files trees overlay place at.lower (found path at).layer).node
         (above trees overlay place at.lower (found path at).layer)))
         (object trees overlay place at.lower (found path at).layer) place.rank ≡ Some is.name
-    name_is p is =
-        ap (name_ranked (entries_in ((files trees overlay place at.lower (found path at).layer).node
+    name_is p is = ap (name_ranked (entries_in ((files trees overlay place at.lower (found path at).layer).node
         (above trees overlay place at.lower (found path at).layer)))
         (object trees overlay place at.lower (found path at).layer)) is.ranked
         ∙ ranked_is_found is.name (object trees overlay place at.lower (found path at).layer)

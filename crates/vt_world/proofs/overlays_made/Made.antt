@@ -83,8 +83,7 @@ module _ (world : World ℕ) (trees : Filesystems) (overlay : OverlayValue) (is 
       let placed = placed_among (is_one_inode nat_eq false object) 0 all object among (one_itself false object) in
       let one = is_one layers false object placed.element (object_is layers opens most (bounded world is seen layered) object among)
       (object_is layers opens most (bounded world is seen layered) placed.element placed.among) placed.passes in
-      ap (λ o. odds supply (unwrap_or o 0)) placed.is
-      ∙ ap (odds supply) (omega arith)
+      ap (λ o. odds supply (unwrap_or o 0)) placed.is ∙ ap (odds supply) (omega arith)
       ∙ inodes_get_their_numbers most trees overlay placed.place placed.element
       (ap (λ ls. slice_get (merged_objects ls most) placed.place) (sym opened) ∙ placed.there)
       ∙ ap numbered (sym one.real)
@@ -99,11 +98,9 @@ module _ (world : World ℕ) (trees : Filesystems) (overlay : OverlayValue) (is 
   -- what is shown at a path has a name, or is the root
   reached : (object : Merged ℕ) → shown layers object.path ≡ Some object.seen
       → led made.files.tree made.files.tree.root object.path ≡ Some (number_at object)
-  reached object s =
-      subst (λ o. Arrives layers opens most (bounded world is seen layered)
+  reached object s = subst (λ o. Arrives layers opens most (bounded world is seen layered)
       (odds supply) (odds-distinct supply apart) false (root_shown world is seen layered).0
-      (root_shown world is seen layered).1 o object.path
-      (led made.files.tree made.files.tree.root object.path)) s
+      (root_shown world is seen layered).1 o object.path (led made.files.tree made.files.tree.root object.path)) s
       (arrives layers opens most (bounded world is seen layered) (odds supply) (odds-distinct supply apart) false
       (root_shown world is seen layered).0 (root_shown world is seen layered).1 object.path)
 
@@ -118,16 +115,14 @@ module _ (world : World ℕ) (trees : Filesystems) (overlay : OverlayValue) (is 
       by_object n object None e f = none_is_some object f
       by_object n object (Some inode) e f =
           let it = of_object n inode e in
-          it.numbered ∙ born_so it.object it.among
-          ∙ ap numbered (sym it.real ∙ same_Some inode.real object f)
+          it.numbered ∙ born_so it.object it.among ∙ ap numbered (sym it.real ∙ same_Some inode.real object f)
 
       none : (n : ℕ) → ¬ (HasName made.files.tree n) → n ≢ made.files.tree.root → (o : Option (MergedInode ℕ))
           → inode_of made_inodes n nat_eq ≡ o → option_map (λ inode. inode.real) o ≡ None
       none n nameless not_root None e = refl
       none n nameless not_root (Some inode) e =
           let it = of_object n inode e in
-          absurd (⊎_elim (λ root. not_root (sym root)) nameless
-          (reached_named made.files.tree n (
+          absurd (⊎_elim (λ root. not_root (sym root)) nameless (reached_named made.files.tree n (
             it.object.path,
             reached it.object (object_is layers opens most (bounded world is seen layered) it.object it.among)
                 ∙ ap Some (sym it.numbered),
@@ -143,25 +138,20 @@ module _ (world : World ℕ) (trees : Filesystems) (overlay : OverlayValue) (is 
   }
 
   listed : (n : ℕ) → ListsNumbers nat_eq (filesystem_numbered nat_eq world n).files
-  listed n =
-      numbered_anyhow (λ (f : Filesystem ℕ). ListsNumbers nat_eq f.files) n world.filesystems is.files.numbers
+  listed n = numbered_anyhow (λ (f : Filesystem ℕ). ListsNumbers nat_eq f.files) n world.filesystems is.files.numbers
       (λ k. refl)
 
   both : (made.files.tree ≡ tree_seen numbered (λ n. None) (longest trees overlay.lowers) world made_overlay)
       × (made_overlay.real ≡ real_seen numbered (λ n. None) (longest trees overlay.lowers) world made_overlay)
-  both =
-      trees_are_seen numbered (λ n. None) world made made_overlay merged named (longest trees overlay.lowers)
+  both = trees_are_seen numbered (λ n. None) world made made_overlay merged named (longest trees overlay.lowers)
       (λ k d h. listed (get_or (map layer_seen overlay.lowers) k d).filesystem)
       (no_larger world trees overlay.lowers (longest trees overlay.lowers) (omega arith) shows.all)
 
   pub tree_is : made.files.tree ≡ merged_tree trees overlay
-  tree_is =
-      both.0
-      ∙ sym (tree_kept world trees overlay shows made_overlay.real numbered (longest trees overlay.lowers))
+  tree_is = both.0 ∙ sym (tree_kept world trees overlay shows made_overlay.real numbered (longest trees overlay.lowers))
 
   pub objects_are : made.overlay ≡ Some (with_objects trees overlay)
-  objects_are =
-      ap (λ real. Some (record seen { real = real }))
+  objects_are = ap (λ real. Some (record seen { real = real }))
       (both.1 ∙ sym (real_kept world trees overlay shows made_overlay.real numbered (longest trees overlay.lowers)))
 
 pub made_trees_are_shown : MadeTreesAreShown

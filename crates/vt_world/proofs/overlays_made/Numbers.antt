@@ -47,15 +47,13 @@ none_left a (first ∷ list) = by (nat_eq a first) refl (none_left a list)
 
 once_apart : (list : List ℕ) → any_pair nat_eq (each_once nat_eq list) ≡ false
 once_apart [] = refl
-once_apart (a ∷ rest) =
-    ap (λ b. b || any_pair nat_eq (filter (λ b. not (nat_eq a b)) (each_once nat_eq rest)))
+once_apart (a ∷ rest) = ap (λ b. b || any_pair nat_eq (filter (λ b. not (nat_eq a b)) (each_once nat_eq rest)))
     (none_left a (each_once nat_eq rest))
     ∙ pair-filter nat_eq (λ b. not (nat_eq a b)) (each_once nat_eq rest) (once_apart rest)
 
 differ_apart : (list : List ℕ) → Pairwise Differ list → any_pair nat_eq list ≡ false
 differ_apart [] p = refl
-differ_apart (a ∷ list) p =
-    ap (λ b. b || any_pair nat_eq list) (none_like list p.0) ∙ differ_apart list p.1
+differ_apart (a ∷ list) p = ap (λ b. b || any_pair nat_eq list) (none_like list p.0) ∙ differ_apart list p.1
   where
     none_like : (others : List ℕ) → ((b : ℕ) → Among others b → a ≢ b) → list_any (nat_eq a) others ≡ false
     none_like [] apart = refl
@@ -78,8 +76,7 @@ module _ (world : World ℕ) (trees : Filesystems) (overlay : OverlayValue) (is 
       (s : Shown ℕ) × (shown opens path ≡ Some s) × (number ≡ real_number trees overlay (Lower s.layer path))
 
   is_at : (path : List (List ℕ)) (number : ℕ) → number_at trees overlay path ≡ Some number → IsAt path number
-  is_at path number e =
-      by (shown (layers_of trees overlay.lowers) path) refl
+  is_at path number e = by (shown (layers_of trees overlay.lowers) path) refl
       (sym (ap (option_map (real_number trees overlay)) (real_is trees overlay shows.are path)) ∙ e)
     where
       by : (o : Option (Shown ℕ)) → shown (layers_of trees overlay.lowers) path ≡ o
@@ -129,25 +126,21 @@ module _ (world : World ℕ) (trees : Filesystems) (overlay : OverlayValue) (is 
       let in_two = among b two.0 two.1 in
       apart (ap path_of (one_number opens open_so most bound (odds supply) (odds-distinct supply supply_apart) false
       (object a one.0) (object b two.0) in_one in_two
-      (born_so world trees overlay is layered shows distinct (object a one.0) in_one
-      ∙ sym one.2 ∙ same ∙ two.2
+      (born_so world trees overlay is layered shows distinct (object a one.0) in_one ∙ sym one.2 ∙ same ∙ two.2
       ∙ sym (born_so world trees overlay is layered shows distinct (object b two.0) in_two))).real)
 
   shown_apart : any_pair nat_eq (numbers_shown trees overlay) ≡ false
-  shown_apart =
-      differ_apart (numbers_shown trees overlay)
+  shown_apart = differ_apart (numbers_shown trees overlay)
       (pairwise_filter_map Differ Differ (number_at trees overlay) paths_apart _
       (paths_differ (map view_of (layers_shown (plain_world trees) (overlay_seen overlay)))
       (longest trees overlay.lowers) []))
 
   once_made : any_pair nat_eq made.files.numbers ≡ false
-  once_made =
-      once_apart (map (λ (inode : MergedInode ℕ). inode.number)
+  once_made = once_apart (map (λ (inode : MergedInode ℕ). inode.number)
       (inodes opens open_so most bound (odds supply) (odds-distinct supply supply_apart) false))
 
   numbers_alike : IsPermutation made.files.numbers (numbers_shown trees overlay)
-  numbers_alike =
-      same_numbers_are_permuted made.files.numbers (numbers_shown trees overlay) once_made shown_apart
+  numbers_alike = same_numbers_are_permuted made.files.numbers (numbers_shown trees overlay) once_made shown_apart
       (λ n. (merged world trees overlay is layered shows distinct).numbers n
       ∙ ap (λ (tree : Tree ℕ). is_some (tree.node n)) (tree_is world trees overlay is layered shows distinct)
       ∙ sym (numbers_are_listed trees overlay shows.are n))

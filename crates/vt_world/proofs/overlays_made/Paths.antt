@@ -25,8 +25,7 @@ names_differ a b below same =
 -- a path is none of those under it
 under_differ : (base : List (List ℕ)) (name : List ℕ) (rest : List (List ℕ)) → base ≢ base ++ name ∷ rest
 under_differ base name rest same =
-    let longer : length base ≡ length base + length (name ∷ rest) =
-    ap length same ∙ length-append base (name ∷ rest) in
+    let longer : length base ≡ length base + length (name ∷ rest) = ap length same ∙ length-append base (name ∷ rest) in
     let some : length (name ∷ rest) ≡ suc (length rest) = refl in
     let no : ⊥ = omega (arith, longer, some) in no
 
@@ -72,14 +71,11 @@ module _ (views : List (View ℕ)) where
           → (names : List (List ℕ)) → Pairwise Differ names
           → Pairwise Differ (flat_map (λ name. paths_from depth views (base ++ name ∷ [])) names)
       each differ [] p = tt
-      each differ (name ∷ names) p =
-          pairwise_append Differ (paths_from depth views (base ++ name ∷ []))
-          (flat_map (λ name. paths_from depth views (base ++ name ∷ [])) names)
-          (differ name) (each differ names p.1)
+      each differ (name ∷ names) p = pairwise_append Differ (paths_from depth views (base ++ name ∷ []))
+          (flat_map (λ name. paths_from depth views (base ++ name ∷ [])) names) (differ name) (each differ names p.1)
           (λ path other a b.
           let one = under_name depth base name path a in
           let found = from_flat_map (λ name. paths_from depth views (base ++ name ∷ [])) names other b in
           let two = under_name depth base found.0 other found.2 in
-          subst (λ q. Differ q other) one.1
-          (subst (Differ (base ++ name ∷ one.0)) two.1
+          subst (λ q. Differ q other) one.1 (subst (Differ (base ++ name ∷ one.0)) two.1
           (beside_differ base name found.0 one.0 two.0 (p.0 found.0 found.1))))

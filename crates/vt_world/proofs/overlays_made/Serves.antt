@@ -40,8 +40,7 @@ module _ (number_of_real : Real ℕ → ℕ) where
   all_even place [] even = refl
   all_even place (first ∷ objects) even =
       ap (λ b. b && list_all (λ (placed : Placed). placed.1 % 2 == 0) (placed_from number_of_real (place + 4) objects))
-      (eq-eqb (num first % 2) 0 (even first (inl refl)))
-      ∙ all_even (place + 4) objects (λ o m. even o (inr m))
+      (eq-eqb (num first % 2) 0 (even first (inl refl))) ∙ all_even (place + 4) objects (λ o m. even o (inr m))
 
   none_so : (test : ℕ → Bool) (place : ℕ) (objects : List (Merged ℕ))
       → ((o : Merged ℕ) → Among objects o → test (num o) ≡ false)
@@ -49,8 +48,7 @@ module _ (number_of_real : Real ℕ → ℕ) where
   none_so test place [] fails = refl
   none_so test place (first ∷ objects) fails =
       ap (λ b. b || list_any (λ (placed : Placed). test placed.1) (placed_from number_of_real (place + 4) objects))
-      (fails first (inl refl))
-      ∙ none_so test (place + 4) objects (λ o m. fails o (inr m))
+      (fails first (inl refl)) ∙ none_so test (place + 4) objects (λ o m. fails o (inr m))
 
   all_apart : (place : ℕ) (objects : List (Merged ℕ)) → Pairwise (λ a b. num a ≢ num b) objects
       → any_pair (λ (a b : Placed). a.1 == b.1) (placed_from number_of_real place objects) ≡ false
@@ -83,8 +81,7 @@ module _ (most : ℕ) (trees : Filesystems) (overlay : OverlayValue) (are : AreL
 
   at_place : (object : Merged ℕ) → shown layers object.path ≡ Some object.seen
       → IsAt trees overlay are object.path (numbered object)
-  at_place object s =
-      numbered_is_at trees overlay are (numbered object) object.path
+  at_place object s = numbered_is_at trees overlay are (numbered object) object.path
       (ap (option_map (real_number trees overlay))
       (real_is trees overlay are object.path ∙ ap (real_of trees overlay are object.path) s))
 
@@ -116,15 +113,12 @@ module _ (most : ℕ) (trees : Filesystems) (overlay : OverlayValue) (are : AreL
       even filesystem slot = omega arith
 
   numbers_differ : Pairwise (λ a b. numbered a ≢ numbered b) (objects_shown most trees overlay)
-  numbers_differ =
-      pairwise_filter_map Differ (λ a b. numbered a ≢ numbered b) (merged_at layers)
+  numbers_differ = pairwise_filter_map Differ (λ a b. numbered a ≢ numbered b) (merged_at layers)
       (λ path other a b e f apart same.
       let one = shown_so path a e in
       let two = shown_so other b f in
-      apart (one.0
-      ∙ one_path_numbered trees overlay are (omega (arith, few)) a.path b.path (numbered b)
-      (subst (IsAt trees overlay are a.path) same (at_place a one.1)) (at_place b two.1)
-      ∙ sym two.0))
+      apart (one.0 ∙ one_path_numbered trees overlay are (omega (arith, few)) a.path b.path (numbered b)
+      (subst (IsAt trees overlay are a.path) same (at_place a one.1)) (at_place b two.1) ∙ sym two.0))
       (paths_from most layers []) (paths_differ (map view_of layers) most [])
 
   pub births_apart : AreApart (placed_inodes most trees overlay)
@@ -139,8 +133,7 @@ module _ (most : ℕ) (trees : Filesystems) (overlay : OverlayValue) (are : AreL
   births_unused world new =
       none_so (real_number trees overlay) (is_in_use world) 2 (objects_shown most trees overlay) (λ object m.
       let at = known object m in
-      ap (is_in_use world) (sym at.numbered)
-      ∙ new.nodes (node_at object at) (node_small new.small object at) refl)
+      ap (is_in_use world) (sym at.numbered) ∙ new.nodes (node_at object at) (node_small new.small object at) refl)
 
 pub supplies_for_overlays_serve : SuppliesForOverlaysServe
 supplies_for_overlays_serve most trees overlay world is are few new =
@@ -155,12 +148,10 @@ place_of (LeftOver place) = place
 
 new_apart : (allotment : Allotment) (j k : ℕ) → allotment.new j ≡ allotment.new k → j ≡ k
 unfolding place_of
-new_apart allotment j k same =
-    ap place_of (sym (allotment.new_lot j) ∙ ap allotment.lot same ∙ allotment.new_lot k)
+new_apart allotment j k same = ap place_of (sym (allotment.new_lot j) ∙ ap allotment.lot same ∙ allotment.new_lot k)
 
 pub new_overlays_are_same : NewOverlaysAreSame
 new_overlays_are_same world trees overlay is layered shows few new =
     let serves = supplies_for_overlays_serve (inode_count world) trees overlay world is shows.are few new in
     made_overlays_are_same world trees overlay is layered shows
-    (subst (λ (supply : Fresh ℕ). (j k : ℕ) → supply j ≡ supply k → j ≡ k) serves.1
-    (new_apart serves.0))
+    (subst (λ (supply : Fresh ℕ). (j k : ℕ) → supply j ≡ supply k → j ≡ k) serves.1 (new_apart serves.0))

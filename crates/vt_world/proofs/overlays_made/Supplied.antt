@@ -11,8 +11,7 @@ use Rattle.vt_spec.specs.Machine.World.{Real}
 
 module _ (number_of : Real ℕ → ℕ) (next : ℕ) where
   -- the object at each place
-  handed_so : (place : ℕ) (objects : List (Merged ℕ)) (k : ℕ) (object : Merged ℕ)
-      → slice_get objects k ≡ Some object
+  handed_so : (place : ℕ) (objects : List (Merged ℕ)) (k : ℕ) (object : Merged ℕ) → slice_get objects k ≡ Some object
       → handed_at next (placed_from number_of place objects) (place + 4 * k)
       ≡ number_of (real_object false object.seen.layer object)
   handed_so place [] k object e = none_is_some object e
@@ -40,17 +39,13 @@ module _ (number_of : Real ℕ → ℕ) (next : ℕ) where
       (λ i same. beside (suc i) (let all : k ≡ place + 4 * suc i = omega (arith, same) in all)) objects
 
 pub overlays_get_their_count : OverlaysGetTheirCount
-overlays_get_their_count most trees overlay =
-    counted_beside (real_number trees overlay) overlay.number.count 2 0
-    (λ i same. let no : ⊥ = omega (arith, same) in no) (objects_shown most trees overlay)
-    ∙ omega arith
+overlays_get_their_count most trees overlay = counted_beside (real_number trees overlay) overlay.number.count 2 0
+    (λ i same. let no : ⊥ = omega (arith, same) in no) (objects_shown most trees overlay) ∙ omega arith
 
 pub inodes_get_their_numbers : InodesGetTheirNumbers
-inodes_get_their_numbers most trees overlay place object e =
-    ap (handed_for most trees overlay) (omega arith)
+inodes_get_their_numbers most trees overlay place object e = ap (handed_for most trees overlay) (omega arith)
     ∙ handed_so (real_number trees overlay) overlay.number.count 2 (objects_shown most trees overlay) place object e
 
 pub mounts_get_counts : MountsGetCounts
-mounts_get_counts most trees overlay k =
-    counted_beside (real_number trees overlay) overlay.number.count 2 (2 * k + 1)
+mounts_get_counts most trees overlay k = counted_beside (real_number trees overlay) overlay.number.count 2 (2 * k + 1)
     (λ i same. let no : ⊥ = omega (arith, same) in no) (objects_shown most trees overlay)

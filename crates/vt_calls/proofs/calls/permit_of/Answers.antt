@@ -14,12 +14,10 @@ pub returns-clause-ok : goal.returns-clause-ok
 returns-clause-ok c =
     let called = rw c.in-Some.is at c.task.ensures.found in
     permitted c.args.world.now c.args.name.now c.args.call c.task.ensures.held (task_of c.in-Some.task.now)
-    (sym called) c.args.change
-    c.judge.result c.judge.ensures.judged c.judge.ensures.named c.judge.ensures.change
+    (sym called) c.args.change c.judge.result c.judge.ensures.judged c.judge.ensures.named c.judge.ensures.change
 
 pub returns-clause-err : goal.returns-clause-err
 returns-clause-err c =
     let called = rw c.in-Some.is at c.task.ensures.found in
-    denied c.args.world.now c.args.name.now c.args.call c.task.ensures.held (task_of c.in-Some.task.now)
-    (sym called)
+    denied c.args.world.now c.args.name.now c.args.call c.task.ensures.held (task_of c.in-Some.task.now) (sym called)
     c.judge.result c.judge.ensures.judged c.judge.ensures.memory

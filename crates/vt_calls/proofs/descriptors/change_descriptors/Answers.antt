@@ -32,8 +32,7 @@ pub returns-in_ok-open-in-Open : goal.returns-in_ok-open-in-Open
 returns-in_ok-open-in-Open c =
     made c.args.world.now c.args.name.now (Descriptor c.args.grant) (descriptor_permit (granted.Open c.in-Open.file c.in-Open.access))
     (λ task called. ap descriptor_permit c.in-Open.is) _ _ tt
-    (λ task called. number_told _ task _ called c.in_ok-open-in-Open.ensures.number)
-    c.in_ok-open-in-Open.ensures.ok
+    (λ task called. number_told _ task _ called c.in_ok-open-in-Open.ensures.number) c.in_ok-open-in-Open.ensures.ok
 
 pub returns-in_err-open_new-in-OpenNew : goal.returns-in_err-open_new-in-OpenNew
 returns-in_err-open_new-in-OpenNew c =
@@ -51,5 +50,4 @@ returns-in_ok-open_new-in-OpenNew c =
 pub returns-in-Close : goal.returns-in-Close
 returns-in-Close c =
     made c.args.world.now c.args.name.now (Descriptor c.args.grant) (descriptor_permit (granted.Close c.in-Close.descriptor))
-    (λ task called. ap descriptor_permit c.in-Close.is) _ _ tt
-    (λ task called. refl) c.close.ensures
+    (λ task called. ap descriptor_permit c.in-Close.is) _ _ tt (λ task called. refl) c.close.ensures

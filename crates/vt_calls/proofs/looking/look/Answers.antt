@@ -28,8 +28,7 @@ read_part-requires c =
     (λ task called. ap look_permit c.in-ReadPart.is) tt c.requires
 
 pub mounts-requires : goal.mounts-requires
-mounts-requires c =
-    permitted c.args.world.now c.args.name.now (Look c.args.grant) (look_permit granted.ListMounts)
+mounts-requires c = permitted c.args.world.now c.args.name.now (Look c.args.grant) (look_permit granted.ListMounts)
     (λ task called. ap look_permit c.in-ListMounts.is) tt c.requires
 
 pub returns-in_err-list-in-List : goal.returns-in_err-list-in-List
@@ -57,8 +56,7 @@ returns-in_err-mounts-in-ListMounts c =
     (λ task called. ap look_permit c.in-ListMounts.is) _ _ p.2 refl refl)
 
 pub returns-in-Nothing : goal.returns-in-Nothing
-returns-in-Nothing c =
-    looked c.args.world.now c.args.name.now (Look c.args.grant) (look_permit granted.Nothing)
+returns-in-Nothing c = looked c.args.world.now c.args.name.now (Look c.args.grant) (look_permit granted.Nothing)
     (λ task called. ap look_permit c.in-Nothing.is) _ tt (λ task called. refl) (λ task. refl)
 
 pub returns-in_ok-list-in-List : goal.returns-in_ok-list-in-List

@@ -46,8 +46,7 @@ returns-in-UnmountLazily c =
 pub returns-in-SetFlags : goal.returns-in-SetFlags
 returns-in-SetFlags c =
     made c.args.world.now c.args.name.now (Mount c.args.grant) (mount_permit (granted.SetFlags c.in-SetFlags.mount c.in-SetFlags.flags))
-    (λ task called. ap mount_permit c.in-SetFlags.is) _ _ tt
-    (λ task called. refl) c.set_flags.ensures
+    (λ task called. ap mount_permit c.in-SetFlags.is) _ _ tt (λ task called. refl) c.set_flags.ensures
 
 pub returns-in-SetType : goal.returns-in-SetType
 returns-in-SetType c =
@@ -55,8 +54,7 @@ returns-in-SetType c =
     (λ task called. ap mount_permit c.in-SetType.is) _ c.set_type.result
     c.done-in-SetType.result c.done-in-SetType.ensures tt (λ task called. refl)
     ((c.in-SetType.change.recursive || makes_shared (mount_permit (granted.SetType c.in-SetType.change))) ≡ true)
-    (ap not)
-    c.set_type.ensures.one c.set_type.ensures.ok c.set_type.ensures.err
+    (ap not) c.set_type.ensures.one c.set_type.ensures.ok c.set_type.ensures.err
 
 pub returns-in-Pivot : goal.returns-in-Pivot
 returns-in-Pivot c =

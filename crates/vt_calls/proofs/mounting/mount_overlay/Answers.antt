@@ -6,6 +6,5 @@ mount_overlay-requires c =
     overlay_permitted c.args.world.now c.args.name.now c.args.new c.requires c.next_filesystem_is_new.ensures
 
 pub returns : goal.returns
-returns c =
-    overlay_ends c.args.world.now c.args.name.now c.args.new c.requires c.next_filesystem_is_new.ensures _
+returns c = overlay_ends c.args.world.now c.args.name.now c.args.new c.requires c.next_filesystem_is_new.ensures _
     c.mount_overlay.result c.done.result c.done.ensures c.mount_overlay.ensures.ok c.mount_overlay.ensures.err

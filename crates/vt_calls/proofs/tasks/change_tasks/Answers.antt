@@ -24,23 +24,19 @@ set_root-requires c =
     (λ task called. ap (task_permit task) c.in-SetRoot.is) tt c.requires
 
 pub set_umask-requires : goal.set_umask-requires
-set_umask-requires c =
-    permitted c.args.world.now c.args.name.now (Task c.args.grant) (ToSetUmask c.in-SetUmask.umask)
+set_umask-requires c = permitted c.args.world.now c.args.name.now (Task c.args.grant) (ToSetUmask c.in-SetUmask.umask)
     (λ task called. ap (task_permit task) c.in-SetUmask.is) tt c.requires
 
 pub fork-requires : goal.fork-requires
-fork-requires c =
-    permitted c.args.world.now c.args.name.now (Task c.args.grant) (ToFork c.in-Fork.cred)
+fork-requires c = permitted c.args.world.now c.args.name.now (Task c.args.grant) (ToFork c.in-Fork.cred)
     (λ task called. ap (task_permit task) c.in-Fork.is) tt c.requires
 
 pub exit-requires : goal.exit-requires
-exit-requires c =
-    permitted c.args.world.now c.args.name.now (Task c.args.grant) ToExit
+exit-requires c = permitted c.args.world.now c.args.name.now (Task c.args.grant) ToExit
     (λ task called. ap (task_permit task) c.in-Exit.is) tt c.requires
 
 pub unshare-requires : goal.unshare-requires
-unshare-requires c =
-    permitted c.args.world.now c.args.name.now (Task c.args.grant) ToUnshare
+unshare-requires c = permitted c.args.world.now c.args.name.now (Task c.args.grant) ToUnshare
     (λ task called. ap (task_permit task) c.in-Unshare.is) tt c.requires
 
 pub enter_namespace-requires : goal.enter_namespace-requires
@@ -49,8 +45,7 @@ enter_namespace-requires c =
     (λ task called. ap (task_permit task) c.in-EnterNamespace.is) tt c.requires
 
 pub drop_caps-requires : goal.drop_caps-requires
-drop_caps-requires c =
-    permitted c.args.world.now c.args.name.now (Task c.args.grant) (ToSetCredentials
+drop_caps-requires c = permitted c.args.world.now c.args.name.now (Task c.args.grant) (ToSetCredentials
     (with_dropped (credentials_called c.args.world.now c.args.name.now) (capability_bits c.in-DropCaps.caps)))
     (λ task called. ap (task_permit task) c.in-DropCaps.is
     ∙ ap (λ found. ToSetCredentials (with_dropped (unwrap_or (option_map (λ t. t.credentials) found) first_credentials)
@@ -69,8 +64,7 @@ returns-in-SetRoot c =
     (λ task called. refl) refl c.set_root.ensures.ok c.set_root.ensures.err
 
 pub returns-in-Unshare : goal.returns-in-Unshare
-returns-in-Unshare c =
-    changed c.args.world.now c.args.name.now (Task c.args.grant) ToUnshare
+returns-in-Unshare c = changed c.args.world.now c.args.name.now (Task c.args.grant) ToUnshare
     (λ task called. ap (task_permit task) c.in-Unshare.is) _ c.unshare.result c.done-in-Unshare.result c.done-in-Unshare.ensures tt
     (λ task called. refl) refl c.unshare.ensures.ok c.unshare.ensures.err
 
@@ -81,25 +75,19 @@ returns-in-EnterNamespace c =
     (λ task called. refl) refl c.enter_namespace.ensures.ok c.enter_namespace.ensures.err
 
 pub returns-in-SetUmask : goal.returns-in-SetUmask
-returns-in-SetUmask c =
-    made c.args.world.now c.args.name.now (Task c.args.grant) (ToSetUmask c.in-SetUmask.umask)
-    (λ task called. ap (task_permit task) c.in-SetUmask.is) _ _ tt
-    (λ task called. refl) c.set_umask.ensures
+returns-in-SetUmask c = made c.args.world.now c.args.name.now (Task c.args.grant) (ToSetUmask c.in-SetUmask.umask)
+    (λ task called. ap (task_permit task) c.in-SetUmask.is) _ _ tt (λ task called. refl) c.set_umask.ensures
 
 pub returns-in-Exit : goal.returns-in-Exit
-returns-in-Exit c =
-    made c.args.world.now c.args.name.now (Task c.args.grant) ToExit
-    (λ task called. ap (task_permit task) c.in-Exit.is) _ _ tt
-    (λ task called. refl) c.exit.ensures
+returns-in-Exit c = made c.args.world.now c.args.name.now (Task c.args.grant) ToExit
+    (λ task called. ap (task_permit task) c.in-Exit.is) _ _ tt (λ task called. refl) c.exit.ensures
 
 pub returns-in-DropCaps : goal.returns-in-DropCaps
-returns-in-DropCaps c =
-    made c.args.world.now c.args.name.now (Task c.args.grant) (ToSetCredentials
+returns-in-DropCaps c = made c.args.world.now c.args.name.now (Task c.args.grant) (ToSetCredentials
     (with_dropped (credentials_called c.args.world.now c.args.name.now) (capability_bits c.in-DropCaps.caps)))
     (λ task called. ap (task_permit task) c.in-DropCaps.is
     ∙ ap (λ found. ToSetCredentials (with_dropped (unwrap_or (option_map (λ t. t.credentials) found) first_credentials)
-    (capability_bits c.in-DropCaps.caps))) (sym called)) _ _ tt
-    (λ task called. refl) c.drop_caps.ensures
+    (capability_bits c.in-DropCaps.caps))) (sym called)) _ _ tt (λ task called. refl) c.drop_caps.ensures
 
 pub returns-in_err-fork-in-Fork : goal.returns-in_err-fork-in-Fork
 returns-in_err-fork-in-Fork c =
@@ -108,7 +96,6 @@ returns-in_err-fork-in-Fork c =
     (λ task called. ap (task_permit task) c.in-Fork.is) _ _ p.2 c.in_err-fork-in-Fork.ensures.err refl)
 
 pub returns-in_ok-fork-in-Fork : goal.returns-in_ok-fork-in-Fork
-returns-in_ok-fork-in-Fork c =
-    made c.args.world.now c.args.name.now (Task c.args.grant) (ToFork c.in-Fork.cred)
+returns-in_ok-fork-in-Fork c = made c.args.world.now c.args.name.now (Task c.args.grant) (ToFork c.in-Fork.cred)
     (λ task called. ap (task_permit task) c.in-Fork.is) _ _ tt
     (λ task called. name_told _ task _ called c.in_ok-fork-in-Fork.ensures.name) c.in_ok-fork-in-Fork.ensures.ok

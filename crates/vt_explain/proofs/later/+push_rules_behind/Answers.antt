@@ -10,8 +10,7 @@ append-snoc [] x rest = refl
 append-snoc (y ∷ xs) x rest = ap (λ ys. y ∷ ys) (append-snoc xs x rest)
 
 pub returns-in_ok-push-in-Some-2 : goal.returns-in_ok-push-in-Some-2
-returns-in_ok-push-in-Some-2 g t c =
-    so_then c.push_rules_behind.result c.push_rules_behind.ensures (λ behind call is.
+returns-in_ok-push-in-Some-2 g t c = so_then c.push_rules_behind.result c.push_rules_behind.ensures (λ behind call is.
     let told = behind call is in (
       c.in-Some-2.rule ∷ told.0,
       told.1 ∙ ap (λ items. items ++ told.0) c.in_ok-push-in-Some-2.ensures.items

@@ -10,6 +10,5 @@ returns g c = λ call is.
       c.least.ensures,
       subst (RefuseInTurn (refusal (g.L.Look.looks c.args.refused.now.world.now)
           (g.L.LookAtMounts.overfills c.args.refused.now.world.now) (task_of c.args.refused.now.who.now) call)
-          c.least.result c.args.first)
-          (sym (told.1 ∙ ap (λ items. items ++ told.0) c.new-rules.ensures.items)) told.2,
+          c.least.result c.args.first) (sym (told.1 ∙ ap (λ items. items ++ told.0) c.new-rules.ensures.items)) told.2,
     )

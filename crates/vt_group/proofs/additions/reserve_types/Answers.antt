@@ -13,6 +13,5 @@ loop-pair-preserved c = (
 )
 
 pub returns-clause-room : goal.returns-clause-room
-returns-clause-room c =
-    subst (All (FitsType c.loop-pair.types))
+returns-clause-room c = subst (All (FitsType c.loop-pair.types))
     (take_all c.loop-pair.pair-index c.args.mounts.now (omega (arith, c.loop-pair-test.false))) c.loop-pair.invariant.1

@@ -6,8 +6,7 @@ use Rattle.vt_group.specs.Together.{new_group, with_master_of}
 use Rattle.vt_group.proofs.additions.set_masters.Given as goal
 
 abbrev pub invariant-loop-group : goal.invariant-loop-group
-invariant-loop-group l =
-    (map numbered_master l.above.entries
+invariant-loop-group l = (map numbered_master l.above.entries
     ≡ folded with_master_of (map numbered_master l.fn.above.entries) (map new_group (take l.group-index l.new)))
     × ((other : ℕ) → has_room l.fn.above other ≡ true → has_room l.above other ≡ true)
     × (IsAscending l.fn.above → IsAscending l.above)

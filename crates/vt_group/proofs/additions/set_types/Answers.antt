@@ -11,8 +11,7 @@ use Rattle.vt_group.proofs.additions.set_types.Goals as goal
 folded_more : {A B C : Type 0} (add : B → C → B) (f : A → C) (start was now : B) (list : List A) (i : ℕ) (d : A)
     → i < length list → was ≡ folded add start (map f (take i list)) → now ≡ add was (f (get_or list i d))
     → now ≡ folded add start (map f (take (i + 1) list))
-folded_more add f start was now list i d less before step =
-    step ∙ ap (λ b. add b (f (get_or list i d))) before
+folded_more add f start was now list i d less before step = step ∙ ap (λ b. add b (f (get_or list i d))) before
     ∙ sym (ap (λ l. folded add start (map f l)) (take_more list i d less)
     ∙ ap (folded add start) (map-append f (take i list) (get_or list i d ∷ []))
     ∙ folded-snoc add start (map f (take i list)) (f (get_or list i d)))

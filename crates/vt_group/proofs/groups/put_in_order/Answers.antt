@@ -32,8 +32,7 @@ counts_ascend (id ∷ ids) sorted = (above ids sorted.0, counts_ascend ids sorte
 noted_from : (count : ℕ) (id : MountId) (ids : List MountId)
     → is_noted (dedup_from same_id id ids) count ≡ (nat_eq count id.count || is_noted ids count)
 noted_from count id [] = refl
-noted_from count id (other ∷ ids) =
-    by (same_id other id) refl (noted_from count id ids) (noted_from count other ids)
+noted_from count id (other ∷ ids) = by (same_id other id) refl (noted_from count id ids) (noted_from count other ids)
   where
     again : (b rest : Bool) → (b || rest) ≡ (b || (b || rest))
     again true rest = refl
@@ -44,8 +43,7 @@ noted_from count id (other ∷ ids) =
         → is_noted (dedup_from same_id other ids) count ≡ (nat_eq count other.count || is_noted ids count)
         → is_noted (cond b (dedup_from same_id id ids) (id ∷ dedup_from same_id other ids)) count
         ≡ (nat_eq count id.count || (nat_eq count other.count || is_noted ids count))
-    by true same rest later =
-        rest ∙ again (nat_eq count id.count) (is_noted ids count)
+    by true same rest later = rest ∙ again (nat_eq count id.count) (is_noted ids count)
         ∙ ap (λ n. nat_eq count id.count || (nat_eq count n || is_noted ids count)) (sym (eqb-true other.count id.count same))
     by false apart rest later = ap (λ b. nat_eq count id.count || b) later
 
@@ -62,8 +60,7 @@ returns-clause-ordered c =
     c.sort_unstable_by_key.new.self.items by_count))
 
 pub returns-clause-same : goal.returns-clause-same
-returns-clause-same c count =
-    ap (λ ids. is_noted ids count) (dedup_is same_id _ _ c.dedup.ensures.filtered)
+returns-clause-same c count = ap (λ ids. is_noted ids count) (dedup_is same_id _ _ c.dedup.ensures.filtered)
     ∙ noted_once count c.sort_unstable_by_key.new.self.items
     ∙ sym (list_any-IsPermutation (λ mount. nat_eq count mount.count) c.args.mounts.now.items
     c.sort_unstable_by_key.new.self.items c.sort_unstable_by_key.ensures.permutation)

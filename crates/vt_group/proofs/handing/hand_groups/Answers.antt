@@ -13,19 +13,15 @@ loop-group-preserved c = (
   λ number.
       handed_next (group_handed c.args.lost c.args.heir) (group_handed-twice c.args.lost c.args.heir) (λ id. id.count) number
       (value_at c.loop-group.above) (value_at c.hand_group.new.above) c.in-Some.group c.next.new.self
-      (c.hand_group.ensures.each number)
-      ∙ ap (λ ids. if list_any (λ id. nat_eq number id.count) ids
+      (c.hand_group.ensures.each number) ∙ ap (λ ids. if list_any (λ id. nat_eq number id.count) ids
       then then_some (value_at c.loop-group.above number) (group_handed c.args.lost c.args.heir)
-      else value_at c.loop-group.above number) (sym c.in-Some.ensures.steps)
-      ∙ c.loop-group.invariant.1 number,
+      else value_at c.loop-group.above number) (sym c.in-Some.ensures.steps) ∙ c.loop-group.invariant.1 number,
 )
 
 pub returns-clause-each : goal.returns-clause-each
-returns-clause-each c number =
-    ap (λ ids. if list_any (λ id. nat_eq number id.count) ids
+returns-clause-each c number = ap (λ ids. if list_any (λ id. nat_eq number id.count) ids
     then then_some (value_at c.loop-group.above number) (group_handed c.args.lost c.args.heir)
-    else value_at c.loop-group.above number) (sym c.in-None.ensures.steps.0)
-    ∙ c.loop-group.invariant.1 number
+    else value_at c.loop-group.above number) (sym c.in-None.ensures.steps.0) ∙ c.loop-group.invariant.1 number
     ∙ ap (λ ids. if list_any (λ id. nat_eq number id.count) ids
     then then_some (value_at c.args.above.now number) (group_handed c.args.lost c.args.heir)
     else value_at c.args.above.now number) c.into_iter-group-iterator.ensures.into_iter_gives

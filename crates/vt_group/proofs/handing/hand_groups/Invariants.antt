@@ -8,8 +8,7 @@ use Rattle.vt_group.proofs.handing.hand_groups.Given as goal
 
 -- what is left to be handed leads to what is wanted
 abbrev pub invariant-loop-group : goal.invariant-loop-group
-invariant-loop-group l =
-    (IsAscending l.fn.above → IsAscending l.above) ×
+invariant-loop-group l = (IsAscending l.fn.above → IsAscending l.above) ×
     ((number : ℕ) → (if list_any (λ id. nat_eq number id.count) l.group-iterator
     then then_some (value_at l.above number) (group_handed l.lost l.heir) else value_at l.above number)
     ≡ (if list_any (λ id. nat_eq number id.count) l.initial.group-iterator

@@ -13,19 +13,15 @@ loop-mount-preserved c = (
   λ number.
       handed_next (kind_handed c.args.lost c.args.heir) (kind_handed-twice c.args.lost c.args.heir) (λ id. id.count) number
       (value_at c.loop-mount.types.kinds) (value_at c.hand_mount.new.types.kinds) c.in-Some.mount c.next.new.self
-      (c.hand_mount.ensures.each number)
-      ∙ ap (λ ids. if list_any (λ id. nat_eq number id.count) ids
+      (c.hand_mount.ensures.each number) ∙ ap (λ ids. if list_any (λ id. nat_eq number id.count) ids
       then then_some (value_at c.loop-mount.types.kinds number) (kind_handed c.args.lost c.args.heir)
-      else value_at c.loop-mount.types.kinds number) (sym c.in-Some.ensures.steps)
-      ∙ c.loop-mount.invariant.1 number,
+      else value_at c.loop-mount.types.kinds number) (sym c.in-Some.ensures.steps) ∙ c.loop-mount.invariant.1 number,
 )
 
 pub returns-clause-each : goal.returns-clause-each
-returns-clause-each c number =
-    ap (λ ids. if list_any (λ id. nat_eq number id.count) ids
+returns-clause-each c number = ap (λ ids. if list_any (λ id. nat_eq number id.count) ids
     then then_some (value_at c.loop-mount.types.kinds number) (kind_handed c.args.lost c.args.heir)
-    else value_at c.loop-mount.types.kinds number) (sym c.in-None.ensures.steps.0)
-    ∙ c.loop-mount.invariant.1 number
+    else value_at c.loop-mount.types.kinds number) (sym c.in-None.ensures.steps.0) ∙ c.loop-mount.invariant.1 number
     ∙ ap (λ ids. if list_any (λ id. nat_eq number id.count) ids
     then then_some (value_at c.args.types.now.kinds number) (kind_handed c.args.lost c.args.heir)
     else value_at c.args.types.now.kinds number) c.into_iter-mount-iterator.ensures.into_iter_gives

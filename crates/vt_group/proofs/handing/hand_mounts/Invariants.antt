@@ -8,8 +8,7 @@ use Rattle.vt_group.proofs.handing.hand_mounts.Given as goal
 
 -- what is left to be handed leads to what is wanted
 abbrev pub invariant-loop-mount : goal.invariant-loop-mount
-invariant-loop-mount l =
-    (IsAscending l.fn.types.kinds → IsAscending l.types.kinds) ×
+invariant-loop-mount l = (IsAscending l.fn.types.kinds → IsAscending l.types.kinds) ×
     ((number : ℕ) → (if list_any (λ id. nat_eq number id.count) l.mount-iterator
     then then_some (value_at l.types.kinds number) (kind_handed l.lost l.heir) else value_at l.types.kinds number)
     ≡ (if list_any (λ id. nat_eq number id.count) l.initial.mount-iterator

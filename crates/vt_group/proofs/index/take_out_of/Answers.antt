@@ -10,8 +10,7 @@ returns-clause-others g c at other apart there =
     c.remove.ensures at other (and_false_right (same_group c.args.name at) _ apart) there
 
 pub returns-clause-own : goal.returns-clause-own
-returns-clause-own g c at other stays there =
-    c.remove.ensures at other
+returns-clause-own g c at other stays there = c.remove.ensures at other
     (ap (λ b. b && g.T.PartialEq.eq c.args.one other)
     (apart_from_each c.args.name at c.args.stays.now (sym c.contains.ensures.value ∙ c.if-contains.false) stays)) there
 
@@ -20,7 +19,6 @@ returns-in_err-was_last-clause-others g c at other apart there =
     c.remove.ensures at other (and_false_right (same_group c.args.name at) _ apart) there
 
 pub returns-in_err-was_last-clause-own : goal.returns-in_err-was_last-clause-own
-returns-in_err-was_last-clause-own g c at other stays there =
-    c.remove.ensures at other
+returns-in_err-was_last-clause-own g c at other stays there = c.remove.ensures at other
     (ap (λ b. b && g.T.PartialEq.eq c.args.one other)
     (apart_from_each c.args.name at c.args.stays.now (sym c.contains.ensures.value ∙ c.if-contains.false) stays)) there

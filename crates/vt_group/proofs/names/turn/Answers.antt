@@ -9,8 +9,7 @@ returns-clause-kept c test any =
     let list = c.args.list.now in
     let first = c.split_off.new.self in
     let appended = all_of_both c.in-Ok.rest first c.append.new.self c.append.result c.append.ensures.items
-    (c.append.ensures.succeeds
-    (omega (
+    (c.append.ensures.succeeds (omega (
       arith,
       ap length c.in-Ok.ensures.items,
       ap length c.in-Ok.ensures.tail,

@@ -5,7 +5,5 @@ use Rattle.vt_group.proofs.Handed.{option_eq-counted}
 use Rattle.vt_group.proofs.propagation.is_in.Goals as goal
 
 pub returns : goal.returns
-returns c =
-    c.eq.ensures
-    ∙ option_eq-counted c.own_group.result c.args.group
+returns c = c.eq.ensures ∙ option_eq-counted c.own_group.result c.args.group
     ∙ ap (holds_of (nat_eq (counted c.args.group.count))) c.own_group.ensures.number

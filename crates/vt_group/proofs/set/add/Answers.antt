@@ -14,11 +14,9 @@ returns-then-is_at-clause-there g c =
     (laws.symm c.args.one _ ∙ c.is_at.ensures.there c.if-is_at.true c.args.one))
 
 pub returns-clause-there : goal.returns-clause-there
-returns-clause-there g c =
-    ap (list_any (g.T.PartialEq.eq c.args.one)) c.in_ok-insert.ensures.items
+returns-clause-there g c = ap (list_any (g.T.PartialEq.eq c.args.one)) c.in_ok-insert.ensures.items
     ∙ any-put g.met.T.Eq.laws c.args.one c.args.list.now.items c.place_of-place.result
 
 pub returns-clause-kept : goal.returns-clause-kept
-returns-clause-kept g c other there =
-    ap (list_any (g.T.PartialEq.eq other)) c.in_ok-insert.ensures.items
+returns-clause-kept g c other there = ap (list_any (g.T.PartialEq.eq other)) c.in_ok-insert.ensures.items
     ∙ any-beside g.met.T.Eq.laws c.args.one other c.args.list.now.items c.place_of-place.result there

@@ -10,5 +10,4 @@ returns g c other apart there =
     any-left g.met.T.Eq.laws c.args.one.now other one c.args.list.now.items c.remove.new.self.items place
     (subst (λ items. place < length items) c.deref-2.ensures.value (c.is_at.ensures.within c.if-not-is_at.false))
     (subst (λ items. eq (get_or items place one) c.args.one.now ≡ true) c.deref-2.ensures.value
-    (c.is_at.ensures.there c.if-not-is_at.false one))
-    c.remove.ensures.by_index.2 apart there
+    (c.is_at.ensures.there c.if-not-is_at.false one)) c.remove.ensures.by_index.2 apart there

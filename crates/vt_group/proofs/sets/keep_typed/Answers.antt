@@ -21,10 +21,8 @@ returns-then-is_empty c at mount some there =
     let found = sym c.get_mut.ensures.value ∙ ap option_copied_mut c.in-Some.is in
     let new : Sets MountId = record { sets = c.swap_remove.new.self } in
     has-onto same_id c.args.sets.now new c.args.group (elements c.in-Some.set.now) []
-    (kept-written same_id c.args.sets.now new c.args.group None
-    (λ id. c.swap_remove.ensures.updates.0 id
+    (kept-written same_id c.args.sets.now new c.args.group None (λ id. c.swap_remove.ensures.updates.0 id
     ∙ ap (cond (same_group c.args.group id) None) (((c.get_mut.follows.holds c.keep_typed.new.set).3 (ap is_some found)).0 id)
-    ∙ dropped-empty (same_group c.args.group id) _ _))
-    (ap (λ o. unwrap_or (option_map elements o) []) found) mount
+    ∙ dropped-empty (same_group c.args.group id) _ _)) (ap (λ o. unwrap_or (option_map elements o) []) found) mount
     (λ was. sym (ap (list_any (same_id mount)) (c.is_empty.ensures c.if-is_empty.true)) ∙ c.keep_typed.ensures mount some was)
     at there

@@ -12,8 +12,7 @@ loop-done-preserved g c =
     let at = c.loop-done.done in
     let n = c.in_ok-done.field-0 in
     let seen = take_rest bytes at in
-    let part : Wrote g.W.Sink c.loop-done.sink c.write.new.self (take n (drop at bytes)) =
-    record {
+    let part : Wrote g.W.Sink c.loop-done.sink c.write.new.self (take n (drop at bytes)) = record {
       still_tells = h.still_tells;
       appended = λ t. rw seen at (h.bytes t);
       failures_kept = h.failures_kept;

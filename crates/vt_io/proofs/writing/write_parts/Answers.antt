@@ -10,8 +10,7 @@ abbrev text_of : Bor (List ℕ) → List ℕ
 text_of part = part.now
 
 pub loop-part-init : goal.loop-part-init
-loop-part-init g c =
-    record { written = []; wrote = Wrote-nothing g.W.Sink c.args.sink.now; all = c.new-held.ensures }
+loop-part-init g c = record { written = []; wrote = Wrote-nothing g.W.Sink c.args.sink.now; all = c.new-held.ensures }
 
 pub returns-in_err-write_all : goal.returns-in_err-write_all
 returns-in_err-write_all g c =

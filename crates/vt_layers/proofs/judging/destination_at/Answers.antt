@@ -6,8 +6,6 @@ use Rattle.vt_walk.specs.WalkValue.{location_end}
 use Rattle.vt_layers.proofs.judging.destination_at.Goals as goal
 
 pub returns : goal.returns
-returns g c =
-    c.destination_walk.ensures.value ∙ ap
-    (λ text. location_end (walk_end
+returns g c = c.destination_walk.ensures.value ∙ ap (λ text. location_end (walk_end
     (destination_walk nat_eq (g.L.Look.looks c.args.world.now) (task_of c.args.who.now) text)))
     c.in_ok-parse.ensures.text

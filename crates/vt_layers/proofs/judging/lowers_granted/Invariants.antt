@@ -5,6 +5,5 @@ use Rattle.vt_permits.specs.GrantValue.{layer_of}
 use Rattle.vt_layers.proofs.judging.lowers_granted.Given as goal
 
 abbrev pub invariant-loop-lower : goal.invariant-loop-lower
-invariant-loop-lower g l =
-    map layer_of l.granted.items
+invariant-loop-lower g l = map layer_of l.granted.items
     ≡ map (λ lower. layer_at (g.L.Look.looks l.world) (location_of lower.at)) (take l.lower-index l.lowers)

@@ -14,8 +14,7 @@ returns-in_err-lowers-clause-err g c =
     let task = task_of c.args.who.now in
     let options = c.in-Some.options in
     let p = err_from_is_err_and c.from_residual.result c.from_residual.ensures.1 in
-    rw (p.1, p.2) (named-refused looks task options _
-    (lowers_refused looks task options _ c.in-Some.ensures.no_upper
+    rw (p.1, p.2) (named-refused looks task options _ (lowers_refused looks task options _ c.in-Some.ensures.no_upper
     (c.in_err-lowers.ensures.err ∙ ap (λ paths. first_lowers (each_walked nat_eq looks task paths)) c.lowers.ensures))
     ∙ ap (layers_named looks task) c.in-Some.ensures.value)
 

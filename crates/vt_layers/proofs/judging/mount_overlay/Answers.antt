@@ -62,8 +62,7 @@ returns-then-is_elsewhere g c =
     refused_before (MountOverlay c.args.path.now options flags) task (mount_overlay_permit nat_eq looks overfills task c.args.path.now options flags) _
     (left looks task overfills c.args.path.now options flags (location_of c.in_ok-destination.destination)
     (lowers_alone (lowers_of c.in_ok-layers.layers.items)) (sym c.lacks.ensures ∙ c.if-lacks.false) c.in_ok-destination.ensures
-    c.in_ok-layers.ensures.ok
-    ∙ stopped _ M2 _ _ (sym c.is_elsewhere.ensures ∙ c.if-is_elsewhere.true)
+    c.in_ok-layers.ensures.ok ∙ stopped _ M2 _ _ (sym c.is_elsewhere.ensures ∙ c.if-is_elsewhere.true)
     ∙ ap Err (sym c.denial-then-is_elsewhere.ensures))
 
 pub returns-in_err-overfills_with_overlay : goal.returns-in_err-overfills_with_overlay
@@ -81,8 +80,7 @@ returns-in_err-overfills_with_overlay g c =
     (mount_overlay_permit nat_eq looks overfills task c.args.path.now options flags) (overfills permit) permit _ refl
     (left looks task overfills c.args.path.now options flags place
     (lowers_alone (lowers_of c.in_ok-layers.layers.items)) (sym c.lacks.ensures ∙ c.if-lacks.false) c.in_ok-destination.ensures
-    c.in_ok-layers.ensures.ok
-    ∙ skipped _ M2 _ _ (sym c.is_elsewhere.ensures ∙ c.if-is_elsewhere.false))
+    c.in_ok-layers.ensures.ok ∙ skipped _ M2 _ _ (sym c.is_elsewhere.ensures ∙ c.if-is_elsewhere.false))
     c.in_err-overfills_with_overlay.ensures.memory)
 
 pub returns-then-branch : goal.returns-then-branch
@@ -96,8 +94,7 @@ returns-then-branch g c =
     refused_before (MountOverlay c.args.path.now options flags) task (mount_overlay_permit nat_eq looks overfills task c.args.path.now options flags) _
     (left looks task overfills c.args.path.now options flags (location_of c.in_ok-destination.destination)
     (lowers_alone (lowers_of c.in_ok-layers.layers.items)) (sym c.lacks.ensures ∙ c.if-lacks.false) c.in_ok-destination.ensures
-    c.in_ok-layers.ensures.ok
-    ∙ skipped _ M2 _ _ (sym c.is_elsewhere.ensures ∙ c.if-is_elsewhere.false)
+    c.in_ok-layers.ensures.ok ∙ skipped _ M2 _ _ (sym c.is_elsewhere.ensures ∙ c.if-is_elsewhere.false)
     ∙ stopped _ M9 _ _ (sym (c.in_ok-overfills_with_overlay.ensures.ok overlay flags) ∙ c.if-branch.true)
     ∙ ap Err (sym c.denial-then-branch.ensures))
 
@@ -113,13 +110,10 @@ returns-in_err-lowers g c =
     let p = err_from_is_err_and c.from_residual-in_err-lowers.result c.from_residual-in_err-lowers.ensures.1 in
     rw (p.1) (no_list (MountOverlay c.args.path.now options flags) task
     (mount_overlay_permit nat_eq looks overfills task c.args.path.now options flags)
-    (MeansToMount place overlay flags) _
-    (left looks task overfills c.args.path.now options flags place
+    (MeansToMount place overlay flags) _ (left looks task overfills c.args.path.now options flags place
     (lowers_alone (lowers_of c.in_ok-layers.layers.items)) (sym c.lacks.ensures ∙ c.if-lacks.false) c.in_ok-destination.ensures
-    c.in_ok-layers.ensures.ok
-    ∙ skipped _ M2 _ _ (sym c.is_elsewhere.ensures ∙ c.if-is_elsewhere.false)
-    ∙ skipped _ M9 _ _ (sym (c.in_ok-overfills_with_overlay.ensures.ok overlay flags) ∙ c.if-branch.false))
-    p.2)
+    c.in_ok-layers.ensures.ok ∙ skipped _ M2 _ _ (sym c.is_elsewhere.ensures ∙ c.if-is_elsewhere.false)
+    ∙ skipped _ M9 _ _ (sym (c.in_ok-overfills_with_overlay.ensures.ok overlay flags) ∙ c.if-branch.false)) p.2)
 
 pub returns : goal.returns
 returns g c =
@@ -133,9 +127,7 @@ returns g c =
     let overlay = overlay_at looks task (lowers_alone (lowers_of lowers)) in
     left looks task overfills c.args.path.now options flags place
     (lowers_alone (lowers_of lowers)) (sym c.lacks.ensures ∙ c.if-lacks.false) c.in_ok-destination.ensures
-    c.in_ok-layers.ensures.ok
-    ∙ skipped _ M2 _ _ (sym c.is_elsewhere.ensures ∙ c.if-is_elsewhere.false)
+    c.in_ok-layers.ensures.ok ∙ skipped _ M2 _ _ (sym c.is_elsewhere.ensures ∙ c.if-is_elsewhere.false)
     ∙ skipped _ M9 _ _ (sym (c.in_ok-overfills_with_overlay.ensures.ok overlay flags) ∙ c.if-branch.false)
-    ∙ ap (λ overlay. Ok (MeansToMount place overlay flags))
-    (granted_overlay looks task lowers _
+    ∙ ap (λ overlay. Ok (MeansToMount place overlay flags)) (granted_overlay looks task lowers _
     (c.in_ok-lowers.ensures ∙ ap (map (λ (lower : Lower). layer_at looks (location_of lower.at))) c.as_slice.ensures.value))

@@ -5,12 +5,10 @@ use Rattle.vt_layers.proofs.OptionLemmas.{lower_item-there}
 use Rattle.vt_layers.proofs.options.lower_item.Goals as goal
 
 pub returns-in_err-path_word : goal.returns-in_err-path_word
-returns-in_err-path_word c =
-    rw c.from_residual-in_err-path_word.ensures
+returns-in_err-path_word c = rw c.from_residual-in_err-path_word.ensures
     (ap (option_map (λ path. LowerItem (parts 58 path))) c.in_err-path_word.ensures
     ∙ sym (lower_item-there c.args.text.now c.in_ok-paths.paths.now (sym c.in_ok-paths.ensures)))
 
 pub returns : goal.returns
-returns c =
-    ap (option_map (λ path. LowerItem (parts 58 path))) c.in_ok-path_word.ensures
+returns c = ap (option_map (λ path. LowerItem (parts 58 path))) c.in_ok-path_word.ensures
     ∙ sym (lower_item-there c.args.text.now c.in_ok-paths.paths.now (sym c.in_ok-paths.ensures))

@@ -13,8 +13,7 @@ returns-in_err-at-clause-err g c =
     let p = err_from_is_err_and c.from_residual.result c.from_residual.ensures.1 in
     rw (p.1, p.2) (walk-refused (g.L.Look.looks c.args.world.now) (task_of c.args.who.now)
     (lowers_of c.loop-path.lowers.items) c.loop-path.paths c.next.new.self c.in-Some.path.now _
-    c.in-Some.ensures.steps c.in_err-at.ensures
-    ∙ c.loop-path.invariant.kept)
+    c.in-Some.ensures.steps c.in_err-at.ensures ∙ c.loop-path.invariant.kept)
 
 pub loop-path-preserved-then-not-is_full : goal.loop-path-preserved-then-not-is_full
 loop-path-preserved-then-not-is_full g c =
@@ -23,13 +22,10 @@ loop-path-preserved-then-not-is_full g c =
     let items = c.loop-path.lowers.items in
     let rest = c.next.new.self in
     record {
-      kept =
-          ap (λ lowers. kept_before (lowers_of lowers) (each_walked nat_eq looks task rest)) c.push.ensures.items
-          ∙ ap (λ before. kept_before before (each_walked nat_eq looks task rest))
-          (lowers-push items c.in_ok-at.at)
+      kept = ap (λ lowers. kept_before (lowers_of lowers) (each_walked nat_eq looks task rest)) c.push.ensures.items
+          ∙ ap (λ before. kept_before before (each_walked nat_eq looks task rest)) (lowers-push items c.in_ok-at.at)
           ∙ walk-kept looks task (lowers_of items) c.loop-path.paths rest c.in-Some.path.now
-          (location_of c.in_ok-at.at) c.in-Some.ensures.steps c.in_ok-at.ensures
-          ∙ c.loop-path.invariant.kept;
+          (location_of c.in_ok-at.at) c.in-Some.ensures.steps c.in_ok-at.ensures ∙ c.loop-path.invariant.kept;
       few = search rules;
     }
 
@@ -39,11 +35,9 @@ loop-path-preserved g c =
     let full : eqb (length items) 129 ≡ true = search rules in
     let many : length items ≡ 129 = grind (arith, nat_tests) in
     record {
-      kept =
-          walk-passed (g.L.Look.looks c.args.world.now) (task_of c.args.who.now) (lowers_of items) c.loop-path.paths
+      kept = walk-passed (g.L.Look.looks c.args.world.now) (task_of c.args.who.now) (lowers_of items) c.loop-path.paths
           c.next.new.self c.in-Some.path.now (location_of c.in_ok-at.at) c.in-Some.ensures.steps
-          (lowers-length items ∙ many) c.in_ok-at.ensures
-          ∙ c.loop-path.invariant.kept;
+          (lowers-length items ∙ many) c.in_ok-at.ensures ∙ c.loop-path.invariant.kept;
       few = c.loop-path.invariant.few;
     }
 
@@ -52,5 +46,4 @@ returns-clause-ok g c =
     let items = c.loop-path.lowers.items in
     let few : length (lowers_of items) ≤ 129 = rw (lowers-length items) c.loop-path.invariant.few in
     walks-ended (g.L.Look.looks c.args.world.now) (task_of c.args.who.now) (lowers_of items) c.loop-path.paths
-    c.in_default.ensures.steps.0 few
-    ∙ c.loop-path.invariant.kept
+    c.in_default.ensures.steps.0 few ∙ c.loop-path.invariant.kept

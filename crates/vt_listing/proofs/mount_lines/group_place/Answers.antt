@@ -3,8 +3,7 @@ use Rattle.vt_listing.proofs.MountLines.{grouped_index}
 use Rattle.vt_listing.proofs.mount_lines.group_place.Goals as goal
 
 pub returns-in-Some : goal.returns-in-Some
-returns-in-Some c =
-    (let same : c.in-Some.index + 1 ≡ 1 + c.in-Some.index = omega arith in same)
+returns-in-Some c = (let same : c.in-Some.index + 1 ≡ 1 + c.in-Some.index = omega arith in same)
     ∙ sym (grouped_index c.args.id c.args.groups.now.keys (Some c.in-Some.index)
     (sym c.get_index_of.ensures.index ∙ c.in-Some.is))
 

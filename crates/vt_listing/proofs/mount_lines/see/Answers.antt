@@ -5,7 +5,6 @@ use Rattle.vt_listing.proofs.mount_lines.see.Goals as goal
 
 pub returns : goal.returns
 returns c = record {
-  ok = λ before is.
-      ap group_numbers (let inserted = c.in_ok-insert.ensures.keys in search rules)
+  ok = λ before is. ap group_numbers (let inserted = c.in_ok-insert.ensures.keys in search rules)
       ∙ one_more c.args.seen.now.keys c.args.group before is;
 }

@@ -11,12 +11,9 @@ use Rattle.vt_listing.proofs.ListedPeers.{added_under}
 use Rattle.vt_listing.proofs.peer_lines.push_member.Goals as goal
 
 pub returns-in-Shared : goal.returns-in-Shared
-returns-in-Shared c =
-    on_ok_weaker c.push.result
+returns-in-Shared c = on_ok_weaker c.push.result
     (λ pushed group. added_under c.in-Shared.own group c.args.one.at (under same_group group c.args.places.now)
     (under same_group group c.push.new.self) (pushed group)
     ∙ ap (λ (kind : Propagation). map mount_place_of (under same_group group c.args.places.now)
     ++ cons_option (member_place (counted group.count)
-    (c.args.one.at.namespace, c.args.one.at.place, propagation_of kind)) [])
-    (sym c.in-Shared.is))
-    c.push.ensures
+    (c.args.one.at.namespace, c.args.one.at.place, propagation_of kind)) []) (sym c.in-Shared.is)) c.push.ensures

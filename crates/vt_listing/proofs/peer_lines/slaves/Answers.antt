@@ -18,8 +18,7 @@ loop-one-preserved c group =
     (c.in_ok-push_slave.ensures group)
 
 pub returns : goal.returns
-returns c group =
-    c.loop-one.invariant group
+returns c group = c.loop-one.invariant group
     ∙ ap (filter_map (λ (one : Placed). slave_place (counted group.count) (placed_seen one)))
     (take_all c.loop-one.one-index c.args.placed.now (let done = c.loop-one-test.false in search rules))
     ∙ filter_map_map (slave_place (counted group.count)) placed_seen c.args.placed.now

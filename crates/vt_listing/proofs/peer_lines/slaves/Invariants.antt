@@ -8,6 +8,5 @@ use Rattle.vt_request.specs.Answers.{mount_place_of}
 use Rattle.vt_listing.proofs.peer_lines.slaves.Given as goal
 
 abbrev pub invariant-loop-one : goal.invariant-loop-one
-invariant-loop-one l =
-    (group : GroupId) → map mount_place_of (under same_group group l.places)
+invariant-loop-one l = (group : GroupId) → map mount_place_of (under same_group group l.places)
     ≡ filter_map (λ one. slave_place (counted group.count) (placed_seen one)) (take l.one-index l.placed)

@@ -20,15 +20,13 @@ returns-else-goes_last-clause-items c =
     ∙ placed mount _ list c.deref-else-goes_last.ensures.value _ parted.bound point
 
 pub returns-else-goes_last-clause-len : goal.returns-else-goes_last-clause-len
-returns-else-goes_last-clause-len c =
-    c.insert.ensures.len
+returns-else-goes_last-clause-len c = c.insert.ensures.len
     ∙ ap (λ b. cond b (vec_len c.args.ids.now + 1) (vec_len c.args.ids.now)) (c.insert.ensures.succeeds c.requires.room)
 
 pub returns-then-goes_last-clause-items : goal.returns-then-goes_last-clause-items
 returns-then-goes_last-clause-items c =
     let list = c.args.ids.now.items in
     let mount = c.args.mount in
-    c.push.ensures.items
-    ∙ ap (λ b. cond b (list ++ mount ∷ []) list) (c.push.ensures.succeeds c.requires.room)
+    c.push.ensures.items ∙ ap (λ b. cond b (list ++ mount ∷ []) list) (c.push.ensures.succeeds c.requires.room)
     ∙ subst (λ list. list ++ mount ∷ [] ≡ inserted mount list) c.deref.ensures.value
     (sym (c.goes_last.ensures c.if-goes_last.true))

@@ -14,8 +14,7 @@ loop-ids-init c =
     let slice = c.deref.result.now in
     let found = c.partition_point-place.ensures in
     let point = IsPartitionPoint-from_clause (λ (other : MountId). nat_lt other.count mount.count) slice _
-    found.partitioned (is_parted_below mount _ list c.deref.ensures.value c.requires)
-    (λ a r f called. search rules) in
+    found.partitioned (is_parted_below mount _ list c.deref.ensures.value c.requires) (λ a r f called. search rules) in
     record {
       others = refl;
       rising = c.requires;
@@ -37,8 +36,7 @@ loop-ids-preserved c =
     let room = c.remove.ensures.capacity in
     let is_it : (d : MountId) → same_id (get_or ids.items place d) mount ≡ true = λ d. ap (λ other. same_id other mount)
     (sym (get_or_read_under ids.items place (vec_len ids) c.index.result.now d c.index.ensures
-    (omega (arith, inside, counted)) len))
-    ∙ sym c.eq.ensures ∙ c.if-eq.true in
+    (omega (arith, inside, counted)) len)) ∙ sym c.eq.ensures ∙ c.if-eq.true in
     record {
       others = ap (others mount) c.remove.ensures.items
           ∙ others-remove mount ids.items place (omega (arith, inside, counted, len)) is_it ∙ kept.others;
@@ -58,12 +56,9 @@ returns-else-eq-clause-items c =
     let kept = c.loop-ids.invariant in
     let inside = c.loop-ids-test.true in
     let counted = c.len.ensures in
-    sym (others-parted mount ids.items place kept.rising kept.parted
-    (λ d _. ap (λ other. same_id other mount)
+    sym (others-parted mount ids.items place kept.rising kept.parted (λ d _. ap (λ other. same_id other mount)
     (sym (get_or_read_under ids.items place (vec_len ids) c.index.result.now d c.index.ensures
-    (omega (arith, inside, counted)) ids.ok.0))
-    ∙ sym c.eq.ensures ∙ c.if-eq.false))
-    ∙ kept.others
+    (omega (arith, inside, counted)) ids.ok.0)) ∙ sym c.eq.ensures ∙ c.if-eq.false)) ∙ kept.others
 
 pub returns-after-loop-ids-clause-items : goal.returns-after-loop-ids-clause-items
 returns-after-loop-ids-clause-items c =

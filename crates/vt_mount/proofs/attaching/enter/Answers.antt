@@ -12,8 +12,7 @@ use Rattle.vt_mount.proofs.OrderLemmas.{in_order-last}
 use Rattle.vt_mount.proofs.attaching.enter.Goals as goal
 
 -- the new mount is kept beside the others
-inserted : (c : goal.After-insert) (q : MountId)
-    → lookup (same_id q) c.insert.new.self.entries
+inserted : (c : goal.After-insert) (q : MountId) → lookup (same_id q) c.insert.new.self.entries
     ≡ cond (same_id c.args.mount.number q) (Some c.unused.result) (lookup (same_id q) c.args.by_number.now.entries)
 inserted c = (of-ok c.insert.result (c.insert.ensures.succeeds c.requires.spare) c.insert.ensures.updates).0
 
@@ -26,22 +25,19 @@ returns-clause-indexed c =
     let entered = c.enter.ensures in
     let above = above-entries number kept c.requires.order in
     let last = put_behind c.args.mount kept above in
-    subst (IsIndexed c.enter.new.self)
-    (sym (in_order-last number c.unused.result es _ above (inserted c)))
+    subst (IsIndexed c.enter.new.self) (sym (in_order-last number c.unused.result es _ above (inserted c)))
     (indexed-entered c.args.mount c.unused.result kept c.unused.ensures.mount c.args.indexes.now c.enter.new.self
     (ap has_small_point c.unused.ensures.mount ∙ entered.slot)
     (λ q. entered.namespace q ∙ last (is_in q) (is_in q c.args.mount) _ (indexed.namespace q))
     (λ q. entered.parent q ∙ last (is_on q) (is_on q c.args.mount) _ (indexed.parent q))
     (λ q. entered.place q ∙ last (is_at q) (is_at q c.args.mount) _ (indexed.place q))
-    (λ q. entered.inode q ∙ last (is_over q) (is_over q c.args.mount) _ (indexed.inode q))
-    indexed)
+    (λ q. entered.inode q ∙ last (is_over q) (is_over q c.args.mount) _ (indexed.inode q)) indexed)
 
 pub returns-clause-mounts : goal.returns-clause-mounts
 returns-clause-mounts c =
     let number = c.args.mount.number in
     let es = c.args.by_number.now.entries in
-    kept-last number c.unused.result es _ c.requires.order (inserted c)
-    ∙ (λ i. entries_of es ++ record {
+    kept-last number c.unused.result es _ c.requires.order (inserted c) ∙ (λ i. entries_of es ++ record {
       mount = mount_of (c.unused.ensures.mount i);
       uses = c.unused.ensures.uses i;
       writers = c.unused.ensures.writers i;

@@ -36,5 +36,4 @@ returns-clause-ok c namespaces places has =
     subst (λ (all : List Mount). Reserves c.loop-mount.indexes (namespaces_of all ++ namespaces)
     (mount_points_of all ++ places))
     (sym (c.loop-mount.invariant.1 ∙ ap (λ (rest : List Mount). rest ++ c.loop-mount.invariant.0)
-    (nil_from_length _ c.in-None.ensures.steps.0)))
-    (c.loop-mount.invariant.3 namespaces places has)
+    (nil_from_length _ c.in-None.ensures.steps.0))) (c.loop-mount.invariant.3 namespaces places has)

@@ -10,8 +10,7 @@ use Rattle.vt_mount.proofs.attaching.reserve_mounts.Given as goal
 
 -- there is room for those at the end of the list
 abbrev pub invariant-loop-mount : goal.invariant-loop-mount
-invariant-loop-mount l =
-    (back : List Mount) × (l.new ≡ l.mount-iterator.iter.rest.now ++ back)
+invariant-loop-mount l = (back : List Mount) × (l.new ≡ l.mount-iterator.iter.rest.now ++ back)
     × ((kept : List (MountId × Mounted)) → IsIndexed l.fn.indexes kept → IsIndexed l.indexes kept)
     × ((namespaces : List NamespaceId) (places : List Location) → Reserves l.fn.indexes namespaces places
     → Reserves l.indexes (namespaces_of back ++ namespaces) (mount_points_of back ++ places))

@@ -13,8 +13,7 @@ move_one-requires-clause-reserves c =
     let later = c.next.new.self.iter.rest.now in
     reserves-first c.loop-point.indexes [] [] (point.place ∷ []) (moved_places later ++ [])
     (subst (λ (places : List _). Reserves c.loop-point.indexes [] (places ++ []))
-    (ap moved_places c.in-Some.ensures.steps ∙ moved_places-last later point)
-    (c.loop-point.invariant.6 [] []
+    (ap moved_places c.in-Some.ensures.steps ∙ moved_places-last later point) (c.loop-point.invariant.6 [] []
     (subst (Reserves c.args.indexes.now []) (sym (append-nil (moved_places c.args.points.now))) c.requires.reserves)))
 
 pub move_one-requires-clause-room : goal.move_one-requires-clause-room
@@ -40,15 +39,13 @@ loop-point-preserved c =
           ∙ append_assoc later (point ∷ []) back,
       c.move_one.ensures.mounts ∙ ap (moved_to point) so_far.2,
       c.move_one.ensures.indexed,
-      c.move_one.ensures.moves
-          ∙ (λ i. so_far.4 i ++ moves_by point (so_far.2 i))
+      c.move_one.ensures.moves ∙ (λ i. so_far.4 i ++ moves_by point (so_far.2 i))
           ∙ append_assoc (map move_of c.args.moved.now.items) (all_moves back entries)
           (moves_by point (with_points back entries)),
       λ small. c.move_one.ensures.small (so_far.5 small),
       λ namespaces places has. c.move_one.ensures.reserves namespaces (moved_places later ++ places)
           (subst (λ (first : List _). Reserves c.loop-point.indexes namespaces (first ++ places))
-          (ap moved_places c.in-Some.ensures.steps ∙ moved_places-last later point)
-          (so_far.6 namespaces places has)),
+          (ap moved_places c.in-Some.ensures.steps ∙ moved_places-last later point) (so_far.6 namespaces places has)),
       omega (arith, room, longer, one, kept),
       c.move_one.ensures.spare ∙ so_far.8,
     )

@@ -13,8 +13,7 @@ use Rattle.vt_mount.proofs.moving.move_all.Given as goal
 
 -- those at the end of the list have moved, and there is room for the others
 abbrev pub invariant-loop-point : goal.invariant-loop-point
-invariant-loop-point l =
-    (back : List NewPoint) × (l.points ≡ l.point-iterator.iter.rest.now ++ back)
+invariant-loop-point l = (back : List NewPoint) × (l.points ≡ l.point-iterator.iter.rest.now ++ back)
     × (entries_of l.by_number.entries ≡ with_points back (entries_of l.fn.by_number.entries))
     × IsIndexed l.indexes (in_order l.by_number.entries)
     × (map move_of l.moved.items ≡ map move_of l.fn.moved.items ++ all_moves back (entries_of l.fn.by_number.entries))

@@ -18,12 +18,10 @@ returns-in_default-clause-mounts c =
     let change = moved_kept c.args.point.place in
     entries-written c.args.point.mount change (placed_entry c.args.point.place) map.entries _ _ (λ n one. refl)
     (not-written c.args.point.mount change map _ (sym c.get_mut.ensures.value ∙ ap option_copied_mut c.in_default.is)
-    (ap (λ map. map.entries) c.get_mut.follows.holds-at-none))
-    refl
+    (ap (λ map. map.entries) c.get_mut.follows.holds-at-none)) refl
 
 pub returns-in_default-clause-moves : goal.returns-in_default-clause-moves
-returns-in_default-clause-moves c =
-    moves-absent c.args.moved.now.items c.args.point c.args.by_number.now.entries
+returns-in_default-clause-moves c = moves-absent c.args.moved.now.items c.args.point c.args.by_number.now.entries
     (sym c.get_mut.ensures.value ∙ ap option_copied_mut c.in_default.is)
 
 pub returns-in_default-clause-reserves : goal.returns-in_default-clause-reserves
@@ -39,8 +37,7 @@ returns-clause-indexed c =
     let change = moved_kept c.args.point.place in
     let there = sym c.get_mut.ensures.value ∙ ap option_copied_mut c.in-Some.is in
     let shifts = c.shift.ensures in
-    subst (IsIndexed c.shift.new.self)
-    (sym (in_order-changed c.args.point.mount change map.entries _
+    subst (IsIndexed c.shift.new.self) (sym (in_order-changed c.args.point.mount change map.entries _
     (is-written c.args.point.mount change map _ c.in-Some.kept.now _ there refl (c.get_mut.follows.holds _))))
     (indexed-placed c.args.point.mount (Some c.args.point.place) c.in-Some.kept.now (in_order map.entries)
     (rises-in_order map.entries) (found-in_order c.args.point.mount map.entries ∙ there)
@@ -53,8 +50,7 @@ returns-clause-mounts c =
     let change = moved_kept c.args.point.place in
     let there = sym c.get_mut.ensures.value ∙ ap option_copied_mut c.in-Some.is in
     entries-written c.args.point.mount change (placed_entry c.args.point.place) map.entries _ _ (λ n one. refl)
-    (is-written c.args.point.mount change map _ c.in-Some.kept.now _ there refl (c.get_mut.follows.holds _))
-    refl
+    (is-written c.args.point.mount change map _ c.in-Some.kept.now _ there refl (c.get_mut.follows.holds _)) refl
 
 pub returns-clause-moves : goal.returns-clause-moves
 returns-clause-moves c =
@@ -70,8 +66,7 @@ returns-clause-small c =
     let one : Moved = record { mount = c.args.point.mount; from = c.in-Some.kept.now.mount_point; to = c.args.point.place } in
     small-noted old _ c.args.point c.in-Some.kept.now c.args.by_number.now.entries
     (c.push.ensures.items ∙ ap (λ b. cond b (old ++ one ∷ []) old) (c.push.ensures.succeeds c.requires.room))
-    (sym c.get_mut.ensures.value ∙ ap option_copied_mut c.in-Some.is) c.requires.indexed.slots
-    c.shift.ensures.slot
+    (sym c.get_mut.ensures.value ∙ ap option_copied_mut c.in-Some.is) c.requires.indexed.slots c.shift.ensures.slot
 
 pub returns-clause-spare : goal.returns-clause-spare
 returns-clause-spare c = (c.get_mut.follows.holds _).6

@@ -20,8 +20,7 @@ loop-point-preserved c = (
       let so_far = take c.loop-point.point-index points in
       subst (λ first. Reserves c.reserve.new.self namespaces (first ++ places))
       (sym (ap moved_places (take_more points c.loop-point.point-index _ c.loop-point-test.true)
-      ∙ moved_places-last so_far _))
-      (c.in_ok-reserve.ensures.ok namespaces (moved_places so_far ++ places)
+      ∙ moved_places-last so_far _)) (c.in_ok-reserve.ensures.ok namespaces (moved_places so_far ++ places)
       (c.loop-point.invariant.1 namespaces places has)),
 )
 

@@ -29,8 +29,7 @@ loop-id-preserved c =
     let from = listed_got entries namespace c.attached_in-id-items.result.now at _ c.get.result
     c.attached_in-id-items.ensures.order c.attached_in-id-items.ensures.are c.loop-id-test.true c.get.ensures in
     elim c.match-get.branch [
-      | in-Some+else-is_none w ↦
-          no_root_yet entries namespace at from.0 w.in-Some.mount c.loop-id.invariant from.1
+      | in-Some+else-is_none w ↦ no_root_yet entries namespace at from.0 w.in-Some.mount c.loop-id.invariant from.1
           (same_Some _ _ (sym (ap (option_map mount_of) w.in-Some.is) ∙ from.2))
           (w.is_none.ensures ∙ ap not w.if-is_none.false)
       | in_default w ↦ absurd (none_is_some from.0 (sym (ap (option_map mount_of) w.in_default.is) ∙ from.2))

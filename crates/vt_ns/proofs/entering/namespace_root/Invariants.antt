@@ -6,7 +6,6 @@ use Rattle.vt_ns.proofs.entering.namespace_root.Given as goal
 
 -- those before the next have mount points
 abbrev pub invariant-loop-id : goal.invariant-loop-id
-invariant-loop-id l =
-    find (λ mount. not (is_some mount.mount_point))
+invariant-loop-id l = find (λ mount. not (is_some mount.mount_point))
     (take l.id-index (filter (λ mount. holds_of (nat_eq (counted l.fn.namespace.count)) mount.namespace)
     (mounts_in l.mounts))) ≡ None

@@ -31,8 +31,7 @@ module _ (files : List OpenFile) (place : ℕ) (d : OpenFile) (within : place < 
 
   next_small : list_all is_small_file (take place files) ≡ true → is_small_file (get_or files place d) ≡ true
       → list_all is_small_file (take (place + 1) files) ≡ true
-  next_small before this =
-      ap (list_all is_small_file) one_more
+  next_small before this = ap (list_all is_small_file) one_more
       ∙ list_all-append is_small_file (take place files) (get_or files place d ∷ [])
       ∙ (λ i. before i && (this i && true))
 

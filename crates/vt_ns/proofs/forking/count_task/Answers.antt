@@ -10,8 +10,7 @@ overflow_add-namespace c =
     let few : c.in-Some.namespace.now.tasks < 18446744073709551615 =
     subst (λ o. IfSome o (λ (entry : NamespaceEntry). entry.tasks < 18446744073709551615))
     (entry_found c.args.id.count c.args.namespaces.now.entries _
-    (sym c.get_mut.ensures.value ∙ ap option_copied_mut c.in-Some.is))
-    c.requires in
+    (sym c.get_mut.ensures.value ∙ ap option_copied_mut c.in-Some.is)) c.requires in
     omega (arith, few)
 
 pub returns-in-Some : goal.returns-in-Some
@@ -20,7 +19,6 @@ returns-in-Some c =
     (sym c.get_mut.ensures.value ∙ ap option_copied_mut c.in-Some.is) (c.get_mut.follows.holds _).0 refl
 
 pub returns-in_default : goal.returns-in_default
-returns-in_default c =
-    ap (λ map. entries_of map.entries) c.get_mut.follows.holds-at-none
+returns-in_default c = ap (λ map. entries_of map.entries) c.get_mut.follows.holds-at-none
     ∙ nothing_counted c.args.id.count c.args.namespaces.now.entries
     (sym c.get_mut.ensures.value ∙ ap option_copied_mut c.in_default.is)

@@ -21,7 +21,6 @@ pub returns-in-None : goal.returns-in-None
 returns-in-None c = (
   λ all. subst (λ o. IfSome o (λ (entry : NamespaceEntry). entry.tasks < 18446744073709551615))
       (sym (entry_found c.args.id.count c.args.namespaces.now.entries None
-      (sym c.get.ensures.value ∙ ap option_copied c.in-None.is)))
-      tt,
+      (sym c.get.ensures.value ∙ ap option_copied c.in-None.is))) tt,
   λ few. refl,
 )

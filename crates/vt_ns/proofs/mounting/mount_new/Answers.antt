@@ -9,8 +9,7 @@ returns-in-Err-clause-err_store c =
     let made = c.in_ok-add.ensures.ok in
     let before = made.1 ∙ ap (λ all. all ++ made.0 ∷ []) c.plain_mut.ensures.value in
     λ i. record {
-      plain = (c.remove.ensures
-          ∙ ap (without c.args.filesystem.count)
+      plain = (c.remove.ensures ∙ ap (without c.args.filesystem.count)
           (c.plain_mut-in-Err.ensures.value ∙ ap (λ (store : StoreValue). store.plain) c.in-Err.ensures.err_store ∙ before)
           ∙ removed_again c.args.store.now.plain made.0 c.args.filesystem.count made.2.counts c.requires.above) i;
       overlays = (c.in-Err.ensures.err_store i).overlays;

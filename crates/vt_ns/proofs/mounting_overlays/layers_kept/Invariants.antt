@@ -4,5 +4,4 @@ use Rattle.vt_permits.specs.GrantValue.{layer_of}
 use Rattle.vt_ns.proofs.mounting_overlays.layers_kept.Given as goal
 
 abbrev pub invariant-loop-lower : goal.invariant-loop-lower
-invariant-loop-lower l =
-    l.kept.items ≡ map (λ lower. layer_kept (layer_of lower)) (take l.lower-index l.lowers)
+invariant-loop-lower l = l.kept.items ≡ map (λ lower. layer_kept (layer_of lower)) (take l.lower-index l.lowers)

@@ -7,8 +7,7 @@ use Rattle.vt_ns.proofs.CountingLemmas.{room_less, room_still}
 use Rattle.vt_ns.proofs.pivoting.hold_each.Goals as goal
 
 pub hold_once_more-requires : goal.hold_once_more-requires
-hold_once_more-requires c =
-    room_less (c.args.uses - c.loop.counter) 1 c.args.at c.loop.mounts c.loop.store.plain
+hold_once_more-requires c = room_less (c.args.uses - c.loop.counter) 1 c.args.at c.loop.mounts c.loop.store.plain
     (omega (arith, c.loop-test.true)) c.loop.invariant.room
 
 pub loop-preserved : goal.loop-preserved

@@ -14,12 +14,10 @@ loop-preserved c =
       (λ i. record {
         mounts = c.release.ensures i;
         filesystems = (unpins at.node.filesystem.count (number_of at.node) c.plain_mut.result.now c.unpin.new.self
-            c.unpin.ensures
-            ∙ ap (λ all. unpinned_in (counted at.node.filesystem.count, number_of at.node) (shown all))
+            c.unpin.ensures ∙ ap (λ all. unpinned_in (counted at.node.filesystem.count, number_of at.node) (shown all))
             c.plain_mut.ensures.value) i;
         overlays = map merged_of c.loop.store.overlays;
-      })
-          ∙ ap (released_use (counted at.mount.count) (inode_of at.node) false) c.loop.invariant.0
+      }) ∙ ap (released_use (counted at.mount.count) (inode_of at.node) false) c.loop.invariant.0
           ∙ ap (λ n. without_uses n at (kept c.args.mounts.now c.args.store.now)) (sym (add-one c.loop.counter)),
       c.loop.invariant.1,
     )

@@ -5,6 +5,5 @@ use Rattle.vt_ns.proofs.pivoting.release_each.Given as goal
 
 -- some are gone, and no overlay
 abbrev pub invariant-loop : goal.invariant-loop
-invariant-loop l =
-    (kept l.mounts l.store ≡ without_uses l.counter l.at (kept l.fn.mounts l.fn.store))
+invariant-loop l = (kept l.mounts l.store ≡ without_uses l.counter l.at (kept l.fn.mounts l.fn.store))
     × (l.store.overlays ≡ l.fn.store.overlays)

@@ -13,8 +13,7 @@ pub returns-in-Shared-clause-ok : goal.returns-in-Shared-clause-ok
 returns-in-Shared-clause-ok c =
     let numbers = map (λ id. counted id.count) c.args.ids.now in
     subst (λ word. IfOk c.share_all.result (λ later. IsRetyped (type_word_of word) c.args.next later numbers
-    c.args.groups.now c.share_all.new.groups c.args.mounts.now c.share_all.new.mounts))
-    (sym c.in-Shared.is)
+    c.args.groups.now c.share_all.new.groups c.args.mounts.now c.share_all.new.mounts)) (sym c.in-Shared.is)
     (shared_if_ok c.share_all.result c.args.next numbers c.args.groups.now c.share_all.new.groups c.args.mounts.now
     c.share_all.new.mounts c.share_all.ensures.groups_ok c.share_all.ensures.types_ok
     (length c.args.ids.now) (sym (length-map c.args.ids.now (λ id. counted id.count))) c.share_all.ensures.count)
@@ -23,8 +22,7 @@ pub returns-in-Slave-clause-ok : goal.returns-in-Slave-clause-ok
 returns-in-Slave-clause-ok c =
     let numbers = map (λ id. counted id.count) c.args.ids.now in
     subst (λ word. IsRetyped (type_word_of word) c.args.next c.args.next numbers c.args.groups.now
-    c.make_slaves.new.groups c.args.mounts.now c.make_slaves.new.mounts)
-    (sym c.in-Slave.is)
+    c.make_slaves.new.groups c.args.mounts.now c.make_slaves.new.mounts) (sym c.in-Slave.is)
     (slaves_retyped c.args.next numbers c.args.groups.now c.make_slaves.new.groups c.args.mounts.now c.make_slaves.new.mounts
     c.make_slaves.ensures.groups c.make_slaves.ensures.types)
 
@@ -32,8 +30,7 @@ pub returns-in-Private-clause-ok : goal.returns-in-Private-clause-ok
 returns-in-Private-clause-ok c =
     let numbers = map (λ id. counted id.count) c.args.ids.now in
     subst (λ word. IsRetyped (type_word_of word) c.args.next c.args.next numbers c.args.groups.now
-    c.leave_all.new.groups c.args.mounts.now c.leave_all.new.mounts)
-    (sym c.in-Private.is)
+    c.leave_all.new.groups c.args.mounts.now c.leave_all.new.mounts) (sym c.in-Private.is)
     (set_retyped ToPrivate Private
     (λ new old. refl) c.args.next numbers refl c.args.groups.now c.leave_all.new.groups c.args.mounts.now c.set_all.new.mounts
     c.leave_all.new.mounts refl c.set_all.ensures c.leave_all.ensures.private c.leave_all.ensures.types)
@@ -43,8 +40,7 @@ returns-in-Unbindable-clause-ok c =
     let numbers = map (λ id. counted id.count) c.args.ids.now in
     subst (λ word. IsRetyped (type_word_of word) c.args.next c.args.next numbers c.args.groups.now
     c.leave_all-in-Unbindable.new.groups c.args.mounts.now c.leave_all-in-Unbindable.new.mounts)
-    (sym c.in-Unbindable.is)
-    (set_retyped ToUnbindable Unbindable
+    (sym c.in-Unbindable.is) (set_retyped ToUnbindable Unbindable
     (λ new old. refl) c.args.next numbers refl c.args.groups.now c.leave_all-in-Unbindable.new.groups c.args.mounts.now
     c.set_all-in-Unbindable.new.mounts c.leave_all-in-Unbindable.new.mounts refl c.set_all-in-Unbindable.ensures
     c.leave_all-in-Unbindable.ensures.unbindable c.leave_all-in-Unbindable.ensures.types)

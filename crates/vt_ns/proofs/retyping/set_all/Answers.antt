@@ -11,14 +11,10 @@ pub loop-id-init : goal.loop-id-init
 loop-id-init c = none_set (propagation_of c.args.kind) c.args.mounts.now
 
 pub loop-id-preserved : goal.loop-id-preserved
-loop-id-preserved c =
-    set_next c.args.mounts.now c.loop-id.mounts c.set_propagation.new.self
+loop-id-preserved c = set_next c.args.mounts.now c.loop-id.mounts c.set_propagation.new.self
     (propagation_of c.args.kind) c.args.ids.now c.loop-id.id-index _
     c.loop-id-test.true c.set_propagation.ensures c.loop-id.invariant
 
 pub returns : goal.returns
-returns c =
-    c.loop-id.invariant
-    ∙ ap (λ ids. map (retyped (set_if (map (λ id. counted id.count) ids)
-    (propagation_of c.args.kind))) c.args.mounts.now)
-    (take_all c.loop-id.id-index c.args.ids.now c.loop-id-test.false)
+returns c = c.loop-id.invariant ∙ ap (λ ids. map (retyped (set_if (map (λ id. counted id.count) ids)
+    (propagation_of c.args.kind))) c.args.mounts.now) (take_all c.loop-id.id-index c.args.ids.now c.loop-id-test.false)

@@ -7,8 +7,7 @@ use Rattle.vt_ns.proofs.retyping.share_all.Goals as goal
 use Rattle.vt_spec.proofs.Lists.{map_twice}
 
 pub returns-clause-types_ok : goal.returns-clause-types_ok
-returns-clause-types_ok c =
-    c.in_ok-share.ensures.types_ok
+returns-clause-types_ok c = c.in_ok-share.ensures.types_ok
     ∙ ap (λ numbers. map (shared_by c.share.new.groups numbers) c.args.mounts.now)
     (sym (map_twice (λ (pair : ℕ × ℕ). pair.0) pair_of c.deref.result.now)
     ∙ ap (map (λ (pair : ℕ × ℕ). pair.0)) (ap (map pair_of) c.deref.ensures.value ∙ c.in_ok-named.ensures)

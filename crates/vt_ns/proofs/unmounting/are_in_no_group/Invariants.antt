@@ -6,6 +6,5 @@ use Rattle.vt_ns.proofs.unmounting.are_in_no_group.Given as goal
 
 -- all are in no group if the others are
 abbrev pub invariant-loop-id : goal.invariant-loop-id
-invariant-loop-id l =
-    are_ungrouped (mounts_in l.mounts) (map (λ id. counted id.count) (drop l.id-index l.ids))
+invariant-loop-id l = are_ungrouped (mounts_in l.mounts) (map (λ id. counted id.count) (drop l.id-index l.ids))
     ≡ are_ungrouped (mounts_in l.mounts) (map (λ id. counted id.count) l.ids)

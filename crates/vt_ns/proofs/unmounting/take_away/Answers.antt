@@ -18,8 +18,7 @@ pub returns-clause-ok : goal.returns-clause-ok
 returns-clause-ok c =
     let points : List Point = c.args.plan.now.points.items in
     let moved = subst (λ (all : List Point). (left : List Location)
-    × (map location_of left ≡ points_left all c.args.mounts.now)
-    × (list_all is_small left ≡ true)
+    × (map location_of left ≡ points_left all c.args.mounts.now) × (list_all is_small left ≡ true)
     × (kept c.attach_planned.new.mounts c.attach_planned.new.store
     ≡ with_planned [] all left (kept c.args.mounts.now c.args.store.now)))
     c.deref.ensures.value c.in_ok-attach_planned.ensures.ok in

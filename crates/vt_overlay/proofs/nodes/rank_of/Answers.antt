@@ -17,8 +17,7 @@ returns-in-Some c =
     ≡ (files_at c.args.trees.now f).tree.node (inode_of c.args.directory) = search rules in
     let number : exchanged f c.slot_of.result ≡ inode_of c.args.object =
     ap (λ (id : FilesystemId). exchanged id.count c.slot_of.result) (sym c.requires) ∙ c.slot_of.ensures.number in
-    c.rank_of.ensures ∙ rank_seen f node name c.slot_of.result
-    ∙ (λ i. rank_among (entries_in (is i)) name (number i))
+    c.rank_of.ensures ∙ rank_seen f node name c.slot_of.result ∙ (λ i. rank_among (entries_in (is i)) name (number i))
 
 pub returns-in-None : goal.returns-in-None
 returns-in-None c =

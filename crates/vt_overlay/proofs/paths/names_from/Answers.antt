@@ -6,8 +6,7 @@ use Rattle.vt_overlay.proofs.paths.names_from.Goals as goal
 longer : (path : List (List ℕ)) (start index : ℕ) (names : List (List ℕ)) (name : List ℕ)
     → slice_get path index ≡ Some name → names ++ drop index path ≡ drop start path
     → (names ++ name ∷ []) ++ drop (index + 1) path ≡ drop start path
-longer path start index names name is so_far =
-    append_assoc names (name ∷ []) (drop (index + 1) path)
+longer path start index names name is so_far = append_assoc names (name ∷ []) (drop (index + 1) path)
     ∙ ap (λ l. names ++ l) (sym (drop_named path index name is)) ∙ so_far
 
 pub loop-index-preserved : goal.loop-index-preserved

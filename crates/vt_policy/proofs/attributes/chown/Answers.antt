@@ -22,13 +22,11 @@ returns g c =
     (λ i. record { uid = sym c.unwrap_or.ensures i; gid = sym c.unwrap_or-2.ensures i; mode = old.mode }) in
     answers_alike task (chown_permit nat_eq looks task c.args.path.now c.args.uid c.args.gid)
     (attr_permit nat_eq looks at c.may_chown.result new) c.attr_permit.result
-    (reached (walk_end (object_walk nat_eq looks task c.args.path.now)) at
-    (λ at. attr_permit nat_eq looks at
+    (reached (walk_end (object_walk nat_eq looks task c.args.path.now)) at (λ at. attr_permit nat_eq looks at
     (may_chown task.credentials (attr_at looks at) (attr_with_owner (attr_at looks at) c.args.uid c.args.gid))
     (attr_with_owner (attr_at looks at) c.args.uid c.args.gid)) c.in_ok-object.ensures.ok
     ∙ ap (λ attr. attr_permit nat_eq looks at
     (may_chown task.credentials attr (attr_with_owner attr c.args.uid c.args.gid))
     (attr_with_owner attr c.args.uid c.args.gid)) (sym c.attr_at-old.ensures)
     ∙ ap (λ attr. attr_permit nat_eq looks at (may_chown task.credentials old attr) attr) owner
-    ∙ ap (λ allowed. attr_permit nat_eq looks at allowed new) (sym c.may_chown.ensures))
-    c.attr_permit.ensures
+    ∙ ap (λ allowed. attr_permit nat_eq looks at allowed new) (sym c.may_chown.ensures)) c.attr_permit.ensures

@@ -23,5 +23,4 @@ returns-in_ok-file-in-Never g c =
     (open_file_permit nat_eq looks task at access) c.open_file_permit.result
     (skipped (nat_le most_descriptors (length task.descriptors)) S3 [] _ (search rules)
     ∙ reached (walk_end (object_walk nat_eq looks task c.args.path.now)) at
-    (λ at. open_file_permit nat_eq looks task at access) c.in_ok-file-in-Never.ensures.ok)
-    c.open_file_permit.ensures)
+    (λ at. open_file_permit nat_eq looks task at access) c.in_ok-file-in-Never.ensures.ok) c.open_file_permit.ensures)

@@ -20,7 +20,6 @@ returns g c =
     (create_file_permit nat_eq looks task at.0 access c.args.mode) c.create_file_permit.result
     (went (walk_end (new_walk nat_eq looks task c.args.path.now)) at.0 _ at.1
     ∙ skipped (is_special at.0.last) E1 _ _ (ap is_special at.2.last ∙ sym c.is_special.ensures ∙ c.if-is_special.false)
-    ∙ skipped at.0.slash E2 _ _ (at.2.slash ∙ c.if-place.false)
-    ∙ skipped (is_some at.0.object) E1 [] _
+    ∙ skipped at.0.slash E2 _ _ (at.2.slash ∙ c.if-place.false) ∙ skipped (is_some at.0.object) E1 [] _
     (ap is_some at.2.object ∙ is_some_mapped c.in_ok-place.place.object ∙ sym c.is_some.ensures ∙ c.if-is_some.false))
     (c.create_file_permit.ensures at.0 at.2)

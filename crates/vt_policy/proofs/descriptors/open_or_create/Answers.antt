@@ -24,7 +24,5 @@ returns-in-None g c =
     (went (walk_end (file_walk nat_eq looks task c.args.path.now)) at.0 _ at.1
     ∙ skipped (is_special at.0.last || at.0.slash) E2 [] _
     (or_from _ _ (ap is_special at.2.last ∙ sym c.is_special.ensures ∙ c.if-is_special.false)
-    (at.2.slash ∙ c.if-place.false))
-    ∙ ap (opened_or_created_permit nat_eq looks task at.0 access c.args.mode)
-    (at.2.object ∙ ap (option_map location_of) c.in-None.is))
-    (c.create_file_permit.ensures at.0 at.2)
+    (at.2.slash ∙ c.if-place.false)) ∙ ap (opened_or_created_permit nat_eq looks task at.0 access c.args.mode)
+    (at.2.object ∙ ap (option_map location_of) c.in-None.is)) (c.create_file_permit.ensures at.0 at.2)

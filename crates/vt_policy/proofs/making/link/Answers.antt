@@ -42,8 +42,7 @@ returns-in_err-name_at g c =
     (ap is_special at.2.last ∙ sym c.is_special.ensures ∙ c.if-is_special.false) in
     let p = err_from_is_err_and c.from_residual-in_err-name_at.result c.from_residual-in_err-name_at.ensures.1 in
     rw (p.1, p.2) (without_memory task (hard_link_permit nat_eq looks task c.args.old.now c.args.new.now) permit _
-    (asked ∙ unless-let_through rows (Ok permit) (c.in_ok-may_link.ensures at.0 at.2))
-    c.in_err-name_at.ensures.memory)
+    (asked ∙ unless-let_through rows (Ok permit) (c.in_ok-may_link.ensures at.0 at.2)) c.in_err-name_at.ensures.memory)
 
 pub returns : goal.returns
 returns g c =

@@ -40,8 +40,7 @@ returns-in_err-name_at g c =
     rw (p.1, p.2) (without_memory task (whiteout_permit nat_eq looks task c.args.path.now) (make_permit at.0 node) _
     (went (walk_end (new_leaf_walk nat_eq looks task c.args.path.now)) at.0 _ at.1
     ∙ unless-let_through (whiteout_rules looks task at.0) (Ok (make_permit at.0 node))
-    (c.in_ok-may_make_whiteout.ensures at.0 at.2))
-    c.in_err-name_at.ensures.memory)
+    (c.in_ok-may_make_whiteout.ensures at.0 at.2)) c.in_err-name_at.ensures.memory)
 
 pub returns : goal.returns
 unfolding whiteout_permit
@@ -54,5 +53,4 @@ returns g c =
     let built : node ≡ node_in c.in_ok-place.place.parent c.whiteout.result = search rules in
     went (walk_end (new_leaf_walk nat_eq looks task c.args.path.now)) at.0 _ at.1
     ∙ unless-let_through (whiteout_rules looks task at.0) (Ok (make_permit at.0 node))
-    (c.in_ok-may_make_whiteout.ensures at.0 at.2)
-    ∙ (λ i. Ok (ToMake (at.2.parent i) (name i) (built i)))
+    (c.in_ok-may_make_whiteout.ensures at.0 at.2) ∙ (λ i. Ok (ToMake (at.2.parent i) (name i) (built i)))

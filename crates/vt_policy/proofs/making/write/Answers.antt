@@ -23,10 +23,8 @@ returns-in-Some g c =
     (went (walk_end (file_walk nat_eq looks task c.args.path.now)) at.0 _ at.1
     ∙ skipped (is_special at.0.last || at.0.slash) E2 [] _
     (or_from _ _ (ap is_special at.2.last ∙ sym c.is_special.ensures ∙ c.if-is_special.false)
-    (at.2.slash ∙ c.if-place.false))
-    ∙ ap (written_permit nat_eq looks task at.0 c.args.bytes.items)
-    (at.2.object ∙ ap (option_map location_of) c.in-Some.is))
-    (c.rewrite_permit.ensures at.0)
+    (at.2.slash ∙ c.if-place.false)) ∙ ap (written_permit nat_eq looks task at.0 c.args.bytes.items)
+    (at.2.object ∙ ap (option_map location_of) c.in-Some.is)) (c.rewrite_permit.ensures at.0)
 
 pub returns-in-None : goal.returns-in-None
 unfolding write_permit
@@ -39,7 +37,5 @@ returns-in-None g c =
     (went (walk_end (file_walk nat_eq looks task c.args.path.now)) at.0 _ at.1
     ∙ skipped (is_special at.0.last || at.0.slash) E2 [] _
     (or_from _ _ (ap is_special at.2.last ∙ sym c.is_special.ensures ∙ c.if-is_special.false)
-    (at.2.slash ∙ c.if-place.false))
-    ∙ ap (written_permit nat_eq looks task at.0 c.args.bytes.items)
-    (at.2.object ∙ ap (option_map location_of) c.in-None.is))
-    (c.new_file_permit.ensures at.0 at.2)
+    (at.2.slash ∙ c.if-place.false)) ∙ ap (written_permit nat_eq looks task at.0 c.args.bytes.items)
+    (at.2.object ∙ ap (option_map location_of) c.in-None.is)) (c.new_file_permit.ensures at.0 at.2)

@@ -28,5 +28,4 @@ returns-in_err-overfills g c =
     (sym c.lacks.ensures ∙ c.if-lacks.false) c.in_ok-source.ensures.ok c.in_ok-destination.ensures.ok
     ∙ skipped _ M2 _ _ (or_from _ _ (sym c.is_elsewhere.ensures ∙ c.if-is_elsewhere.false)
     (sym c.is_elsewhere-else-is_elsewhere.ensures ∙ c.if-is_elsewhere-2.false))
-    ∙ skipped _ M3 _ _ (sym c.is_unbindable.ensures ∙ c.if-is_unbindable.false))
-    c.in_err-overfills.ensures.memory)
+    ∙ skipped _ M3 _ _ (sym c.is_unbindable.ensures ∙ c.if-is_unbindable.false)) c.in_err-overfills.ensures.memory)

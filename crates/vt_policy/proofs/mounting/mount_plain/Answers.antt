@@ -25,5 +25,4 @@ returns-in_err-overfills g c =
     (mount_plain_permit nat_eq looks overfills task c.args.path.now flags) (overfills permit) permit _ refl
     (mount_plain_asked looks overfills task c.args.path.now flags destination
     (sym c.lacks.ensures ∙ c.if-lacks.false) c.in_ok-destination.ensures.ok
-    ∙ skipped _ M2 _ _ (sym c.is_elsewhere.ensures ∙ c.if-is_elsewhere.false))
-    c.in_err-overfills.ensures.memory)
+    ∙ skipped _ M2 _ _ (sym c.is_elsewhere.ensures ∙ c.if-is_elsewhere.false)) c.in_err-overfills.ensures.memory)

@@ -19,5 +19,4 @@ returns-in_err-here g c =
     rw (p.1, p.2) (refused_before (Umount c.args.path.now) task (umount_permit nat_eq looks task c.args.path.now) _
     (root_refused looks task c.args.path.now
     (λ at. (looks.is_busy at.mount, M8) ∷ (not (is_some (mount_at looks at).mount_point), M10) ∷ [])
-    (λ at. Ok (ToUnmount at.mount)) _
-    c.in_err-here.ensures.err))
+    (λ at. Ok (ToUnmount at.mount)) _ c.in_err-here.ensures.err))

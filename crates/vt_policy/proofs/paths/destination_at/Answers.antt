@@ -7,19 +7,15 @@ use Rattle.vt_policy.proofs.WalkEnds.{ends_at, refused_by}
 use Rattle.vt_policy.proofs.paths.destination_at.Goals as goal
 
 pub returns-clause-ok : goal.returns-clause-ok
-returns-clause-ok g c =
-    ends_at c.destination_walk.result
+returns-clause-ok g c = ends_at c.destination_walk.result
     (walk_end (destination_walk nat_eq (g.L.Look.looks c.args.world.now) (task_of c.args.who.now) c.args.path.now))
-    (c.destination_walk.ensures.value
-    ∙ ap (λ text. location_end (walk_end
+    (c.destination_walk.ensures.value ∙ ap (λ text. location_end (walk_end
     (destination_walk nat_eq (g.L.Look.looks c.args.world.now)
     (task_of c.args.who.now) text))) c.in_ok-parse.ensures.text)
 
 pub returns-clause-err : goal.returns-clause-err
-returns-clause-err g c =
-    refused_by c.destination_walk.result
+returns-clause-err g c = refused_by c.destination_walk.result
     (walk_end (destination_walk nat_eq (g.L.Look.looks c.args.world.now) (task_of c.args.who.now) c.args.path.now))
-    (c.destination_walk.ensures.value
-    ∙ ap (λ text. location_end (walk_end
+    (c.destination_walk.ensures.value ∙ ap (λ text. location_end (walk_end
     (destination_walk nat_eq (g.L.Look.looks c.args.world.now)
     (task_of c.args.who.now) text))) c.in_ok-parse.ensures.text)

@@ -6,16 +6,14 @@ use Rattle.vt_policy.proofs.WalkEnds.{ends_at, refused_by}
 use Rattle.vt_policy.proofs.paths.object_at.Goals as goal
 
 pub returns-clause-ok : goal.returns-clause-ok
-returns-clause-ok g c =
-    ends_at c.object_walk.result (walk_end
+returns-clause-ok g c = ends_at c.object_walk.result (walk_end
     (object_walk nat_eq (g.L.Look.looks c.args.world.now) (task_of c.args.who.now) c.args.path.now))
     (c.object_walk.ensures ∙ ap (λ text.
     location_end (walk_end (object_walk nat_eq (g.L.Look.looks c.args.world.now)
     (task_of c.args.who.now) text))) c.in_ok-parse.ensures.text)
 
 pub returns-clause-err : goal.returns-clause-err
-returns-clause-err g c =
-    refused_by c.object_walk.result
+returns-clause-err g c = refused_by c.object_walk.result
     (walk_end (object_walk nat_eq (g.L.Look.looks c.args.world.now) (task_of c.args.who.now) c.args.path.now))
     (c.object_walk.ensures ∙ ap (λ text.
     location_end (walk_end (object_walk nat_eq (g.L.Look.looks c.args.world.now)

@@ -39,8 +39,7 @@ returns-in_err-name_at g c =
     let p = err_from_is_err_and c.from_residual-in_err-name_at.result c.from_residual-in_err-name_at.ensures.1 in
     rw (p.1, p.2) (without_memory task (rmdir_permit nat_eq looks task c.args.path.now) permit _
     (asked ∙ unless-let_through (rmdir_rules nat_eq looks task at.0 object) (Ok permit)
-    (c.in_ok-may_rmdir.ensures at.0 at.2))
-    c.in_err-name_at.ensures.memory)
+    (c.in_ok-may_rmdir.ensures at.0 at.2)) c.in_err-name_at.ensures.memory)
 
 pub returns : goal.returns
 returns g c =
@@ -53,5 +52,4 @@ returns g c =
     (ap (λ object. unwrap_or object at.0.parent) at.2.object) in
     let name = ap name_of at.2.last ∙ sym c.in_ok-name_at.ensures.ok in
     asked ∙ unless-let_through (rmdir_rules nat_eq looks task at.0 object) (Ok permit)
-    (c.in_ok-may_rmdir.ensures at.0 at.2)
-    ∙ (λ i. Ok (ToRemoveDirectory (at.2.parent i) (name i) object))
+    (c.in_ok-may_rmdir.ensures at.0 at.2) ∙ (λ i. Ok (ToRemoveDirectory (at.2.parent i) (name i) object))

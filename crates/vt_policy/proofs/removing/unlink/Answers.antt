@@ -41,8 +41,7 @@ returns-in_err-name_at g c =
     let p = err_from_is_err_and c.from_residual-in_err-name_at.result c.from_residual-in_err-name_at.ensures.1 in
     rw (p.1, p.2) (without_memory task (unlink_permit nat_eq looks task c.args.path.now) permit _
     (asked ∙ unless-let_through (unlink_rules looks task at.0 object) (Ok permit)
-    (c.in_ok-may_unlink.ensures at.0 at.2))
-    c.in_err-name_at.ensures.memory)
+    (c.in_ok-may_unlink.ensures at.0 at.2)) c.in_err-name_at.ensures.memory)
 
 pub returns : goal.returns
 returns g c =

@@ -10,8 +10,7 @@ pub returns-in_default : goal.returns-in_default
 returns-in_default c =
     let task = task_of c.args.who.now in
     without_memory task (fork_permit task None) (ToFork task.credentials) _
-    (forked_alike task (sym c.is_barren.ensures ∙ c.if-is_barren.false))
-    c.denial-in_default.ensures
+    (forked_alike task (sym c.is_barren.ensures ∙ c.if-is_barren.false)) c.denial-in_default.ensures
 
 pub returns : goal.returns
 returns c =

@@ -15,8 +15,7 @@ returns-clause-ok c world seen one_child parts =
     (map new_group c.in_ok-new.new.items)
     (map point_of c.in_ok-points.points.items) copies (c.in_ok-new.ensures.ok world seen parts)
     (c.in_ok-points.ensures.ok world c.args.counts seen.mounts one_child parts (ap
-    (map mount_of) c.deref.ensures.value ∙ copies))
-    c.in_ok-points.ensures.leaver
+    (map mount_of) c.deref.ensures.value ∙ copies)) c.in_ok-points.ensures.leaver
 
 pub returns-clause-once : goal.returns-clause-once
 returns-clause-once c = c.in_ok-points.ensures.once

@@ -7,5 +7,4 @@ use Rattle.vt_propagate.proofs.falling.all_left.Given as goal
 abbrev pub invariant-loop-id : goal.invariant-loop-id
 invariant-loop-id l =
     map point_of l.points.items ++ flat_map (points_left_on (mounts_in l.mounts) (counts l.gone.ids.now)) (counts
-    (drop l.id-index l.gone.ids.now))
-    ≡ all_points_left (mounts_in l.mounts) (counts l.gone.ids.now)
+    (drop l.id-index l.gone.ids.now)) ≡ all_points_left (mounts_in l.mounts) (counts l.gone.ids.now)

@@ -9,8 +9,7 @@ use Rattle.vt_propagate.proofs.falling.place_left.Given as goal
 
 -- where a mount point is left is where those below it are
 abbrev pub invariant-loop : goal.invariant-loop
-invariant-loop l =
-    (l.end ≡ length (mounts_in l.mounts))
+invariant-loop l = (l.end ≡ length (mounts_in l.mounts))
     × (end_of (mount_point_of_parent nat_eq (of_mounts (mounts_in l.mounts)) (counts l.gone.ids.now)) (l.end - l.counter)
     (location_of l.here)
     ≡ end_of (mount_point_of_parent nat_eq (of_mounts (mounts_in l.mounts)) (counts l.gone.ids.now)) l.end

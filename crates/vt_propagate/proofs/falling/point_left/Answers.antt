@@ -10,12 +10,10 @@ use Rattle.vt_propagate.proofs.falling.point_left.Goals as goal
 pub returns-then-is_gone : goal.returns-then-is_gone
 returns-then-is_gone c =
     left_none (mounts_in c.args.mounts.now) (counts c.args.gone.now.ids.now) (counted c.args.id.count)
-    (mount_of c.in_ok-mount.mount)
-    c.in_ok-mount.ensures (sym c.is_gone.ensures ∙ c.if-is_gone.true)
+    (mount_of c.in_ok-mount.mount) c.in_ok-mount.ensures (sym c.is_gone.ensures ∙ c.if-is_gone.true)
 
 pub returns : goal.returns
-returns c =
-    ap (λ place. Some (counted c.args.id.count, place)) c.place_left.ensures
+returns c = ap (λ place. Some (counted c.args.id.count, place)) c.place_left.ensures
     ∙ left_some (mounts_in c.args.mounts.now) (counts c.args.gone.now.ids.now) (counted c.args.id.count)
     (mount_of c.in_ok-mount.mount)
     c.in_ok-mount.ensures (sym c.is_gone.ensures ∙ c.if-is_gone.false) (location_of c.in_ok-mount-2.field-0)

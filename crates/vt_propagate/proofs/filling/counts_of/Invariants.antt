@@ -5,6 +5,5 @@ use Rattle.vt_propagate.proofs.filling.counts_of.Given as goal
 use Rattle.vt_mount.specs.Indexes.{same_namespace, is_in as is_part_in}
 
 abbrev pub invariant-loop-part : goal.invariant-loop-part
-invariant-loop-part l =
-    (namespace : NamespaceId) → unwrap_or (get same_namespace l.counts namespace) 0
+invariant-loop-part l = (namespace : NamespaceId) → unwrap_or (get same_namespace l.counts namespace) 0
     ≡ count_by (is_part_in namespace) (take l.part-index l.parts)

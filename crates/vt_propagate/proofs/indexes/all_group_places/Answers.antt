@@ -10,20 +10,15 @@ use Rattle.vt_propagate.proofs.indexes.all_group_places.Goals.{in-Some+in_ok-not
 use Rattle.vt_group.specs.Sets.{same_group}
 
 pub loop-index-preserved : goal.loop-index-preserved
-loop-index-preserved c group =
-    elim c.match-own_group.branch [
-      | in-Some+in_ok-note_group w ↦
-          place_noted (is_member_of nat_eq
-          (counted group.count)) c.args.parts.now c.loop-index.index _ c.loop-index-test.true _ _ _
-          (ap (λ places. get same_group places group) w.places-is ∙ w.in_ok-note_group.ensures group)
-          (sym (same_count group.count _) ∙ ap (holds_of (nat_eq (counted group.count)))
-          (ap (option_map group_number) (sym w.in-Some.is) ∙ c.own_group.ensures))
-          (c.loop-index.invariant group)
-      | in_default w ↦
-          place_noted (is_member_of nat_eq
-          (counted group.count)) c.args.parts.now c.loop-index.index _ c.loop-index-test.true _ _ false
-          (ap (λ places. get same_group places group) w.places-is ∙ sym (or_none _))
-          (ap (holds_of (nat_eq (counted group.count)))
-          (ap (option_map group_number) (sym w.in_default.is) ∙ c.own_group.ensures))
-          (c.loop-index.invariant group)
-    ]
+loop-index-preserved c group = elim c.match-own_group.branch [
+  | in-Some+in_ok-note_group w ↦ place_noted (is_member_of nat_eq
+      (counted group.count)) c.args.parts.now c.loop-index.index _ c.loop-index-test.true _ _ _
+      (ap (λ places. get same_group places group) w.places-is ∙ w.in_ok-note_group.ensures group)
+      (sym (same_count group.count _) ∙ ap (holds_of (nat_eq (counted group.count)))
+      (ap (option_map group_number) (sym w.in-Some.is) ∙ c.own_group.ensures)) (c.loop-index.invariant group)
+  | in_default w ↦ place_noted (is_member_of nat_eq
+      (counted group.count)) c.args.parts.now c.loop-index.index _ c.loop-index-test.true _ _ false
+      (ap (λ places. get same_group places group) w.places-is ∙ sym (or_none _))
+      (ap (holds_of (nat_eq (counted group.count)))
+      (ap (option_map group_number) (sym w.in_default.is) ∙ c.own_group.ensures)) (c.loop-index.invariant group)
+]

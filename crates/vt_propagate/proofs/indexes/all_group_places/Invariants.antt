@@ -8,6 +8,5 @@ use Rattle.vt_propagate.proofs.indexes.all_group_places.Given as goal
 use Rattle.vt_group.specs.Sets.{same_group}
 
 abbrev pub invariant-loop-index : goal.invariant-loop-index
-invariant-loop-index l =
-    (group : GroupId) → get same_group l.places group
+invariant-loop-index l = (group : GroupId) → get same_group l.places group
     ≡ place_of_group (map mount_of (take l.index l.parts)) (counted group.count)

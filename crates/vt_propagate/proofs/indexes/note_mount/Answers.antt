@@ -7,8 +7,7 @@ use Rattle.vt_propagate.proofs.indexes.note_mount.Goals as goal
 use Rattle.vt_spec.proofs.Options.{none_from_not_some}
 
 pub returns-in_ok-insert : goal.returns-in_ok-insert
-returns-in_ok-insert c =
-    noted (λ (id : MountId). id.count) (λ a b same i. record { count = same i })
+returns-in_ok-insert c = noted (λ (id : MountId). id.count) (λ a b same i. record { count = same i })
     (get same_id c.args.places.now)
     (get same_id c.insert.new.self) c.args.id c.args.index c.in_ok-insert.ensures.updates.0
     (none_from_not_some (get same_id c.args.places.now c.args.id)

@@ -23,10 +23,8 @@ loop-id-preserved c = (
       taken_step world kept number c.loop-id.ids.items c.in_ok-going.going.items c.note_all.new.ids.items
       c.args.events.now c.loop-id.id-index none c.loop-id-test.true
       (c.in_ok-note_all.ensures.ids ∙ ap (λ more. counts c.loop-id.ids.items ++ counts more)
-      c.deref-in-loop-id.ensures.value)
-      (c.loop-id.invariant.1 world number kept seen are)
-      (c.in_ok-going.ensures.ok world seen
-      ∙ ap (λ ids. going_then_if_there world (counts ids)
+      c.deref-in-loop-id.ensures.value) (c.loop-id.invariant.1 world number kept seen are)
+      (c.in_ok-going.ensures.ok world seen ∙ ap (λ ids. going_then_if_there world (counts ids)
       (counted (get_or c.args.events.now c.loop-id.id-index none).count)) c.deref.ensures.value),
 )
 

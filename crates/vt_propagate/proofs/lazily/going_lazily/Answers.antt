@@ -9,11 +9,8 @@ use Rattle.vt_propagate.proofs.lazily.going_lazily.Goals as goal
 pub returns : goal.returns
 returns c = record {
   ok = let number = counted c.args.id.count in
-      IfOk-weaker c.all_gone.result _ _
-      (λ gone are world seen kept.
-      are world number seen kept
-      (ap counts c.deref.ensures.value ∙ c.in_ok-events.ensures.ok
+      IfOk-weaker c.all_gone.result _ _ (λ gone are world seen kept.
+      are world number seen kept (ap counts c.deref.ensures.value ∙ c.in_ok-events.ensures.ok
       ∙ ap (λ mounts. reverse (levels_from (length mounts) mounts (number ∷ []))) seen.mounts
-      ∙ sym (lazy_levels world kept number)))
-      c.all_gone.ensures.ok;
+      ∙ sym (lazy_levels world kept number))) c.all_gone.ensures.ok;
 }

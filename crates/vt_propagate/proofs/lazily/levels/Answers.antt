@@ -16,8 +16,7 @@ returns-then-is_empty c =
       arith,
       eqb-true (vec_len c.loop.level) 0 (sym c.is_empty.ensures ∙ c.if-is_empty.true),
       c.loop.level.ok.0,
-    )))
-    ∙ c.loop.invariant.1 ∙ ap (λ n. levels_from n mounts (counted c.args.id.count ∷ [])) c.loop.invariant.0
+    ))) ∙ c.loop.invariant.1 ∙ ap (λ n. levels_from n mounts (counted c.args.id.count ∷ [])) c.loop.invariant.0
 
 pub loop-preserved : goal.loop-preserved
 loop-preserved c =

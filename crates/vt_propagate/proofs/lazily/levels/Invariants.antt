@@ -7,7 +7,6 @@ use Rattle.vt_propagate.proofs.lazily.levels.Given as goal
 
 -- with the levels from this one on, all are there
 abbrev pub invariant-loop : goal.invariant-loop
-invariant-loop l =
-    (l.end ≡ length (mounts_in l.mounts))
+invariant-loop l = (l.end ≡ length (mounts_in l.mounts))
     × (counts l.all.items ++ levels_from (l.end - l.counter) (mounts_in l.mounts) (counts l.level.items)
     ≡ levels_from l.end (mounts_in l.mounts) (counted l.fn.id.count ∷ []))

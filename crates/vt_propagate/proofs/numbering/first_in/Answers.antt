@@ -12,8 +12,7 @@ use Rattle.vt_propagate.proofs.numbering.first_in.Goals as goal
 pub returns : goal.returns
 returns c =
     position_from_yields_List (λ (mount : Mount). is_member_of nat_eq (counted c.args.group.count) (mount_of mount))
-    _ _ _ c.position.ensures.ran
-    (YieldsList-from_slice c.args.mounts.now cc) (λ x b q k. search rules)
+    _ _ _ c.position.ensures.ran (YieldsList-from_slice c.args.mounts.now cc) (λ x b q k. search rules)
     ∙ position_from-zero (λ (mount : Mount). is_member_of nat_eq (counted c.args.group.count) (mount_of mount))
     c.args.mounts.now
     ∙ place_at mount_of _ (is_member_of nat_eq (counted c.args.group.count)) (λ mount. refl) 0 c.args.mounts.now

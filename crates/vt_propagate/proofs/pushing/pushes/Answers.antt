@@ -13,8 +13,7 @@ pub returns-clause-ok : goal.returns-clause-ok
 returns-clause-ok c =
     let graft = c.args.graft.now in
     IfOk-weaker c.all_pushes.result _ _ (λ points is world counts same one_child parts copies.
-    subst (PushesBy world graft counts)
-    (sym (is ∙ (λ i. pushes_from (same i) (leaver graft) (location_of graft.place)
+    subst (PushesBy world graft counts) (sym (is ∙ (λ i. pushes_from (same i) (leaver graft) (location_of graft.place)
     (length graft.tree.now) (parts i) (copies i))))
     (all_pushed world one_child (ap are_ascending (sym same) ∙ c.are_ascending.ensures) graft counts))
     c.all_pushes.ensures
@@ -23,10 +22,8 @@ pub returns-clause-leaver : goal.returns-clause-leaver
 returns-clause-leaver c =
     let graft = c.args.graft.now in
     IfOk-weaker c.all_pushes.result _ _ (λ points is number leaves.
-    ap (lookup (nat_eq number)) is
-    ∙ leaver_stays (mounts_in c.args.mounts.now) (leaver graft) (location_of graft.place)
-    (length graft.tree.now) number leaves
-    (map mount_of graft.parts.now) (map mount_of c.args.copies.now))
+    ap (lookup (nat_eq number)) is ∙ leaver_stays (mounts_in c.args.mounts.now) (leaver graft) (location_of graft.place)
+    (length graft.tree.now) number leaves (map mount_of graft.parts.now) (map mount_of c.args.copies.now))
     c.all_pushes.ensures
 
 pub returns-clause-once : goal.returns-clause-once
@@ -35,6 +32,4 @@ returns-clause-once c =
     IfOk-weaker c.all_pushes.result _ _ (λ points is apart.
     subst (MovesOnce (mounts_in c.args.mounts.now)) (sym is)
     (pushed_once (mounts_in c.args.mounts.now) c.are_ascending.ensures (leaver graft) (location_of graft.place)
-    (length graft.tree.now)
-    (map mount_of graft.parts.now) (map mount_of c.args.copies.now) apart))
-    c.all_pushes.ensures
+    (length graft.tree.now) (map mount_of graft.parts.now) (map mount_of c.args.copies.now) apart)) c.all_pushes.ensures

@@ -13,6 +13,5 @@ loop-preserved c =
     let one : length c.args.copies.now - c.loop.counter
     ≡ suc (length c.args.copies.now - (c.loop.counter + 1)) = omega (arith, c.loop-test.true) in (
       c.loop.invariant.0,
-      sym (end-more step _ _ _ is) ∙ ap (λ n. end_of step n (location_of c.loop.here)) (sym one)
-          ∙ c.loop.invariant.1,
+      sym (end-more step _ _ _ is) ∙ ap (λ n. end_of step n (location_of c.loop.here)) (sym one) ∙ c.loop.invariant.1,
     )

@@ -7,9 +7,7 @@ use Rattle.vt_propagate.proofs.pushing.topmost.Given as goal
 
 -- what is on top of a location is on top of those above it
 abbrev pub invariant-loop : goal.invariant-loop
-invariant-loop l =
-    (l.end ≡ length (map mount_of l.copies))
+invariant-loop l = (l.end ≡ length (map mount_of l.copies))
     × (end_of (λ here. option_map root_of (child_at nat_eq (map mount_of l.copies) here)) (l.end - l.counter)
-    (location_of l.here)
-    ≡ end_of (λ here. option_map root_of (child_at nat_eq (map mount_of l.copies) here)) l.end
+    (location_of l.here) ≡ end_of (λ here. option_map root_of (child_at nat_eq (map mount_of l.copies) here)) l.end
     (location_of l.fn.place))

@@ -10,6 +10,5 @@ returns-then-is_same g c =
     let known = c.args.known in
     let same = one_to_one root known (small_parts root (search rules)) (small_parts known (search rules))
     (eqb-true (number_of root) (number_of known) (sym c.is_same.ensures ∙ c.if-is_same.true)) in
-    c.requires
-    ∙ (λ i. g.R.Reach.under c.args.directories.now (filesystem_number (sym same i).filesystem)
+    c.requires ∙ (λ i. g.R.Reach.under c.args.directories.now (filesystem_number (sym same i).filesystem)
     (number_of (sym same i)) (number_of c.args.directory))

@@ -7,8 +7,7 @@ use Rattle.vt_propagate.proofs.Found.{passing}
 use Rattle.vt_propagate.proofs.receiving.with_receivers.Given as goal
 
 abbrev pub invariant-loop-id : goal.invariant-loop-id
-invariant-loop-id g l =
-    map mount_of l.parts.items
+invariant-loop-id g l = map mount_of l.parts.items
     ++ passing (joins (g.R.Reach.under l.directories) (location_of l.place) (mount_of l.parent)) (mounts_in l.mounts)
     (drop l.id-index l.receivers)
     ≡ mount_of l.parent ∷ passing (joins (g.R.Reach.under l.directories) (location_of l.place) (mount_of l.parent))

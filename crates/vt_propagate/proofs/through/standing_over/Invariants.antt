@@ -7,7 +7,6 @@ use Rattle.vt_propagate.proofs.through.standing_over.Given as goal
 
 -- what stands over the place is what stands over this one
 abbrev pub invariant-loop : goal.invariant-loop
-invariant-loop l =
-    (l.end ≡ length (mounts_in l.mounts))
+invariant-loop l = (l.end ≡ length (mounts_in l.mounts))
     × (over_from (l.end - l.counter) (mounts_in l.mounts) (counts l.gone.ids.now) (location_of l.here)
     ≡ over_from l.end (mounts_in l.mounts) (counts l.gone.ids.now) (location_of l.fn.place))

@@ -22,9 +22,7 @@ returns-then-is_empty c =
     c.children.result.now c.children.ensures.children (eqb-true _ _ (sym c.is_empty.ensures ∙ c.if-is_empty.true)))
 
 pub returns : goal.returns
-returns c =
-    ap (option_map (λ (id : MountId). counted id.count)) c.then_some.ensures
+returns c = ap (option_map (λ (id : MountId). counted id.count)) c.then_some.ensures
     ∙ taken c.is_free.result c.in_ok-child.child
     ∙ free_at-told (mounts_in c.args.mounts.now) c.in_ok-child.ensures.order (location_of c.args.place)
-    (counted c.in_ok-child.child.count)
-    c.in_ok-child.ensures.child c.is_free.result c.is_free.ensures
+    (counted c.in_ok-child.child.count) c.in_ok-child.ensures.child c.is_free.result c.is_free.ensures

@@ -7,7 +7,6 @@ use Rattle.vt_propagate.proofs.unmounting.free_on.Given as goal
 use Rattle.vt_laws_mounts.specs.Mounts.Attaching.{numbers_of}
 
 abbrev pub invariant-loop-receiver : goal.invariant-loop-receiver
-invariant-loop-receiver l =
-    counts l.going.items ++ numbers_of
+invariant-loop-receiver l = counts l.going.items ++ numbers_of
     (free_on (mounts_in l.mounts) (number_of l.node) (counts (drop l.receiver-index l.receivers)))
     ≡ numbers_of (free_on (mounts_in l.mounts) (number_of l.node) (counts l.receivers))

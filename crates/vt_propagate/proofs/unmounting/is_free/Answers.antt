@@ -16,10 +16,8 @@ returns-in-0 c =
 pub returns-in-1 : goal.returns-in-1
 returns-in-1 c =
     let mounts = mounts_in c.args.mounts.now in
-    c.is_some.ensures
-    ∙ is_some-same (λ (id : MountId). counted id.count) (λ (m : Mount ℕ). m.number) c.child_at.result
-    (child_at nat_eq mounts (root_of (mount_of c.in-Some.mount)))
-    (c.child_at.ensures.child ∙ ap (λ place.
+    c.is_some.ensures ∙ is_some-same (λ (id : MountId). counted id.count) (λ (m : Mount ℕ). m.number) c.child_at.result
+    (child_at nat_eq mounts (root_of (mount_of c.in-Some.mount))) (c.child_at.ensures.child ∙ ap (λ place.
     option_map (λ (m : Mount ℕ). m.number) (child_at nat_eq mounts place)) c.root_location.ensures)
     ∙ free-one mounts (counted c.args.id.count) (mount_of c.in-Some.mount) c.in-Some.ensures
     c.children.result.now c.children.ensures.children c.in-1.is

@@ -7,15 +7,12 @@ use Rattle.vt_retype.proofs.TypesHanded.{absent_unchanged, set_so}
 use Rattle.vt_retype.proofs.handing.hand_to.Goals as goal
 
 pub returns-in_default : goal.returns-in_default
-returns-in_default c =
-    absent_unchanged (counted c.args.id.count)
+returns-in_default c = absent_unchanged (counted c.args.id.count)
     (after_end (counted c.args.lost.count) (option_map group_number c.args.heir)) c.args.mounts.now
     (sym c.get.ensures ∙ ap (option_map mount_of) c.in_default.is)
 
 pub returns : goal.returns
-returns c =
-    c.set_propagation.ensures
-    ∙ set_so (counted c.args.id.count)
+returns c = c.set_propagation.ensures ∙ set_so (counted c.args.id.count)
     (λ number kind. type_after_end (counted c.args.lost.count) (option_map group_number c.args.heir) kind)
     (propagation_of c.type_after_end.result) c.args.mounts.now c.are_ascending.ensures (mount_of c.in-Some.mount)
     (sym c.get.ensures ∙ ap (option_map mount_of) c.in-Some.is) c.type_after_end.ensures

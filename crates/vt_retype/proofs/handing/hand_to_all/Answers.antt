@@ -11,8 +11,7 @@ loop-id-preserved c =
     ap (map (after_end_of (map (λ id. counted id.count) c.next.new.self) lost heir)) c.hand_to.ensures
     ∙ handed_next (map (λ id. counted id.count) c.next.new.self) lost heir (counted c.in-Some.id.count) c.loop-id.mounts
     ∙ ap (λ ids. map (after_end_of (map (λ id. counted id.count) ids) lost heir) c.loop-id.mounts)
-    (sym c.in-Some.ensures.steps)
-    ∙ c.loop-id.invariant
+    (sym c.in-Some.ensures.steps) ∙ c.loop-id.invariant
 
 pub returns : goal.returns
 returns c =
@@ -20,7 +19,6 @@ returns c =
     let heir = option_map group_number c.args.heir in
     none_handed lost heir c.loop-id.mounts
     ∙ ap (λ ids. map (after_end_of (map (λ id. counted id.count) ids) lost heir) c.loop-id.mounts)
-    (sym c.in-None.ensures.steps.0)
-    ∙ c.loop-id.invariant
+    (sym c.in-None.ensures.steps.0) ∙ c.loop-id.invariant
     ∙ ap (λ ids. map (after_end_of (map (λ id. counted id.count) ids) lost heir) c.args.mounts.now)
     c.into_iter-id-iterator.ensures.into_iter_gives

@@ -7,6 +7,5 @@ use Rattle.vt_retype.proofs.handing.hand_to_all.Given as goal
 abbrev pub invariant-loop-id : goal.invariant-loop-id
 invariant-loop-id l =
     map (after_end_of (map (λ id. counted id.count) l.id-iterator) (counted l.lost.count) (option_map group_number l.heir))
-    l.mounts
-    ≡ map (after_end_of (map (λ id. counted id.count) l.initial.id-iterator) (counted l.lost.count)
+    l.mounts ≡ map (after_end_of (map (λ id. counted id.count) l.initial.id-iterator) (counted l.lost.count)
     (option_map group_number l.heir)) l.fn.mounts

@@ -28,8 +28,7 @@ loop-id-preserved c =
           (one_more_private world live left _ c.leave.new.groups
           (c.leave.ensures.left (regrouped nat_eq (with_changed as_private world left))
           (c.loop-id.invariant.groups world has live) (left_live world live left) tt));
-      types = λ none typed.
-          subst (λ numbers. StillTyped c.leave.new.groups all numbers c.leave.new.mounts) more
+      types = λ none typed. subst (λ numbers. StillTyped c.leave.new.groups all numbers c.leave.new.mounts) more
           (still_next c.loop-id.groups c.leave.new.groups all left _ c.loop-id.mounts c.leave.new.mounts
           (c.loop-id.invariant.types none typed) (listed_at ids c.loop-id.id-index _ c.loop-id-test.true)
           c.leave.ensures.told c.leave.ensures.slaves);

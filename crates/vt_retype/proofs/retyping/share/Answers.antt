@@ -14,7 +14,6 @@ loop-pair-preserved c =
     c.loop-pair-test.true _ c.told.ensures c.set_propagation.ensures c.loop-pair.invariant
 
 pub returns-clause-types_ok : goal.returns-clause-types_ok
-returns-clause-types_ok c =
-    c.loop-pair.invariant
+returns-clause-types_ok c = c.loop-pair.invariant
     ∙ ap (λ named. map (shared_by c.share.new.self (map (λ pair. counted pair.0.count) named)) c.args.mounts.now)
     (take_all c.loop-pair.pair-index c.args.named.now c.loop-pair-test.false)

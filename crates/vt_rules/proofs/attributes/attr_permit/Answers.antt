@@ -12,8 +12,7 @@ pub returns-in_err-may_set_attr : goal.returns-in_err-may_set_attr
 returns-in_err-may_set_attr g c =
     let object = location_of c.args.object in
     let p = err_from_is_err_and c.from_residual.result c.from_residual.ensures.1 in
-    rw (p.1, p.2) (unless-stopped
-    (attr_rules (g.L.Look.looks c.args.world.now) object c.args.allowed c.args.attr)
+    rw (p.1, p.2) (unless-stopped (attr_rules (g.L.Look.looks c.args.world.now) object c.args.allowed c.args.attr)
     (Ok (ToChange object (SetAttr object.node c.args.attr))) _ c.in_err-may_set_attr.ensures)
 
 pub returns : goal.returns

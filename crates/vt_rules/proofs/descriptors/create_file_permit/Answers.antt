@@ -31,8 +31,7 @@ returns-in_err-name_at g c meant is =
     rw (p.1, p.2) (without_memory task (create_file_permit nat_eq looks task meant access c.args.mode)
     (open_new_permit task meant access c.args.mode) _
     (unless-let_through (make_rules looks task meant change) (Ok (open_new_permit task meant access c.args.mode))
-    (c.in_ok-may_make.ensures meant (new_file task c.args.mode []) is.parent))
-    c.in_err-name_at.ensures.memory)
+    (c.in_ok-may_make.ensures meant (new_file task c.args.mode []) is.parent)) c.in_err-name_at.ensures.memory)
 
 pub returns : goal.returns
 returns g c meant is =
@@ -41,5 +40,4 @@ returns g c meant is =
     let access = access_of c.args.access in
     let change = unnumbered meant (new_file task c.args.mode []) in
     unless-let_through (make_rules looks task meant change) (Ok (open_new_permit task meant access c.args.mode))
-    (c.in_ok-may_make.ensures meant (new_file task c.args.mode []) is.parent)
-    ∙ search rules
+    (c.in_ok-may_make.ensures meant (new_file task c.args.mode []) is.parent) ∙ search rules

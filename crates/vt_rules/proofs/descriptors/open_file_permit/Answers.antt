@@ -14,8 +14,7 @@ returns-in_err-may_open g c =
     let file = location_of c.args.file in
     let access = access_of c.args.access in
     let p = err_from_is_err_and c.from_residual.result c.from_residual.ensures.1 in
-    rw (p.1, p.2) (unless-stopped
-    (open_rules (g.L.Look.looks c.args.world.now) (task_of c.args.who.now) file access)
+    rw (p.1, p.2) (unless-stopped (open_rules (g.L.Look.looks c.args.world.now) (task_of c.args.who.now) file access)
     (Ok (ToOpen file access)) _ c.in_err-may_open.ensures)
 
 pub returns : goal.returns

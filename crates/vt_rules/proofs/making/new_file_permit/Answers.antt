@@ -29,11 +29,9 @@ returns-in_err-name_at g c meant is =
     let node = new_file task file_mode c.args.bytes.items in
     let p = err_from_is_err_and c.from_residual-in_err-name_at.result c.from_residual-in_err-name_at.ensures.1 in
     rw (p.1, p.2) (without_memory task (written_permit nat_eq looks task meant c.args.bytes.items None)
-    (make_permit meant node) _
-    (skipped _ E6 _ _ (le-ltb 1048576 (length c.args.bytes.items) (omega arith))
+    (make_permit meant node) _ (skipped _ E6 _ _ (le-ltb 1048576 (length c.args.bytes.items) (omega arith))
     ∙ unless-let_through (make_rules looks task meant (unnumbered meant node)) (Ok (make_permit meant node))
-    (c.in_ok-may_make.ensures meant node is.parent))
-    c.in_err-name_at.ensures.memory)
+    (c.in_ok-may_make.ensures meant node is.parent)) c.in_err-name_at.ensures.memory)
 
 pub returns : goal.returns
 returns g c meant is =
@@ -42,5 +40,4 @@ returns g c meant is =
     let node = new_file task file_mode c.args.bytes.items in
     skipped _ E6 _ _ (le-ltb 1048576 (length c.args.bytes.items) (omega arith))
     ∙ unless-let_through (make_rules looks task meant (unnumbered meant node)) (Ok (make_permit meant node))
-    (c.in_ok-may_make.ensures meant node is.parent)
-    ∙ search rules
+    (c.in_ok-may_make.ensures meant node is.parent) ∙ search rules

@@ -11,7 +11,6 @@ use Rattle.vt_rules.proofs.pivoting.is_on_descendant.Given as goal
 abbrev pub invariant-loop : goal.invariant-loop
 invariant-loop g l =
     let looks = g.L.Look.looks l.world in
-    (l.end ≡ looks.mount_count)
-    × (list_any (λ location. nat_eq (counted l.mount.count) location.mount)
+    (l.end ≡ looks.mount_count) × (list_any (λ location. nat_eq (counted l.mount.count) location.mount)
     (rest_of (chain (l.end - l.counter) (λ location. (mount_at looks location).mount_point) (location_of l.here)))
     ≡ is_on_descendant nat_eq looks (counted l.mount.count) (location_of l.fn.at))

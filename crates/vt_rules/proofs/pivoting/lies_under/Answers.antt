@@ -16,8 +16,7 @@ returns-then-is_under_on_mount g c =
     (λ location. nat_eq top.mount location.mount
     && looks.is_under (mount_at looks top).filesystem top.node location.node)
     (c.mount_count-end.result - c.loop.counter) (location_of c.loop.here)
-    (sym c.is_under_on_mount.ensures ∙ c.if-is_under_on_mount.true))
-    ∙ c.loop.invariant.1
+    (sym c.is_under_on_mount.ensures ∙ c.if-is_under_on_mount.true)) ∙ c.loop.invariant.1
 
 pub returns-in_default : goal.returns-in_default
 returns-in_default g c =
@@ -27,8 +26,7 @@ returns-in_default g c =
     (λ location. nat_eq top.mount location.mount
     && looks.is_under (mount_at looks top).filesystem top.node location.node)
     (c.mount_count-end.result - c.loop.counter) (location_of c.loop.here) (sym c.in_default.ensures)
-    (sym c.is_under_on_mount.ensures ∙ c.if-is_under_on_mount.false))
-    ∙ c.loop.invariant.1
+    (sym c.is_under_on_mount.ensures ∙ c.if-is_under_on_mount.false)) ∙ c.loop.invariant.1
 
 pub loop-preserved : goal.loop-preserved
 loop-preserved g c =
@@ -42,8 +40,7 @@ loop-preserved g c =
       c.loop.invariant.0,
       sym (any_above up test left (location_of c.loop.here) (location_of c.in-Some.place) (sym c.in-Some.ensures)
           (sym c.is_under_on_mount.ensures ∙ c.if-is_under_on_mount.false))
-          ∙ ap (λ n. list_any test (chain n up (location_of c.loop.here))) (sym one)
-          ∙ c.loop.invariant.1,
+          ∙ ap (λ n. list_any test (chain n up (location_of c.loop.here))) (sym one) ∙ c.loop.invariant.1,
     )
 
 pub returns : goal.returns
@@ -54,7 +51,5 @@ returns g c =
     let test = λ (location : Location _). nat_eq top.mount location.mount
     && looks.is_under (mount_at looks top).filesystem top.node location.node in
     let last : c.mount_count-end.result - c.loop.counter ≡ 0 = omega (arith, c.loop-test.false) in
-    c.is_under_on_mount-2.ensures
-    ∙ sym (or-false (test (location_of c.loop.here)))
-    ∙ ap (λ n. list_any test (chain n up (location_of c.loop.here))) (sym last)
-    ∙ c.loop.invariant.1
+    c.is_under_on_mount-2.ensures ∙ sym (or-false (test (location_of c.loop.here)))
+    ∙ ap (λ n. list_any test (chain n up (location_of c.loop.here))) (sym last) ∙ c.loop.invariant.1

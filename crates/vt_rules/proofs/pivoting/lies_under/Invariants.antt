@@ -11,8 +11,7 @@ abbrev pub invariant-loop : goal.invariant-loop
 invariant-loop g l =
     let looks = g.L.Look.looks l.world in
     let top = location_of l.top in
-    (l.end ≡ looks.mount_count)
-    × (list_any (λ location. nat_eq top.mount location.mount
+    (l.end ≡ looks.mount_count) × (list_any (λ location. nat_eq top.mount location.mount
     && looks.is_under (mount_at looks top).filesystem top.node location.node)
     (chain (l.end - l.counter) (λ location. (mount_at looks location).mount_point) (location_of l.here))
     ≡ lies_under_location nat_eq looks top (location_of l.fn.at))

@@ -28,8 +28,7 @@ returns-in_err-may_change_both g c old new from to =
     (c.in_err-may_change_both.ensures old new from to)))
 
 pub returns : goal.returns
-returns g c old new from to =
-    c.may_layers_change.ensures old new from to
+returns g c old new from to = c.may_layers_change.ensures old new from to
     ∙ sym (layers_left (g.L.Look.looks c.args.world.now) (task_of c.args.who.now)
     old new (location_of c.args.from.now.object)
     (c.in_ok-may_replace.ensures new to) (c.in_ok-may_cross.ensures.rules old new from to)

@@ -48,8 +48,7 @@ returns-in_err-feed-clause-after_write g c = λ is tells holds.
     broke_held c.requires.opening g.W.Sink _ (inv.read ++ take c.in-Ok.count c.read.new.buffer)
     (g.R.Source.rest c.read.new.self) _ _
     (inv.rest tells ∙ ap (λ rest. inv.read ++ rest) (c.in-Ok.ensures.bytes (inv.source_tells tells))
-    ∙ sym (append_assoc inv.read _ _))
-    (broke_then g.W.Sink _ inv.read _ _ _ _ _ inv.feeds
+    ∙ sym (append_assoc inv.read _ _)) (broke_then g.W.Sink _ inv.read _ _ _ _ _ inv.feeds
     (c.in_err-feed.ensures.feeds inv.feeds.line inv.feeds.reading)) holds
 
 pub returns-in_err-feed-clause-no_write_failed : goal.returns-in_err-feed-clause-no_write_failed
@@ -61,14 +60,12 @@ pub returns-clause-ok : goal.returns-clause-ok
 returns-clause-ok g c =
     let inv = c.pieces.invariant in
     ends_well c.requires.opening g.W.Sink c.finish.result _ inv.read _ _ _ _ inv.feeds
-    (c.finish.ensures.closes inv.feeds.line inv.feeds.reading)
-    (λ tells. inv.rest tells ∙ ap (λ rest. inv.read ++ rest)
+    (c.finish.ensures.closes inv.feeds.line inv.feeds.reading) (λ tells. inv.rest tells ∙ ap (λ rest. inv.read ++ rest)
     (c.in-Ok.ensures.end (inv.source_tells tells) c.if-count-eq0.true) ∙ append-nil inv.read)
 
 pub returns-clause-after_write : goal.returns-clause-after_write
 returns-clause-after_write g c =
     let inv = c.pieces.invariant in
     ends_badly c.requires.opening g.W.Sink c.finish.result _ _ inv.read _ _ _ _ inv.feeds
-    (c.finish.ensures.closes inv.feeds.line inv.feeds.reading)
-    (λ tells. inv.rest tells ∙ ap (λ rest. inv.read ++ rest)
+    (c.finish.ensures.closes inv.feeds.line inv.feeds.reading) (λ tells. inv.rest tells ∙ ap (λ rest. inv.read ++ rest)
     (c.in-Ok.ensures.end (inv.source_tells tells) c.if-count-eq0.true) ∙ append-nil inv.read)

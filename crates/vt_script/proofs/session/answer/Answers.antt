@@ -13,8 +13,7 @@ pub returns-then-is_overlong-clause-replies : goal.returns-then-is_overlong-clau
 returns-then-is_overlong-clause-replies g c = λ text held numbers.
     replies_too_long (version_of c.args.version) g.W.Sink c.write_reply.result
     (g.C.Calls.world c.args.world.now) text c.args.line.now c.args.number _ _ numbers held
-    (sym c.is_overlong.ensures ∙ c.if-is_overlong.true)
-    (subst (λ deny. Prints g.W.Sink
+    (sym c.is_overlong.ensures ∙ c.if-is_overlong.true) (subst (λ deny. Prints g.W.Sink
     (reply_line c.args.number (Err deny)) c.write_reply.result c.args.sink.now c.write_reply.new.sink)
     c.denial.ensures c.write_reply.ensures.printed)
 
@@ -52,5 +51,4 @@ returns-in-Err-clause-replies g c = λ text held numbers.
     (λ is. subst (λ l. (longest_line < length l) ⊎ (IsSpoken l × (request_of (overlays (version_of c.args.version)) l ≡ None))) whole
     (c.in-Err.ensures.no_request.0 (ap Err is)))
     (λ is. subst (λ l. IsSpoken l × IsSomeAnd (request_of (overlays (version_of c.args.version)) l) TakesMemory) whole
-    (c.in-Err.ensures.no_memory (ap Err is)))
-    c.write_reply-in-Err.ensures.printed
+    (c.in-Err.ensures.no_memory (ap Err is))) c.write_reply-in-Err.ensures.printed

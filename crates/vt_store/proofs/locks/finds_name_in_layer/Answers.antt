@@ -17,8 +17,7 @@ pub loop-left-init : goal.loop-left-init
 loop-left-init c = record {
   left = c.len-left.ensures;
   rest = ap (list_any (names_in_layer c.args.plain.now c.args.overlays.now c.args.file.filesystem.count
-      (inode_of c.args.file)))
-      (numbers_found c.args.plain.now c.args.file.filesystem.count c.in-Some.tree.now
+      (inode_of c.args.file))) (numbers_found c.args.plain.now c.args.file.filesystem.count c.in-Some.tree.now
       (sym (ap option_copied c.in-Some.is) ∙ c.get.ensures));
 }
 
@@ -38,8 +37,7 @@ returns-then-names_in_layer c =
     ap test (exchanged_slot count slot small ∙ ap (inode_number count) (sym c.new-directory.ensures)
     ∙ sym (ap (λ (inode : InodeRef). inode_of inode) c.new.ensures))
     ∙ sym c.names_in_layer.ensures ∙ c.if-names_in_layer.true in
-    sym (sym c.loop-left.invariant.rest
-    ∙ filled_found test (exchanged count) slot slots some filled.0 filled.1
+    sym (sym c.loop-left.invariant.rest ∙ filled_found test (exchanged count) slot slots some filled.0 filled.1
     ∙ ap (λ b. b || list_any test (map (exchanged count) (filled_from (slot + 1) (drop (slot + 1) slots)))) at)
 
 pub returns-then-left-eq0 : goal.returns-then-left-eq0
@@ -61,8 +59,7 @@ returns-then-left-eq0 c =
     let fewer = filled_left test (exchanged count) slot slots some filled.0 filled.1 in
     let none : count_by is_some (drop (slot + 1) slots) ≡ 0 =
     omega (arith, fewer, c.loop-left.invariant.left, c.if-left-eq0.true) in
-    sym (sym c.loop-left.invariant.rest
-    ∙ filled_found test (exchanged count) slot slots some filled.0 filled.1
+    sym (sym c.loop-left.invariant.rest ∙ filled_found test (exchanged count) slot slots some filled.0 filled.1
     ∙ ap (λ b. b || list_any test (map (exchanged count) (filled_from (slot + 1) (drop (slot + 1) slots)))) at
     ∙ none_found test (exchanged count) (slot + 1) (drop (slot + 1) slots) none)
 
@@ -116,15 +113,13 @@ loop-left-preserved c =
             left = omega (arith, fewer, c.loop-left.invariant.left, w.left-is);
             rest = sym (filled_found test (exchanged count) slot slots some filled.0 filled.1
                 ∙ ap (λ b. b || list_any test (map (exchanged count)
-                (filled_from (slot + 1) (drop (slot + 1) slots)))) at)
-                ∙ c.loop-left.invariant.rest;
+                (filled_from (slot + 1) (drop (slot + 1) slots)))) at) ∙ c.loop-left.invariant.rest;
           }
       | else-is_some w ↦
           let there : is_some (option_copied c.node.result) ≡ false = search rules in
           let vacant = vacant_slot slots slot (option_copied c.node.result) seen there in
           record {
-            left = w.left-is ∙ c.loop-left.invariant.left
-                ∙ vacant_left test (exchanged count) slot slots some vacant;
+            left = w.left-is ∙ c.loop-left.invariant.left ∙ vacant_left test (exchanged count) slot slots some vacant;
             rest = vacant_found test (exchanged count) slot slots some vacant ∙ c.loop-left.invariant.rest;
           }
     ]
@@ -137,5 +132,4 @@ returns c =
     let none : count_by is_some (drop slot slots) ≡ 0 =
     omega (arith, c.loop-left-test.false, c.loop-left.invariant.left) in
     sym (none_found (names_in_layer c.args.plain.now c.args.overlays.now count (inode_of c.args.file))
-    (exchanged count) slot (drop slot slots) none)
-    ∙ c.loop-left.invariant.rest
+    (exchanged count) slot (drop slot slots) none) ∙ c.loop-left.invariant.rest

@@ -40,8 +40,7 @@ returns-in-Some c =
     let there : Some (node_seen count c.in-Some.node.now) ≡ (files_at plain count).tree.node (inode_of c.args.inode) =
     (λ i. Some (node_seen (sym own i).count c.in-Some.node.now))
     ∙ sym (ap (λ o. option_map (node_seen c.node_ref.result.filesystem.count) (option_copied o)) c.in-Some.is)
-    ∙ c.node.ensures
-    ∙ (λ i. (files_at plain (own i).count).tree.node (c.node_ref.ensures.number i)) in
+    ∙ c.node.ensures ∙ (λ i. (files_at plain (own i).count).tree.node (c.node_ref.ensures.number i)) in
     let kind : is_directory (kind_of c.in-Some.node.now.content) ≡ true = search rules in
     let directory : is_directory_node ((files_at plain count).tree.node (inode_of c.args.inode)) ≡ true =
     sym (ap is_directory_node there) ∙ directory_seen count c.in-Some.node.now ∙ kind in
@@ -62,8 +61,7 @@ returns-in_default c =
           ∙ found in
           let kind : is_directory (kind_of w.in-Some.node.now.content) ≡ false = search rules in
           sym (ap is_directory_node there) ∙ directory_seen count w.in-Some.node.now ∙ kind
-      | in_default-via-in_default w ↦
-          sym (ap is_directory_node
+      | in_default-via-in_default w ↦ sym (ap is_directory_node
           (sym (ap (λ o. option_map (node_seen c.node_ref.result.filesystem.count) (option_copied o)) w.in_default.is)
           ∙ found))
     ] in

@@ -11,8 +11,7 @@ use Rattle.vt_store.proofs.looking.plain_entry.Goals as goal
 pub returns-in_err-entry-clause-node : goal.returns-in_err-entry-clause-node
 returns-in_err-entry-clause-node c =
     let f = c.args.directory.filesystem.count in
-    ap (option_map _) c.from_residual.ensures
-    ∙ ap (option_map (exchanged f)) (sym c.in_err-entry.was ∙ c.entry.ensures)
+    ap (option_map _) c.from_residual.ensures ∙ ap (option_map (exchanged f)) (sym c.in_err-entry.was ∙ c.entry.ensures)
     ∙ entry_lent f c.args.object.now ((files_at c.args.plain.now f).tree.node (number_of c.args.directory)) c.requires
     c.args.name.now
 

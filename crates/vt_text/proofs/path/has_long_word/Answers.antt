@@ -19,12 +19,10 @@ returns-then-start-eq0 c =
     sym (c.loop-rest.invariant ∙ long_word_here rest long other)
 
 pub slice_bounds-rest-count : goal.slice_bounds-rest-count
-slice_bounds-rest-count c =
-    omega (arith, length-take 256 c.loop-rest.rest.now, c.after_last_slash-start.ensures.within)
+slice_bounds-rest-count c = omega (arith, length-take 256 c.loop-rest.rest.now, c.after_last_slash-start.ensures.within)
 
 pub slice_bounds-rest-start : goal.slice_bounds-rest-start
-slice_bounds-rest-start c =
-    omega (arith, length-take 256 c.loop-rest.rest.now, c.after_last_slash-start.ensures.within)
+slice_bounds-rest-start c = omega (arith, length-take 256 c.loop-rest.rest.now, c.after_last_slash-start.ensures.within)
 
 pub loop-rest-smaller : goal.loop-rest-smaller
 loop-rest-smaller c =
@@ -43,11 +41,9 @@ loop-rest-preserved c =
     let back : start - 1 + 1 ≡ start = omega arith in
     let slash : get_or rest (start - 1) 0 ≡ 47 =
     sym (get_or-take 256 rest (start - 1) 0 (omega arith)) ∙ c.after_last_slash-start.ensures.slash positive in
-    c.loop-rest.invariant
-    ∙ long_word_after rest (start - 1) (omega arith) (omega arith) slash
+    c.loop-rest.invariant ∙ long_word_after rest (start - 1) (omega arith) (omega arith) slash
     ∙ ap (λ at. some_long (words (drop at rest))) back
     ∙ ap (λ text. some_long (words text)) (sym (take_rest rest start))
 
 pub returns : goal.returns
-returns c =
-    sym (c.loop-rest.invariant ∙ no_long_word c.loop-rest.rest.now c.loop-rest-test.false)
+returns c = sym (c.loop-rest.invariant ∙ no_long_word c.loop-rest.rest.now c.loop-rest-test.false)

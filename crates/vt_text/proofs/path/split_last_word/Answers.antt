@@ -20,15 +20,11 @@ returns c =
     let ys = take (last + 1) xs in
     let size : length ys ≡ last + 1 = length-take-le (last + 1) xs (omega arith) in
     let last_at : get_or ys last 0 ≡ get_or xs last 0 = get_or-take (last + 1) xs last 0 (omega arith) in
-    let some : start < length ys =
-    ⊎_elim
-    (λ below. below)
-    (λ past.
+    let some : start < length ys = ⊎_elim (λ below. below) (λ past.
     let at_end : start - 1 ≡ last = omega (arith, found.within) in
     let positive : 0 < start = omega arith in
     absurd (byte (sym last_at ∙ ap (λ n. get_or ys n 0) (sym at_end) ∙ found.slash positive)))
-    (cases_lt start (length ys))
-    in
+    (cases_lt start (length ys)) in
     let cut = words_between_last 47 ys start some found.after found.slash in
     let same : words ys ≡ words xs = words_between-take 47 xs (last + 1) (search rules) in
     rw (c.split_at.ensures.front, c.split_at.ensures.back) (sym same ∙ cut)

@@ -12,8 +12,7 @@ returns-in_err-place-clause-value g c =
     (task_of c.args.who.now) c.args.path.now c.in_err-place.ensures.limits (Err _) c.in_err-place.ensures.value)
 
 pub returns-then-takes_no_name-clause-value : goal.returns-then-takes_no_name-clause-value
-returns-then-takes_no_name-clause-value g c =
-    ap (λ deny. Err deny) c.denial.ensures
+returns-then-takes_no_name-clause-value g c = ap (λ deny. Err deny) c.denial.ensures
     ∙ new-refused (g.L.Look.looks c.args.world.now)
     (task_of c.args.who.now) c.args.path.now c.in_ok-place.ensures.limits
     (place_of c.in_ok-place.place) c.in_ok-place.ensures.value

@@ -89,8 +89,7 @@ loop-link-preserved g c =
     )
 
 pub returns-clause-value : goal.returns-clause-value
-returns-clause-value g c =
-    ap (λ deny. Err deny) c.denial.ensures
+returns-clause-value g c = ap (λ deny. Err deny) c.denial.ensures
     ∙ file_walk-over (g.L.Look.looks c.args.world.now) (task_of c.args.who.now) c.loop-link._link
     (here_of c.loop-link.start) c.loop-link.text.now c.loop-link.slash (omega (arith, c.loop-link-test.false))
     ∙ c.loop-link.invariant.0

@@ -23,6 +23,5 @@ returns-in_err-object-clause-value g c =
 pub returns-clause-value : goal.returns-clause-value
 returns-clause-value g c =
     placed-searched (g.L.Look.looks c.args.world.now) (task_of c.args.who.now) (location_of c.args.here.location)
-    (last_of c.args.last) c.args.slash
-    (sym c.is_no_word.ensures ∙ c.if-is_no_word.false)
+    (last_of c.args.last) c.args.slash (sym c.is_no_word.ensures ∙ c.if-is_no_word.false)
     (Ok (option_map location_of c.in_ok-object.object)) c.in_ok-directory.ensures.value c.in_ok-object.ensures

@@ -13,8 +13,7 @@ returns-in_err-here-clause-value g c =
     let p = err_from_is_err_and c.from_residual.result c.from_residual.ensures.1 in
     rw (p.1, p.2)
     (first-denied (g.L.Look.looks c.args.world.now) (task_of c.args.who.now) (location_of c.args.link.directory)
-    (here_of c.args.met)
-    c.args.link.text.now c.args.link.behind _ c.in_err-here.ensures.value)
+    (here_of c.args.met) c.args.link.text.now c.args.link.behind _ c.in_err-here.ensures.value)
 
 pub loop-text-init : goal.loop-text-init
 loop-text-init g c =
@@ -22,8 +21,7 @@ loop-text-init g c =
     let task = task_of c.args.who.now in
     let once = rw c.new-pending.ensures at c.push.ensures.items in
     let taken = begun-left looks task (location_of c.args.link.directory) (here_of c.args.met)
-    (here_of c.in_ok-here.here)
-    c.args.link.text.now c.in_ok-here.ensures.value in
+    (here_of c.in_ok-here.here) c.args.link.text.now c.in_ok-here.ensures.value in
     let none = ap length c.new-pending.ensures in
     let longer = c.push.ensures.len in
     let longest = c.push-2.ensures.len in
@@ -44,8 +42,7 @@ returns-in_err-reached-clause-value g c =
     rw (p.1, p.2) (top-refused looks task _ (here_of c.loop-text.here) c.loop-text.pending.items c.loop-text.invariant.0
     c.pop.new.self.items c.in-Some.field-0 c.in-Some.ensures.items _ (c.in_err-reached.ensures.value _))
 
-pub returns-in_err-begun-in-Some-link-clause-value :
-    goal.returns-in_err-begun-in-Some-link-clause-value
+pub returns-in_err-begun-in-Some-link-clause-value : goal.returns-in_err-begun-in-Some-link-clause-value
 returns-in_err-begun-in-Some-link-clause-value g c =
     let looks = g.L.Look.looks c.args.world.now in
     let task = task_of c.args.who.now in
@@ -56,14 +53,11 @@ returns-in_err-begun-in-Some-link-clause-value g c =
     let room : length c.pop.new.self.items < 41 = omega arith in
     rw (p.1, p.2) (link-denied looks task _ (here_of c.loop-text.here) c.loop-text.pending.items c.loop-text.invariant.0
     c.pop.new.self.items c.in-Some.field-0 c.in-Some.ensures.items (location_of c.in-Some-link.link.directory)
-    (here_of c.in_ok-reached.field-0.here) c.in-Some-link.link.text.now c.in-Some-link.link.behind
-    room
+    (here_of c.in_ok-reached.field-0.here) c.in-Some-link.link.text.now c.in-Some-link.link.behind room
     (link_passed-as looks task follow (here_of c.in_ok-reached.field-0.here) _ _ _ c.in-Some-link.is
-    (c.in_ok-reached.ensures.value follow)) _
-    c.in_err-begun-in-Some-link.ensures.value)
+    (c.in_ok-reached.ensures.value follow)) _ c.in_err-begun-in-Some-link.ensures.value)
 
-pub returns-in_err-asked_by_slash-in-None-clause-value :
-    goal.returns-in_err-asked_by_slash-in-None-clause-value
+pub returns-in_err-asked_by_slash-in-None-clause-value : goal.returns-in_err-asked_by_slash-in-None-clause-value
 returns-in_err-asked_by_slash-in-None-clause-value g c =
     let looks = g.L.Look.looks c.args.world.now in
     let task = task_of c.args.who.now in
@@ -73,11 +67,9 @@ returns-in_err-asked_by_slash-in-None-clause-value g c =
     (here_of c.loop-text.here) c.loop-text.pending.items c.loop-text.invariant.0
     c.pop.new.self.items c.in-Some.field-0 c.in-Some.ensures.items (here_of c.in_ok-reached.field-0.here)
     (link_passed-as looks task follow (here_of c.in_ok-reached.field-0.here) _ _ _ c.in-None.is
-    (c.in_ok-reached.ensures.value follow)) _
-    c.in_err-asked_by_slash-in-None.ensures)
+    (c.in_ok-reached.ensures.value follow)) _ c.in_err-asked_by_slash-in-None.ensures)
 
-pub loop-text-preserved-in_ok-begun-in-Some-link :
-    goal.loop-text-preserved-in_ok-begun-in-Some-link
+pub loop-text-preserved-in_ok-begun-in-Some-link : goal.loop-text-preserved-in_ok-begun-in-Some-link
 loop-text-preserved-in_ok-begun-in-Some-link g c =
     let looks = g.L.Look.looks c.args.world.now in
     let task = task_of c.args.who.now in
@@ -87,14 +79,12 @@ loop-text-preserved-in_ok-begun-in-Some-link g c =
     let room : length c.pop.new.self.items < 41 = omega arith in
     let left = c.in_ok-reached.ensures.left in
     let taken = begun-left looks task (location_of c.in-Some-link.link.directory) (here_of c.in_ok-reached.field-0.here)
-    (here_of c.in_ok-begun-in-Some-link.begun) c.in-Some-link.link.text.now
-    c.in_ok-begun-in-Some-link.ensures.value in
+    (here_of c.in_ok-begun-in-Some-link.begun) c.in-Some-link.link.text.now c.in_ok-begun-in-Some-link.ensures.value in
     let longer = c.push-in-Some-link.ensures.len in
     let longest = c.push-in-Some-link-2.ensures.len in (
       link-begun looks task _ (here_of c.loop-text.here) c.loop-text.pending.items c.loop-text.invariant.0
           c.pop.new.self.items c.in-Some.field-0 c.in-Some.ensures.items (location_of c.in-Some-link.link.directory)
-          (here_of c.in_ok-reached.field-0.here) c.in-Some-link.link.text.now c.in-Some-link.link.behind
-          room
+          (here_of c.in_ok-reached.field-0.here) c.in-Some-link.link.text.now c.in-Some-link.link.behind room
           (link_passed-as looks task follow (here_of c.in_ok-reached.field-0.here) _ _ _ c.in-Some-link.is
           (c.in_ok-reached.ensures.value follow))
           (here_of c.in_ok-begun-in-Some-link.begun) c.in_ok-begun-in-Some-link.ensures.value
@@ -115,8 +105,7 @@ loop-text-preserved g c =
       top-ended looks task _ (here_of c.loop-text.here) c.loop-text.pending.items c.loop-text.invariant.0
           c.pop.new.self.items c.in-Some.field-0 c.in-Some.ensures.items (here_of c.in_ok-reached.field-0.here)
           (link_passed-as looks task follow (here_of c.in_ok-reached.field-0.here) _ _ _ c.in-None.is
-          (c.in_ok-reached.ensures.value follow))
-          c.in_ok-asked_by_slash-in-None.ensures,
+          (c.in_ok-reached.ensures.value follow)) c.in_ok-asked_by_slash-in-None.ensures,
       omega arith,
       c.in_ok-reached.ensures.lent,
     )

@@ -12,6 +12,5 @@ abbrev pub invariant-loop-text : goal.invariant-loop-text
 invariant-loop-text g l =
     (texts_walked (g.L.Look.looks l.world) (task_of l.who) (here_of l.here) (reverse l.pending.items)
     ≡ link_passed (g.L.Look.looks l.world) (task_of l.who) (followed (g.L.Look.looks l.world) (task_of l.who))
-    (here_of l.fn.met) (Some l.fn.link))
-    × (l.here.left + length l.pending.items ≤ 41)
+    (here_of l.fn.met) (Some l.fn.link)) × (l.here.left + length l.pending.items ≤ 41)
     × IsLent (g.L.Look.real l.world) l.here.location (option_copied l.here.lent)

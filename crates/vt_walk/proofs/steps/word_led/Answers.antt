@@ -23,6 +23,5 @@ returns-clause-value g c =
     let task = task_of c.args.who.now in
     let here = location_of c.args.from.location in
     let led = stepped nat_eq looks task here (last_of c.args.word) in
-    c.stepped.ensures.value
-    ∙ sym (unless-and_then (search_rules nat_eq looks task here) tt (λ searched. led)
+    c.stepped.ensures.value ∙ sym (unless-and_then (search_rules nat_eq looks task here) tt (λ searched. led)
     ∙ ap (λ r. and_then r (λ searched. led)) (sym c.in_ok-directory.ensures.value))

@@ -16,8 +16,7 @@ returns-in-Some-clause-value g c =
     let looks = g.L.Look.looks c.args.world.now in
     let task = task_of c.args.who.now in
     let follow = followed looks task in
-    c.symlink_walked.ensures.value
-    ∙ link_passed-as looks task follow (here_of c.in_ok-here.field-0.here) _ _ _
+    c.symlink_walked.ensures.value ∙ link_passed-as looks task follow (here_of c.in_ok-here.field-0.here) _ _ _
     c.in-Some.is (c.in_ok-here.ensures.value follow)
 
 pub returns-in-None-clause-value : goal.returns-in-None-clause-value

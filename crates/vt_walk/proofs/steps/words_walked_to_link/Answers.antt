@@ -34,13 +34,10 @@ returns-in-Some-symlink_text-clause-value g c follow =
     let here = here_at c.loop-word.location c.args.start.left in
     let next = here_at c.in_ok-next.next.location c.args.start.left in
     link-met looks task follow (here_of c.args.start) here c.args.words c.loop-word.words
-    (c.loop-word.invariant.0 follow)
-    c.in-Some.word.now c.next.new.self c.in-Some.ensures.steps next
+    (c.loop-word.invariant.0 follow) c.in-Some.word.now c.next.new.self c.in-Some.ensures.steps next
     (led-walked looks task here (last_of c.of.result)
     (location_of c.in_ok-next.next.location) next c.in_ok-next.ensures.value refl
-    ∙ ap (word_walked looks task here) c.of.ensures)
-    c.in-Some-symlink_text.text.now
-    (c.in-Some-symlink_text.ensures
+    ∙ ap (word_walked looks task here) c.of.ensures) c.in-Some-symlink_text.text.now (c.in-Some-symlink_text.ensures
     ∙ text-there looks (g.L.Look.real c.args.world.now) (g.met.L.Look.alike c.args.world.now) c.in_ok-next.next.location
     (option_copied c.node_here-node-in-Some.result) c.node_here-node-in-Some.ensures c.in_ok-next.next.location refl)
 
@@ -51,12 +48,10 @@ loop-word-preserved g c =
     let here = here_at c.loop-word.location c.args.start.left in
     let next = here_at c.in_ok-next.next.location c.args.start.left in (
       (λ follow. no-link looks task follow (here_of c.args.start) here c.args.words c.loop-word.words
-          (c.loop-word.invariant.0 follow)
-          c.in-Some.word.now c.next.new.self c.in-Some.ensures.steps next
+          (c.loop-word.invariant.0 follow) c.in-Some.word.now c.next.new.self c.in-Some.ensures.steps next
           (led-walked looks task here (last_of c.of.result)
           (location_of c.in_ok-next.next.location) next c.in_ok-next.ensures.value refl
-          ∙ ap (word_walked looks task here) c.of.ensures)
-          (c.in_default-symlink_text.ensures
+          ∙ ap (word_walked looks task here) c.of.ensures) (c.in_default-symlink_text.ensures
           ∙ text-there looks (g.L.Look.real c.args.world.now) (g.met.L.Look.alike c.args.world.now)
           c.in_ok-next.next.location (option_copied c.node_here-node-in-Some.result) c.node_here-node-in-Some.ensures
           c.in_ok-next.next.location refl)),
@@ -64,8 +59,7 @@ loop-word-preserved g c =
         | then-ne w ↦ rw w.ground-is w.ground-ground-then-ne.ensures
         | else-ne w ↦ rw (
           w.ground-is,
-          same-mount c.in_ok-next.next.location.mount c.loop-word.location.mount
-              (sym c.ne.ensures ∙ w.if-ne.false),
+          same-mount c.in_ok-next.next.location.mount c.loop-word.location.mount (sym c.ne.ensures ∙ w.if-ne.false),
         ) c.loop-word.invariant.1
       ],
       c.node_here-node-in-Some.ensures,

@@ -8,8 +8,7 @@ use Rattle.vt_walk.proofs.LeftToRight.{walked_on}
 use Rattle.vt_walk.proofs.steps.words_walked_to_link.Given as goal
 
 abbrev pub invariant-loop-word : goal.invariant-loop-word
-invariant-loop-word g l =
-    ((follow : Follow) → walked_on (g.L.Look.looks l.world) (task_of l.who) follow
+invariant-loop-word g l = ((follow : Follow) → walked_on (g.L.Look.looks l.world) (task_of l.who) follow
     (standing (location_of l.location) l.left) l.words
     ≡ walked_on (g.L.Look.looks l.world) (task_of l.who) follow (here_of l.fn.start) l.fn.words)
     × IsGround (g.L.Look.looks l.world) l.location.mount l.ground

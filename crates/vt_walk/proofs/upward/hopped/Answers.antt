@@ -10,5 +10,4 @@ loop-hop-preserved g c =
     let looks = g.L.Look.looks c.args.world.now in
     chain-further (hop nat_eq looks (task_of c.args.who.now)) looks.mount_count c.loop-hop._hop
     (location_of c.loop-hop.here) (location_of c.in-Some.point)
-    (omega (arith, c.mount_count-hop-end.ensures)) (sym c.in-Some.ensures)
-    ∙ c.loop-hop.invariant
+    (omega (arith, c.mount_count-hop-end.ensures)) (sym c.in-Some.ensures) ∙ c.loop-hop.invariant

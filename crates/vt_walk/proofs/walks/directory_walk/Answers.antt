@@ -18,8 +18,7 @@ pub returns-then-not-is_directory_here-clause-value : goal.returns-then-not-is_d
 returns-then-not-is_directory_here-clause-value g c =
     let looks = g.L.Look.looks c.args.world.now in
     let task = task_of c.args.who.now in
-    ap (λ deny. Err deny) c.denial.ensures
-    ∙ directory-refused looks task (location_of c.in_ok-here.here.location)
+    ap (λ deny. Err deny) c.denial.ensures ∙ directory-refused looks task (location_of c.in_ok-here.here.location)
     (sym c.is_directory_here.ensures ∙ c.if-not-is_directory_here.true)
     ∙ directory_walk-by looks task c.args.path.now c.words.ensures.limits c.as_bytes.result.now c.as_bytes.ensures.value
     (here_of c.at_start-start.result) c.at_start-start.ensures.value

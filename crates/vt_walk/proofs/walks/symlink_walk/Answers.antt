@@ -7,8 +7,7 @@ use Rattle.vt_walk.specs.WalkValue.{here_of, location_end}
 use Rattle.vt_walk.proofs.walks.symlink_walk.Goals as goal
 
 pub returns-then-ends_in_slash : goal.returns-then-ends_in_slash
-returns-then-ends_in_slash g c =
-    c.object_walk.ensures
+returns-then-ends_in_slash g c = c.object_walk.ensures
     ∙ symlink_walk-slash (g.L.Look.looks c.args.world.now) (task_of c.args.who.now) c.args.path.now
     (sym c.ends_in_slash.ensures ∙ c.if-ends_in_slash.true)
 

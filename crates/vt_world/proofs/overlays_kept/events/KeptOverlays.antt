@@ -47,11 +47,9 @@ module _ (layers : List (OpenLayer ℕ)) (numbered : Real ℕ → ℕ) (most : �
   number_in path = option_map numbered (real_at path)
 
   abbrev inode_in : List (List ℕ) → Option (Node ℕ)
-  inode_in path =
-      option_map (node_as (unwrap_or (number_in (without_last path)) 0)
+  inode_in path = option_map (node_as (unwrap_or (number_in (without_last path)) 0)
       (filter_map (λ name. option_map (λ number. (name, number)) (number_in (path ++ name ∷ [])))
-      (names_shown layers path)))
-      (then_some (shown layers path) (layer_node layers))
+      (names_shown layers path))) (then_some (shown layers path) (layer_node layers))
 
   abbrev inode_found : Option (List (List ℕ)) → Option (Node ℕ)
   inode_found None = None
@@ -75,8 +73,7 @@ module _ (layers : List (OpenLayer ℕ)) (numbered : Real ℕ → ℕ) (most : �
 
 -- an overlay without an upper layer
 abbrev read_only : List (Layer ℕ) → Credentials → (ℕ → Option (Real ℕ)) → Overlay ℕ
-read_only lowers mounter real =
-    record { upper = None; work = None; lowers = lowers; mounter = mounter; real = real }
+read_only lowers mounter real = record { upper = None; work = None; lowers = lowers; mounter = mounter; real = real }
 
 module _ (world : World ℕ) (lowers : List (Layer ℕ)) (mounter : Credentials) (real : ℕ → Option (Real ℕ))
     (numbered : Real ℕ → ℕ) (most : ℕ) where
@@ -123,8 +120,7 @@ no_larger world trees [] most within all = All-nil _
 no_larger world trees (layer ∷ layers) most within all =
     let here = (All-head (ShowsLayer world trees) layer layers all).numbers in
     All-cons (λ (one : Layer ℕ). length (files_of world one).numbers ≤ most) (layer_seen layer) (map layer_seen layers)
-    (omega (arith, within, here))
-    (no_larger world trees layers most (omega (arith, within))
+    (omega (arith, within, here)) (no_larger world trees layers most (omega (arith, within))
     (All-tail (ShowsLayer world trees) layer layers all))
 
 -- what holds of all holds of the one at a place
@@ -145,8 +141,7 @@ module _ (world : World ℕ) (trees : Filesystems) (overlay : OverlayValue) (sho
 
   pub tree_kept : tree_seen numbered (λ number. None) most (plain_world trees) (overlay_seen overlay)
       ≡ tree_seen numbered (λ number. None) most world (record (overlay_seen overlay) { real = real })
-  tree_kept =
-      seen_in (plain_world trees) (map layer_seen overlay.lowers) overlay.mounter (λ number. None) numbered most
+  tree_kept = seen_in (plain_world trees) (map layer_seen overlay.lowers) overlay.mounter (λ number. None) numbered most
       ∙ ap (λ layers. tree_in layers numbered most) both_open
       ∙ sym (seen_in world (map layer_seen overlay.lowers) overlay.mounter real numbered most)
 
@@ -171,8 +166,7 @@ abbrev born : OverlayValue → ℕ → LayerRef → List (List ℕ) → ℕ → 
 born overlay place layer path object parent directory entries = record {
   filesystem = overlay.number;
   slot = exchanged layer.directory.filesystem.count object;
-  birth = if is_root_path path then Here
-      else Below place (exchanged layer.directory.filesystem.count parent)
+  birth = if is_root_path path then Here else Below place (exchanged layer.directory.filesystem.count parent)
       (if directory then 0 else rank_among entries (last_or [] path) object);
 }
 
@@ -205,20 +199,16 @@ module _ (world : World ℕ) (fresh : Fresh ℕ) (task : Task ℕ) (permit : Per
       new_open = opened_alike left new layer (at_place (ShowsLayer left new) lowers after.all place layer at).0
 
       contained : Contains (map layer_seen lowers) (layer_seen layer)
-      contained =
-          contains_from_among (map layer_seen lowers) (layer_seen layer)
+      contained = contains_from_among (map layer_seen lowers) (layer_seen layer)
           (among-map layer_seen lowers layer (at_place (ShowsLayer world old) lowers before.all place layer at).1)
 
       leads : (path : List (List ℕ)) → at_path (layer_of new layer) path ≡ at_path (layer_of old layer) path
-      leads path =
-          ap (λ layer. at_path layer path) (sym new_open)
-          ∙ (stay.paths (layer_seen layer) contained path).0
+      leads path = ap (λ layer. at_path layer path) (sym new_open) ∙ (stay.paths (layer_seen layer) contained path).0
           ∙ ap (λ layer. at_path layer path) old_open
 
       keeps : (path : List (List ℕ))
           → IsKept (node_at_path (layer_of old layer) path) (node_at_path (layer_of new layer) path)
-      keeps path =
-          subst (λ now. IsKept (node_at_path (layer_of old layer) path) (node_at_path now path)) new_open
+      keeps path = subst (λ now. IsKept (node_at_path (layer_of old layer) path) (node_at_path now path)) new_open
           (subst (λ was. IsKept (node_at_path was path) (node_at_path (open_layer nat_eq left (layer_seen layer)) path))
           old_open (stay.paths (layer_seen layer) contained path).1)
 
@@ -234,8 +224,7 @@ module _ (world : World ℕ) (fresh : Fresh ℕ) (task : Task ℕ) (permit : Per
       born_alike path = λ i. born of_layers place layer path (unwrap_or (leads path i) 0)
           (unwrap_or (leads (without_last path) i) 0)
           (directory_by_kind (node_at_path (layer_of old layer) path) (node_at_path (layer_of new layer) path)
-          (keeps path) i)
-          ((keeps (without_last path)).names i)
+          (keeps path) i) ((keeps (without_last path)).names i)
 
     numbers_alike : (real : Real ℕ) → real_number new of_layers real ≡ real_number old of_layers real
     numbers_alike (Upper object) = refl
@@ -257,12 +246,10 @@ module _ (world : World ℕ) (fresh : Fresh ℕ) (task : Task ℕ) (permit : Per
 
     real_before : overlay.real
         ≡ real_seen (real_number old of_layers) (λ number. None) (longest old lowers) world overlay
-    real_before =
-        real_kept world old of_layers before overlay.real (real_number old of_layers) (longest old lowers)
+    real_before = real_kept world old of_layers before overlay.real (real_number old of_layers) (longest old lowers)
 
     named_before : IsNamedBy (real_number old of_layers) (λ n. None) (filesystem_numbered nat_eq world number) overlay
-    named_before =
-        seen_trees_are_named (real_number old of_layers) (λ n. None) (longest old lowers) world
+    named_before = seen_trees_are_named (real_number old of_layers) (λ n. None) (longest old lowers) world
         (filesystem_numbered nat_eq world number) overlay (overlays_are_merged_trees world number overlay is was)
         real_before (λ n object e. absurd (none_is_some object e))
 
@@ -280,15 +267,11 @@ module _ (world : World ℕ) (fresh : Fresh ℕ) (task : Task ℕ) (permit : Per
         (no_larger world old lowers (longest old lowers) (omega arith) before.all)
         (no_larger left new lowers (longest new lowers) (omega arith) after.all) in
         record {
-          tree =
-              tree_kept left new of_layers after overlay.real (real_number new of_layers) (longest new lowers)
-              ∙ both.0
-              ∙ sym (tree_kept world old of_layers before overlay.real (real_number old of_layers)
+          tree = tree_kept left new of_layers after overlay.real (real_number new of_layers) (longest new lowers)
+              ∙ both.0 ∙ sym (tree_kept world old of_layers before overlay.real (real_number old of_layers)
               (longest old lowers));
-          real =
-              real_kept left new of_layers after overlay.real (real_number new of_layers) (longest new lowers)
-              ∙ both.1
-              ∙ sym (real_kept world old of_layers before overlay.real (real_number old of_layers)
+          real = real_kept left new of_layers after overlay.real (real_number new of_layers) (longest new lowers)
+              ∙ both.1 ∙ sym (real_kept world old of_layers before overlay.real (real_number old of_layers)
               (longest old lowers));
         }
 

@@ -57,12 +57,10 @@ module _ {A : Type 0} (at : ℕ → Option A) where
           ap (λ o. lookup (nat_eq q) (cons_option (option_map (λ a. (number, a)) o) (under rest))) e ∙ later
       by (Some a) e true s later =
           ap (λ o. lookup (nat_eq q) (cons_option (option_map (λ a. (number, a)) o) (under rest))) e
-          ∙ ap (λ b. cond b (Some a) (lookup (nat_eq q) (under rest))) s
-          ∙ sym (ap at (eqb-true q number s) ∙ e)
+          ∙ ap (λ b. cond b (Some a) (lookup (nat_eq q) (under rest))) s ∙ sym (ap at (eqb-true q number s) ∙ e)
       by (Some a) e false s later =
           ap (λ o. lookup (nat_eq q) (cons_option (option_map (λ a. (number, a)) o) (under rest))) e
-          ∙ ap (λ b. cond b (Some a) (lookup (nat_eq q) (under rest))) s
-          ∙ later
+          ∙ ap (λ b. cond b (Some a) (lookup (nat_eq q) (under rest))) s ∙ later
 
   -- Where all numbers at which something is are among them, each is found so.
   module _ (numbers : List ℕ) (all : (q : ℕ) → is_some (at q) ≡ true → is_among nat_eq q numbers ≡ true) where
@@ -79,11 +77,9 @@ tied_numbers : (a b : ℕ) → cmp_by (λ (number : ℕ). number) a b ≡ Equal 
 tied_numbers a b e = nat_cmp-IsAntisymmetric a b e
 
 module _ {A : Type 0} where
-  in_one_order : (one other : List (ℕ × A))
-      → ((q : ℕ) → lookup (nat_eq q) one ≡ lookup (nat_eq q) other)
+  in_one_order : (one other : List (ℕ × A)) → ((q : ℕ) → lookup (nat_eq q) one ≡ lookup (nat_eq q) other)
       → in_order_by (λ number. number) one ≡ in_order_by (λ number. number) other
-  in_one_order one other same =
-      same_entries (cmp_by (λ number. number)) (cmp_total (λ number. number)) tied_numbers
+  in_one_order one other same = same_entries (cmp_by (λ number. number)) (cmp_total (λ number. number)) tied_numbers
       (in_order_by (λ number. number) one) (in_order_by (λ number. number) other)
       (rises-in_order (λ number. number) one) (rises-in_order (λ number. number) other)
       (λ q. found-in_order (λ number. number) q one ∙ same q ∙ sym (found-in_order (λ number. number) q other))
@@ -96,11 +92,9 @@ node_looked : (kept : List (ℕ × (Node ℕ × Real ℕ))) (q : ℕ)
 node_looked [] q = refl
 node_looked (first ∷ rest) q = by (nat_eq q first.0) (node_looked rest q)
   where
-    by : (b : Bool)
-        → option_map (λ (inode : MergedInode ℕ). inode.node)
+    by : (b : Bool) → option_map (λ (inode : MergedInode ℕ). inode.node)
         (find (λ inode. nat_eq q inode.number) (map inode_kept rest))
-        ≡ option_map (λ object. object.0) (lookup (nat_eq q) rest)
-        → option_map (λ (inode : MergedInode ℕ). inode.node)
+        ≡ option_map (λ object. object.0) (lookup (nat_eq q) rest) → option_map (λ (inode : MergedInode ℕ). inode.node)
         (cond b (Some (inode_kept first)) (find (λ inode. nat_eq q inode.number) (map inode_kept rest)))
         ≡ option_map (λ object. object.0) (cond b (Some first.1) (lookup (nat_eq q) rest))
     by true later = refl
@@ -112,11 +106,9 @@ real_looked : (kept : List (ℕ × (Node ℕ × Real ℕ))) (q : ℕ)
 real_looked [] q = refl
 real_looked (first ∷ rest) q = by (nat_eq q first.0) (real_looked rest q)
   where
-    by : (b : Bool)
-        → option_map (λ (inode : MergedInode ℕ). inode.real)
+    by : (b : Bool) → option_map (λ (inode : MergedInode ℕ). inode.real)
         (find (λ inode. nat_eq q inode.number) (map inode_kept rest))
-        ≡ option_map (λ object. object.1) (lookup (nat_eq q) rest)
-        → option_map (λ (inode : MergedInode ℕ). inode.real)
+        ≡ option_map (λ object. object.1) (lookup (nat_eq q) rest) → option_map (λ (inode : MergedInode ℕ). inode.real)
         (cond b (Some (inode_kept first)) (find (λ inode. nat_eq q inode.number) (map inode_kept rest)))
         ≡ option_map (λ object. object.1) (cond b (Some first.1) (lookup (nat_eq q) rest))
     by true later = refl
@@ -131,16 +123,14 @@ module _ (trees : Filesystems) (overlay : OverlayValue) where
   inode_shown_there q there = by (path_at trees overlay q) refl there
     where
       paths : List (List (List ℕ))
-      paths = paths_from (longest trees overlay.lowers)
-          (layers_shown (plain_world trees) (overlay_seen overlay)) []
+      paths = paths_from (longest trees overlay.lowers) (layers_shown (plain_world trees) (overlay_seen overlay)) []
 
       by : (o : Option (List (List ℕ))) → path_at trees overlay q ≡ o
           → is_some (node_by (real_number trees overlay) (λ number. None) (longest trees overlay.lowers)
           (plain_world trees) (overlay_seen overlay) q o) ≡ true
           → is_among nat_eq q (numbers_shown trees overlay) ≡ true
       by None e there = absurd (true≢false (sym there))
-      by (Some path) e there =
-          is_among_numbers q (numbers_shown trees overlay)
+      by (Some path) e there = is_among_numbers q (numbers_shown trees overlay)
           (among-filter_map (number_at trees overlay) paths path q
           (found_among (λ path. holds_of (nat_eq q) (number_at trees overlay path)) paths path e)
           (held_number q (number_at trees overlay path)
@@ -148,8 +138,7 @@ module _ (trees : Filesystems) (overlay : OverlayValue) where
 
   object_shown_there : (q : ℕ) → is_some (object_at trees overlay q) ≡ true
       → is_among nat_eq q (numbers_shown trees overlay) ≡ true
-  object_shown_there q there =
-      inode_shown_there q
+  object_shown_there q there = inode_shown_there q
       (sym (as_many ((merged_tree trees overlay).node q) (unwrap_or (real_objects trees overlay q) (Lower 0 []))) ∙ there)
     where
       as_many : (o : Option (Node ℕ)) (real : Real ℕ)
@@ -185,8 +174,7 @@ module _ (trees : Filesystems) (overlay : OverlayValue) (are : AreLayers trees o
   are_opened : AreOpen (layers_shown (plain_world trees) (overlay_seen overlay))
   are_opened = subst AreOpen (sym (layers_are trees overlay are)) (open_layers trees overlay are)
 
-  objects_there : (q : ℕ)
-      → is_some (real_objects trees overlay q) ≡ is_some ((merged_tree trees overlay).node q)
+  objects_there : (q : ℕ) → is_some (real_objects trees overlay q) ≡ is_some ((merged_tree trees overlay).node q)
   objects_there q = by (path_at trees overlay q)
     where
       one : (path : List (List ℕ)) (o : Option (Shown ℕ)) → shown opened path ≡ o
@@ -197,8 +185,7 @@ module _ (trees : Filesystems) (overlay : OverlayValue) (are : AreLayers trees o
           (entries_shown (real_number trees overlay) (plain_world trees) (overlay_seen overlay) path))
           (then_some o (layer_node opened)))
       one path None e = refl
-      one path (Some seen) e =
-          sym (shown_is_there opened are_opened path seen e) ∙ as_many (layer_node opened seen)
+      one path (Some seen) e = sym (shown_is_there opened are_opened path seen e) ∙ as_many (layer_node opened seen)
         where
           as_many : (o : Option (Node ℕ))
               → is_some o ≡ is_some (option_map (node_as (parent_shown (real_number trees overlay) (plain_world trees)
@@ -231,8 +218,7 @@ inodes_have_their_objects trees overlay are = λ i. λ q.
     second_of (Some node) (Some object) e = refl
 
 pub inodes_stay : InodesStay
-inodes_stay old new overlay alike =
-    ap (map inode_kept)
+inodes_stay old new overlay alike = ap (map inode_kept)
     (in_one_order (objects_shown new overlay) (objects_shown old overlay)
     (λ q. looked new overlay q ∙ same q ∙ sym (looked old overlay q)))
   where
@@ -245,8 +231,7 @@ found_some : {A : Type 0} (test : A → Bool) (list : List A) (a : A) → Among 
 found_some test [] a m e = absurd m
 found_some {A = A} test (first ∷ rest) a m e = by (test first) refl m (λ later. found_some test rest a later e)
   where
-    by : (b : Bool) → test first ≡ b → Among a (first ∷ rest)
-        → (Among a rest → is_some (find test rest) ≡ true)
+    by : (b : Bool) → test first ≡ b → Among a (first ∷ rest) → (Among a rest → is_some (find test rest) ≡ true)
         → is_some (cond b (Some first) (find test rest)) ≡ true
     by true s m later = refl
     by false s (inl same) later = absurd (true≢false (sym e ∙ ap test same ∙ s))
@@ -261,8 +246,7 @@ module _ (trees : Filesystems) (overlay : OverlayValue) (are : AreLayers trees o
       → is_some (real_by (real_number trees overlay) (λ number. None) (longest trees overlay.lowers)
       (plain_world trees) (overlay_seen overlay) q o) ≡ true
   object_found q None e there = absurd (true≢false (sym there))
-  object_found q (Some path) e there =
-      of_number (real_shown nat_eq (plain_world trees) (overlay_seen overlay) path)
+  object_found q (Some path) e there = of_number (real_shown nat_eq (plain_world trees) (overlay_seen overlay) path)
       (held_number q (number_at trees overlay path)
       (found_passes (λ path. holds_of (nat_eq q) (number_at trees overlay path)) all_paths path e))
     where
@@ -275,8 +259,7 @@ module _ (trees : Filesystems) (overlay : OverlayValue) (are : AreLayers trees o
   listed_there q s =
       let one = among-from_filter_map (number_at trees overlay) all_paths q
       (among_numbers q (numbers_shown trees overlay) s) in
-      sym (objects_there trees overlay are q)
-      ∙ object_found q (path_at trees overlay q) refl
+      sym (objects_there trees overlay are q) ∙ object_found q (path_at trees overlay q) refl
       (found_some (λ path. holds_of (nat_eq q) (number_at trees overlay path)) all_paths one.0 one.1
       (ap (holds_of (nat_eq q)) one.2 ∙ eq-eqb q q refl))
 
@@ -288,6 +271,5 @@ module _ (trees : Filesystems) (overlay : OverlayValue) (are : AreLayers trees o
   listed q false true s e = absurd (true≢false (sym (inode_shown_there trees overlay q e) ∙ s))
 
 pub numbers_are_listed : NumbersAreListed
-numbers_are_listed trees overlay are = λ q.
-    listed trees overlay are q (is_among nat_eq q (numbers_shown trees overlay))
+numbers_are_listed trees overlay are = λ q. listed trees overlay are q (is_among nat_eq q (numbers_shown trees overlay))
     (is_some ((merged_tree trees overlay).node q)) refl refl

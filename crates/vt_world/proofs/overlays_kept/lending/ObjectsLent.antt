@@ -20,8 +20,7 @@ use Rattle.vt_world.specs.OverlaysKept.Lending.{RealObjectsAreLent, lent_on, obj
 module _ (trees : Filesystems) (overlay : OverlayValue) (are : AreLayers trees overlay.lowers) where
   -- the real object at a path, by what is shown there
   abbrev real_of : List (List ℕ) → Option (Shown ℕ) → Option (Real ℕ)
-  real_of path o =
-      option_map (λ (object : Merged ℕ). real_object false object.seen.layer object)
+  real_of path o = option_map (λ (object : Merged ℕ). real_object false object.seen.layer object)
       (option_map (λ seen. record { path = path; seen = seen }) o)
 
   -- what is shown is what the path leads to in its layer
@@ -46,14 +45,12 @@ module _ (trees : Filesystems) (overlay : OverlayValue) (are : AreLayers trees o
       → real_lent trees overlay number ≡ then_some (real_objects trees overlay number) (object_lent trees overlay)
   lent number = by (path_at trees overlay number)
     where
-      by : (o : Option (List (List ℕ)))
-          → then_some (then_some o (shown (layers_of trees overlay.lowers)))
+      by : (o : Option (List (List ℕ))) → then_some (then_some o (shown (layers_of trees overlay.lowers)))
           (λ (seen : Shown ℕ). then_some (slice_get overlay.lowers seen.layer) (lent_at trees seen.object))
           ≡ then_some (real_by (real_number trees overlay) (λ number. None) (longest trees overlay.lowers)
           (plain_world trees) (overlay_seen overlay) number o) (object_lent trees overlay)
       by None = refl
-      by (Some path) =
-          lent_by_path path (shown (layers_of trees overlay.lowers) path) refl
+      by (Some path) = lent_by_path path (shown (layers_of trees overlay.lowers) path) refl
           ∙ ap (λ layers. then_some (real_of path (shown layers path)) (object_lent trees overlay))
           (sym (layers_are trees overlay are))
 

@@ -7,7 +7,6 @@ use Rattle.vt_calls.proofs.calls.KernelCalls.opening.Goals as goal
 pub returns-clause-opened : goal.returns-clause-opened
 returns-clause-opened c = (
   opening_numbers,
-  allotted_numbers_open 0 3
-      (inode_number 2 0) refl,
+  allotted_numbers_open 0 3 (inode_number 2 0) refl,
   c.in_ok-new.ensures.opening,
 )

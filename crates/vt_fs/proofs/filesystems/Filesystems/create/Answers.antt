@@ -61,8 +61,7 @@ returns-clause-ok c =
     c.slot_of.ensures.number c.unwrap-parent.ensures in
     changes c.args.self.now f c.create.new.self c.unwrap-tree.result.now standing
     (Make c.unwrap-parent.result c.args.name.items c.in_ok-slot.slot c.args.node) _
-    (λ i. Make (parent i) c.args.name.items (sym c.in_slot.ensures.number i)
-    (node_seen f c.args.node))
+    (λ i. Make (parent i) c.args.name.items (sym c.in_slot.ensures.number i) (node_seen f c.args.node))
     c.in_ok-slot.ensures.ok
 
 pub returns-clause-number : goal.returns-clause-number

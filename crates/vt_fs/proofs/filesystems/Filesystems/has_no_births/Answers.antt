@@ -20,7 +20,6 @@ pub returns-in_default : goal.returns-in_default
 returns-in_default c =
     let f = c.args.node.filesystem.count in
     let map = c.self.inside.by_number in
-    let absent = tree_of-held f map.entries None
-    (sym (ap option_copied c.in_default.is) ∙ c.found_under.ensures)
+    let absent = tree_of-held f map.entries None (sym (ap option_copied c.in_default.is) ∙ c.found_under.ensures)
     ∙ ap (λ fs. option_map (λ entry. entry.tree) (entry_of fs f)) c.self.view_is in
     nowhere_else c.args.self.now c.args.node (held_apart map.entries c.args.self.now c.self.view_is) (sym absent)

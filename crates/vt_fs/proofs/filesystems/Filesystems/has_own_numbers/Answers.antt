@@ -16,6 +16,5 @@ returns-in-Some c = λ number other.
     (c.numbers_fit.ensures.numbers (exchanged f number) (no_slot f number other))
 
 pub returns-in_default : goal.returns-in_default
-returns-in_default c = λ number other.
-    ap (λ entry. (inodes_seen entry).inode number)
+returns-in_default c = λ number other. ap (λ entry. (inodes_seen entry).inode number)
     (entry_nowhere c.args.self.now c.args.filesystem.count (sym c.get.ensures ∙ ap option_copied c.in_default.is))

@@ -28,6 +28,5 @@ returns-else-ne c =
     c.if-ne.false ∙ sym (root_stays (files_at c.args.self.now f).tree (number_of c.args.directory) same)
 
 pub returns-in_default : goal.returns-in_default
-returns-in_default c =
-    sym (removed_there c.args.self.now c.args.directory.filesystem.count (number_of c.args.directory)
+returns-in_default c = sym (removed_there c.args.self.now c.args.directory.filesystem.count (number_of c.args.directory)
     (c.slot_of.ensures.nowhere c.in_default.is))

@@ -16,16 +16,14 @@ returns-in-Some-get c =
     let entry = entry_at c.args.self.now f in
     let directory = ap (λ id. exchanged id.count c.in-Some-slot_of.lower) (sym c.requires.one_filesystem)
     ∙ c.in-Some-slot_of.ensures.number in
-    c.is_under.ensures
-    ∙ sym (under_there c.args.self.now f c.in-Some-get.tree.now
+    c.is_under.ensures ∙ sym (under_there c.args.self.now f c.in-Some-get.tree.now
     (sym c.in-Some-get.ensures) c.in-Some.upper _ c.in-Some-slot_of.lower _ c.in-Some.ensures.number directory)
     ∙ under_by_names (inodes_at c.args.self.now f) c.requires.named (numbers_seen entry) (numbers_counted entry) _ _
 
 pub returns-in_default : goal.returns-in_default
 returns-in_default c =
     let nowhere = c.slot_of.ensures.nowhere c.in_default.is in
-    c.is_same.ensures
-    ∙ sym (over_none c.args.self.now c.args.top.filesystem.count (number_of c.args.top) nowhere
+    c.is_same.ensures ∙ sym (over_none c.args.self.now c.args.top.filesystem.count (number_of c.args.top) nowhere
     (number_of c.args.directory))
 
 pub returns-in_default-slot_of : goal.returns-in_default-slot_of

@@ -58,8 +58,7 @@ link-requires-clause-object c =
     c.slot_of.ensures.number c.unwrap-parent.ensures in
     let linked = slot_there c.args.object.filesystem.count (number_of c.args.object) c.slot_of-2.result
     c.unwrap-linked.result c.slot_of-2.ensures.number c.unwrap-linked.ensures in
-    let object =
-    ap (λ id. exchanged id.count c.unwrap-linked.result) (sym c.requires.one_filesystem) ∙ linked in
+    let object = ap (λ id. exchanged id.count c.unwrap-linked.result) (sym c.requires.one_filesystem) ∙ linked in
     sym (directory_there c.args.self.now f c.unwrap-tree.result.now standing.found c.unwrap-linked.result _ object)
     ∙ c.requires.object
 
@@ -73,13 +72,10 @@ returns-clause-ok c =
     c.slot_of.ensures.number c.unwrap-parent.ensures in
     let linked = slot_there c.args.object.filesystem.count (number_of c.args.object) c.slot_of-2.result
     c.unwrap-linked.result c.slot_of-2.ensures.number c.unwrap-linked.ensures in
-    let object =
-    ap (λ id. exchanged id.count c.unwrap-linked.result) (sym c.requires.one_filesystem) ∙ linked in
-    on_ok_weaker c.link.result
-    (changes c.args.self.now f c.link.new.self c.unwrap-tree.result.now standing
+    let object = ap (λ id. exchanged id.count c.unwrap-linked.result) (sym c.requires.one_filesystem) ∙ linked in
+    on_ok_weaker c.link.result (changes c.args.self.now f c.link.new.self c.unwrap-tree.result.now standing
     (AddName c.unwrap-parent.result c.args.name.items c.unwrap-linked.result) _
-    (λ i. AddName (parent i) c.args.name.items (object i)))
-    c.link.ensures.ok
+    (λ i. AddName (parent i) c.args.name.items (object i))) c.link.ensures.ok
 
 pub returns-clause-err : goal.returns-clause-err
 returns-clause-err c =

@@ -5,8 +5,7 @@ use Rattle.vt_fs.proofs.Entries.{entry_of-held, of_count}
 use Rattle.vt_fs.proofs.filesystems.Filesystems.mounts.Goals as goal
 
 pub returns-in-Some : goal.returns-in-Some
-returns-in-Some c =
-    sym (
+returns-in-Some c = sym (
     ap (λ fs. (entry_at fs c.args.filesystem.count).mounts) (sym c.self.view_is)
     ∙ ap (λ (o : Option FilesystemEntry). (unwrap_or o (no_entry c.args.filesystem.count)).mounts)
     (entry_of-held c.args.filesystem.count c.self.inside.by_number.entries
@@ -14,8 +13,7 @@ returns-in-Some c =
     )
 
 pub returns-in-None : goal.returns-in-None
-returns-in-None c =
-    sym (
+returns-in-None c = sym (
     ap (λ fs. (entry_at fs c.args.filesystem.count).mounts) (sym c.self.view_is)
     ∙ ap (λ (o : Option FilesystemEntry). (unwrap_or o (no_entry c.args.filesystem.count)).mounts)
     (entry_of-held c.args.filesystem.count c.self.inside.by_number.entries

@@ -28,8 +28,7 @@ pub returns-in_default : goal.returns-in_default
 returns-in_default c = record {
   ok = let files = files_at c.args.self.now c.args.top.filesystem.count in
       let nowhere = c.slot_of.ensures.nowhere c.in_default.is in
-      c.path_to_itself.ensures
-      ∙ sym (path_to_itself files (number_of c.args.top) (number_of c.args.directory)
+      c.path_to_itself.ensures ∙ sym (path_to_itself files (number_of c.args.top) (number_of c.args.directory)
       (over_none c.args.self.now c.args.top.filesystem.count (number_of c.args.top) nowhere
       (number_of c.args.directory)));
 }

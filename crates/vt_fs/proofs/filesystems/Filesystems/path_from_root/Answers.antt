@@ -18,6 +18,5 @@ returns-in-Some c = record {
       (λ path. option_map (λ names. map (λ name. name.items) names.items) path ≡ found))
       (λ i. path_down nat_eq (files_at c.args.self.now (c.in-Some.ensures.filesystem i).count)
       (sym (root_is c.args.self.now c.args.directory.filesystem.count c.in-Some.root c.in-Some.ensures.number) i)
-      (number_of c.args.directory))
-      c.path_down.ensures.ok;
+      (number_of c.args.directory)) c.path_down.ensures.ok;
 }

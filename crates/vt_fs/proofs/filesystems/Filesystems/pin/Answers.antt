@@ -26,8 +26,7 @@ returns-in-Some-get_mut-clause-err c =
     on_err_weaker c.pin.result (kept c.args.self.now f c.pin.new.self c.in-Some-get_mut.tree.now standing) c.pin.ensures.err
 
 pub returns-in-None-clause-ok : goal.returns-in-None-clause-ok
-returns-in-None-clause-ok c =
-    nothing_changes c.args.object.filesystem.count _ c.args.self.now _ refl
+returns-in-None-clause-ok c = nothing_changes c.args.object.filesystem.count _ c.args.self.now _ refl
     (sym c.get_mut.ensures.value ∙ ap option_copied_mut c.in-None.is)
 
 pub returns-in_default-clause-ok : goal.returns-in_default-clause-ok

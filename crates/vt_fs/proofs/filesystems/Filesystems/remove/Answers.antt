@@ -4,6 +4,5 @@ use Rattle.vt_fs.proofs.Entries.{removed}
 use Rattle.vt_fs.proofs.filesystems.Filesystems.remove.Goals as goal
 
 pub returns : goal.returns
-returns c =
-    removed c.args.filesystem.count c.self.inside.by_number.entries _ c.swap_remove.ensures.updates.0
+returns c = removed c.args.filesystem.count c.self.inside.by_number.entries _ c.swap_remove.ensures.updates.0
     ∙ ap (without c.args.filesystem.count) c.self.view_is

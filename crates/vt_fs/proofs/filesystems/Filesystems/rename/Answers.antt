@@ -45,8 +45,7 @@ rename-requires-clause-named c =
     c.slot_of.ensures.number c.unwrap-was_in.ensures in
     let named = slot_there c.args.object.filesystem.count (number_of c.args.object) c.slot_of-3.result
     c.unwrap-named.result c.slot_of-3.ensures.number c.unwrap-named.ensures in
-    let object =
-    ap (λ id. exchanged id.count c.unwrap-named.result) (sym c.requires.of_object) ∙ named in
+    let object = ap (λ id. exchanged id.count c.unwrap-named.result) (sym c.requires.of_object) ∙ named in
     slot_named c.args.self.now f c.unwrap-tree.result.now standing.found c.unwrap-was_in.result _ c.args.old.now
     c.unwrap-named.result _ was_in object c.requires.named
 
@@ -58,8 +57,7 @@ rename-requires-clause-directory c =
     c.unwrap-tree.ensures in
     let goes_to = slot_there c.args.to.filesystem.count (number_of c.args.to) c.slot_of-2.result
     c.unwrap-goes_to.result c.slot_of-2.ensures.number c.unwrap-goes_to.ensures in
-    let to =
-    ap (λ id. exchanged id.count c.unwrap-goes_to.result) (sym c.requires.one_filesystem) ∙ goes_to in
+    let to = ap (λ id. exchanged id.count c.unwrap-goes_to.result) (sym c.requires.one_filesystem) ∙ goes_to in
     sym (directory_there c.args.self.now f c.unwrap-tree.result.now standing.found c.unwrap-goes_to.result _ to)
     ∙ c.requires.directory
 
@@ -73,10 +71,8 @@ rename-requires-clause-replaced c =
     c.unwrap-goes_to.result c.slot_of-2.ensures.number c.unwrap-goes_to.ensures in
     let named = slot_there c.args.object.filesystem.count (number_of c.args.object) c.slot_of-3.result
     c.unwrap-named.result c.slot_of-3.ensures.number c.unwrap-named.ensures in
-    let to =
-    ap (λ id. exchanged id.count c.unwrap-goes_to.result) (sym c.requires.one_filesystem) ∙ goes_to in
-    let object =
-    ap (λ id. exchanged id.count c.unwrap-named.result) (sym c.requires.of_object) ∙ named in
+    let to = ap (λ id. exchanged id.count c.unwrap-goes_to.result) (sym c.requires.one_filesystem) ∙ goes_to in
+    let object = ap (λ id. exchanged id.count c.unwrap-named.result) (sym c.requires.of_object) ∙ named in
     replaced_there c.args.self.now f c.unwrap-tree.result.now standing.found c.unwrap-goes_to.result _ c.args.new.items
     c.unwrap-named.result _ to object c.requires.replaced
 
@@ -90,10 +86,8 @@ rename-requires-clause-outside c =
     c.unwrap-goes_to.result c.slot_of-2.ensures.number c.unwrap-goes_to.ensures in
     let named = slot_there c.args.object.filesystem.count (number_of c.args.object) c.slot_of-3.result
     c.unwrap-named.result c.slot_of-3.ensures.number c.unwrap-named.ensures in
-    let to =
-    ap (λ id. exchanged id.count c.unwrap-goes_to.result) (sym c.requires.one_filesystem) ∙ goes_to in
-    let object =
-    ap (λ id. exchanged id.count c.unwrap-named.result) (sym c.requires.of_object) ∙ named in
+    let to = ap (λ id. exchanged id.count c.unwrap-goes_to.result) (sym c.requires.one_filesystem) ∙ goes_to in
+    let object = ap (λ id. exchanged id.count c.unwrap-named.result) (sym c.requires.of_object) ∙ named in
     outside_there c.args.self.now f c.unwrap-tree.result.now standing.found c.unwrap-goes_to.result _
     c.unwrap-named.result _ to object c.requires.outside
 
@@ -109,15 +103,11 @@ returns-clause-ok c =
     c.unwrap-goes_to.result c.slot_of-2.ensures.number c.unwrap-goes_to.ensures in
     let named = slot_there c.args.object.filesystem.count (number_of c.args.object) c.slot_of-3.result
     c.unwrap-named.result c.slot_of-3.ensures.number c.unwrap-named.ensures in
-    let to =
-    ap (λ id. exchanged id.count c.unwrap-goes_to.result) (sym c.requires.one_filesystem) ∙ goes_to in
-    let object =
-    ap (λ id. exchanged id.count c.unwrap-named.result) (sym c.requires.of_object) ∙ named in
-    on_ok_weaker c.rename.result
-    (changes c.args.self.now f c.rename.new.self c.unwrap-tree.result.now standing
+    let to = ap (λ id. exchanged id.count c.unwrap-goes_to.result) (sym c.requires.one_filesystem) ∙ goes_to in
+    let object = ap (λ id. exchanged id.count c.unwrap-named.result) (sym c.requires.of_object) ∙ named in
+    on_ok_weaker c.rename.result (changes c.args.self.now f c.rename.new.self c.unwrap-tree.result.now standing
     (Move c.unwrap-was_in.result c.args.old.now c.unwrap-goes_to.result c.args.new.items c.unwrap-named.result) _
-    (λ i. Move (was_in i) c.args.old.now (to i) c.args.new.items (object i)))
-    c.rename.ensures.ok
+    (λ i. Move (was_in i) c.args.old.now (to i) c.args.new.items (object i))) c.rename.ensures.ok
 
 pub returns-clause-new_name : goal.returns-clause-new_name
 returns-clause-new_name c =
@@ -127,12 +117,10 @@ returns-clause-new_name c =
     c.unwrap-tree.ensures in
     let goes_to = slot_there c.args.to.filesystem.count (number_of c.args.to) c.slot_of-2.result
     c.unwrap-goes_to.result c.slot_of-2.ensures.number c.unwrap-goes_to.ensures in
-    let to =
-    ap (λ id. exchanged id.count c.unwrap-goes_to.result) (sym c.requires.one_filesystem) ∙ goes_to in
+    let to = ap (λ id. exchanged id.count c.unwrap-goes_to.result) (sym c.requires.one_filesystem) ∙ goes_to in
     on_err_weaker c.rename.result
     (λ free. entry_there c.args.self.now f c.unwrap-tree.result.now standing.found c.unwrap-goes_to.result _ c.args.new.items to
-    ∙ ap (option_map (exchanged f)) free)
-    c.rename.ensures.new_name
+    ∙ ap (option_map (exchanged f)) free) c.rename.ensures.new_name
 
 pub returns-clause-err : goal.returns-clause-err
 returns-clause-err c =

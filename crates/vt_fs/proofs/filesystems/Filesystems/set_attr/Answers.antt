@@ -10,12 +10,10 @@ returns-in-Some-get_mut c =
     let f = c.args.object.filesystem.count in
     let standing = standing_of c.args.self.now f c.get_mut.result c.in-Some-get_mut.tree c.get_mut.ensures.value c.get_mut.ensures.apart c.in-Some-get_mut.is in
     changes c.args.self.now f c.set_attr.new.self c.in-Some-get_mut.tree.now standing
-    (SetAttr c.in-Some.slot c.args.attr) _
-    (ap (λ n. SetAttr n c.args.attr) c.in-Some.ensures.number) c.set_attr.ensures
+    (SetAttr c.in-Some.slot c.args.attr) _ (ap (λ n. SetAttr n c.args.attr) c.in-Some.ensures.number) c.set_attr.ensures
 
 pub returns-in_default-get_mut : goal.returns-in_default-get_mut
-returns-in_default-get_mut c =
-    nothing_changes c.args.object.filesystem.count _ c.args.self.now _ refl
+returns-in_default-get_mut c = nothing_changes c.args.object.filesystem.count _ c.args.self.now _ refl
     (sym c.get_mut.ensures.value ∙ ap option_copied_mut c.in_default-get_mut.is)
 
 pub returns-in_default : goal.returns-in_default

@@ -15,8 +15,7 @@ returns-in-Some-get_mut c =
     (ap (λ n. SetMark n c.args.opaque) c.in-Some.ensures.number) c.set_opaque.ensures
 
 pub returns-in_default-get_mut : goal.returns-in_default-get_mut
-returns-in_default-get_mut c =
-    nothing_changes c.args.directory.filesystem.count _ c.args.self.now _ refl
+returns-in_default-get_mut c = nothing_changes c.args.directory.filesystem.count _ c.args.self.now _ refl
     (sym c.get_mut.ensures.value ∙ ap option_copied_mut c.in_default-get_mut.is)
 
 pub returns-in_default : goal.returns-in_default

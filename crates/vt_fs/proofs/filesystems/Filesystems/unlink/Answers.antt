@@ -35,8 +35,7 @@ unlink-requires-clause-named c =
     c.slot_of.ensures.number c.unwrap-parent.ensures in
     let named_slot = slot_there c.args.object.filesystem.count (number_of c.args.object) c.slot_of-2.result
     c.unwrap-named.result c.slot_of-2.ensures.number c.unwrap-named.ensures in
-    let object =
-    ap (λ id. exchanged id.count c.unwrap-named.result) (sym c.requires.one_filesystem) ∙ named_slot in
+    let object = ap (λ id. exchanged id.count c.unwrap-named.result) (sym c.requires.one_filesystem) ∙ named_slot in
     slot_named c.args.self.now f c.unwrap-tree.result.now standing.found c.unwrap-parent.result _ c.args.name.now
     c.unwrap-named.result _ parent object c.requires.named
 
@@ -50,8 +49,7 @@ unlink-requires-clause-empty c =
     c.slot_of.ensures.number c.unwrap-parent.ensures in
     let named_slot = slot_there c.args.object.filesystem.count (number_of c.args.object) c.slot_of-2.result
     c.unwrap-named.result c.slot_of-2.ensures.number c.unwrap-named.ensures in
-    let object =
-    ap (λ id. exchanged id.count c.unwrap-named.result) (sym c.requires.one_filesystem) ∙ named_slot in
+    let object = ap (λ id. exchanged id.count c.unwrap-named.result) (sym c.requires.one_filesystem) ∙ named_slot in
     empty_there c.args.self.now f c.unwrap-tree.result.now standing.found c.unwrap-named.result _ object c.requires.empty
 
 pub returns : goal.returns
@@ -64,9 +62,7 @@ returns c =
     c.slot_of.ensures.number c.unwrap-parent.ensures in
     let named_slot = slot_there c.args.object.filesystem.count (number_of c.args.object) c.slot_of-2.result
     c.unwrap-named.result c.slot_of-2.ensures.number c.unwrap-named.ensures in
-    let object =
-    ap (λ id. exchanged id.count c.unwrap-named.result) (sym c.requires.one_filesystem) ∙ named_slot in
+    let object = ap (λ id. exchanged id.count c.unwrap-named.result) (sym c.requires.one_filesystem) ∙ named_slot in
     changes c.args.self.now f c.unlink.new.self c.unwrap-tree.result.now standing
     (Remove c.unwrap-parent.result c.args.name.now c.unwrap-named.result) _
-    (λ i. Remove (parent i) c.args.name.now (object i))
-    c.unlink.ensures
+    (λ i. Remove (parent i) c.args.name.now (object i)) c.unlink.ensures

@@ -11,8 +11,7 @@ returns-in-Some-get_mut c =
     unpins c.args.self.now f c.unpin.new.self c.in-Some-get_mut.tree.now standing c.in-Some.slot _ c.in-Some.ensures.number c.unpin.ensures
 
 pub returns-in_default-get_mut : goal.returns-in_default-get_mut
-returns-in_default-get_mut c =
-    nothing_changes c.args.object.filesystem.count _ c.args.self.now _ refl
+returns-in_default-get_mut c = nothing_changes c.args.object.filesystem.count _ c.args.self.now _ refl
     (sym c.get_mut.ensures.value ∙ ap option_copied_mut c.in_default-get_mut.is)
 
 pub returns-in_default : goal.returns-in_default

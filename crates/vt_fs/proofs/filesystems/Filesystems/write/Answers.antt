@@ -17,13 +17,11 @@ returns-in-Some-get_mut c =
     let f = c.args.file.filesystem.count in
     let standing = standing_of c.args.self.now f c.get_mut.result c.in-Some-get_mut.tree c.get_mut.ensures.value c.get_mut.ensures.apart c.in-Some-get_mut.is in
     changes c.args.self.now f c.write.new.self c.in-Some-get_mut.tree.now standing
-    (SetBytes c.in-Some.slot c.args.bytes.items) _
-    (λ i. SetBytes (c.in-Some.ensures.number i) c.args.bytes.items)
+    (SetBytes c.in-Some.slot c.args.bytes.items) _ (λ i. SetBytes (c.in-Some.ensures.number i) c.args.bytes.items)
     c.write.ensures
 
 pub returns-in_default-get_mut : goal.returns-in_default-get_mut
-returns-in_default-get_mut c =
-    nothing_changes c.args.file.filesystem.count _ c.args.self.now _ refl
+returns-in_default-get_mut c = nothing_changes c.args.file.filesystem.count _ c.args.self.now _ refl
     (sym c.get_mut.ensures.value ∙ ap option_copied_mut c.in_default-get_mut.is)
 
 pub returns-in_default : goal.returns-in_default

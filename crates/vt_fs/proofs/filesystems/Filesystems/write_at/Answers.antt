@@ -24,8 +24,7 @@ returns-in-Some-get_mut-clause-ok c =
     let standing = standing_of c.args.self.now f c.get_mut.result c.in-Some-get_mut.tree c.get_mut.ensures.value c.get_mut.ensures.apart c.in-Some-get_mut.is in
     let bytes = plain_there c.args.self.now f c.in-Some-get_mut.tree.now standing.found (List ℕ)
     (λ A node. bytes_in node) c.in-Some.slot _ c.in-Some.ensures.number in
-    on_ok_weaker c.write_at.result
-    (changes c.args.self.now f c.write_at.new.self c.in-Some-get_mut.tree.now standing
+    on_ok_weaker c.write_at.result (changes c.args.self.now f c.write_at.new.self c.in-Some-get_mut.tree.now standing
     (SetBytes c.in-Some.slot (overwritten c.args.offset c.args.bytes.now
     (bytes_in ((tree_of c.in-Some-get_mut.tree.now).node c.in-Some.slot)))) _
     (λ i. SetBytes (c.in-Some.ensures.number i) (overwritten c.args.offset c.args.bytes.now (sym bytes i))))
@@ -35,21 +34,17 @@ pub returns-in-Some-get_mut-clause-file : goal.returns-in-Some-get_mut-clause-fi
 returns-in-Some-get_mut-clause-file c =
     let f = c.args.file.filesystem.count in
     let standing = standing_of c.args.self.now f c.get_mut.result c.in-Some-get_mut.tree c.get_mut.ensures.value c.get_mut.ensures.apart c.in-Some-get_mut.is in
-    on_err_weaker c.write_at.result
-    (subst (λ (is : Bool). IsTrue is)
+    on_err_weaker c.write_at.result (subst (λ (is : Bool). IsTrue is)
     (sym (plain_there c.args.self.now f c.in-Some-get_mut.tree.now standing.found Bool
-    (λ A node. is_kind_in File node) c.in-Some.slot _ c.in-Some.ensures.number)))
-    c.write_at.ensures.file
+    (λ A node. is_kind_in File node) c.in-Some.slot _ c.in-Some.ensures.number))) c.write_at.ensures.file
 
 pub returns-in-Some-get_mut-clause-longer : goal.returns-in-Some-get_mut-clause-longer
 returns-in-Some-get_mut-clause-longer c =
     let f = c.args.file.filesystem.count in
     let standing = standing_of c.args.self.now f c.get_mut.result c.in-Some-get_mut.tree c.get_mut.ensures.value c.get_mut.ensures.apart c.in-Some-get_mut.is in
-    on_err_weaker c.write_at.result
-    (subst (λ (bytes : List ℕ). length bytes < c.args.offset + length c.args.bytes.now)
+    on_err_weaker c.write_at.result (subst (λ (bytes : List ℕ). length bytes < c.args.offset + length c.args.bytes.now)
     (sym (plain_there c.args.self.now f c.in-Some-get_mut.tree.now standing.found (List ℕ)
-    (λ A node. bytes_in node) c.in-Some.slot _ c.in-Some.ensures.number)))
-    c.write_at.ensures.longer
+    (λ A node. bytes_in node) c.in-Some.slot _ c.in-Some.ensures.number))) c.write_at.ensures.longer
 
 pub returns-in-Some-get_mut-clause-err : goal.returns-in-Some-get_mut-clause-err
 returns-in-Some-get_mut-clause-err c =
@@ -59,8 +54,7 @@ returns-in-Some-get_mut-clause-err c =
     (kept c.args.self.now f c.write_at.new.self c.in-Some-get_mut.tree.now standing) c.write_at.ensures.err
 
 pub returns-in-None-clause-ok : goal.returns-in-None-clause-ok
-returns-in-None-clause-ok c =
-    nothing_changes c.args.file.filesystem.count _ c.args.self.now _ refl
+returns-in-None-clause-ok c = nothing_changes c.args.file.filesystem.count _ c.args.self.now _ refl
     (sym c.get_mut.ensures.value ∙ ap option_copied_mut c.in-None.is)
 
 pub returns-in_default-clause-ok : goal.returns-in_default-clause-ok

@@ -11,15 +11,13 @@ pub returns-clause-entries : goal.returns-clause-entries
 returns-clause-entries g c =
     values_removed c.args.number c.self.inside.places.entries (c.get_mut.follows.lender None).entries (Some None)
     ((c.get_mut.follows.holds None).3 (ap is_some (sym c.get_mut.ensures.value ∙ ap option_copied_mut c.in-Some.is))).0
-    refl
-    ∙ ap (λ map. remove_entry (is_at (nat_cmp c.args.number)) map.entries) c.self.view_is
+    refl ∙ ap (λ map. remove_entry (is_at (nat_cmp c.args.number)) map.entries) c.self.view_is
 
 pub returns-clause-updates : goal.returns-clause-updates
 returns-clause-updates g c other =
     values_updated c.args.number c.self.inside.places.entries (c.get_mut.follows.lender None).entries (Some None)
     ((c.get_mut.follows.holds None).3 (ap is_some (sym c.get_mut.ensures.value ∙ ap option_copied_mut c.in-Some.is))).0
-    other
-    ∙ ap (λ map. cond (is_at (nat_cmp c.args.number) other) None (value_at map other)) c.self.view_is
+    other ∙ ap (λ map. cond (is_at (nat_cmp c.args.number) other) None (value_at map other)) c.self.view_is
 
 pub returns-clause-kept : goal.returns-clause-kept
 returns-clause-kept g c other room =
@@ -33,8 +31,7 @@ returns-clause-ordered g c = values_ascend (c.get_mut.follows.lender None).entri
 -- nothing is there
 
 pub returns-in_default-clause-entries : goal.returns-in_default-clause-entries
-returns-in_default-clause-entries g c =
-    ap (λ map. values_of map.entries) c.get_mut.follows.holds-at-none
+returns-in_default-clause-entries g c = ap (λ map. values_of map.entries) c.get_mut.follows.holds-at-none
     ∙ none_removed c.args.number c.self.inside.places.entries
     (ap option_flatten (sym c.get_mut.ensures.value ∙ ap option_copied_mut c.in_default.is))
     ∙ ap (λ map. remove_entry (is_at (nat_cmp c.args.number)) map.entries) c.self.view_is
@@ -52,5 +49,4 @@ returns-in_default-clause-ordered g c = values_ascend c.get_mut.follows.lender-a
 pub returns-in_default-clause-kept : goal.returns-in_default-clause-kept
 returns-in_default-clause-kept g c other room =
     ap (λ map. has_room (record { entries = values_of map.entries; room = keys_of map.entries }) other)
-    c.get_mut.follows.holds-at-none
-    ∙ ap (λ map. has_room map other) c.self.view_is ∙ room
+    c.get_mut.follows.holds-at-none ∙ ap (λ map. has_room map other) c.self.view_is ∙ room

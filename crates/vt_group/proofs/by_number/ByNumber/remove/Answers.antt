@@ -8,8 +8,7 @@ use Rattle.vt_group.proofs.Reserving.{value_found, values_ascend, values_removed
 use Rattle.vt_group.proofs.by_number.ByNumber.remove.Goals as goal
 
 pub returns-clause-value : goal.returns-clause-value
-returns-clause-value g c =
-    c.flatten.ensures ∙ ap option_flatten c.swap_remove.ensures.value
+returns-clause-value g c = c.flatten.ensures ∙ ap option_flatten c.swap_remove.ensures.value
     ∙ sym (value_found c.args.number c.self.inside.places.entries)
     ∙ ap (λ map. value_at map c.args.number) c.self.view_is
 

@@ -16,8 +16,7 @@ returns-in_default-clause-kept g c other room =
 pub returns-in_default-clause-entries : goal.returns-in_default-clause-entries
 returns-in_default-clause-entries g c =
     values_kept c.args.number c.self.inside.places.entries c.insert.new.self.entries (Some None)
-    c.in_ok-was.ensures.updates.0
-    (sym c.in_default.is ∙ c.flatten.ensures ∙ ap option_flatten c.in_ok-was.ensures.old)
+    c.in_ok-was.ensures.updates.0 (sym c.in_default.is ∙ c.flatten.ensures ∙ ap option_flatten c.in_ok-was.ensures.old)
     ∙ ap (λ map. map.entries) c.self.view_is
 
 -- a value that was there is put back
@@ -35,8 +34,7 @@ returns-clause-kept g c other room =
     room_stays c.args.number c.self.inside.places.entries c.insert-2.new.self.entries (Some (Some c.in-Some.value))
     (λ q. c.in_ok-insert.ensures.updates.0 q
     ∙ ap (cond (nat_eq c.args.number q) (Some (Some c.in-Some.value))) (c.in_ok-was.ensures.updates.0 q)
-    ∙ written_again (nat_eq c.args.number q) _ _ _)
-    refl other (ap (λ map. has_room map other) c.self.view_is ∙ room)
+    ∙ written_again (nat_eq c.args.number q) _ _ _) refl other (ap (λ map. has_room map other) c.self.view_is ∙ room)
 
 pub returns-clause-entries : goal.returns-clause-entries
 returns-clause-entries g c =

@@ -7,8 +7,7 @@ use Rattle.vt_group.proofs.Reserving.{room_found, room_stays, value_found, value
 use Rattle.vt_group.proofs.by_number.ByNumber.set.Goals as goal
 
 pub returns-clause-value : goal.returns-clause-value
-returns-clause-value g c =
-    ap option_flatten (sym (ap option_copied_mut c.in-Some.is) ∙ c.get_mut.ensures.value)
+returns-clause-value g c = ap option_flatten (sym (ap option_copied_mut c.in-Some.is) ∙ c.get_mut.ensures.value)
     ∙ sym (value_found c.args.number c.self.inside.places.entries)
     ∙ ap (λ map. value_at map c.args.number) c.self.view_is
 

@@ -14,8 +14,7 @@ returns-clause-counts c other =
     omega (arith, was, c.requires.most, c.min.ensures, c.saturating_add.ensures) in
     count_updated c.self.inside.counts.entries (c.get_mut.follows.lender c.min.result).entries c.args.group
     (Some c.min.result) ((c.get_mut.follows.holds c.min.result).3 (ap is_some found)).0 other
-    ∙ (λ i. cond (same_group c.args.group other) (now i)
-    (count_of (c.self.view_is i) other))
+    ∙ (λ i. cond (same_group c.args.group other) (now i) (count_of (c.self.view_is i) other))
 
 pub returns-clause-kept : goal.returns-clause-kept
 returns-clause-kept c other there =

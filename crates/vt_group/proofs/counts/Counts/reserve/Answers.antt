@@ -21,8 +21,7 @@ returns-clause-kept c other there =
     c.in_ok-insert.ensures.updates.0 refl other (ap (λ counts. counts_group counts other) c.self.view_is ∙ there)
 
 pub returns-clause-same : goal.returns-clause-same
-returns-clause-same c other =
-    count_kept c.self.inside.counts.entries c.insert.new.self.entries c.args.group (Some 0)
+returns-clause-same c other = count_kept c.self.inside.counts.entries c.insert.new.self.entries c.args.group (Some 0)
     c.in_ok-insert.ensures.updates.0
     (sym (ap (λ o. unwrap_or o 0) (none_from_not_some (lookup (same_group c.args.group) c.self.inside.counts.entries)
     (sym c.contains_key.ensures ∙ c.if-contains_key.false)))) other

@@ -19,8 +19,7 @@ returns-clause-ok c world after has grows =
     let inside = c.self.inside in
     let peers = c.set_all.ensures.types
     ∙ ap (λ es. folded with_type_of (map numbered_peer es) (map typed_pair c.as_slice-types.result.now))
-    c.reserve_all.ensures.types
-    ∙ ap (folded with_type_of (map numbered_peer inside.mounts.kinds.entries))
+    c.reserve_all.ensures.types ∙ ap (folded with_type_of (map numbered_peer inside.mounts.kinds.entries))
     (ap (map typed_pair) c.as_slice-types.ensures.value ∙ c.in_ok-types.ensures) in
     let masters = c.set_all.ensures.masters
     ∙ ap (λ es. folded with_master_of (map numbered_master es) (map new_group c.args.new.now))

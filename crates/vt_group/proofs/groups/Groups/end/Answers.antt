@@ -64,8 +64,7 @@ returns-clause-ended c =
           (λ same. c.lowers.ensures (group_at count)
           (ap (is_lower c.self.inside.index (group_at count)) (same_id master lost same)
           ∙ lists.lower count master at)) apart)))) i;
-    })
-    ∙ (λ i. record {
+    }) ∙ (λ i. record {
       peers = filter_map (handed_peer number (told i)) (view i).peers;
       masters = filter_map (handed_entry number (told i)) (view i).masters;
     })
@@ -88,8 +87,7 @@ returns-clause-masters c other =
     ∙ c.self.view_is in
     let groups = c.args.self.now in
     let number = counted c.args.group.count in
-    ap (λ now. master_in now other) (returns-clause-ended c)
-    ∙ lookup-changed
+    ap (λ now. master_in now other) (returns-clause-ended c) ∙ lookup-changed
     (λ group master. if nat_eq group number then None else handed number (master_in groups number) master) groups.masters
     (ap (λ old. are_rising (keys old.masters)) (sym view)
     ∙ rising_numbers group_number c.self.inside.above.entries lists.ordered_above) other
@@ -113,8 +111,7 @@ invariant_of-self c =
           (value_at c.hand_mounts.new.types.kinds mount) _ kind (c.hand_mounts.ensures.each mount)
           (λ kind at apart. unhanded_kind lost heir kind (held_not (has_source lost kind) _
           (λ source. c.relatives.ensures (mount_at mount)
-          (relative_of_source index (mount_at mount) kind lost source (lists.listed mount kind at)))
-          apart)) at in
+          (relative_of_source index (mount_at mount) kind lost source (lists.listed mount kind at))) apart)) at in
           let seen = shown-type mount c.forget.new.self.kinds.entries (map numbered_master c.self.inside.above.entries) old
           view (Some was.0) (sym was.1) in
           c.end.ensures.kept.mounts (mount_at mount) was.0 kind above
@@ -128,8 +125,7 @@ invariant_of-self c =
           let was = was_handed (group_handed lost heir) (value_at c.self.inside.above lower)
           (value_at c.hand_groups.new.above lower) _ upper (c.hand_groups.ensures.each lower)
           (λ master at apart. unhanded_group lost heir master (held_not (same_group master lost) _
-          (λ same. c.lowers.ensures (group_at lower)
-          (ap (is_lower index (group_at lower)) (same_id master lost same)
+          (λ same. c.lowers.ensures (group_at lower) (ap (is_lower index (group_at lower)) (same_id master lost same)
           ∙ lists.lower lower master at)) apart)) mid.0 in
           c.end.ensures.kept.groups (group_at lower) was.0 upper above (sym (at_nat lost.count lower) ∙ mid.1)
           (ap is_some at) was.2 (lists.lower lower was.0 was.1);

@@ -29,10 +29,8 @@ pub has_others-requires : goal.has_others-requires
 has_others-requires c =
     let count = c.args.mount.count in
     let group = c.in_ok-group.group in
-    ap (λ found. then_some found group_of_kind)
-    (kept_shared c.self.inside.mounts.kinds.entries count group
-    (ap (λ groups. propagation_in groups (counted count)) c.self.view_is
-    ∙ sym c.in_ok-propagation_of.ensures
+    ap (λ found. then_some found group_of_kind) (kept_shared c.self.inside.mounts.kinds.entries count group
+    (ap (λ groups. propagation_in groups (counted count)) c.self.view_is ∙ sym c.in_ok-propagation_of.ensures
     ∙ ap propagation_of (own_kind c.in_ok-propagation_of.field-0 group c.in_ok-group.ensures.kept)))
 
 pub returns-then-has_others : goal.returns-then-has_others
@@ -42,8 +40,7 @@ returns-then-has_others c =
     let es = c.self.inside.mounts.kinds.entries in
     lone_told c.args.self.now (counted count) (group_number group)
     (ap group_of (sym c.in_ok-propagation_of.ensures) ∙ sym c.in_ok-group.ensures.number) true
-    (sym c.if-has_others.true ∙ c.has_others.ensures
-    ∙ any_numbered group (remove_entry (is_at (nat_cmp count)) es)
+    (sym c.if-has_others.true ∙ c.has_others.ensures ∙ any_numbered group (remove_entry (is_at (nat_cmp count)) es)
     ∙ ap (list_any (is_member (group_number group))) (removed-numbered propagation_of count es)
     ∙ ap (λ groups. list_any (is_member (group_number group)) (remove_entry (nat_eq (counted count)) groups.peers))
     c.self.view_is)
@@ -55,8 +52,7 @@ returns c =
     let es = c.self.inside.mounts.kinds.entries in
     lone_told c.args.self.now (counted count) (group_number group)
     (ap group_of (sym c.in_ok-propagation_of.ensures) ∙ sym c.in_ok-group.ensures.number) false
-    (sym c.if-has_others.false ∙ c.has_others.ensures
-    ∙ any_numbered group (remove_entry (is_at (nat_cmp count)) es)
+    (sym c.if-has_others.false ∙ c.has_others.ensures ∙ any_numbered group (remove_entry (is_at (nat_cmp count)) es)
     ∙ ap (list_any (is_member (group_number group))) (removed-numbered propagation_of count es)
     ∙ ap (λ groups. list_any (is_member (group_number group)) (remove_entry (nat_eq (counted count)) groups.peers))
     c.self.view_is)

@@ -42,16 +42,14 @@ returns-clause-types c other =
     c.end_if_lost.ensures.types other
     ∙ (λ i. let now : Grouping = record { peers = removed i; masters = (c.self.view_is i).masters } in
     type_once_ended now (lost_group now (group_of (old i))) (propagation_in now other))
-    ∙ types-left c.args.self.now (counted count)
-    (ap (λ groups. are_rising (keys groups.peers)) (sym c.self.view_is)
+    ∙ types-left c.args.self.now (counted count) (ap (λ groups. are_rising (keys groups.peers)) (sym c.self.view_is)
     ∙ rising_numbers propagation_of c.self.inside.mounts.kinds.entries c.self.invariant.ordered) other
 
 pub invariant_of-self : goal.invariant_of-self
 invariant_of-self c = record {
   listed = left_each (λ mount kind. is_listed c.leave.new.self (mount_at mount) kind ≡ true)
       (value_at c.self.inside.mounts.kinds) (value_at c.remove-old.new.self.kinds) c.args.mount.count
-      c.remove-old.ensures.updates
-      (λ mount kind apart at. c.leave.ensures.others (mount_at mount) kind apart
+      c.remove-old.ensures.updates (λ mount kind apart at. c.leave.ensures.others (mount_at mount) kind apart
       (c.self.invariant.listed mount kind at));
   lower = λ lower upper at. c.leave.ensures.lower (group_at lower) upper (c.self.invariant.lower lower upper at);
   ordered = c.remove-old.ensures.ordered;

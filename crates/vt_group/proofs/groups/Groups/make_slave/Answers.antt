@@ -8,11 +8,8 @@ use Rattle.vt_group.proofs.groups.Groups.make_slave.Goals as goal
 use Rattle.vt_spec.proofs.Options.{OnOk_then}
 
 pub returns-clause-ok : goal.returns-clause-ok
-returns-clause-ok c =
-    OnOk_then c.set.result
-    (λ new world has live is.
+returns-clause-ok c = OnOk_then c.set.result (λ new world has live is.
     subst (Has (regrouped nat_eq (with_propagation world (counted c.args.mount.count)
     (Slave (counted c.args.master.count))))) (sym new)
     (slave_regroups world c.args.self.now has live (counted c.args.mount.count)
-    (counted c.args.master.count) is.0 is.1))
-    c.set.ensures.ok
+    (counted c.args.master.count) is.0 is.1)) c.set.ensures.ok

@@ -22,10 +22,8 @@ returns c =
         reaches = λ one is. subst (Reaches groups group) (eqb-true group one is) (reaches_first groups group);
       },
       receivers_noted found c.self.inside.mounts.kinds.entries c.put_in_order.new.mounts.items
-          c.self.invariant.ordered c.put_in_order.ensures.ordered
-          (λ count.
-          c.put_in_order.ensures.same count
-          ∙ c.in_ok-add_relatives.ensures count
+          c.self.invariant.ordered c.put_in_order.ensures.ordered (λ count.
+          c.put_in_order.ensures.same count ∙ c.in_ok-add_relatives.ensures count
           ∙ ap (λ list. receives_from groups found (counted count) || is_noted list count) c.in_ok-mounts.ensures.items
           ∙ or_none (receives_from groups found (counted count))
           ∙ ap (λ groups. receives_from groups found (counted count)) (sym c.self.view_is))

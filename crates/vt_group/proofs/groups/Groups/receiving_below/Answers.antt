@@ -40,8 +40,7 @@ loop-next-preserved c =
       reaches = reaches_more groups group keys new next here there taken longer below known.reaches;
       lower = lower_more groups group keys new next here there taken longer below c.in_ok-add_lowers.ensures.all
           known.lower;
-      each = λ mount.
-          c.in_ok-add_relatives.ensures mount
+      each = λ mount. c.in_ok-add_relatives.ensures mount
           ∙ ap (λ b. receives_from groups (nat_eq (group_number here)) (counted mount) || b) (known.each mount)
           ∙ each_more groups group keys new next here there taken longer below
           (source_of (propagation_in groups (counted mount)));
@@ -61,8 +60,7 @@ returns c =
         reaches = known.reaches;
       },
       receivers_noted found c.self.inside.mounts.kinds.entries c.put_in_order.new.mounts.items
-          c.self.invariant.ordered c.put_in_order.ensures.ordered
-          (λ count.
+          c.self.invariant.ordered c.put_in_order.ensures.ordered (λ count.
           c.put_in_order.ensures.same count ∙ known.each count
           ∙ ap (λ list. receives_from groups (is_in list) (counted count)) all
           ∙ ap (λ groups. receives_from groups found (counted count)) (sym c.self.view_is))

@@ -17,7 +17,6 @@ returns c mount sourced =
     ∙ sourced_found group (lookup (nat_eq mount) c.args.self.now.peers) sourced) in
     let source = ap source_of (sym at.3 ∙ ap (λ groups. propagation_in groups mount) c.self.view_is) ∙ sourced in
     subst (λ number. is_among nat_eq number (map (λ id. counted id.count) c.relatives.result) ≡ true) (sym at.2)
-    (listed_among at.0 c.relatives.result
-    (c.relatives.ensures (mount_at at.0)
+    (listed_among at.0 c.relatives.result (c.relatives.ensures (mount_at at.0)
     (relative_of_source c.self.inside.index (mount_at at.0) at.1 c.args.group (source_has c.args.group at.1 source)
     (c.self.invariant.listed at.0 at.1 at.4))))

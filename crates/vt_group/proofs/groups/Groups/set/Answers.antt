@@ -49,10 +49,8 @@ invariant_of-self-2 c = record {
       (value_at c.self.inside.mounts.kinds) (value_at c.set.new.self.kinds) c.args.mount.count c.args.kind
       (λ other. c.set.ensures.updates other
       ∙ ap (λ es. cond (is_at (nat_cmp c.args.mount.count) other) (Some c.args.kind)
-      (lookup (is_at (nat_cmp other)) es)) c.in_ok-reserve.ensures.entries)
-      (c.leave.ensures.own c.args.kind refl
-      c.in_ok-list.ensures.ok)
-      (λ mount kind apart at. c.leave.ensures.others (mount_at mount) kind apart
+      (lookup (is_at (nat_cmp other)) es)) c.in_ok-reserve.ensures.entries) (c.leave.ensures.own c.args.kind refl
+      c.in_ok-list.ensures.ok) (λ mount kind apart at. c.leave.ensures.others (mount_at mount) kind apart
       (c.in_ok-list.ensures.kept (mount_at mount) kind (c.self.invariant.listed mount kind at)));
   lower = λ lower upper at. c.leave.ensures.lower (group_at lower) upper
       (c.in_ok-list.ensures.lower (group_at lower) upper (c.self.invariant.lower lower upper at));
@@ -61,5 +59,4 @@ invariant_of-self-2 c = record {
 }
 
 pub set-requires : goal.set-requires
-set-requires c =
-    c.in_ok-reserve.ensures.room
+set-requires c = c.in_ok-reserve.ensures.room

@@ -41,8 +41,7 @@ returns-clause-types c other =
     type_once_ended now (lost_group now (group_of (sym c.requires i))) (propagation_in now other))
     ∙ types-slave c.args.self.now (counted count) (group_number c.args.group)
     (ap (λ groups. are_rising (keys groups.peers)) (sym c.self.view_is)
-    ∙ rising_numbers propagation_of es c.self.invariant.ordered)
-    c.requires other
+    ∙ rising_numbers propagation_of es c.self.invariant.ordered) c.requires other
 
 pub invariant_of-self : goal.invariant_of-self
 invariant_of-self c =
@@ -53,8 +52,7 @@ invariant_of-self c =
     record {
       listed = put_each (λ mount kind. is_listed c.leave.new.self (mount_at mount) kind ≡ true)
           (value_at c.self.inside.mounts.kinds) (value_at c.set.new.self.kinds) count (Slave c.args.group) c.set.ensures.updates
-          (c.leave.ensures.own (Slave c.args.group) refl
-          (c.self.invariant.listed count (Shared c.args.group) found))
+          (c.leave.ensures.own (Slave c.args.group) refl (c.self.invariant.listed count (Shared c.args.group) found))
           (λ mount kind apart at. c.leave.ensures.others (mount_at mount) kind apart
           (c.self.invariant.listed mount kind at));
       lower = λ lower upper at. c.leave.ensures.lower (group_at lower) upper (c.self.invariant.lower lower upper at);

@@ -22,13 +22,11 @@ returns-clause-ok c world group named has live there same lacks =
     let inside = c.self.inside in
     let peers = c.set_all.ensures.types
     ∙ ap (λ es. folded with_type_of (map numbered_peer es) (map typed_pair c.as_slice-types.result.now))
-    c.reserve_all.ensures.types
-    ∙ ap (folded with_type_of (map numbered_peer inside.mounts.kinds.entries))
+    c.reserve_all.ensures.types ∙ ap (folded with_type_of (map numbered_peer inside.mounts.kinds.entries))
     (ap (map typed_pair) c.as_slice-types.ensures.value ∙ c.in_ok-types.ensures) in
     let masters = c.set_all.ensures.masters
     ∙ ap (λ es. folded with_master_of (map numbered_master es) (map new_group c.as_slice-new.result.now))
-    c.reserve_all.ensures.masters
-    ∙ ap (folded with_master_of (map numbered_master inside.above.entries))
+    c.reserve_all.ensures.masters ∙ ap (folded with_master_of (map numbered_master inside.above.entries))
     (ap (map new_group) c.as_slice-new.ensures.value ∙ c.in_ok-new.ensures) in
     subst (Has (retyped nat_eq world group ToShared named)) (sym ((λ i. record { peers = peers i; masters = masters i })
     ∙ ap (λ groups. all_added groups (map (λ pair. shared_type c.args.self.now (pair_of pair)) c.args.named.now)
@@ -53,8 +51,7 @@ invariant_of-self-2 c =
     ∙ ap (folded with_type_of old_peers) (ap (map typed_pair) c.as_slice-types.ensures.value ∙ c.in_ok-types.ensures) in
     let masters = c.set_all.ensures.masters
     ∙ ap (λ es. folded with_master_of (map numbered_master es) (map new_group c.as_slice-new.result.now))
-    c.reserve_all.ensures.masters
-    ∙ ap (folded with_master_of old_masters)
+    c.reserve_all.ensures.masters ∙ ap (folded with_master_of old_masters)
     (ap (map new_group) c.as_slice-new.ensures.value ∙ c.in_ok-new.ensures) in
     let listed = all_shared_listed groups inside.mounts.kinds told index named old_peers each
     (found_listed inside.index index inside.mounts.kinds inside.above c.self.invariant c.share.ensures.kept) in

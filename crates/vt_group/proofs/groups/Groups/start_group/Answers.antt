@@ -31,26 +31,20 @@ has_master world groups group (Some master) has none is some =
     true≢false (ap is_some (is ∙ has.masters group ∙ ap (λ b. cond b (world.master group) None) none))
 
 pub returns-in_default-clause-ok : goal.returns-in_default-clause-ok
-returns-in_default-clause-ok c =
-    OnOk_then c.set.result
-    (λ new world has live is.
+returns-in_default-clause-ok c = OnOk_then c.set.result (λ new world has live is.
     let group = counted c.args.group.count in
     let number = counted c.args.mount.count in
     subst (λ (above : Option ℕ). Has
     (regrouped nat_eq (below (with_propagation world number (Shared group)) group above)) c.set.new.self)
     (sym (ap (option_map group_number) c.in_default.is))
     (subst (Has (regrouped nat_eq (below (with_propagation world number (Shared group)) group None))) (sym new)
-    (start_alone world c.args.self.now has live number group is.0 is.1)))
-    c.set.ensures.ok
+    (start_alone world c.args.self.now has live number group is.0 is.1))) c.set.ensures.ok
 
 pub returns-then-is_some-clause-ok : goal.returns-then-is_some-clause-ok
-returns-then-is_some-clause-ok c =
-    OnOk_then c.set-then-is_some.result
-    (λ new world has live is.
+returns-then-is_some-clause-ok c = OnOk_then c.set-then-is_some.result (λ new world has live is.
     absurd (has_master world c.args.self.now
     (counted c.args.group.count) c.master_of.result has is.1 c.master_of.ensures
-    (sym c.is_some.ensures ∙ c.if-is_some.true)))
-    c.set-then-is_some.ensures.ok
+    (sym c.is_some.ensures ∙ c.if-is_some.true))) c.set-then-is_some.ensures.ok
 
 pub returns-clause-ok : goal.returns-clause-ok
 returns-clause-ok c world has live is =
@@ -73,8 +67,7 @@ returns-clause-ok c world has live is =
     let is_some = ap (option_map group_number) c.in-Some.is in
     let lives : HasGroup world (group_number c.in-Some.master) = subst
     (λ (above : Option ℕ). IfSome above (HasGroup world)) is_some is.2 in
-    subst (λ (above : Option ℕ). Has
-    (regrouped nat_eq (below (with_propagation world (counted count)
+    subst (λ (above : Option ℕ). Has (regrouped nat_eq (below (with_propagation world (counted count)
     (Shared group)) group above)) c.end_if_lost.new.self) (sym is_some)
     (subst (Has (regrouped nat_eq (below (with_propagation world (counted count) (Shared group)) group
     (Some (group_number c.in-Some.master))))) (sym new)

@@ -12,8 +12,7 @@ returns-clause-kept c mount kind typed apart =
       mounts = c.keep_under.new.mounts;
       lowers = c.keep_under.new.lowers;
     } in
-    listed_still old new mount kind
-    (λ group source under.
+    listed_still old new mount kind (λ group source under.
     c.forget.ensures.kept group (λ name. has same_id name mount new.mounts)
     (apart_source c.args.lost group kind apart source)
     (any_still (λ name. has same_id name mount old.mounts) (λ name. has same_id name mount new.mounts)

@@ -8,8 +8,7 @@ pub loop-group-preserved : goal.loop-group-preserved
 loop-group-preserved c = (
   joined_more c.join_new.new.self c.args.new.now c.loop-group.group-index _ c.loop-group-test.true
       (each_joined_still c.loop-group.self c.join_new.new.self c.join_new.ensures.lower c.join_new.ensures.kept _
-      c.loop-group.invariant.0)
-      c.in_ok-join_new.ensures.ok,
+      c.loop-group.invariant.0) c.in_ok-join_new.ensures.ok,
   λ mount kind listed. c.join_new.ensures.kept mount kind (c.loop-group.invariant.1 mount kind listed),
   λ low up joined. c.join_new.ensures.lower low up (c.loop-group.invariant.2 low up joined),
 )

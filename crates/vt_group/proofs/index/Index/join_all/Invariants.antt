@@ -7,8 +7,7 @@ use Rattle.vt_group.specs.Listing.{EachJoined}
 use Rattle.vt_group.proofs.index.Index.join_all.Given as goal
 
 abbrev pub invariant-loop-group : goal.invariant-loop-group
-invariant-loop-group l =
-    EachJoined l.self (take l.group-index l.new)
+invariant-loop-group l = EachJoined l.self (take l.group-index l.new)
     × ((mount : MountId) (kind : Propagation) → is_listed l.fn.self mount kind ≡ true
     → is_listed l.self mount kind ≡ true)
     × ((lower upper : GroupId) → is_lower l.fn.self lower upper ≡ true → is_lower l.self lower upper ≡ true)

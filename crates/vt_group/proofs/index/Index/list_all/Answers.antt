@@ -8,8 +8,7 @@ pub loop-mount-preserved : goal.loop-mount-preserved
 loop-mount-preserved c = (
   listed_more c.list_new.new.self c.args.mounts.now c.loop-mount.mount-index _ c.loop-mount-test.true
       (each_listed_still c.loop-mount.self c.list_new.new.self c.list_new.ensures.lower c.list_new.ensures.kept _
-      c.loop-mount.invariant.0)
-      c.in_ok-list_new.ensures.ok,
+      c.loop-mount.invariant.0) c.in_ok-list_new.ensures.ok,
   λ mount kind listed. c.list_new.ensures.kept mount kind (c.loop-mount.invariant.1 mount kind listed),
   λ low up joined. c.list_new.ensures.lower low up (c.loop-mount.invariant.2 low up joined),
 )

@@ -7,8 +7,7 @@ use Rattle.vt_group.specs.Listing.{EachListed}
 use Rattle.vt_group.proofs.index.Index.list_all.Given as goal
 
 abbrev pub invariant-loop-mount : goal.invariant-loop-mount
-invariant-loop-mount l =
-    EachListed l.self (take l.mount-index l.mounts)
+invariant-loop-mount l = EachListed l.self (take l.mount-index l.mounts)
     × ((mount : MountId) (kind : Propagation) → is_listed l.fn.self mount kind ≡ true
     → is_listed l.self mount kind ≡ true)
     × ((lower upper : GroupId) → is_lower l.fn.self lower upper ≡ true → is_lower l.self lower upper ≡ true)

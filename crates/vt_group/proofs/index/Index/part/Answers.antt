@@ -17,5 +17,4 @@ returns-clause-own c upper is under =
     let old : Index = c.args.self.now in
     c.prune_left.ensures.lowers c.args.lower upper
     (stays_under same_group old.names old.lowers c.take_out-left.new.sets c.args.lower upper c.of_any-stays.result.now
-    (c.of_any-stays.ensures ∙ ap (names_of_any old.names) is)
-    (λ at. c.take_out-left.ensures.own at c.args.lower) under)
+    (c.of_any-stays.ensures ∙ ap (names_of_any old.names) is) (λ at. c.take_out-left.ensures.own at c.args.lower) under)

@@ -28,8 +28,7 @@ returns-clause-mounts c mount was kind lower apart handed listed =
     named_by old.names heir (λ name. has same_group name lost old.lowers) lower in
     handed_kind lost heir old new mount
     (λ group. c.inherit.ensures.kept group (λ name. has same_id name mount old.mounts))
-    (c.inherit.ensures.own differ named (λ name. has same_id name mount old.mounts))
-    was kind apart handed listed
+    (c.inherit.ensures.own differ named (λ name. has same_id name mount old.mounts)) was kind apart handed listed
 
 pub returns-clause-lowers : goal.returns-clause-lowers
 returns-clause-lowers c lower was upper is_lower handed under =
@@ -42,5 +41,4 @@ returns-clause-lowers c lower was upper is_lower handed under =
     named_by old.names heir (λ name. has same_group name lost old.lowers) is_lower in
     handed_group lost heir old new lower
     (λ group. c.inherit.ensures.kept group (λ name. has same_group name lower old.lowers))
-    (c.inherit.ensures.own differ named (λ name. has same_group name lower old.lowers))
-    was upper handed under
+    (c.inherit.ensures.own differ named (λ name. has same_group name lower old.lowers)) was upper handed under

@@ -7,7 +7,6 @@ use Rattle.vt_group.specs.Indexed.{is_listed, is_lower}
 use Rattle.vt_group.proofs.index.Index.unlist_all.Given as goal
 
 abbrev pub invariant-loop-pair : goal.invariant-loop-pair
-invariant-loop-pair l =
-    ((mount : MountId) (kind : Propagation) → value_at l.types mount.count ≡ Some kind
+invariant-loop-pair l = ((mount : MountId) (kind : Propagation) → value_at l.types mount.count ≡ Some kind
     → is_listed l.fn.self mount kind ≡ true → is_listed l.self mount kind ≡ true)
     × ((lower upper : GroupId) → is_lower l.fn.self lower upper ≡ true → is_lower l.self lower upper ≡ true)

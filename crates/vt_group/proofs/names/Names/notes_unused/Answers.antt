@@ -16,8 +16,7 @@ invariant_of-self-2 c =
     )
 
 pub returns : goal.returns
-returns c =
-    (c.get_mut.follows.holds c.note_unused.new.self).0
+returns c = (c.get_mut.follows.holds c.note_unused.new.self).0
     ∙ set_value_same (same_group c.args.group) c.self.inside.lists.entries c.note_unused.new.self
     (sym c.get_mut.ensures.value ∙ ap option_copied_mut c.in-Some-get_mut.is ∙ ap Some (sym c.note_unused.ensures))
     ∙ c.self.view_is

@@ -12,11 +12,9 @@ returns-then-notes_unused-clause-lowers c lower at under =
     ap (λ names. is_under same_group names c.args.lowers.now lower at) c.notes_unused.ensures ∙ under
 
 pub returns-clause-mounts : goal.returns-clause-mounts
-returns-clause-mounts c mount at under =
-    c.prune.ensures.mounts mount at
+returns-clause-mounts c mount at under = c.prune.ensures.mounts mount at
     (ap (λ names. is_under same_id names c.args.mounts.now mount at) c.notes_unused.ensures ∙ under)
 
 pub returns-clause-lowers : goal.returns-clause-lowers
-returns-clause-lowers c lower at under =
-    c.prune.ensures.lowers lower at
+returns-clause-lowers c lower at under = c.prune.ensures.lowers lower at
     (ap (λ names. is_under same_group names c.args.lowers.now lower at) c.notes_unused.ensures ∙ under)

@@ -20,5 +20,4 @@ returns-clause-kept c at test =
     one_keeps c.args.self.now c.insert.new.self.entries c.args.group (Some c.in_ok-list.list)
     (λ at. c.in_ok-insert.ensures.updates.0 at
     ∙ ap (λ names. cond (same_group c.args.group at) (Some c.in_ok-list.list) (lookup (same_group at) names))
-    c.self.view_is) test at
-    (none_kept (names_of c.args.self.now c.args.group) c.in_ok-list.list test c.requires)
+    c.self.view_is) test at (none_kept (names_of c.args.self.now c.args.group) c.in_ok-list.list test c.requires)

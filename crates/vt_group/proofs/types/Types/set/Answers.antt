@@ -12,8 +12,7 @@ take_from-requires c =
     c.set-was.ensures.value
 
 pub add_to-requires-clause-room : goal.add_to-requires-clause-room
-add_to-requires-clause-room c =
-    if_some_so _ c.take_from.ensures.kept
+add_to-requires-clause-room c = if_some_so _ c.take_from.ensures.kept
     (subst (λ kept. Fits kept c.args.mount c.args.kind) (sym c.self.view_is) c.requires).1
 
 pub add_to-requires-clause-most : goal.add_to-requires-clause-most

@@ -15,8 +15,7 @@ pub loop-id-preserved : goal.loop-id-preserved
 loop-id-preserved c =
     let change : Mount ℕ → ℕ = λ mount. mount.filesystem in
     elim c.match-get.branch [
-      | in-Some+in_ok-insert w ↦
-          ap (λ seen. numbers_of seen.keys) w.seen-is
+      | in-Some+in_ok-insert w ↦ ap (λ seen. numbers_of seen.keys) w.seen-is
           ∙ ap numbers_of (let inserted = w.in_ok-insert.ensures.keys in search rules)
           ∙ next_seen (λ id. option_map change
           (find (λ mount. nat_eq (counted id.count) mount.number) (mounts_in c.args.self.now.mounts.now)))
@@ -24,8 +23,7 @@ loop-id-preserved c =
           c.loop-id.seen.keys c.loop-id.invariant w.in-Some.mount.root.filesystem
           (ap (option_map change) (sym c.get.ensures ∙ ap (option_map mount_of) w.in-Some.is))
       | in_default w ↦
-          ap (λ seen. numbers_of seen.keys) w.seen-is
-          ∙ none_seen (λ id. option_map change
+          ap (λ seen. numbers_of seen.keys) w.seen-is ∙ none_seen (λ id. option_map change
           (find (λ mount. nat_eq (counted id.count) mount.number) (mounts_in c.args.self.now.mounts.now)))
           c.loop-id.id-index _ c.attached_in-id-items.result.now (let more = c.loop-id-test.true in search rules)
           c.loop-id.seen.keys c.loop-id.invariant
@@ -36,8 +34,7 @@ pub returns : goal.returns
 returns c = record {
   ok = let mounts = c.args.self.now.mounts.now in
       let change : Mount ℕ → ℕ = λ mount. mount.filesystem in
-      c.loop-id.invariant
-      ∙ ap (λ ids. each_once nat_eq (filter_map
+      c.loop-id.invariant ∙ ap (λ ids. each_once nat_eq (filter_map
       (λ id. option_map change (find (λ mount. nat_eq (counted id.count) mount.number) (mounts_in mounts))) ids))
       (take_all c.loop-id.id-index c.attached_in-id-items.result.now (let done = c.loop-id-test.false in search rules))
       ∙ ap (each_once nat_eq) (attached_picked (counted c.args.namespace.count) mounts c.attached_in-id-items.ensures.order

@@ -6,8 +6,7 @@ use Rattle.vt_spec.specs.Lists.{each_once}
 use Rattle.vt_listing.proofs.table.MountTable.filesystems_in.Given as goal
 
 abbrev pub invariant-loop-id : goal.invariant-loop-id
-invariant-loop-id l =
-    map (λ id. counted id.count) l.seen.keys
+invariant-loop-id l = map (λ id. counted id.count) l.seen.keys
     ≡ each_once nat_eq (filter_map (λ id. option_map (λ mount. mount.filesystem)
     (find (λ mount. nat_eq (counted id.count) mount.number) (mounts_in l.self.mounts.now)))
     (take l.id-index l.id-items))

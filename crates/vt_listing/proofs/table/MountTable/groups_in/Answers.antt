@@ -20,17 +20,13 @@ pub loop-id-preserved : goal.loop-id-preserved
 loop-id-preserved c =
     let change : Mount ℕ → List ℕ = groups_shown (world_shown c.args.self.now) in
     elim c.match-get.branch [
-      | in-Some+in_ok-see_type w ↦
-          ap (λ seen. group_numbers seen.keys) w.seen-is
-          ∙ next_groups (λ id. option_map change
+      | in-Some+in_ok-see_type w ↦ ap (λ seen. group_numbers seen.keys) w.seen-is ∙ next_groups (λ id. option_map change
           (find (λ mount. nat_eq (counted id.count) mount.number) (mounts_in c.args.self.now.mounts.now)))
           c.loop-id.id-index _ c.attached_in-id-items.result.now (let more = c.loop-id-test.true in search rules)
-          c.loop-id.seen.keys c.loop-id.invariant _ _
-          (ap (option_map change) (sym c.get.ensures
+          c.loop-id.seen.keys c.loop-id.invariant _ _ (ap (option_map change) (sym c.get.ensures
           ∙ ap (option_map mount_of) w.in-Some.is)) w.in_ok-see_type.ensures.ok
       | in_default w ↦
-          ap (λ seen. group_numbers seen.keys) w.seen-is
-          ∙ no_groups (λ id. option_map change
+          ap (λ seen. group_numbers seen.keys) w.seen-is ∙ no_groups (λ id. option_map change
           (find (λ mount. nat_eq (counted id.count) mount.number) (mounts_in c.args.self.now.mounts.now)))
           c.loop-id.id-index _ c.attached_in-id-items.result.now (let more = c.loop-id-test.true in search rules)
           c.loop-id.seen.keys c.loop-id.invariant
@@ -41,8 +37,7 @@ pub returns : goal.returns
 returns c = record {
   ok = let mounts = c.args.self.now.mounts.now in
       let change : Mount ℕ → List ℕ = groups_shown (world_shown c.args.self.now) in
-      c.loop-id.invariant
-      ∙ ap (λ ids. each_once nat_eq (flat_map (λ more. more) (filter_map
+      c.loop-id.invariant ∙ ap (λ ids. each_once nat_eq (flat_map (λ more. more) (filter_map
       (λ id. option_map change (find (λ mount. nat_eq (counted id.count) mount.number) (mounts_in mounts))) ids)))
       (take_all c.loop-id.id-index c.attached_in-id-items.result.now (let done = c.loop-id-test.false in search rules))
       ∙ ap (λ some. each_once nat_eq (flat_map (λ more. more) some))

@@ -10,9 +10,7 @@ use Rattle.vt_listing.proofs.ListedPeers.{next_kind}
 use Rattle.vt_listing.proofs.table.MountTable.groups_of.Goals as goal
 
 pub loop-one-preserved : goal.loop-one-preserved
-loop-one-preserved c =
-    c.in_ok-see_type.ensures.ok _ c.loop-one.invariant
-    ∙ ap (each_once nat_eq)
+loop-one-preserved c = c.in_ok-see_type.ensures.ok _ c.loop-one.invariant ∙ ap (each_once nat_eq)
     (next_kind (λ (one : ℕ × ℕ × Propagation ℕ). groups_in_type
     (world_shown c.args.self.now) one.2) c.loop-one.one-index _ c.args.placed.now
     (let more = c.loop-one-test.true in search rules))

@@ -7,6 +7,5 @@ use Rattle.vt_listing.specs.GroupsListed.{all_seen, group_numbers}
 use Rattle.vt_listing.proofs.table.MountTable.groups_of.Given as goal
 
 abbrev pub invariant-loop-one : goal.invariant-loop-one
-invariant-loop-one l =
-    group_numbers l.seen.keys
+invariant-loop-one l = group_numbers l.seen.keys
     ≡ each_once nat_eq (flat_map (λ one. groups_in_type (world_shown l.self) one.2) (all_seen (take l.one-index l.placed)))

@@ -10,6 +10,5 @@ returns-in-Some c =
     (ap (λ (id : FilesystemId). id.count) c.in-Some.ensures.own)
 
 pub returns-in-None : goal.returns-in-None
-returns-in-None c =
-    own_plain c.args.self.now.store.now c.args.filesystem.count (omega arith)
+returns-in-None c = own_plain c.args.self.now.store.now c.args.filesystem.count (omega arith)
     (sym c.overlay.ensures.value ∙ ap option_copied c.in-None.is) (rw c.plain.ensures at c.has_own_numbers.ensures)

@@ -23,10 +23,8 @@ pub returns : goal.returns
 returns c = record {
   ok = let line : GroupId → answers.PeerLine = line_by (world_shown c.args.self.now) (group_numbers c.args.groups.now.keys)
       c.args.members.now c.args.slaves.now in
-      c.loop-group.invariant
-      ∙ ap (filter_map (λ (group : GroupId). Some (line group)))
+      c.loop-group.invariant ∙ ap (filter_map (λ (group : GroupId). Some (line group)))
       (take_all c.loop-group.group-index c.as_slice-group-items.result.now
-      (let done = c.loop-group-test.false in search rules)
-      ∙ c.as_slice-group-items.ensures.keys)
+      (let done = c.loop-group-test.false in search rules) ∙ c.as_slice-group-items.ensures.keys)
       ∙ all_some line c.args.groups.now.keys;
 }

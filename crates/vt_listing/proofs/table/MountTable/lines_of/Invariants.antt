@@ -6,7 +6,6 @@ use Rattle.vt_request.specs.Answers.{peer_line_of}
 use Rattle.vt_listing.proofs.table.MountTable.lines_of.Given as goal
 
 abbrev pub invariant-loop-group : goal.invariant-loop-group
-invariant-loop-group l =
-    map peer_line_of l.lines.items
+invariant-loop-group l = map peer_line_of l.lines.items
     ≡ filter_map (λ group. Some (line_by (world_shown l.self) (group_numbers l.groups.keys) l.members l.slaves group))
     (take l.group-index l.group-items)

@@ -17,8 +17,7 @@ returns c = record {
         ∙ ap (λ numbers. number_among nat_eq numbers (counted c.args.mount.now.root.filesystem.count)) seen) i;
     root = c.in_ok-root_spot.ensures.ok world shows i;
     flags = flags_of c.args.mount.now.flags;
-    kind = (c.type_shown.ensures
-        ∙ ap (λ numbers. type_line nat_eq (world_shown c.args.self.now) numbers
+    kind = (c.type_shown.ensures ∙ ap (λ numbers. type_line nat_eq (world_shown c.args.self.now) numbers
         (propagation_of c.args.mount.now.propagation)) groups
         ∙ ap (λ (shown : World ℕ). type_line nat_eq shown (groups_seen nat_eq shown mounts)
         (propagation_of c.args.mount.now.propagation)) (same_world c.args.self.now world shows)) i;

@@ -18,8 +18,7 @@ pub mount_line-requires : goal.mount_line-requires
 mount_line-requires c = record {
   standing = c.requires.standing;
   once = c.requires.once;
-  order =
-      attached_rising (counted c.args.namespace.count) c.args.self.now.mounts.now c.attached_in-listed.ensures.order
+  order = attached_rising (counted c.args.namespace.count) c.args.self.now.mounts.now c.attached_in-listed.ensures.order
       c.attached_in-listed.result.now c.attached_in-listed.ensures.are;
 }
 
@@ -29,10 +28,8 @@ loop-id-preserved c world shows =
     let all = attached_in (counted c.args.namespace.count) mounts in
     let change : Mount ℕ → answers.MountLine = mount_line nat_eq world all in
     elim c.match-get.branch [
-      | in-Some+in_ok-line+in_ok-push w ↦
-          ap (λ lines. map mount_line_of lines.items) w.lines-is
-          ∙ ap (map mount_line_of) (let pushed = w.in_ok-push.ensures in search rules)
-          ∙ next_made mount_line_of (λ id.
+      | in-Some+in_ok-line+in_ok-push w ↦ ap (λ lines. map mount_line_of lines.items) w.lines-is
+          ∙ ap (map mount_line_of) (let pushed = w.in_ok-push.ensures in search rules) ∙ next_made mount_line_of (λ id.
           option_map change (find (λ mount. nat_eq (counted id.count) mount.number) (mounts_in mounts)))
           c.loop-id.id-index _ c.attached_in-listed.result.now (let more = c.loop-id-test.true in search rules)
           c.loop-id.lines.items (c.loop-id.invariant world shows) w.in_ok-line.line
@@ -40,8 +37,7 @@ loop-id-preserved c world shows =
           ∙ ap Some (sym (w.in_ok-line.ensures.ok world all shows c.attached_in-listed.ensures.are
           c.in_ok-filesystems.ensures.ok c.in_ok-groups.ensures.ok)))
       | in_default w ↦
-          ap (λ lines. map mount_line_of lines.items) w.lines-is
-          ∙ none_made mount_line_of (λ id.
+          ap (λ lines. map mount_line_of lines.items) w.lines-is ∙ none_made mount_line_of (λ id.
           option_map change (find (λ mount. nat_eq (counted id.count) mount.number) (mounts_in mounts)))
           c.loop-id.id-index _ c.attached_in-listed.result.now (let more = c.loop-id-test.true in search rules)
           c.loop-id.lines.items (c.loop-id.invariant world shows)

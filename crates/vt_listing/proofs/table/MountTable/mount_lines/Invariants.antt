@@ -10,9 +10,7 @@ use Rattle.vt_listing.specs.Shown.{IsShown}
 use Rattle.vt_listing.proofs.table.MountTable.mount_lines.Given as goal
 
 abbrev pub invariant-loop-id : goal.invariant-loop-id
-invariant-loop-id l =
-    (world : World ℕ) → IsShown world l.self → map mount_line_of l.lines.items
+invariant-loop-id l = (world : World ℕ) → IsShown world l.self → map mount_line_of l.lines.items
     ≡ filter_map (λ id. option_map
     (mount_line nat_eq world (attached_in (counted l.fn.namespace.count) l.self.mounts.now))
-    (find (λ mount. nat_eq (counted id.count) mount.number) (mounts_in l.self.mounts.now)))
-    (take l.id-index l.listed)
+    (find (λ mount. nat_eq (counted id.count) mount.number) (mounts_in l.self.mounts.now))) (take l.id-index l.listed)

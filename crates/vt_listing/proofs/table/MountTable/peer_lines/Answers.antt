@@ -15,22 +15,17 @@ pub returns : goal.returns
 returns c = record {
   ok = let items = c.in_ok-placed.placed.items in
       let numbers = group_numbers c.in_ok-groups.groups.keys in
-      IfOk-weaker c.lines_of.result _ _
-      (λ lines told world is named.
+      IfOk-weaker c.lines_of.result _ _ (λ lines told world is named.
       let shown : World ℕ = beside c.args.self.now world is in
       let placed = c.in_ok-placed.ensures.ok ∙ ap (placed_from shown 1) named
       ∙ all_namespaces shown 1 world.namespaces in
-      let seen = c.in_ok-groups.ensures.ok
-      ∙ ap (λ some. each_once nat_eq
+      let seen = c.in_ok-groups.ensures.ok ∙ ap (λ some. each_once nat_eq
       (flat_map (λ (one : ℕ × ℕ × Propagation ℕ). groups_in_type shown one.2) (all_seen some))) c.deref.ensures.value in
-      told
-      ∙ lines_kept shown numbers c.in_ok-members.members c.in_ok-slaves.slaves (all_seen items)
+      told ∙ lines_kept shown numbers c.in_ok-members.members c.in_ok-slaves.slaves (all_seen items)
       (λ group. c.in_ok-members.ensures group
       ∙ ap (λ some. filter_map (member_place (counted group.count)) (all_seen some)) c.deref-2.ensures.value)
       (λ group. c.in_ok-slaves.ensures group
       ∙ ap (λ some. filter_map (slave_place (counted group.count)) (all_seen some)) c.deref-3.ensures.value)
-      c.in_ok-groups.groups.keys
-      ∙ lines_so shown (all_seen items) numbers placed seen
-      ∙ ap (peer_lines nat_eq) (same_world c.args.self.now world is))
-      c.lines_of.ensures.ok;
+      c.in_ok-groups.groups.keys ∙ lines_so shown (all_seen items) numbers placed seen
+      ∙ ap (peer_lines nat_eq) (same_world c.args.self.now world is)) c.lines_of.ensures.ok;
 }

@@ -27,10 +27,8 @@ loop-id-preserved c =
           (ap (option_map same) (sym c.get.ensures ∙ ap (option_map mount_of) w.in-Some.is)) in (
             omega (arith, w.place-is, next.0),
             w.place-is ∙ next.1,
-            ap (λ placed. all_seen placed.items) w.placed-is
-                ∙ ap all_seen w.in_ok-push.ensures.items
-                ∙ map-append placed_seen c.loop-id.placed.items (_ ∷ [])
-                ∙ next.2,
+            ap (λ placed. all_seen placed.items) w.placed-is ∙ ap all_seen w.in_ok-push.ensures.items
+                ∙ map-append placed_seen c.loop-id.placed.items (_ ∷ []) ∙ next.2,
           )
       | in_default w ↦
           let next = mounts_same (λ id. option_map same (find (λ mount. nat_eq (counted id.count) mount.number) mounts))
@@ -48,13 +46,10 @@ returns c = record {
   ok = let mounts = c.args.self.now.mounts.now in
       let namespace = counted c.args.namespace.count in
       let same : Mount ℕ → Mount ℕ = λ mount. mount in
-      c.loop-id.invariant.2
-      ∙ ap (λ ids. all_seen c.args.placed.now.items
-      ++ each_placed c.args.number (filter_map
+      c.loop-id.invariant.2 ∙ ap (λ ids. all_seen c.args.placed.now.items ++ each_placed c.args.number (filter_map
       (λ id. option_map same (find (λ mount. nat_eq (counted id.count) mount.number) (mounts_in mounts))) ids))
       (take_all c.loop-id.id-index c.attached_in-id-items.result.now (let done = c.loop-id-test.false in search rules))
       ∙ ap (λ some. all_seen c.args.placed.now.items ++ each_placed c.args.number some)
       (attached_picked namespace mounts c.attached_in-id-items.ensures.order c.attached_in-id-items.result.now
-      c.attached_in-id-items.ensures.are same
-      ∙ map-id (attached_in namespace mounts));
+      c.attached_in-id-items.ensures.are same ∙ map-id (attached_in namespace mounts));
 }

@@ -7,12 +7,9 @@ use Rattle.vt_listing.proofs.ListedPeers.{each_placed}
 use Rattle.vt_listing.proofs.table.MountTable.push_placed.Given as goal
 
 abbrev pub invariant-loop-id : goal.invariant-loop-id
-invariant-loop-id l =
-    (l.place ≤ l.id-index)
-    × (l.place ≡ length (filter_map (λ id. option_map (λ mount. mount)
+invariant-loop-id l = (l.place ≤ l.id-index) × (l.place ≡ length (filter_map (λ id. option_map (λ mount. mount)
     (find (λ mount. nat_eq (counted id.count) mount.number) (mounts_in l.self.mounts.now)))
-    (take l.id-index l.id-items)))
-    × (all_seen l.placed.items ≡ all_seen l.initial.placed.items
+    (take l.id-index l.id-items))) × (all_seen l.placed.items ≡ all_seen l.initial.placed.items
     ++ each_placed l.number (filter_map (λ id. option_map (λ mount. mount)
     (find (λ mount. nat_eq (counted id.count) mount.number) (mounts_in l.self.mounts.now)))
     (take l.id-index l.id-items)))

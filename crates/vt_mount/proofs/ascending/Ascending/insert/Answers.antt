@@ -15,7 +15,6 @@ invariant_of-self-2 c =
     let kept = c.insert_into.ensures.capacity in
     record {
       rising = subst (λ list. rises list ≡ true) (sym c.insert_into.ensures.items)
-          (rises-inserted c.args.mount ids.items
-          (subst (λ many. rises (held self.one many) ≡ true) many self.rising));
+          (rises-inserted c.args.mount ids.items (subst (λ many. rises (held self.one many) ≡ true) many self.rising));
       room = omega (arith, room, some, longer, kept);
     }

@@ -8,5 +8,4 @@ pub returns-clause-namespace_rest : goal.returns-clause-namespace_rest
 returns-clause-namespace_rest c q =
     let mount = c.args.mount.now in
     ap (taken (is_in q mount) mount.number) (ap (listed same_namespace q) c.add_at.ensures.namespace
-    ∙ c.in_ok-add_in.ensures.namespace_ok q)
-    ∙ taken-put (is_in q mount) mount.number _
+    ∙ c.in_ok-add_in.ensures.namespace_ok q) ∙ taken-put (is_in q mount) mount.number _

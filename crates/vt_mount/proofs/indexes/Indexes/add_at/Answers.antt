@@ -29,8 +29,6 @@ returns-clause-place_rest c q =
     rest_there (same_place q) c.args.place c.in-Some.place c.in-Some.is c.args.mount _ _ (c.in_ok-add-2.ensures.ok q)
 
 pub returns-clause-inode_rest : goal.returns-clause-inode_rest
-returns-clause-inode_rest c q =
-    either-way c.add-3.result c.add-3.ensures.ok c.add-3.ensures.err
+returns-clause-inode_rest c q = either-way c.add-3.result c.add-3.ensures.ok c.add-3.ensures.err
     (λ added. rest_there (λ (place : Location). same_node q place.node) c.args.place c.in-Some.place c.in-Some.is
-    c.args.mount _ _ (added q))
-    (λ same. ap (taken (stood_over q c.args.place) c.args.mount) (same q))
+    c.args.mount _ _ (added q)) (λ same. ap (taken (stood_over q c.args.place) c.args.mount) (same q))

@@ -6,8 +6,7 @@ use Rattle.vt_mount.proofs.ReservedLemmas.{reserves-first}
 use Rattle.vt_mount.proofs.indexes.Indexes.enter.Goals as goal
 
 pub enter_in-requires : goal.enter_in-requires
-enter_in-requires c =
-    reserves-first c.args.self.now (option_to_list c.args.mount.now.namespace) [] []
+enter_in-requires c = reserves-first c.args.self.now (option_to_list c.args.mount.now.namespace) [] []
     (option_to_list c.args.mount.now.mount_point)
     (subst (λ namespaces. Reserves c.args.self.now namespaces (option_to_list c.args.mount.now.mount_point))
     (sym (append-nil (option_to_list c.args.mount.now.namespace))) c.requires)
@@ -21,8 +20,7 @@ put_in-requires c =
     (sym (append-nil (option_to_list mount.namespace))) c.requires))
 
 pub returns-in-Some-clause-reserves : goal.returns-in-Some-clause-reserves
-returns-in-Some-clause-reserves c namespaces places has =
-    c.put_in.ensures.reserves namespaces places
+returns-in-Some-clause-reserves c namespaces places has = c.put_in.ensures.reserves namespaces places
     (subst (λ point. Reserves c.enter_in.new.self namespaces (option_to_list point ++ places)) c.in-Some.is
     (c.enter_in.ensures.reserves namespaces (option_to_list c.args.mount.now.mount_point ++ places) has))
 

@@ -8,18 +8,15 @@ use Rattle.vt_mount.proofs.ReservedLemmas.{reserves-less, is-reserved, same_id-i
 use Rattle.vt_mount.proofs.indexes.Indexes.put_in.Goals as goal
 
 pub put_in-requires : goal.put_in-requires
-put_in-requires c =
-    is-reserved same_id (λ (place : Location). place.mount) c.args.place [] c.args.self.now.by_parent
+put_in-requires c = is-reserved same_id (λ (place : Location). place.mount) c.args.place [] c.args.self.now.by_parent
     (same_id-itself c.args.place.mount) c.requires.parent
 
 pub put_in-requires-2 : goal.put_in-requires-2
-put_in-requires-2 c =
-    is-reserved same_place (λ (place : Location). place) c.args.place [] c.args.self.now.by_location
+put_in-requires-2 c = is-reserved same_place (λ (place : Location). place) c.args.place [] c.args.self.now.by_location
     (same_place-itself c.args.place) c.requires.place
 
 pub put_in-requires-3 : goal.put_in-requires-3
-put_in-requires-3 c =
-    is-reserved same_node (λ (place : Location). place.node) c.args.place [] c.args.self.now.by_inode
+put_in-requires-3 c = is-reserved same_node (λ (place : Location). place.node) c.args.place [] c.args.self.now.by_inode
     (same_node-itself c.args.place.node) c.requires.inode
 
 pub returns-clause-reserves : goal.returns-clause-reserves

@@ -6,14 +6,12 @@ use Rattle.vt_mount.proofs.ListedLemmas.{list_changed, list_kept, list_under, li
 use Rattle.vt_mount.proofs.lists.MountsBy.add.Goals as goal
 
 pub returns-in-Occupied-clause-ok : goal.returns-in-Occupied-clause-ok
-returns-in-Occupied-clause-ok g c =
-    on-ok c.add.result c.add.ensures.ok (λ added.
+returns-in-Occupied-clause-ok g c = on-ok c.add.result c.add.ensures.ok (λ added.
     list_changed g.met.K.Eq.laws c.args.self.now.lists.entries _ c.args.key c.into_mut.result.now (search rules)
     (Some c.add.new.self) (λ q. search rules) (inserted c.args.mount) added)
 
 pub returns-in-Occupied-clause-err : goal.returns-in-Occupied-clause-err
-returns-in-Occupied-clause-err g c =
-    on-err c.add.result c.add.ensures.err (λ same.
+returns-in-Occupied-clause-err g c = on-err c.add.result c.add.ensures.err (λ same.
     list_kept g.met.K.Eq.laws c.args.self.now.lists.entries _ c.args.key c.into_mut.result.now (search rules)
     (Some c.add.new.self) (λ q. search rules) same)
 

@@ -23,8 +23,7 @@ returns-then-is_empty g c =
     let key = c.args.key.now in
     let found = sym c.in-Some.ensures.value ∙ sym c.get_index_mut.ensures.value
     ∙ ap option_copied_mut c.in-Some-get_index_mut.is in
-    list_changed g.met.K.Eq.laws es c.swap_remove_index.new.self.entries key
-    c.in-Some-get_index_mut.list.now found None
+    list_changed g.met.K.Eq.laws es c.swap_remove_index.new.self.entries key c.in-Some-get_index_mut.list.now found None
     (found-dropped g.met.K.Eq.laws key es _ c.in-Some.place c.remove.new.self
     (sym c.get_index_of.ensures.index ∙ c.in-Some.is) c.swap_remove_index.result c.swap_remove_index.ensures.entry
     (on-some c.swap_remove_index.result c.swap_remove_index.ensures.updates (λ one updates. updates.0)))

@@ -10,8 +10,6 @@ decreases-has_unbindable_within l = l.depth
 
 -- the trees of the children so far have no unbindable mount
 abbrev pub invariant-loop-child : goal.invariant-loop-child
-invariant-loop-child l =
-    list_any (λ id. list_any (λ mount. is_unbindable mount.propagation)
+invariant-loop-child l = list_any (λ id. list_any (λ mount. is_unbindable mount.propagation)
     (tree_from nat_eq (l.depth - 1) (mounts_in l.self) (mount_in nat_eq (mounts_in l.self) (counted id.count))))
-    (take l.child-index l.child-items)
-    ≡ false
+    (take l.child-index l.child-items) ≡ false

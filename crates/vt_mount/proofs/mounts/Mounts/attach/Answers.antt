@@ -27,8 +27,7 @@ invariant_of-self c =
     let indexed = c.self.invariant in
     let entered = c.add.ensures in
     let fine = c.if-is_err.ensures.value in
-    subst (IsIndexed c.add.new.self)
-    (sym (in_order-last mount.number c.unused.result es _ above
+    subst (IsIndexed c.add.new.self) (sym (in_order-last mount.number c.unused.result es _ above
     (not-err c.insert.result c.if-is_err-2.ensures.value c.insert.ensures.updates).0))
     (indexed-entered mount c.unused.result (in_order es) c.unused.ensures.mount c.self.inside.indexes c.add.new.self
     (ap has_small_point c.unused.ensures.mount ∙ not-err c.add.result fine entered.slot)
@@ -47,8 +46,7 @@ restored c indexes entries =
     let kept = in_order c.self.inside.by_number.entries in
     let rest = c.add.ensures in
     let left = c.leave.ensures in
-    subst (λ es. IsIndexed c.leave.new.self (in_order es)) (sym entries)
-    (indexed-restored mount kept
+    subst (λ es. IsIndexed c.leave.new.self (in_order es)) (sym entries) (indexed-restored mount kept
     (above-entries mount.number kept (subst (AreBelow mount.number) (sym c.self.view_is) c.requires))
     c.self.inside.indexes c.then-is_err.self-inside.indexes c.leave.new.self
     (λ q. ap (λ lists. taken (is_in q mount) mount.number (listed_in lists q)) indexes ∙ rest.namespace_rest q)
@@ -89,5 +87,4 @@ returns-clause-undone c =
       mount = mount_of (c.unused.ensures.mount i);
       uses = c.unused.ensures.uses i;
       writers = c.unused.ensures.writers i;
-    } ∷ []))
-    ∙ without-last (counted mount.number.count) (unused_entry mount) c.args.self.now c.requires refl
+    } ∷ [])) ∙ without-last (counted mount.number.count) (unused_entry mount) c.args.self.now c.requires refl

@@ -9,7 +9,6 @@ attach-requires c =
     c.requires c.loop-index.invariant
 
 pub returns-then-is_err-clause-err : goal.returns-then-is_err-clause-err
-returns-then-is_err-clause-err c =
-    c.withdraw.ensures c.args.self.now
+returns-then-is_err-clause-err c = c.withdraw.ensures c.args.self.now
     (ascending-taken c.args.self.now c.args.new.now c.loop-index.index c.requires)
     (is-refused c.attach.result c.if-is_err.ensures.value c.attach.ensures.err ∙ c.loop-index.invariant)

@@ -23,8 +23,7 @@ enter_all-requires-clause-order g c =
     ap (λ entries. are_ascending (mounts_in entries ++ come)) c.move_all.ensures.mounts
     ∙ ascending-moved c.args.points.now (entries_of c.make_room.new.by_number.entries) come
     ∙ ap (λ entries. are_ascending (mounts_in entries ++ come))
-    (ap entries_of c.make_room.ensures.mounts ∙ c.self.view_is)
-    ∙ c.requires.order
+    (ap entries_of c.make_room.ensures.mounts ∙ c.self.view_is) ∙ c.requires.order
 
 pub enter_all-requires-clause-reserves : goal.enter_all-requires-clause-reserves
 enter_all-requires-clause-reserves g c =

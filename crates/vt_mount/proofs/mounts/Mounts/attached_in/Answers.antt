@@ -12,8 +12,7 @@ returns-clause-are c =
     let namespace = c.args.namespace in
     ap counts (c.get.ensures ∙ c.self.invariant.namespace namespace)
     ∙ numbers-seen (is_in namespace) (λ mount. holds_of (nat_eq (counted namespace.count)) mount.namespace)
-    (in-agrees namespace)
-    (in_order c.self.inside.by_number.entries) c.self.invariant.slots
+    (in-agrees namespace) (in_order c.self.inside.by_number.entries) c.self.invariant.slots
     ∙ ap (λ now. numbers (filter (λ mount. holds_of (nat_eq (counted namespace.count)) mount.namespace)
     (mounts_in now))) c.self.view_is
 

@@ -16,10 +16,8 @@ returns-clause-child c =
     let less : is_small_node place.node ≡ true = search rules in
     let kept = in_order c.self.inside.by_number.entries in
     let here = stands_at nat_eq (location_of place) in
-    ap (option_map (λ id. counted id.count))
-    (c.copied.ensures ∙ c.first.ensures.value
-    ∙ ap (λ ids. slice_get ids 0) (c.get.ensures ∙ c.self.invariant.place place))
-    ∙ sym (first-count _)
+    ap (option_map (λ id. counted id.count)) (c.copied.ensures ∙ c.first.ensures.value
+    ∙ ap (λ ids. slice_get ids 0) (c.get.ensures ∙ c.self.invariant.place place)) ∙ sym (first-count _)
     ∙ ap (λ ids. slice_get ids 0) (numbers-seen (is_at place) here (at-agrees place less) kept c.self.invariant.slots)
     ∙ sym (found-first here (λ child. child.number) (mounts_in (entries kept)))
     ∙ ap (λ now. option_map (λ child. child.number)

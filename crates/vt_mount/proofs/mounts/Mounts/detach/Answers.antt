@@ -14,8 +14,7 @@ returns-in_default c =
     entries-written c.args.id detached_kept
     (λ (entry : MountEntry). record entry { mount = detached entry.mount }) map.entries _ _ (λ n one. refl)
     (not-written c.args.id detached_kept map _ (sym c.get_mut.ensures.value ∙ ap option_copied_mut c.in_default.is)
-    (ap (λ map. map.entries) c.get_mut.follows.holds-at-none))
-    c.self.view_is
+    (ap (λ map. map.entries) c.get_mut.follows.holds-at-none)) c.self.view_is
 
 pub invariant_of-self-2 : goal.invariant_of-self-2
 invariant_of-self-2 c =
@@ -36,5 +35,4 @@ returns c =
     entries-written c.args.id detached_kept
     (λ (entry : MountEntry). record entry { mount = detached entry.mount }) map.entries _ _ (λ n one. refl)
     (is-written c.args.id detached_kept map _ c.in-Some.kept.now _
-    (sym c.get_mut.ensures.value ∙ ap option_copied_mut c.in-Some.is) refl (c.get_mut.follows.holds _))
-    c.self.view_is
+    (sym c.get_mut.ensures.value ∙ ap option_copied_mut c.in-Some.is) refl (c.get_mut.follows.holds _)) c.self.view_is

@@ -11,7 +11,6 @@ length-counts [] = refl
 length-counts (id ∷ ids) = ap suc (length-counts ids)
 
 pub returns : goal.returns
-returns c =
-    ap not c.is_empty.ensures
+returns c = ap not c.is_empty.ensures
     ∙ ap (λ n. not (nat_eq n 0)) (length-counts c.children.result.now ∙ ap length c.children.ensures.children)
     ∙ sym (any-found (stands_on nat_eq (counted c.args.id.count)) (λ child. child.number) (mounts_in c.args.self.now))

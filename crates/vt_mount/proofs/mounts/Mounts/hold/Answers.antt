@@ -24,8 +24,7 @@ invariant_of-self-2 c =
           subst (λ inside. IsIndexed inside.indexes (in_order inside.by_number.entries)) (sym w.self-inside-is)
           (indexed-written c.args.id change (λ one. refl) (λ one. refl) _ map.entries _
           (not-written c.args.id change map _ (sym c.get_mut.ensures.value ∙ ap option_copied_mut w.in_default.is)
-          (ap (λ map. map.entries) c.get_mut.follows.holds-at-none))
-          c.self.invariant)
+          (ap (λ map. map.entries) c.get_mut.follows.holds-at-none)) c.self.invariant)
     ]
 
 pub returns-clause-ok : goal.returns-clause-ok
@@ -33,18 +32,15 @@ returns-clause-ok c =
     let map = c.self.inside.by_number in
     let change = held_kept c.args.writes in
     elim c.match-get_mut.branch [
-      | in-Some+else-not-has_room w ↦
-          ap (λ inside. entries_of inside.by_number.entries) w.self-inside-is
+      | in-Some+else-not-has_room w ↦ ap (λ inside. entries_of inside.by_number.entries) w.self-inside-is
           ∙ entries-written c.args.id change (held c.args.writes) map.entries _ _ (λ n one. refl)
           (is-written c.args.id change map _ w.in-Some.kept.now _
           (sym c.get_mut.ensures.value ∙ ap option_copied_mut w.in-Some.is) w.hold.ensures (c.get_mut.follows.holds _))
           c.self.view_is
-      | in_default w ↦
-          ap (λ inside. entries_of inside.by_number.entries) w.self-inside-is
+      | in_default w ↦ ap (λ inside. entries_of inside.by_number.entries) w.self-inside-is
           ∙ entries-written c.args.id change (held c.args.writes) map.entries _ _ (λ n one. refl)
           (not-written c.args.id change map _ (sym c.get_mut.ensures.value ∙ ap option_copied_mut w.in_default.is)
-          (ap (λ map. map.entries) c.get_mut.follows.holds-at-none))
-          c.self.view_is
+          (ap (λ map. map.entries) c.get_mut.follows.holds-at-none)) c.self.view_is
     ]
 
 pub invariant_of-self : goal.invariant_of-self
@@ -52,16 +48,13 @@ invariant_of-self c =
     let map = c.self.inside.by_number in
     indexed-written c.args.id (λ one. one) (λ one. refl) (λ one. refl) _ map.entries _
     (is-written c.args.id (λ one. one) map _ c.in-Some.kept.now _
-    (sym c.get_mut.ensures.value ∙ ap option_copied_mut c.in-Some.is) refl (c.get_mut.follows.holds _))
-    c.self.invariant
+    (sym c.get_mut.ensures.value ∙ ap option_copied_mut c.in-Some.is) refl (c.get_mut.follows.holds _)) c.self.invariant
 
 pub returns-then-not-has_room-clause-err : goal.returns-then-not-has_room-clause-err
 returns-then-not-has_room-clause-err c =
     let map = c.self.inside.by_number in
-    entries-unwritten c.args.id map.entries _ _
-    (is-written c.args.id (λ one. one) map _ c.in-Some.kept.now _
-    (sym c.get_mut.ensures.value ∙ ap option_copied_mut c.in-Some.is) refl (c.get_mut.follows.holds _))
-    c.self.view_is
+    entries-unwritten c.args.id map.entries _ _ (is-written c.args.id (λ one. one) map _ c.in-Some.kept.now _
+    (sym c.get_mut.ensures.value ∙ ap option_copied_mut c.in-Some.is) refl (c.get_mut.follows.holds _)) c.self.view_is
 
 full : (a b most : ℕ) (r : Bool) → r ≡ (nat_lt a most && nat_lt b most) → r ≡ false → a < most → b < most → ⊥
 full a b most r is refused few others =
@@ -79,6 +72,5 @@ returns-then-not-has_room-clause-few c =
     (sym (ap (λ entry. unwrap_or (option_map (λ entry. entry.writers) entry) 0) there)) others))
 
 pub returns-clause-undone : goal.returns-clause-undone
-returns-clause-undone c =
-    ap (changed (counted c.args.id.count) (released c.args.writes)) (returns-clause-ok c)
+returns-clause-undone c = ap (changed (counted c.args.id.count) (released c.args.writes)) (returns-clause-ok c)
     ∙ released-all (counted c.args.id.count) c.args.writes _

@@ -13,8 +13,7 @@ returns-in_default-clause-ok c =
     let root = c.args.root.now in
     let new = c.args.new.now in
     let put = location_of c.args.put in
-    c.lift.ensures
-    ∙ ap (changed (counted new.number.count) lifted_entry) c.in_ok-move_to.ensures.ok
+    c.lift.ensures ∙ ap (changed (counted new.number.count) lifted_entry) c.in_ok-move_to.ensures.ok
     ∙ ap (λ point. changed (counted new.number.count) (pointed (option_map location_of point))
     (changed (counted root.number.count) (pointed (Some put)) c.args.self.now)) (sym c.in_default.is)
     ∙ both_pivoted (mount_of root) (mount_of new) put c.args.self.now

@@ -16,14 +16,12 @@ invariant_of-self c =
           (indexed-written c.args.id change (λ one. refl) (λ one. refl) _ map.entries _
           (is-written c.args.id change map _ w.in-Some.kept.now _
           (sym c.get_mut.ensures.value ∙ ap option_copied_mut w.in-Some.is) w.release.ensures
-          (c.get_mut.follows.holds _))
-          c.self.invariant)
+          (c.get_mut.follows.holds _)) c.self.invariant)
       | in_default w ↦
           subst (λ inside. IsIndexed inside.indexes (in_order inside.by_number.entries)) (sym w.self-inside-is)
           (indexed-written c.args.id change (λ one. refl) (λ one. refl) _ map.entries _
           (not-written c.args.id change map _ (sym c.get_mut.ensures.value ∙ ap option_copied_mut w.in_default.is)
-          (ap (λ map. map.entries) c.get_mut.follows.holds-at-none))
-          c.self.invariant)
+          (ap (λ map. map.entries) c.get_mut.follows.holds-at-none)) c.self.invariant)
     ]
 
 pub returns : goal.returns
@@ -31,17 +29,14 @@ returns c =
     let map = c.self.inside.by_number in
     let change = released_kept c.args.writes in
     elim c.match-get_mut.branch [
-      | in-Some w ↦
-          ap (λ inside. entries_of inside.by_number.entries) w.self-inside-is
+      | in-Some w ↦ ap (λ inside. entries_of inside.by_number.entries) w.self-inside-is
           ∙ entries-written c.args.id change (released c.args.writes) map.entries _ _ (λ n one. refl)
           (is-written c.args.id change map _ w.in-Some.kept.now _
           (sym c.get_mut.ensures.value ∙ ap option_copied_mut w.in-Some.is) w.release.ensures
-          (c.get_mut.follows.holds _))
-          c.self.view_is
+          (c.get_mut.follows.holds _)) c.self.view_is
       | in_default w ↦
           ap (λ inside. entries_of inside.by_number.entries) w.self-inside-is
           ∙ entries-written c.args.id change (released c.args.writes) map.entries _ _ (λ n one. refl)
           (not-written c.args.id change map _ (sym c.get_mut.ensures.value ∙ ap option_copied_mut w.in_default.is)
-          (ap (λ map. map.entries) c.get_mut.follows.holds-at-none))
-          c.self.view_is
+          (ap (λ map. map.entries) c.get_mut.follows.holds-at-none)) c.self.view_is
     ]

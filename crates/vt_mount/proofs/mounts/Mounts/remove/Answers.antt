@@ -9,8 +9,7 @@ use Rattle.vt_mount.proofs.OrderLemmas.{found-in_order, in_order-removed, rises-
 use Rattle.vt_mount.proofs.mounts.Mounts.remove.Goals as goal
 
 pub returns-in_err-kept-clause-value : goal.returns-in_err-kept-clause-value
-returns-in_err-kept-clause-value c =
-    ap (option_map mount_of) c.from_residual.ensures
+returns-in_err-kept-clause-value c = ap (option_map mount_of) c.from_residual.ensures
     ∙ mount-found c.args.id c.self.inside.by_number.entries _ None c.self.view_is
     (sym c.swap_remove.ensures.value ∙ c.in_err-kept.was)
 
@@ -31,12 +30,10 @@ invariant_of-self-2 c =
     c.leave.ensures.namespace c.leave.ensures.parent c.leave.ensures.place c.leave.ensures.inode c.self.invariant)
 
 pub returns-clause-value : goal.returns-clause-value
-returns-clause-value c =
-    ap (λ mount. Some (mount_of mount)) c.mount-mount.ensures
+returns-clause-value c = ap (λ mount. Some (mount_of mount)) c.mount-mount.ensures
     ∙ mount-found c.args.id c.self.inside.by_number.entries _ (Some c.in_ok-kept.kept) c.self.view_is
     (sym c.swap_remove.ensures.value ∙ c.in_ok-kept.was)
 
 pub returns-clause-rest : goal.returns-clause-rest
-returns-clause-rest c =
-    kept-without c.args.id c.self.inside.by_number.entries _ c.swap_remove.ensures.updates.0
+returns-clause-rest c = kept-without c.args.id c.self.inside.by_number.entries _ c.swap_remove.ensures.updates.0
     ∙ ap (without (counted c.args.id.count)) c.self.view_is

@@ -9,8 +9,7 @@ use Rattle.vt_mount.proofs.mounts.Mounts.remove_unused.Goals as goal
 use Rattle.vt_mount.proofs.mounts.Mounts.remove_unused.Goals.{then-is_some-via-then-is_some, then-is_some-via-else-is_some+then-kept-gt0}
 
 pub returns-in_err-kept-clause-unused : goal.returns-in_err-kept-clause-unused
-returns-in_err-kept-clause-unused c =
-    ap is_some c.from_residual.ensures
+returns-in_err-kept-clause-unused c = ap is_some c.from_residual.ensures
     ∙ ap (holds_of is_unused) (entry-found c.args.id c.self.inside.by_number.entries _ None c.self.view_is
     (sym c.kept_under.ensures ∙ ap option_copied c.in_err-kept.was))
 
@@ -20,15 +19,12 @@ returns-then-is_some-clause-unused c =
     sym (used_kept c.args.id kept (elim c.then-is_some.branch [
       | then-is_some-via-then-is_some w ↦ inl (sym c.is_some.ensures ∙ w.if-is_some.true)
       | then-is_some-via-else-is_some+then-kept-gt0 w ↦ inr w.if-kept-gt0.true
-    ]))
-    ∙ ap (holds_of is_unused) (entry-found c.args.id c.self.inside.by_number.entries _ (Some kept) c.self.view_is
+    ])) ∙ ap (holds_of is_unused) (entry-found c.args.id c.self.inside.by_number.entries _ (Some kept) c.self.view_is
     (sym c.kept_under.ensures ∙ ap option_copied c.in_ok-kept.was))
 
 -- it exists, so that it is removed
 removed : (c : goal.After-remove) → is_some c.remove.result ≡ true
-removed c =
-    sym (is_some_mapped mount_of c.remove.result)
-    ∙ ap is_some (c.remove.ensures.value
+removed c = sym (is_some_mapped mount_of c.remove.result) ∙ ap is_some (c.remove.ensures.value
     ∙ sym (mount-found c.args.id c.self.inside.by_number.entries _ (Some c.in_ok-kept.kept.now) c.self.view_is
     (sym c.kept_under.ensures ∙ ap option_copied c.in_ok-kept.was)))
 
@@ -43,5 +39,4 @@ returns-clause-unused c =
 pub returns-clause-rest : goal.returns-clause-rest
 returns-clause-rest c =
     let mounts = c.args.self.now in
-    c.remove.ensures.rest
-    ∙ sym (ap (λ b. cond b (without (counted c.args.id.count) mounts) mounts) (removed c))
+    c.remove.ensures.rest ∙ sym (ap (λ b. cond b (without (counted c.args.id.count) mounts) mounts) (removed c))

@@ -7,8 +7,7 @@ use Rattle.vt_mount.proofs.mounts.Mounts.topmost.Given as goal
 
 -- what is on top of a location is on top of those above it
 abbrev pub invariant-loop : goal.invariant-loop
-invariant-loop l =
-    (l.end ≡ length (mounts_in l.self))
+invariant-loop l = (l.end ≡ length (mounts_in l.self))
     × (end_of (λ here. option_map root_of (child_at nat_eq (mounts_in l.self) here)) (l.end - l.counter)
     (location_of l.here)
     ≡ end_of (λ here. option_map root_of (child_at nat_eq (mounts_in l.self) here)) l.end (location_of l.fn.place))

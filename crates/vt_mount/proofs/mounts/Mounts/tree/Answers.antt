@@ -23,9 +23,7 @@ loop-next-preserved c =
 pub returns : goal.returns
 returns c =
     let mounts = mounts_in c.args.self.now in
-    let empty : c.loop-next.waiting.items
-    ≡ [] =
-    nil_from_length c.loop-next.waiting.items
+    let empty : c.loop-next.waiting.items ≡ [] = nil_from_length c.loop-next.waiting.items
     (omega (arith, c.loop-next.waiting.ok.0, c.in_default.ensures.cases.0)) in
     record {
       ok = told-all mounts c.loop-next.tree.items _

@@ -7,8 +7,7 @@ use Rattle.vt_mount.proofs.mounts.Mounts.tree.Given as goal
 
 -- what is told, and then what is still to come, is the tree
 abbrev pub invariant-loop-next : goal.invariant-loop-next
-invariant-loop-next l =
-    counts l.tree.items ++ to_come (mounts_in l.self) l.waiting.items
+invariant-loop-next l = counts l.tree.items ++ to_come (mounts_in l.self) l.waiting.items
     ≡ tree_numbers (mounts_in l.self) (length (mounts_in l.self)) (counted l.fn.id.count)
 
 abbrev pub decreases-loop-next : goal.decreases-loop-next

@@ -16,8 +16,7 @@ loop-mount-preserved c =
     ∙ append_assoc later (mount ∷ []) back in (
       mount ∷ back,
       all,
-      λ old is was. c.remove.ensures.rest
-          ∙ withdrawn old c.loop-mount.self later back mount
+      λ old is was. c.remove.ensures.rest ∙ withdrawn old c.loop-mount.self later back mount
           (subst (λ (new : List Mount). are_ascending (mounts_in old ++ map mount_of new) ≡ true) all is)
           (so_far.2 old is was ∙ ap (λ (rest : List Mount). old ++ map unused_entry rest) c.in-Some.ensures.steps),
     )

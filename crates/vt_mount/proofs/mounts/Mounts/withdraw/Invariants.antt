@@ -6,8 +6,6 @@ use Rattle.vt_mount.proofs.mounts.Mounts.withdraw.Given as goal
 
 -- those at the end of the list are gone
 abbrev pub invariant-loop-mount : goal.invariant-loop-mount
-invariant-loop-mount l =
-    (back : List Mount) × (l.new ≡ l.mount-iterator.iter.rest.now ++ back)
+invariant-loop-mount l = (back : List Mount) × (l.new ≡ l.mount-iterator.iter.rest.now ++ back)
     × ((old : List MountEntry) → are_ascending (mounts_in old ++ map mount_of l.new) ≡ true
-    → l.fn.self ≡ old ++ map unused_entry l.new
-    → l.self ≡ old ++ map unused_entry l.mount-iterator.iter.rest.now)
+    → l.fn.self ≡ old ++ map unused_entry l.new → l.self ≡ old ++ map unused_entry l.mount-iterator.iter.rest.now)

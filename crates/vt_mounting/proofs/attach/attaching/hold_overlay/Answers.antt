@@ -20,12 +20,9 @@ returns-then-is_some-clause-plain c =
     let few : mounts_in old count ≤ 18446744073709551614 =
     subst (λ n. n ≤ 18446744073709551614) (sym (mounts_are_merged old count there))
     (leb-true _ 18446744073709551614 c.requires) in
-    (held_over old count there c.hold_mount.new.self
-    (not_refused c.hold_mount.result
-    (c.hold_mount.new.self ≡ with_mounts count (λ mounts. mounts + 1) old)
-    (mounts_in old count ≡ most_counted)
-    c.hold_mount.ensures.limit.0 c.hold_mount.ensures.ok
-    (λ full. omega (arith, full, few)))).0
+    (held_over old count there c.hold_mount.new.self (not_refused c.hold_mount.result
+    (c.hold_mount.new.self ≡ with_mounts count (λ mounts. mounts + 1) old) (mounts_in old count ≡ most_counted)
+    c.hold_mount.ensures.limit.0 c.hold_mount.ensures.ok (λ full. omega (arith, full, few)))).0
 
 pub returns-then-is_some-clause-overlays : goal.returns-then-is_some-clause-overlays
 returns-then-is_some-clause-overlays c =
@@ -37,12 +34,9 @@ returns-then-is_some-clause-overlays c =
     let few : mounts_in old count ≤ 18446744073709551614 =
     subst (λ n. n ≤ 18446744073709551614) (sym (mounts_are_merged old count there))
     (leb-true _ 18446744073709551614 c.requires) in
-    (held_over old count there c.hold_mount.new.self
-    (not_refused c.hold_mount.result
-    (c.hold_mount.new.self ≡ with_mounts count (λ mounts. mounts + 1) old)
-    (mounts_in old count ≡ most_counted)
-    c.hold_mount.ensures.limit.0 c.hold_mount.ensures.ok
-    (λ full. omega (arith, full, few)))).1
+    (held_over old count there c.hold_mount.new.self (not_refused c.hold_mount.result
+    (c.hold_mount.new.self ≡ with_mounts count (λ mounts. mounts + 1) old) (mounts_in old count ≡ most_counted)
+    c.hold_mount.ensures.limit.0 c.hold_mount.ensures.ok (λ full. omega (arith, full, few)))).1
 
 pub returns-else-is_some-clause-overlays : goal.returns-else-is_some-clause-overlays
 returns-else-is_some-clause-overlays c =
@@ -63,10 +57,7 @@ returns-then-is_some-clause-stay c =
     let few : mounts_in old count ≤ 18446744073709551614 =
     subst (λ n. n ≤ 18446744073709551614) (sym (mounts_are_merged old count there))
     (leb-true _ 18446744073709551614 c.requires) in
-    ap (λ (store : StoreValue). under_counts store.overlays)
-    (not_refused c.hold_mount.result
-    (c.hold_mount.new.self ≡ with_mounts count (λ mounts. mounts + 1) old)
-    (mounts_in old count ≡ most_counted)
-    c.hold_mount.ensures.limit.0 c.hold_mount.ensures.ok
-    (λ full. omega (arith, full, few)))
+    ap (λ (store : StoreValue). under_counts store.overlays) (not_refused c.hold_mount.result
+    (c.hold_mount.new.self ≡ with_mounts count (λ mounts. mounts + 1) old) (mounts_in old count ≡ most_counted)
+    c.hold_mount.ensures.limit.0 c.hold_mount.ensures.ok (λ full. omega (arith, full, few)))
     ∙ counted_stay_in old count (λ mounts. mounts + 1)

@@ -9,8 +9,7 @@ pub returns-then-is_some : goal.returns-then-is_some
 returns-then-is_some c =
     let count = c.args.mount.root.filesystem.count in
     let is : c.is_some.result ≡ is_some c.overlay.result = search rules in
-    ap (λ n. nat_le n c.args.most)
-    (c.mounts.ensures ∙ mounts_are_merged c.args.store.now count
+    ap (λ n. nat_le n c.args.most) (c.mounts.ensures ∙ mounts_are_merged c.args.store.now count
     (sym (overlay_there c.args.store.now count _ c.overlay.ensures.value) ∙ sym (some_copied c.overlay.result) ∙ sym is
     ∙ c.if-is_some.true))
 
@@ -20,5 +19,4 @@ returns-else-is_some c =
     let is : c.is_some.result ≡ is_some c.overlay.result = search rules in
     sym (ap (λ n. nat_le n c.args.most) (none_merged c.args.store.now count
     (sym (overlay_there c.args.store.now count _ c.overlay.ensures.value) ∙ sym (some_copied c.overlay.result) ∙ sym is
-    ∙ c.if-is_some.false))
-    ∙ le-leb 0 c.args.most (omega arith))
+    ∙ c.if-is_some.false)) ∙ le-leb 0 c.args.most (omega arith))

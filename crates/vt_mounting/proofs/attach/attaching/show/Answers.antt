@@ -19,8 +19,7 @@ pin_point-requires c =
     (not_refused c.pin.result (ChangesInodes root.filesystem.count
     (λ inodes. pinned nat_eq inodes (number_of root)) old c.pin.new.self)
     (uses_in ((inodes_at old root.filesystem.count).inode (number_of root)) ≡ most_counted)
-    c.pin.ensures.limit.0 c.pin.ensures.ok
-    (λ full. omega (arith, full, few))) in
+    c.pin.ensures.limit.0 c.pin.ensures.ok (λ full. omega (arith, full, few))) in
     subst (λ all. point_has_room 18446744073709551614 all c.args.mount.now.mount_point ≡ true) (sym first)
     (point_room_left (shown old) c.args.mount.now c.requires)
 
@@ -35,8 +34,7 @@ returns c =
     let first : shown c.pin.new.self ≡ pinned_in (inode_of root) (shown old) =
     pins count (number_of root) old c.pin.new.self
     (not_refused c.pin.result (ChangesInodes count (λ inodes. pinned nat_eq inodes (number_of root)) old c.pin.new.self)
-    (uses_in ((inodes_at old count).inode (number_of root)) ≡ most_counted)
-    c.pin.ensures.limit.0 c.pin.ensures.ok
+    (uses_in ((inodes_at old count).inode (number_of root)) ≡ most_counted) c.pin.ensures.limit.0 c.pin.ensures.ok
     (λ full. omega (arith, full, few))) in
     let second : shown placed ≡ pinned_at point (pinned_in (inode_of root) (shown old)) = c.pin_point.ensures
     ∙ ap (pinned_at point) first in
@@ -47,7 +45,5 @@ returns c =
     let fewer = filesystem_has_room 18446744073709551613 (shown old) c.args.mount.now c.requires in
     ap shown (not_refused c.hold_mount.result
     (c.hold_mount.new.self ≡ with_changed count (λ entry. record entry { mounts = entry.mounts + 1 }) placed)
-    ((entry_at placed count).mounts ≡ most_counted)
-    c.hold_mount.ensures.limit.0 c.hold_mount.ensures.ok
-    (λ full. omega (arith, full, mounts, fewer)))
-    ∙ holds count placed ∙ ap (mounted_in (counted count)) second
+    ((entry_at placed count).mounts ≡ most_counted) c.hold_mount.ensures.limit.0 c.hold_mount.ensures.ok
+    (λ full. omega (arith, full, mounts, fewer))) ∙ holds count placed ∙ ap (mounted_in (counted count)) second

@@ -40,8 +40,7 @@ exchange_uses-requires-clause-points c =
     ∙ lowers_new c.args.store.now e c.requires.above in
     let layers = map layer_of c.args.lowers.items in
     let all = folded with_layer (shown c.args.store.now.plain) layers in
-    let uses : shown c.plain_mut.result.now ≡ all =
-    ap shown c.plain_mut.ensures.value ∙ c.hold_layers_of.ensures.held
+    let uses : shown c.plain_mut.result.now ≡ all = ap shown c.plain_mut.ensures.value ∙ c.hold_layers_of.ensures.held
     ∙ (λ i. with_layers (lowers i) (shown (entered i).plain))
     ∙ layers_more c.args.lowers.items (shown c.args.store.now.plain) in
     let moved = c.deref-in-Ok.result.now in
@@ -57,10 +56,8 @@ exchange_uses-requires-clause-points c =
     let fits : less + length layers ≤ middle = omega (arith, as_many, sum, beside) in
     subst (λ (list : List Shown). list_all
     (λ (point : Location). point_has_room (most_counted - length moved) list (Some point)) (taken_of moved) ≡ true)
-    (sym uses)
-    (subst (λ (list : List Location). list_all
-    (λ (point : Location). point_has_room (most_counted - length moved) all (Some point)) list ≡ true)
-    (sym are)
+    (sym uses) (subst (λ (list : List Location). list_all
+    (λ (point : Location). point_has_room (most_counted - length moved) all (Some point)) list ≡ true) (sym are)
     (room_stays (most_counted - length moved) middle all (omega (arith, few, many)) taken
     (taken_pass (λ (point : Location). point_has_room middle all (Some point)) plan.points.now c.args.mounts.now
     (points_fit layers (shown c.args.store.now.plain) less middle fits (λ (point : Point). point.place)
@@ -76,8 +73,7 @@ exchange_uses-requires-clause-copies c =
     ∙ lowers_new c.args.store.now e c.requires.above in
     let layers = map layer_of c.args.lowers.items in
     let all = folded with_layer (shown c.args.store.now.plain) layers in
-    let uses : shown c.plain_mut.result.now ≡ all =
-    ap shown c.plain_mut.ensures.value ∙ c.hold_layers_of.ensures.held
+    let uses : shown c.plain_mut.result.now ≡ all = ap shown c.plain_mut.ensures.value ∙ c.hold_layers_of.ensures.held
     ∙ (λ i. with_layers (lowers i) (shown (entered i).plain))
     ∙ layers_more c.args.lowers.items (shown c.args.store.now.plain) in
     let taken = points_taken plan.points.now c.args.mounts.now in
@@ -95,8 +91,7 @@ exchange_uses-requires-clause-copies c =
     subst (λ later. list_all (has_room (most_counted - 2 * length plan.copies.now) later) plan.copies.now ≡ true)
     (sym pinned_so)
     (all_room_then taken all middle (most_counted - 2 * length plan.copies.now) (omega (arith, few, sum))
-    plan.copies.now
-    (copies_fit layers (shown c.args.store.now.plain) less middle fits plan.copies.now
+    plan.copies.now (copies_fit layers (shown c.args.store.now.plain) less middle fits plan.copies.now
     (c.if-not-plan_has_room.ensures.copies refl)))
 
 pub hold_overlays-requires : goal.hold_overlays-requires
@@ -131,8 +126,7 @@ returns-in-Ok-clause-ok c =
     let left_are : left_of c.deref-in-Ok.result.now ≡ left = ap left_of c.deref-in-Ok.ensures.value in
     let files : shown c.hold_overlays.new.store.plain
     ≡ folded unpinned_by (folded shown_by (folded pinned_by all (points_taken plan.points.now c.args.mounts.now))
-    plan.copies.now) left =
-    ap shown c.hold_overlays.ensures.plain ∙ c.exchange_uses.ensures
+    plan.copies.now) left = ap shown c.hold_overlays.ensures.plain ∙ c.exchange_uses.ensures
     ∙ ap (λ (uses : List Shown). folded unpinned_by (folded shown_by (folded pinned_by uses
     (taken_of c.deref-in-Ok.result.now)) plan.copies.now) (left_of c.deref-in-Ok.result.now))
     (ap shown c.plain_mut.ensures.value)
@@ -155,9 +149,7 @@ returns-in-Ok-clause-ok c =
 pub returns-in-Err-clause-err_store : goal.returns-in-Err-clause-err_store
 returns-in-Err-clause-err_store c =
     let e = new_overlay c.args.filesystem c.args.lowers.items c.args.mounter in
-    c.withdraw_overlay.ensures
-    ∙ ap (λ (store : StoreValue). record store {
+    c.withdraw_overlay.ensures ∙ ap (λ (store : StoreValue). record store {
       overlays = without_overlay c.args.filesystem.count store.overlays;
-    }) c.in_ok-enter_overlay.ensures.ok
-    ∙ ap (λ (overlays : Overlays). record c.args.store.now { overlays = overlays })
+    }) c.in_ok-enter_overlay.ensures.ok ∙ ap (λ (overlays : Overlays). record c.args.store.now { overlays = overlays })
     (withdrawn c.args.store.now.overlays e c.requires.above)

@@ -25,10 +25,8 @@ exchange_uses-requires-clause-points c =
     let many : length moved ≡ length taken = sym (length-map moved (λ (one : Moved). one.to)) ∙ ap length are in
     subst (λ (uses : List Shown). list_all
     (λ (point : Location). point_has_room (most_counted - length moved) uses (Some point)) (taken_of moved) ≡ true)
-    (sym (ap shown c.plain_mut.ensures.value))
-    (subst (λ (list : List Location). list_all
-    (λ (point : Location). point_has_room (most_counted - length moved) all (Some point)) list ≡ true)
-    (sym are)
+    (sym (ap shown c.plain_mut.ensures.value)) (subst (λ (list : List Location). list_all
+    (λ (point : Location). point_has_room (most_counted - length moved) all (Some point)) list ≡ true) (sym are)
     (room_stays (most_counted - length moved) less all (omega (arith, few, many)) taken
     (taken_pass (λ (point : Location). point_has_room less all (Some point)) plan.points.now c.args.mounts.now
     (c.if-not-plan_has_room.ensures.points refl))))
@@ -67,8 +65,7 @@ returns-clause-ok c =
     let left_are : left_of c.deref.result.now ≡ left = ap left_of c.deref.ensures.value in
     let files : shown c.hold_overlays.new.store.plain
     ≡ folded unpinned_by (folded shown_by (folded pinned_by all (points_taken plan.points.now c.args.mounts.now))
-    plan.copies.now) left =
-    ap shown c.hold_overlays.ensures.plain ∙ c.exchange_uses.ensures
+    plan.copies.now) left = ap shown c.hold_overlays.ensures.plain ∙ c.exchange_uses.ensures
     ∙ ap (λ (uses : List Shown). folded unpinned_by (folded shown_by (folded pinned_by uses
     (taken_of c.deref.result.now)) plan.copies.now) (left_of c.deref.result.now)) (ap shown c.plain_mut.ensures.value)
     ∙ (λ i. folded unpinned_by (folded shown_by (folded pinned_by all (taken_are i)) plan.copies.now) (left_are i)) in (

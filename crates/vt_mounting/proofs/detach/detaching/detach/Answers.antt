@@ -14,8 +14,7 @@ use Rattle.vt_mounting.proofs.detach.detaching.detach.Goals as goal
 use Rattle.vt_mounting.proofs.detach.detaching.detach.Goals.{in-Some, in_default}
 
 pub returns-in_err-mount-clause-point : goal.returns-in_err-mount-clause-point
-returns-in_err-mount-clause-point c =
-    ap (option_map location_of) c.from_residual.ensures
+returns-in_err-mount-clause-point c = ap (option_map location_of) c.from_residual.ensures
     ∙ sym (point_seen c.args.mounts.now (counted c.args.id.count) None
     (sym c.get.ensures ∙ ap (option_map mount_of) c.in_err-mount.was))
 
@@ -33,8 +32,7 @@ returns-clause-point c =
 pub returns-clause-left : goal.returns-clause-left
 returns-clause-left c =
     let unpinned : shown c.match-mount.store.plain
-    ≡ unpinned_at c.in_ok-mount.mount.mount_point (shown c.args.store.now.plain) =
-    elim c.match-mount.branch [
+    ≡ unpinned_at c.in_ok-mount.mount.mount_point (shown c.args.store.now.plain) = elim c.match-mount.branch [
       | in-Some w ↦ ap (λ (store : StoreValue). shown store.plain) w.store-is
           ∙ unpins w.in-Some.point.node.filesystem.count (number_of w.in-Some.point.node) w.plain_mut.result.now
           w.unpin.new.self w.unpin.ensures
@@ -44,13 +42,11 @@ returns-clause-left c =
       | in_default w ↦ ap (λ (store : StoreValue). shown store.plain) w.store-is
           ∙ ap (λ point. unpinned_at point (shown c.args.store.now.plain)) (sym w.in_default.is)
     ] in
-    let overlays : c.match-mount.store.overlays ≡ c.args.store.now.overlays =
-    elim c.match-mount.branch [
+    let overlays : c.match-mount.store.overlays ≡ c.args.store.now.overlays = elim c.match-mount.branch [
       | in-Some w ↦ ap (λ (store : StoreValue). store.overlays) w.store-is
       | in_default w ↦ ap (λ (store : StoreValue). store.overlays) w.store-is
     ] in
-    c.let_go_mount.ensures.left
-    ∙ ap (let_go_mount (counted c.args.id.count))
+    c.let_go_mount.ensures.left ∙ ap (let_go_mount (counted c.args.id.count))
     (λ i. record { mounts = c.detach.ensures i; filesystems = unpinned i; overlays = map merged_of (overlays i) })
 
 pub returns-in_err-mount-clause-overlays : goal.returns-in_err-mount-clause-overlays
@@ -58,8 +54,7 @@ returns-in_err-mount-clause-overlays c = left_itself c.args.store.now.overlays c
 
 pub returns-clause-overlays : goal.returns-clause-overlays
 returns-clause-overlays c =
-    let overlays : c.match-mount.store.overlays ≡ c.args.store.now.overlays =
-    elim c.match-mount.branch [
+    let overlays : c.match-mount.store.overlays ≡ c.args.store.now.overlays = elim c.match-mount.branch [
       | in-Some w ↦ ap (λ (store : StoreValue). store.overlays) w.store-is
       | in_default w ↦ ap (λ (store : StoreValue). store.overlays) w.store-is
     ] in

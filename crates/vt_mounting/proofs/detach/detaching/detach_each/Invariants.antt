@@ -7,8 +7,7 @@ use Rattle.vt_mounting.proofs.detach.detaching.detach_each.Given as goal
 
 -- what follows in turn from here on follows from the first one on; overlays are left that were there
 abbrev pub invariant-loop-id : goal.invariant-loop-id
-invariant-loop-id l =
-    ((last : Kept) → LeaveInTurn (map (λ id. counted id.count) (drop l.id-index l.ids))
+invariant-loop-id l = ((last : Kept) → LeaveInTurn (map (λ id. counted id.count) (drop l.id-index l.ids))
     (kept l.mounts l.store) last
     → LeaveInTurn (map (λ id. counted id.count) l.ids) (kept l.initial.mounts l.initial.store) last)
     × OverlaysLeft l.initial.store.overlays l.store.overlays

@@ -13,8 +13,7 @@ returns-clause-left c =
       entries = c.detach_each.new.mounts;
       turn = c.detach_each.ensures.left;
       groups = c.leave_all.ensures.detached;
-      types = λ ordered typed.
-          c.leave_all.ensures.types ordered
+      types = λ ordered typed. c.leave_all.ensures.types ordered
           (turn_sourceless c.args.groups.now numbers old left c.detach_each.ensures.left typed)
           (turn_typed c.args.groups.now numbers old left c.detach_each.ensures.left typed);
     }

@@ -20,8 +20,7 @@ abbrev pub invariant-loop-last : goal.invariant-loop-last
 invariant-loop-last l = record {
   gone : List Detached;
   entries : List MountEntry;
-  detached : AreDetached (counted l.fn.id.count) gone (kept l.initial.mounts l.initial.store)
-      (kept entries l.store);
+  detached : AreDetached (counted l.fn.id.count) gone (kept l.initial.mounts l.initial.store) (kept entries l.store);
   only_types : OnlyTypesChange entries l.mounts;
   groups : (world : World ℕ) → Has world l.initial.groups → AllGroupsLive world
       → Has (regrouped nat_eq (with_changed as_private world (gone_numbers gone))) l.groups;

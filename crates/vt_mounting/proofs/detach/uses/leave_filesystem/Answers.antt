@@ -14,15 +14,12 @@ returns-then-is_some-clause-left c =
     ∙ sym (some_copied c.overlay.result) ∙ sym c.is_some.ensures ∙ c.if-is_some.true)
 
 pub returns-else-is_some-clause-left : goal.returns-else-is_some-clause-left
-returns-else-is_some-clause-left c =
-    plain_leaves (counted c.args.id.count) c.args.store.now
+returns-else-is_some-clause-left c = plain_leaves (counted c.args.id.count) c.args.store.now
     (record { plain = c.leave_plain.new.filesystems; overlays = c.args.store.now.overlays })
     (merged_there c.args.id.count c.args.store.now.overlays ∙ sym (ap is_some c.overlay.ensures.value)
-    ∙ sym (some_copied c.overlay.result) ∙ sym c.is_some.ensures ∙ c.if-is_some.false)
-    (c.leave_plain.ensures
+    ∙ sym (some_copied c.overlay.result) ∙ sym c.is_some.ensures ∙ c.if-is_some.false) (c.leave_plain.ensures
     ∙ ap (λ all. let_go_filesystem (counted c.args.id.count) (released_in (counted c.args.id.count) (shown all)))
-    c.plain_mut.ensures.value)
-    refl
+    c.plain_mut.ensures.value) refl
 
 pub returns-then-is_some-clause-overlays : goal.returns-then-is_some-clause-overlays
 returns-then-is_some-clause-overlays c = c.leave_overlay.ensures.overlays

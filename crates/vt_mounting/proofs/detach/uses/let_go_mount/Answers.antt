@@ -14,8 +14,7 @@ pub returns-in_default-clause-left : goal.returns-in_default-clause-left
 returns-in_default-clause-left c =
     let mounts = c.args.mounts.now in
     let number = counted c.args.id.count in
-    ap (λ left. kept left c.args.store.now)
-    (c.remove_unused.ensures.rest
+    ap (λ left. kept left c.args.store.now) (c.remove_unused.ensures.rest
     ∙ ap (λ gone. cond (is_some gone) (without number mounts) mounts) c.in_default.is)
     ∙ let_go_kept number (kept mounts c.args.store.now)
     (sym c.remove_unused.ensures.unused ∙ ap is_some c.in_default.is)
@@ -35,8 +34,7 @@ returns-clause-left c =
           (unpins c.in-Some.mount.root.filesystem.count root c.plain_mut.result.now c.unpin.new.self c.unpin.ensures
           ∙ ap (λ all. unpinned_in (f, root) (shown all)) c.plain_mut.ensures.value)) i;
       overlays = ap (λ (left : Kept). left.overlays) c.leave_filesystem.ensures.left i;
-    })
-    ∙ sym (let_go_unused number k (mount_of c.in-Some.mount) c.in-Some.ensures.value
+    }) ∙ sym (let_go_unused number k (mount_of c.in-Some.mount) c.in-Some.ensures.value
     (sym c.remove_unused.ensures.unused ∙ ap is_some c.in-Some.is))
 
 pub returns-in_default-clause-overlays : goal.returns-in_default-clause-overlays

@@ -10,8 +10,7 @@ pub returns-clause-ok : goal.returns-clause-ok
 returns-clause-ok c =
     let facts = c.in_ok-insert.ensures in
     listed-insert c.self.inside.by_name.entries c.insert.new.self.entries c.args.name.items c.args.id
-    facts.updates.1 facts.updates.3
-    ∙ ap (with_entry c.args.name.items c.args.id) c.self.view_is
+    facts.updates.1 facts.updates.3 ∙ ap (with_entry c.args.name.items c.args.id) c.self.view_is
 
 -- only a name that was not there can fail
 pub returns-in_err-insert-clause-present : goal.returns-in_err-insert-clause-present

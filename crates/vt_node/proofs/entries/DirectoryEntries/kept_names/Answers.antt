@@ -11,5 +11,4 @@ returns c =
     subst (λ names. IsPermutation (map (λ name. name.items) names) (map (λ entry. entry.0) c.args.self.now))
     (sym (c.as_slice.ensures ∙ c.keys.ensures.rest))
     (subst (λ (entries : Entries ℕ). IsPermutation (map (λ name. name.items) (keys_of kept))
-    (map (λ entry. entry.0) entries)) c.self.view_is
-    (names-listed kept c.keys.ensures.unique))
+    (map (λ entry. entry.0) entries)) c.self.view_is (names-listed kept c.keys.ensures.unique))

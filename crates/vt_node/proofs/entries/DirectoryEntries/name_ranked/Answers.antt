@@ -8,16 +8,14 @@ pub returns-then-rank-rank_of : goal.returns-then-rank-rank_of
 returns-then-rank-rank_of c =
     let names = c.as_slice-names.result.now in
     let numbers = c.as_slice-numbers.result.now in
-    let columns : AreColumns c.self.inside.by_name.entries names numbers =
-    record {
+    let columns : AreColumns c.self.inside.by_name.entries names numbers = record {
       names_are = c.as_slice-names.ensures ∙ c.keys.ensures.rest;
       numbers_are = c.as_slice-numbers.ensures ∙ c.values.ensures.rest;
     } in
     let has = has_rank c.args.self.now c.args.id c.args.rank in
     let key = c.index-names-place.result in
     let leads : nat_eq c.args.id c.index-numbers-place.result ≡ true = sym c.eq.ensures ∙ c.if-eq.true in
-    let same : c.args.rank ≡ rank_among c.args.self.now key.items c.args.id =
-    c.if-rank-rank_of.true ∙ c.rank_of.ensures
+    let same : c.args.rank ≡ rank_among c.args.self.now key.items c.args.id = c.if-rank-rank_of.true ∙ c.rank_of.ensures
     ∙ ap (λ name. rank_among c.args.self.now name c.args.id) c.as_slice-name.ensures.value in
     ap Some c.as_slice-name.ensures.value
     ∙ sym (ap (λ entries. name_ranked entries c.args.id c.args.rank) (sym c.self.view_is)
@@ -34,8 +32,7 @@ pub loop-place-preserved : goal.loop-place-preserved
 loop-place-preserved c =
     let names = c.as_slice-names.result.now in
     let numbers = c.as_slice-numbers.result.now in
-    let columns : AreColumns c.self.inside.by_name.entries names numbers =
-    record {
+    let columns : AreColumns c.self.inside.by_name.entries names numbers = record {
       names_are = c.as_slice-names.ensures ∙ c.keys.ensures.rest;
       numbers_are = c.as_slice-numbers.ensures ∙ c.values.ensures.rest;
     } in
@@ -43,8 +40,7 @@ loop-place-preserved c =
     let key = c.index-names-place.result in
     let number = c.index-numbers-place.result in
     let rank = rank_among c.args.self.now key.items c.args.id in
-    let fails : has (key.items, number) ≡ false =
-    elim c.else-eq.branch as (λ _. has (key.items, number) ≡ false) [
+    let fails : has (key.items, number) ≡ false = elim c.else-eq.branch as (λ _. has (key.items, number) ≡ false) [
       | else-eq-via-then-eq+else-rank-rank_of w ↦
           let leads : nat_eq c.args.id number ≡ true = sym c.eq.ensures ∙ w.if-eq.true in
           let apart : nat_eq c.args.rank w.rank_of.result ≡ false = search rules in
@@ -64,8 +60,7 @@ pub returns : goal.returns
 returns c =
     let names = c.as_slice-names.result.now in
     let numbers = c.as_slice-numbers.result.now in
-    let columns : AreColumns c.self.inside.by_name.entries names numbers =
-    record {
+    let columns : AreColumns c.self.inside.by_name.entries names numbers = record {
       names_are = c.as_slice-names.ensures ∙ c.keys.ensures.rest;
       numbers_are = c.as_slice-numbers.ensures ∙ c.values.ensures.rest;
     } in

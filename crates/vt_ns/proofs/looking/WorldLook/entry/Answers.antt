@@ -17,13 +17,11 @@ entry-requires c = record {
       object_is (the_view c.self.inside) c.self.inside.store c.args.self.now c.self.view_is c.self.invariant c.args.at
       (search rules)
       (seen_if_lent (the_view c.self.inside) c.self.inside.store c.args.self.now c.self.view_is c.self.invariant
-      c.args.at (search rules) c.args.object.now c.requires)
-      ∙ c.requires;
+      c.args.at (search rules) c.args.object.now c.requires) ∙ c.requires;
 }
 
 pub returns-in_err-found-clause-node : goal.returns-in_err-found-clause-node
-returns-in_err-found-clause-node c =
-    ap (option_map (λ (entry : Entry). number_of entry.node)) c.from_residual.ensures
+returns-in_err-found-clause-node c = ap (option_map (λ (entry : Entry). number_of entry.node)) c.from_residual.ensures
     ∙ ap (option_map (λ (found : Found). number_of found.node)) (sym c.in_err-found.was) ∙ c.entry.ensures.node
     ∙ ap (λ (node : Option (Node ℕ)). entry_named c.args.name.now (entries_in node))
     (node_is (the_view c.self.inside) c.self.inside.store c.args.self.now c.self.view_is c.self.invariant c.args.at
@@ -41,8 +39,7 @@ returns-clause-node c =
     c.args.at (search rules) c.args.object.now c.requires))
 
 pub returns-clause-object : goal.returns-clause-object
-returns-clause-object c =
-    subst (λ (result : Option Found). IfSome result (λ (found : Found). option_copied found.object
+returns-clause-object c = subst (λ (result : Option Found). IfSome result (λ (found : Found). option_copied found.object
     ≡ lent_in c.self.inside.store c.args.at.node.filesystem.count (number_of found.node))) c.in_ok-found.was
     c.entry.ensures.object
     ∙ object_beside (the_view c.self.inside) c.self.inside.store c.args.self.now c.self.view_is c.self.invariant

@@ -19,8 +19,7 @@ is_lost-requires c = record {
 }
 
 pub returns-in-Some : goal.returns-in-Some
-returns-in-Some c =
-    c.is_lost.ensures
+returns-in-Some c = c.is_lost.ensures
     ∙ lost_is (the_view c.self.inside) c.self.inside.store c.args.self.now c.self.view_is c.self.invariant c.args.at
     (search rules) c.get.result c.get.ensures c.in-Some.mount c.in-Some.is
 

@@ -11,15 +11,11 @@ pub is_nonempty-requires : goal.is_nonempty-requires
 is_nonempty-requires c = store_stands (the_view c.self.inside) c.self.inside.store c.self.invariant
 
 pub returns-then-is_seen : goal.returns-then-is_seen
-returns-then-is_seen c =
-    c.is_nonempty.ensures
-    ∙ ap (λ (node : Option (Node ℕ)). not (is_empty_list (entries_in node)))
+returns-then-is_seen c = c.is_nonempty.ensures ∙ ap (λ (node : Option (Node ℕ)). not (is_empty_list (entries_in node)))
     (node_is (the_view c.self.inside) c.self.inside.store c.args.self.now c.self.view_is c.self.invariant c.args.at
     (search rules) (sym c.is_seen.ensures ∙ c.if-is_seen.true))
 
 pub returns-else-is_seen : goal.returns-else-is_seen
-returns-else-is_seen c =
-    c.if-is_seen.false
-    ∙ ap (λ (node : Option (Node ℕ)). not (is_empty_list (entries_in node)))
+returns-else-is_seen c = c.if-is_seen.false ∙ ap (λ (node : Option (Node ℕ)). not (is_empty_list (entries_in node)))
     (sym (no_node (the_view c.self.inside) c.self.inside.store c.args.self.now c.self.view_is c.self.invariant c.args.at
     (search rules) (sym c.is_seen.ensures ∙ c.if-is_seen.false)))

@@ -12,13 +12,11 @@ is_removed-requires c = record {
 }
 
 pub returns-then-not-is_seen : goal.returns-then-not-is_seen
-returns-then-not-is_seen c =
-    ap not c.if-not-is_seen.true
+returns-then-not-is_seen c = ap not c.if-not-is_seen.true
     ∙ sym (removed_unseen (the_view c.self.inside) c.self.inside.store c.args.self.now c.self.view_is c.self.invariant
     c.args.at (search rules) (sym c.is_seen.ensures ∙ c.if-not-is_seen.true))
 
 pub returns-else-not-is_seen : goal.returns-else-not-is_seen
-returns-else-not-is_seen c =
-    c.is_removed.ensures
+returns-else-not-is_seen c = c.is_removed.ensures
     ∙ removed_is (the_view c.self.inside) c.self.inside.store c.args.self.now c.self.view_is c.self.invariant c.args.at
     (search rules) (sym c.is_seen.ensures ∙ c.if-not-is_seen.false)

@@ -17,18 +17,14 @@ is_under-requires c = record {
 }
 
 pub returns-then-eq : goal.returns-then-eq
-returns-then-eq c =
-    c.is_under.ensures
+returns-then-eq c = c.is_under.ensures
     ∙ under_is (the_view c.self.inside) c.self.inside.store c.args.self.now c.self.view_is c.self.invariant c.args.top
-    (search rules) c.args.directory
-    (sym c.is_seen.ensures ∙ c.if-is_seen.true)
+    (search rules) c.args.directory (sym c.is_seen.ensures ∙ c.if-is_seen.true)
 
 pub returns-else-is_seen : goal.returns-else-is_seen
-returns-else-is_seen c =
-    c.is_same.ensures
+returns-else-is_seen c = c.is_same.ensures
     ∙ under_apart (the_view c.self.inside) c.self.inside.store c.args.self.now c.self.view_is c.self.invariant c.args.top
-    (search rules) c.args.directory (search rules)
-    (elim c.else-is_seen.branch [
+    (search rules) c.args.directory (search rules) (elim c.else-is_seen.branch [
       | else-is_seen-via-then-is_seen+else-eq w ↦
           (λ i. (sym c.is_seen.ensures ∙ w.if-is_seen.true) i && (sym w.eq.ensures ∙ w.if-eq.false) i)
       | else-is_seen-via-else-is_seen w ↦

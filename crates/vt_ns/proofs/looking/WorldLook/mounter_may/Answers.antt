@@ -8,19 +8,14 @@ use Rattle.vt_ns.proofs.looking.OverlaysLooked.{mounter_is, nobody_is}
 use Rattle.vt_ns.proofs.looking.WorldLook.mounter_may.Goals as goal
 
 pub returns-in-Some : goal.returns-in-Some
-returns-in-Some c =
-    c.grants.ensures
+returns-in-Some c = c.grants.ensures
     ∙ ap (λ (who : Credentials). node_allows who (right_bits c.args.wanted) (option_copied c.node.result))
-    c.mounter.ensures
-    ∙ ap (node_allows c.in-Some.overlay.now.mounter (right_bits c.args.wanted)) c.node.ensures
-    ∙ mounter_is c.args.self.now (location_of c.args.at) c.in-Some.overlay.now.mounter
-    (sym c.overlay_on.ensures.mounter
+    c.mounter.ensures ∙ ap (node_allows c.in-Some.overlay.now.mounter (right_bits c.args.wanted)) c.node.ensures
+    ∙ mounter_is c.args.self.now (location_of c.args.at) c.in-Some.overlay.now.mounter (sym c.overlay_on.ensures.mounter
     ∙ ap (λ lent. option_map (λ (overlay : OverlayValue). overlay.mounter) (option_copied lent)) c.in-Some.is)
     (right_bits c.args.wanted)
 
 pub returns-in-None : goal.returns-in-None
-returns-in-None c =
-    nobody_is c.args.self.now (location_of c.args.at)
-    (sym c.overlay_on.ensures.mounter
+returns-in-None c = nobody_is c.args.self.now (location_of c.args.at) (sym c.overlay_on.ensures.mounter
     ∙ ap (λ lent. option_map (λ (overlay : OverlayValue). overlay.mounter) (option_copied lent)) c.in-None.is)
     (right_bits c.args.wanted)

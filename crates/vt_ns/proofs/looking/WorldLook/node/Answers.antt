@@ -8,8 +8,7 @@ pub object-requires : goal.object-requires
 object-requires c = store_stands (the_view c.self.inside) c.self.inside.store c.self.invariant
 
 pub returns-then-is_seen : goal.returns-then-is_seen
-returns-then-is_seen c =
-    c.object.ensures
+returns-then-is_seen c = c.object.ensures
     ∙ object_is (the_view c.self.inside) c.self.inside.store c.args.self.now c.self.view_is c.self.invariant c.args.at
     (search rules) (sym c.is_seen.ensures ∙ c.if-is_seen.true)
 

@@ -8,8 +8,7 @@ pub object-requires : goal.object-requires
 object-requires c = store_stands (the_view c.self.inside) c.self.inside.store c.self.invariant
 
 pub returns-then-eq : goal.returns-then-eq
-returns-then-eq c =
-    c.object.ensures
+returns-then-eq c = c.object.ensures
     ∙ object_is (the_view c.self.inside) c.self.inside.store c.args.self.now c.self.view_is c.self.invariant c.args.at
     (search rules) (seen_on c.args.self.now c.args.at c.args.ground true c.requires (sym c.eq.ensures ∙ c.if-eq.true))
 

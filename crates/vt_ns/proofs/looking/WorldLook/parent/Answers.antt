@@ -11,14 +11,12 @@ pub parent-requires : goal.parent-requires
 parent-requires c = store_stands (the_view c.self.inside) c.self.inside.store c.self.invariant
 
 pub returns-then-not-is_seen : goal.returns-then-not-is_seen
-returns-then-not-is_seen c =
-    ap (λ (node : Option (Node ℕ)). parent_in (number_of c.args.at.node) node)
+returns-then-not-is_seen c = ap (λ (node : Option (Node ℕ)). parent_in (number_of c.args.at.node) node)
     (sym (no_node (the_view c.self.inside) c.self.inside.store c.args.self.now c.self.view_is c.self.invariant c.args.at
     (search rules) (sym c.is_seen.ensures ∙ c.if-not-is_seen.true)))
 
 pub returns-else-not-is_seen : goal.returns-else-not-is_seen
-returns-else-not-is_seen c =
-    c.parent.ensures
+returns-else-not-is_seen c = c.parent.ensures
     ∙ ap (λ (node : Option (Node ℕ)). parent_in (number_of c.args.at.node) node)
     (node_is (the_view c.self.inside) c.self.inside.store c.args.self.now c.self.view_is c.self.invariant c.args.at
     (search rules) (sym c.is_seen.ensures ∙ c.if-not-is_seen.false))

@@ -13,9 +13,7 @@ returns-then-eq c =
     let held = subst IsHeld c.self.view_is c.self.invariant in
     let same = eqb-true c.loop.here.count c.args.top.count (sym c.eq.ensures ∙ c.if-eq.true) in
     sym (met_here mounts (counted c.args.top.count) (c.len-end.result - c.loop.counter) (counted c.loop.here.count)
-    (ap counted same))
-    ∙ c.loop.invariant.1
-    ∙ met_from mounts held.in_world.mounts.one_number (counted c.args.top.count)
+    (ap counted same)) ∙ c.loop.invariant.1 ∙ met_from mounts held.in_world.mounts.one_number (counted c.args.top.count)
     (counted c.args.mount.count) c.len-end.result c.loop.invariant.0
 
 pub returns-in_default : goal.returns-in_default
@@ -24,8 +22,7 @@ returns-in_default c =
     let held = subst IsHeld c.self.view_is c.self.invariant in
     let other : nat_eq c.loop.here.count c.args.top.count ≡ false = sym c.eq.ensures ∙ c.if-eq.false in
     sym (met_nowhere mounts (counted c.args.top.count) (c.len-end.result - c.loop.counter) (counted c.loop.here.count)
-    (counted_test c.loop.here.count c.args.top.count ∙ other) (sym c.in_default.ensures.point))
-    ∙ c.loop.invariant.1
+    (counted_test c.loop.here.count c.args.top.count ∙ other) (sym c.in_default.ensures.point)) ∙ c.loop.invariant.1
     ∙ met_from mounts held.in_world.mounts.one_number (counted c.args.top.count)
     (counted c.args.mount.count) c.len-end.result c.loop.invariant.0
 
@@ -48,9 +45,7 @@ returns c =
     let mounts = mounts_in c.args.self.now.mounts in
     let held = subst IsHeld c.self.view_is c.self.invariant in
     let last : c.len-end.result - c.loop.counter ≡ 0 = omega (arith, c.loop-test.false) in
-    c.eq-2.ensures
-    ∙ sym (counted_test c.loop.here.count c.args.top.count)
-    ∙ ap (λ n. meets mounts (counted c.args.top.count) n (counted c.loop.here.count)) (sym last)
-    ∙ c.loop.invariant.1
+    c.eq-2.ensures ∙ sym (counted_test c.loop.here.count c.args.top.count)
+    ∙ ap (λ n. meets mounts (counted c.args.top.count) n (counted c.loop.here.count)) (sym last) ∙ c.loop.invariant.1
     ∙ met_from mounts held.in_world.mounts.one_number (counted c.args.top.count)
     (counted c.args.mount.count) c.len-end.result c.loop.invariant.0

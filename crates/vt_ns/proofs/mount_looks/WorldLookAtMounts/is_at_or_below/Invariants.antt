@@ -6,7 +6,6 @@ use Rattle.vt_ns.proofs.mount_looks.WorldLookAtMounts.is_at_or_below.Given as go
 
 -- going up from here meets the mount just if going up from the first one does
 abbrev pub invariant-loop : goal.invariant-loop
-invariant-loop l =
-    (l.end ≡ length (mounts_in l.self.mounts))
+invariant-loop l = (l.end ≡ length (mounts_in l.self.mounts))
     × (meets (mounts_in l.self.mounts) (counted l.top.count) (l.end - l.counter) (counted l.here.count)
     ≡ meets (mounts_in l.self.mounts) (counted l.top.count) l.end (counted l.fn.mount.count))

@@ -14,22 +14,18 @@ is_under-requires c = record {
   standing = store_stands (the_view c.self.inside) c.self.inside.store c.self.invariant;
   named = parents_named_in (the_view c.self.inside) c.self.inside.store c.self.invariant c.args.top.filesystem.count;
   one_filesystem = λ i. record {
-    count = eqb-true c.args.directory.filesystem.count c.args.top.filesystem.count
-        (sym c.eq.ensures ∙ c.if-eq.true) i;
+    count = eqb-true c.args.directory.filesystem.count c.args.top.filesystem.count (sym c.eq.ensures ∙ c.if-eq.true) i;
   };
 }
 
 pub returns-then-eq : goal.returns-then-eq
-returns-then-eq c =
-    c.is_under.ensures
+returns-then-eq c = c.is_under.ensures
     ∙ under_shown (the_view c.self.inside) c.self.inside.store c.self.invariant c.args.top.filesystem.count
     (number_of c.args.top) (number_of c.args.directory)
     ∙ ap (λ value. lies_under value (counted c.args.top.filesystem.count) (number_of c.args.top)
     (number_of c.args.directory)) c.self.view_is
 
 pub returns-else-eq : goal.returns-else-eq
-returns-else-eq c =
-    c.if-eq.false
+returns-else-eq c = c.if-eq.false
     ∙ sym (lies_apart c.args.self.now c.args.top c.args.directory (subst IsHeld c.self.view_is c.self.invariant)
-    (search rules) (search rules)
-    (sym c.eq.ensures ∙ c.if-eq.false))
+    (search rules) (search rules) (sym c.eq.ensures ∙ c.if-eq.false))

@@ -6,6 +6,5 @@ use Rattle.vt_ns.proofs.LayersInUse.{none_in_use}
 use Rattle.vt_ns.proofs.world.World.are_written_to.Goals as goal
 
 pub returns : goal.returns
-returns c =
-    none_in_use (world_of c.args.self.now) (looks_of_value c.args.self.now) (task_of c.args._who.now)
+returns c = none_in_use (world_of c.args.self.now) (looks_of_value c.args.self.now) (task_of c.args._who.now)
     (lowers_of c.args._lowers.now) c.is_held.ensures.overlays.read_only c.is_held.ensures.in_world.overlays.fit_layers

@@ -25,10 +25,8 @@ use Rattle.vt_ns.proofs.world.World.bind.Goals as goal
 
 pub mounts_bound-requires : goal.mounts_bound-requires
 mounts_bound-requires c =
-    let permits : Permits (the_view c.self.inside) c.args.name.now
-    (attachment_permit (Bind c.args.bind)) =
-    subst (λ value. Permits value c.args.name.now
-    (attachment_permit (Bind c.args.bind)))
+    let permits : Permits (the_view c.self.inside) c.args.name.now (attachment_permit (Bind c.args.bind)) =
+    subst (λ value. Permits value c.args.name.now (attachment_permit (Bind c.args.bind)))
     (sym c.self.view_is) c.requires in
     subst (λ (v : WorldValue). is_located_well nat_eq (world_of v) (location_of c.args.bind.source) ≡ true) c.self.view_is
     (source_there (the_view c.self.inside) c.self.invariant c.args.name.now c.args.bind.source
@@ -36,10 +34,8 @@ mounts_bound-requires c =
 
 pub parts-requires : goal.parts-requires
 parts-requires c =
-    let permits : Permits (the_view c.self.inside) c.args.name.now
-    (attachment_permit (Bind c.args.bind)) =
-    subst (λ value. Permits value c.args.name.now
-    (attachment_permit (Bind c.args.bind)))
+    let permits : Permits (the_view c.self.inside) c.args.name.now (attachment_permit (Bind c.args.bind)) =
+    subst (λ value. Permits value c.args.name.now (attachment_permit (Bind c.args.bind)))
     (sym c.self.view_is) c.requires in
     place_mounted (the_view c.self.inside) c.args.bind.destination
     (bind_place_there (the_view c.self.inside) c.self.invariant c.args.name.now c.args.bind.source
@@ -47,10 +43,8 @@ parts-requires c =
 
 pub attach_graft-requires-clause-may : goal.attach_graft-requires-clause-may
 attach_graft-requires-clause-may c =
-    let permits : Permits (the_view c.self.inside) c.args.name.now
-    (attachment_permit (Bind c.args.bind)) =
-    subst (λ value. Permits value c.args.name.now
-    (attachment_permit (Bind c.args.bind)))
+    let permits : Permits (the_view c.self.inside) c.args.name.now (attachment_permit (Bind c.args.bind)) =
+    subst (λ value. Permits value c.args.name.now (attachment_permit (Bind c.args.bind)))
     (sym c.self.view_is) c.requires in
     let value = the_view c.self.inside in
     let graft : Graft = record { parts = c.deref.result; tree = c.deref-2.result; place = c.args.bind.destination; moves = false } in
@@ -64,26 +58,21 @@ attach_graft-requires-clause-may c =
     parts_found value c.args.self.now c.self.view_is c.self.invariant c.args.bind.destination
     c.in_ok-parts.parts.items c.deref.result.now c.deref.ensures.value c.in_ok-parts.ensures.ok in
     may_bind value c.self.invariant c.args.name.now c.args.bind.source c.args.bind.recursive graft counts permits
-    tree_is refl parts_are refl refl
-    c.are_ascending.ensures c.are_counted.ensures
+    tree_is refl parts_are refl refl c.are_ascending.ensures c.are_counted.ensures
 
 abbrev after : (c : goal.After-drop-tree-2) → WorldValue
-after c =
-    with_store c.attach_graft.new.store
-    (record (the_view c.self.inside) {
-      mounts = c.attach_graft.new.mounts;
-      groups = c.attach_graft.new.groups;
-      next = c.self.inside.next + c.in-Some.taken;
-    })
+after c = with_store c.attach_graft.new.store (record (the_view c.self.inside) {
+  mounts = c.attach_graft.new.mounts;
+  groups = c.attach_graft.new.groups;
+  next = c.self.inside.next + c.in-Some.taken;
+})
 
 -- the world then is the one that the permit leaves
 done : (c : goal.After-drop-tree-2) → IsDone (the_view c.self.inside) c.args.name.now
     (attachment_permit (Bind c.args.bind)) (after c)
 done c =
-    let permits : Permits (the_view c.self.inside) c.args.name.now
-    (attachment_permit (Bind c.args.bind)) =
-    subst (λ value. Permits value c.args.name.now
-    (attachment_permit (Bind c.args.bind)))
+    let permits : Permits (the_view c.self.inside) c.args.name.now (attachment_permit (Bind c.args.bind)) =
+    subst (λ value. Permits value c.args.name.now (attachment_permit (Bind c.args.bind)))
     (sym c.self.view_is) c.requires in
     let value = the_view c.self.inside in
     let graft : Graft = record {
@@ -116,13 +105,11 @@ done c =
     subst (λ k. IsGrafted graft counts k c.self.inside.groups
     (kept c.attach_graft.new.mounts c.attach_graft.new.store) c.attach_graft.new.groups)
     (kept_is value c.self.inside.store) c.in_ok-attach_graft.ensures.ok in
-    done_in_store value
-    (record value {
+    done_in_store value (record value {
       mounts = c.attach_graft.new.mounts;
       groups = c.attach_graft.new.groups;
       next = c.self.inside.next + c.in-Some.taken;
-    })
-    c.self.inside.store c.attach_graft.new.store c.self.invariant
+    }) c.self.inside.store c.attach_graft.new.store c.self.invariant
     (left_still c.self.inside.store.overlays c.attach_graft.new.store.overlays c.attach_graft.ensures.overlays)
     c.args.name.now (attachment_permit (Bind c.args.bind)) permits
     (bind_is_done value c.self.invariant c.args.name.now c.args.bind.source c.args.bind.recursive graft counts

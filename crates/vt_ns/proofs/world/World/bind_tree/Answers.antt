@@ -29,7 +29,6 @@ loop-next-init c =
     (filter (stands_under nat_eq (world_of c.args.self.now) source) (bindable_children nat_eq mounts source.mount))) in
     ap (λ come. counts c.push.new.self.items ++ come)
     (c.in_ok-push_bound.ensures ∙ ap (λ waiting. below ++ bindable_to_come mounts waiting) c.new-waiting.ensures.items
-    ∙ append-nil below)
-    ∙ ap (λ tree. counts tree ++ below)
+    ∙ append-nil below) ∙ ap (λ tree. counts tree ++ below)
     (c.in_ok-push.ensures.items ∙ ap (λ items. items ++ c.args.source.mount ∷ []) c.new-tree.ensures.items)
     ∙ ap (λ n. n ∷ below) (sym (number_found mounts source.mount))

@@ -9,8 +9,7 @@ use Rattle.vt_ns.proofs.world.World.bind_tree.Given as goal
 
 -- what is told, and then what is still to come, is the tree
 abbrev pub invariant-loop-next : goal.invariant-loop-next
-invariant-loop-next l =
-    counts l.tree.items ++ bindable_to_come (mounts_in l.self.mounts) l.waiting.items
+invariant-loop-next l = counts l.tree.items ++ bindable_to_come (mounts_in l.self.mounts) l.waiting.items
     ≡ map (λ mount. mount.number) (bind_tree nat_eq (world_of l.self) (location_of l.fn.source) true)
 
 abbrev pub decreases-loop-next : goal.decreases-loop-next

@@ -19,18 +19,15 @@ use Rattle.vt_ns.proofs.world.StoresKept.{kept_is}
 use Rattle.vt_ns.proofs.world.World.close.Goals as goal
 
 abbrev after_leaving : (c : goal.After-leave) → WorldValue
-after_leaving c =
-    record (remade (the_view c.self.inside) c.leave.new.mounts c.leave.new.store.plain c.close.new.self) {
-      overlays = overlays_of_store c.leave.new.store;
-    }
+after_leaving c = record (remade (the_view c.self.inside) c.leave.new.mounts c.leave.new.store.plain c.close.new.self) {
+  overlays = overlays_of_store c.leave.new.store;
+}
 
 -- what the file leaves
 left_so : (c : goal.After-leave) → kept c.leave.new.mounts c.leave.new.store
     ≡ without_location c.in-Some.closed.location (opens_for_writing (access_of c.in-Some.closed.access))
     (kept_of (the_view c.self.inside))
-left_so c =
-    c.leave.ensures.left
-    ∙ (λ i. without_location c.in-Some.closed.location (c.writes.ensures i)
+left_so c = c.leave.ensures.left ∙ (λ i. without_location c.in-Some.closed.location (c.writes.ensures i)
     (kept_is (the_view c.self.inside) c.self.inside.store i))
 
 done : (c : goal.After-leave) → IsDone (the_view c.self.inside) c.args.name.now (ToClose c.args.descriptor)
@@ -42,8 +39,7 @@ done c =
     c.leave.ensures.overlays c.args.name.now (ToClose c.args.descriptor) permits
     (file_is_closed (the_view c.self.inside) c.args.name.now c.args.descriptor c.in-Some.closed c.leave.new.mounts
     c.leave.new.store.plain (map merged_of c.leave.new.store.overlays) c.close.new.self c.self.invariant permits
-    c.leave.ensures.slot
-    (passes has_files_in_order c.self.inside.tasks c.close.ensures.order)
+    c.leave.ensures.slot (passes has_files_in_order c.self.inside.tasks c.close.ensures.order)
     (sym (ap (option_map (numbered c.args.descriptor)) c.in-Some.is) ∙ c.close.ensures.value)
     c.close.ensures.rest (left_so c))
 
@@ -57,18 +53,15 @@ returns-in-Some c =
 
 pub invariant_of-self-in_default : goal.invariant_of-self-in_default
 invariant_of-self-in_default c =
-    (nothing_is_closed (the_view c.self.inside) c.args.name.now c.args.descriptor c.close.new.self
-    c.self.invariant
+    (nothing_is_closed (the_view c.self.inside) c.args.name.now c.args.descriptor c.close.new.self c.self.invariant
     (subst (λ value. Permits value c.args.name.now (ToClose c.args.descriptor)) (sym c.self.view_is) c.requires)
     (sym (ap (option_map (numbered c.args.descriptor)) c.in_default.is) ∙ c.close.ensures.value)
     c.close.ensures.rest).held
 
 pub returns-in_default : goal.returns-in_default
-returns-in_default c =
-    subst (λ value. Becomes value c.args.name.now (ToClose c.args.descriptor)
+returns-in_default c = subst (λ value. Becomes value c.args.name.now (ToClose c.args.descriptor)
     (after (the_view c.self.inside) c.close.new.self)) c.self.view_is
-    (nothing_is_closed (the_view c.self.inside) c.args.name.now c.args.descriptor c.close.new.self
-    c.self.invariant
+    (nothing_is_closed (the_view c.self.inside) c.args.name.now c.args.descriptor c.close.new.self c.self.invariant
     (subst (λ value. Permits value c.args.name.now (ToClose c.args.descriptor)) (sym c.self.view_is) c.requires)
     (sym (ap (option_map (numbered c.args.descriptor)) c.in_default.is) ∙ c.close.ensures.value)
     c.close.ensures.rest).becomes

@@ -23,15 +23,13 @@ pub unwrap-root-requires : goal.unwrap-root-requires
 unwrap-root-requires c =
     namespace_has_a_root (the_view c.self.inside) c.self.invariant c.args.name.now c.args.namespace.count c.namespace_root.result
     (subst (λ value. Permits value c.args.name.now (ToEnterNamespace (counted c.args.namespace.count)))
-    (sym c.self.view_is) c.requires)
-    c.namespace_root.ensures
+    (sym c.self.view_is) c.requires) c.namespace_root.ensures
 
 pub hold_once_more-requires-2 : goal.hold_once_more-requires-2
 hold_once_more-requires-2 c =
     room_left c.unwrap-root.result c.unwrap-root.result c.self.inside.mounts c.hold_once_more.new.mounts
     c.self.inside.store c.hold_once_more.new.store
-    (c.has_room.ensures.0 (let room = c.if-not-has_room.false in search rules))
-    c.hold_once_more.ensures.held
+    (c.has_room.ensures.0 (let room = c.if-not-has_room.false in search rules)) c.hold_once_more.ensures.held
 
 abbrev after : (c : goal.After-leave_namespace) → WorldValue
 after c = record {
@@ -49,8 +47,7 @@ left_so : (c : goal.After-leave_namespace) → kept c.leave-in-Some.new.mounts c
     ≡ without_location c.in-Some.left.directory false (without_location c.in-Some.left.root false
     (with_location c.unwrap-root.result false (with_location c.unwrap-root.result false
     (kept_of (the_view c.self.inside)))))
-left_so c =
-    c.leave-in-Some.ensures.left ∙ ap (without_location c.in-Some.left.directory false)
+left_so c = c.leave-in-Some.ensures.left ∙ ap (without_location c.in-Some.left.directory false)
     (c.leave.ensures.left ∙ ap (without_location c.in-Some.left.root false)
     (c.hold_once_more-2.ensures.held ∙ ap (with_location c.unwrap-root.result false)
     (c.hold_once_more.ensures.held ∙ ap (with_location c.unwrap-root.result false)
@@ -66,16 +63,13 @@ overlays_so c =
     (left_twice old c.leave.new.store.overlays c.leave-in-Some.new.store.overlays
     (left_twice old held c.leave.new.store.overlays
     (left_itself old held (c.hold_once_more-2.ensures.overlays ∙ c.hold_once_more.ensures.overlays))
-    c.leave.ensures.overlays)
-    c.leave-in-Some.ensures.overlays)
-    c.leave_namespace.ensures.overlays
+    c.leave.ensures.overlays) c.leave-in-Some.ensures.overlays) c.leave_namespace.ensures.overlays
 
 done : (c : goal.After-leave_namespace) → IsDone (the_view c.self.inside) c.args.name.now
     (ToEnterNamespace (counted c.args.namespace.count)) (after c)
 done c =
     let left = c.in-Some.left in
-    let permits : Permits (the_view c.self.inside) c.args.name.now
-    (ToEnterNamespace (counted c.args.namespace.count)) =
+    let permits : Permits (the_view c.self.inside) c.args.name.now (ToEnterNamespace (counted c.args.namespace.count)) =
     subst (λ value. Permits value c.args.name.now (ToEnterNamespace (counted c.args.namespace.count)))
     (sym c.self.view_is) c.requires in
     done_in_store (the_view c.self.inside) (after c) c.self.inside.store c.leave_namespace.new.store c.self.invariant
@@ -84,13 +78,10 @@ done c =
     c.leave_namespace.new.mounts c.leave_namespace.new.groups c.leave_namespace.new.store.plain
     (map merged_of c.leave_namespace.new.store.overlays)
     (entries_of c.leave_namespace.new.namespaces.entries) c.enter.new.self
-    (kept c.leave-in-Some.new.mounts c.leave-in-Some.new.store)
-    c.self.invariant permits
+    (kept c.leave-in-Some.new.mounts c.leave-in-Some.new.store) c.self.invariant permits
     (sym (ap (option_map location_of) c.unwrap-root.ensures) ∙ c.namespace_root.ensures)
     c.hold_once_more.ensures.slot c.leave.ensures.slot c.leave-in-Some.ensures.slot
-    (sym (ap (option_map left_of) c.in-Some.is) ∙ c.enter.ensures.left)
-    c.enter.ensures.rest
-    (left_so c)
+    (sym (ap (option_map left_of) c.in-Some.is) ∙ c.enter.ensures.left) c.enter.ensures.rest (left_so c)
     (c.leave_namespace.ensures.namespaces ∙ ap (with_one_task_less left.namespace.count) c.count_task.ensures)
     (subst (λ all. MountsAreLeft (counted left.namespace.count) (namespace_entry left.namespace.count all)
     (kept c.leave-in-Some.new.mounts c.leave-in-Some.new.store) c.self.inside.groups

@@ -29,9 +29,7 @@ after c = record {
 left_so : (c : goal.After-drop-task-6) → kept c.leave_files.new.mounts c.leave_files.new.store
     ≡ fold without_file (without_location c.in-Some.task.directory false
     (without_location c.in-Some.task.root false (kept_of (the_view c.self.inside)))) c.files.result.now
-left_so c =
-    c.leave_files.ensures.left
-    ∙ ap (λ k. fold without_file k c.files.result.now)
+left_so c = c.leave_files.ensures.left ∙ ap (λ k. fold without_file k c.files.result.now)
     (c.leave-2.ensures.left ∙ ap (without_location c.in-Some.task.directory false)
     (c.leave.ensures.left ∙ ap (without_location c.in-Some.task.root false)
     (kept_is (the_view c.self.inside) c.self.inside.store)))
@@ -44,9 +42,7 @@ overlays_so c =
     left_twice old c.leave_files.new.store.overlays c.leave_namespace.new.store.overlays
     (left_twice old c.leave-2.new.store.overlays c.leave_files.new.store.overlays
     (left_twice old c.leave.new.store.overlays c.leave-2.new.store.overlays c.leave.ensures.overlays
-    c.leave-2.ensures.overlays)
-    c.leave_files.ensures.overlays)
-    c.leave_namespace.ensures.overlays
+    c.leave-2.ensures.overlays) c.leave_files.ensures.overlays) c.leave_namespace.ensures.overlays
 
 done : (c : goal.After-drop-task-6) → IsDone (the_view c.self.inside) c.args.name.now ToExit (after c)
 done c =
@@ -58,24 +54,18 @@ done c =
     (kept c.leave_files.new.mounts c.leave_files.new.store)
     c.leave_namespace.new.mounts c.leave_namespace.new.groups c.leave_namespace.new.store.plain
     (map merged_of c.leave_namespace.new.store.overlays)
-    (entries_of c.leave_namespace.new.namespaces.entries) c.exit.new.self
-    c.self.invariant
-    permits
-    (sym (ap (option_map task_of) c.in-Some.is) ∙ c.exit.ensures.value)
-    c.exit.ensures.rest
-    (record {
+    (entries_of c.leave_namespace.new.namespaces.entries) c.exit.new.self c.self.invariant permits
+    (sym (ap (option_map task_of) c.in-Some.is) ∙ c.exit.ensures.value) c.exit.ensures.rest (record {
       root = c.leave.ensures.slot;
       directory = c.leave-2.ensures.slot;
       slots = c.leave_files.ensures.slots;
       places = c.files.ensures.locations;
       writes = c.files.ensures.writes;
       is = left_so c;
-    })
-    c.leave_namespace.ensures.namespaces c.leave_namespace.ensures.mounts)
+    }) c.leave_namespace.ensures.namespaces c.leave_namespace.ensures.mounts)
 
 pub invariant_of-self-2 : goal.invariant_of-self-2
 invariant_of-self-2 c = (done c).held
 
 pub returns : goal.returns
-returns c =
-    subst (λ value. Becomes value c.args.name.now ToExit (after c)) c.self.view_is (done c).becomes
+returns c = subst (λ value. Becomes value c.args.name.now ToExit (after c)) c.self.view_is (done c).becomes

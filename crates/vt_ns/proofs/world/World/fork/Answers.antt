@@ -15,22 +15,18 @@ use Rattle.vt_ns.proofs.world.StoresKept.{kept_is, same_in_store}
 use Rattle.vt_ns.proofs.world.World.fork.Goals as goal
 
 pub fork-requires : goal.fork-requires
-fork-requires c =
-    may_fork (the_view c.self.inside) c.self.invariant c.args.name.now c.args.cred
+fork-requires c = may_fork (the_view c.self.inside) c.self.invariant c.args.name.now c.args.cred
     (subst (λ value. Permits value c.args.name.now (ToFork c.args.cred)) (sym c.self.view_is) c.requires)
 
 pub hold_once_more-requires-2 : goal.hold_once_more-requires-2
 hold_once_more-requires-2 c =
     room_left c.unwrap-parent.result.now.root c.unwrap-parent.result.now.directory c.self.inside.mounts
-    c.hold_once_more.new.mounts c.self.inside.store c.hold_once_more.new.store
-    (c.has_room-else-not-has_room.ensures.0
-    (let room = c.if-not-has_room-2.false in search rules))
-    c.hold_once_more.ensures.held
+    c.hold_once_more.new.mounts c.self.inside.store c.hold_once_more.new.store (c.has_room-else-not-has_room.ensures.0
+    (let room = c.if-not-has_room-2.false in search rules)) c.hold_once_more.ensures.held
 
 -- the world but for its overlays
 abbrev forked : (c : goal.After-count_task) → WorldValue
-forked c =
-    remade_in (the_view c.self.inside) c.hold_once_more-2.new.mounts c.hold_once_more-2.new.store.plain
+forked c = remade_in (the_view c.self.inside) c.hold_once_more-2.new.mounts c.hold_once_more-2.new.store.plain
     (entries_of c.count_task.new.namespaces.entries) c.fork.new.self
 
 abbrev after : (c : goal.After-count_task) → WorldValue
@@ -40,9 +36,7 @@ after c = record (forked c) { overlays = overlays_of_store c.hold_once_more-2.ne
 held_so : (c : goal.After-count_task) → kept c.hold_once_more-2.new.mounts c.hold_once_more-2.new.store
     ≡ with_location c.unwrap-parent.result.now.directory false
     (with_location c.unwrap-parent.result.now.root false (kept_of (the_view c.self.inside)))
-held_so c =
-    c.hold_once_more-2.ensures.held
-    ∙ ap (with_location c.unwrap-parent.result.now.directory false)
+held_so c = c.hold_once_more-2.ensures.held ∙ ap (with_location c.unwrap-parent.result.now.directory false)
     (c.hold_once_more.ensures.held ∙ ap (with_location c.unwrap-parent.result.now.root false)
     (kept_is (the_view c.self.inside) c.self.inside.store))
 
@@ -52,9 +46,7 @@ done c =
     subst (λ value. Permits value c.args.name.now (ToFork c.args.cred)) (sym c.self.view_is) c.requires in
     same_in_store (the_view c.self.inside) (forked c) c.self.inside.store c.hold_once_more-2.new.store c.self.invariant
     (c.hold_once_more-2.ensures.overlays ∙ c.hold_once_more.ensures.overlays) c.args.name.now (ToFork c.args.cred)
-    permits
-    (task_is_forked (the_view c.self.inside) c.self.invariant c.args.name.now c.args.cred
-    permits
+    permits (task_is_forked (the_view c.self.inside) c.self.invariant c.args.name.now c.args.cred permits
     c.unwrap-parent.result.now
     (sym (ap (λ found. option_map task_of (option_copied found)) c.unwrap-parent.ensures) ∙ c.get.ensures)
     c.hold_once_more.ensures.slot c.hold_once_more-2.ensures.slot

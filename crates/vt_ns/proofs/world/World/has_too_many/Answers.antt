@@ -11,8 +11,7 @@ use Rattle.vt_ns.proofs.world.World.has_too_many.Goals as goal
 
 pub returns-in-Plain : goal.returns-in-Plain
 returns-in-Plain c = record {
-  ok = IfOk-weaker c.has_too_many_with.result _ _
-      (λ too_many tells.
+  ok = IfOk-weaker c.has_too_many_with.result _ _ (λ too_many tells.
       plain_overfills c.args.self.now c.is_held.ensures (location_of c.in-Plain.destination) too_many
       (flags_of c.in-Plain.flags) tells
       ∙ ap (λ attachment. overfills_of c.args.self.now (attachment_permit attachment)) (sym c.in-Plain.is))
@@ -27,8 +26,7 @@ returns-in_ok-tree-in-Bind c = record {
       let items = c.in_ok-tree-in-Bind.tree.items in
       let sized : length (bind_tree nat_eq (world_of value) source c.in-Bind.bind.recursive) ≡ length items =
       tree_sized items (bind_tree nat_eq (world_of value) source c.in-Bind.bind.recursive) c.in_ok-tree-in-Bind.ensures.ok in
-      IfOk-weaker c.has_too_many_with-in-Bind.result _ _
-      (λ too_many tells.
+      IfOk-weaker c.has_too_many_with-in-Bind.result _ _ (λ too_many tells.
       bind_overfills value c.is_held.ensures destination too_many source c.in-Bind.bind.recursive
       (λ one copies added same invariants parts size.
       tells one copies added same invariants parts

@@ -25,19 +25,16 @@ returns-in_default c = record {
       let number = counted c.args.mount.count in
       let place = location_of c.args.place in
       let missing = ap (λ (one : WorldValue). find (λ (mount : Mount ℕ). nat_eq number mount.number)
-      (mounts_in one.mounts)) (sym c.self.view_is)
-      ∙ sym c.in_default.ensures in
+      (mounts_in one.mounts)) (sym c.self.view_is) ∙ sym c.in_default.ensures in
       let after = attached_by nat_eq (world_of value) (new value c.is_held.ensures number place) place true
       (tree value c.is_held.ensures number place) in
       let parts = rest_kept c.in_ok-parts.parts.items _ c.in_ok-parts.ensures.ok
       ∙ ap (λ kept. map mount_of (take (length kept - 1) (drop 1 kept))) (sym c.deref.ensures.value) in
-      IfOk-weaker c.overfills.result _ _
-      (λ too_many tells.
+      IfOk-weaker c.overfills.result _ _ (λ too_many tells.
       tells (world_of value) after (ap
       (λ (one : WorldValue). mounts_in one.mounts) c.self.view_is) c.is_held.ensures.in_world.namespaces refl
       (subst (λ some. GrowsBy (world_of value) after some 1) parts
-      (absent_grows value c.is_held.ensures number place missing)))
-      c.overfills.ensures.more;
+      (absent_grows value c.is_held.ensures number place missing))) c.overfills.ensures.more;
 }
 
 pub returns : goal.returns
@@ -50,12 +47,10 @@ returns c = record {
       ap (λ (one : WorldValue). find (λ (mount : Mount ℕ). nat_eq number mount.number) (mounts_in one.mounts))
       (sym c.self.view_is) ∙ sym c.in-Some.ensures in
       let count : length (tree value c.is_held.ensures number place) ≡ length c.in_ok-tree.tree.items =
-      tree_sized c.in_ok-tree.tree.items (tree value c.is_held.ensures number place)
-      (c.in_ok-tree.ensures.ok
+      tree_sized c.in_ok-tree.tree.items (tree value c.is_held.ensures number place) (c.in_ok-tree.ensures.ok
       ∙ ap (λ (one : WorldValue). map (λ (mount : Mount ℕ). mount.number)
       (mount_tree nat_eq (mounts_in one.mounts) (mount_in nat_eq (mounts_in one.mounts) number))) c.self.view_is) in
-      IfOk-weaker c.overfills-2.result _ _
-      (λ too_many tells.
+      IfOk-weaker c.overfills-2.result _ _ (λ too_many tells.
       tells (world_of value) (new value c.is_held.ensures number place) place (tree value c.is_held.ensures number place)
       (ap (λ (one : WorldValue). mounts_in one.mounts) c.self.view_is) c.is_held.ensures.in_world.namespaces
       (ap (map mount_of) c.deref-2.ensures.value ∙ c.in_ok-parts.ensures.ok)

@@ -17,8 +17,7 @@ returns-then-is_none c = record {
 
 pub returns : goal.returns
 returns c = record {
-  ok = IfOk-weaker c.overfills.result _ _
-      (λ too_many tells world new tree same invariants parts size.
+  ok = IfOk-weaker c.overfills.result _ _ (λ too_many tells world new tree same invariants parts size.
       tells world new (location_of c.args.place) tree
       (ap (λ (value : WorldValue). mounts_in value.mounts) c.self.view_is ∙ same) invariants
       (ap (map mount_of) c.deref.ensures.value ∙ c.in_ok-parts.ensures.ok ∙ sym parts) size refl)

@@ -12,28 +12,20 @@ use Rattle.vt_ns.proofs.world.World.make.Goals as goal
 pub create-requires-clause-directory : goal.create-requires-clause-directory
 create-requires-clause-directory c =
     rw c.plain_mut.ensures.value ((make_fits (the_view c.self.inside) c.self.invariant c.args.name.now
-    c.args.new.directory c.args.new.name.items c.args.new.node
-    (omega arith)
-    (subst (λ value. Permits value c.args.name.now
-    (make_permit (Node c.args.new)))
-    (sym c.self.view_is) c.requires)).0)
+    c.args.new.directory c.args.new.name.items c.args.new.node (omega arith)
+    (subst (λ value. Permits value c.args.name.now (make_permit (Node c.args.new))) (sym c.self.view_is) c.requires)).0)
 
 pub create-requires-clause-free : goal.create-requires-clause-free
 create-requires-clause-free c =
     rw c.plain_mut.ensures.value ((make_fits (the_view c.self.inside) c.self.invariant c.args.name.now
-    c.args.new.directory c.args.new.name.items c.args.new.node
-    (omega arith)
-    (subst (λ value. Permits value c.args.name.now
-    (make_permit (Node c.args.new)))
-    (sym c.self.view_is) c.requires)).1)
+    c.args.new.directory c.args.new.name.items c.args.new.node (omega arith)
+    (subst (λ value. Permits value c.args.name.now (make_permit (Node c.args.new))) (sym c.self.view_is) c.requires)).1)
 
 pub create-requires-clause-node : goal.create-requires-clause-node
 create-requires-clause-node c =
     new_in_directory (the_view c.self.inside) c.self.invariant c.args.name.now c.args.new.directory
-    c.args.new.name.items c.args.new.node (omega arith)
-    (subst (λ value. Permits value c.args.name.now
-    (make_permit (Node c.args.new)))
-    (sym c.self.view_is) c.requires)
+    c.args.new.name.items c.args.new.node (omega arith) (subst (λ value. Permits value c.args.name.now
+    (make_permit (Node c.args.new))) (sym c.self.view_is) c.requires)
 
 pub invariant_of-self-2 : goal.invariant_of-self-2
 invariant_of-self-2 c =
@@ -51,10 +43,8 @@ pub returns-clause-ok : goal.returns-clause-ok
 returns-clause-ok c =
     let permits = subst (λ value. Permits value c.args.name.now
     (make_permit (Node c.args.new))) (sym c.self.view_is) c.requires in
-    subst (λ value. Becomes value c.args.name.now
-    (make_permit (Node c.args.new))
-    (with_store (record c.self.inside.store { plain = c.create.new.self }) (the_view c.self.inside)))
-    c.self.view_is
+    subst (λ value. Becomes value c.args.name.now (make_permit (Node c.args.new))
+    (with_store (record c.self.inside.store { plain = c.create.new.self }) (the_view c.self.inside))) c.self.view_is
     (files_stored (the_view c.self.inside) c.self.inside.store c.self.invariant c.args.name.now
     (make_permit (Node c.args.new)) permits c.create.new.self
     (make_is_done (the_view c.self.inside) c.self.invariant c.args.name.now c.args.new.directory c.args.new.name.items

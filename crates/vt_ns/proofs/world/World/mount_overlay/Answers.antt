@@ -60,11 +60,7 @@ attach_overlay-requires-clause-may c =
     ∙ ap option_copied c.unwrap.ensures in
     let graft : Graft = record {
       parts = c.deref.result;
-      tree = record {
-        ref_ptr =
-            (c.tree-1.given, 0);
-        now = c.mount_of_overlay.result ∷ [];
-      };
+      tree = record { ref_ptr = (c.tree-1.given, 0); now = c.mount_of_overlay.result ∷ [] };
       place = c.args.new.destination;
       moves = false;
     } in
@@ -79,17 +75,14 @@ attach_overlay-requires-clause-may c =
     c.are_ascending.ensures c.are_counted.ensures
 
 pub attach_overlay-requires-clause-above : goal.attach_overlay-requires-clause-above
-attach_overlay-requires-clause-above c =
-    overlays_below (the_view c.self.inside) c.self.inside.store c.self.invariant
+attach_overlay-requires-clause-above c = overlays_below (the_view c.self.inside) c.self.inside.store c.self.invariant
 
 abbrev after : (c : goal.After-drop-new-2) → WorldValue
-after c =
-    with_store c.attach_overlay.new.store
-    (record (the_view c.self.inside) {
-      mounts = c.attach_overlay.new.mounts;
-      groups = c.attach_overlay.new.groups;
-      next = c.self.inside.next + c.in-Some.taken;
-    })
+after c = with_store c.attach_overlay.new.store (record (the_view c.self.inside) {
+  mounts = c.attach_overlay.new.mounts;
+  groups = c.attach_overlay.new.groups;
+  next = c.self.inside.next + c.in-Some.taken;
+})
 
 -- the world then is the one that the permit leaves
 done : (c : goal.After-drop-new-2) → IsHeld (after c)
@@ -109,11 +102,7 @@ done c =
     ∙ ap option_copied c.unwrap.ensures in
     let graft : Graft = record {
       parts = c.deref.result;
-      tree = record {
-        ref_ptr =
-            (c.tree-1.given, 0);
-        now = c.mount_of_overlay.result ∷ [];
-      };
+      tree = record { ref_ptr = (c.tree-1.given, 0); now = c.mount_of_overlay.result ∷ [] };
       place = c.args.new.destination;
       moves = false;
     } in

@@ -48,11 +48,7 @@ mount_new-requires-clause-may c =
     let value = the_view c.self.inside in
     let graft : Graft = record {
       parts = c.deref.result;
-      tree = record {
-        ref_ptr =
-            (c.tree-1.given, 0);
-        now = c.mount_of_new.result ∷ [];
-      };
+      tree = record { ref_ptr = (c.tree-1.given, 0); now = c.mount_of_new.result ∷ [] };
       place = c.args.place;
       moves = false;
     } in
@@ -64,17 +60,14 @@ mount_new-requires-clause-may c =
     parts_found value c.args.self.now c.self.view_is c.self.invariant c.args.place c.in_ok-parts.parts.items
     c.deref.result.now c.deref.ensures.value c.in_ok-parts.ensures.ok in
     may_mount value c.self.invariant c.args.name.now graft counts
-    (flags_of c.args.flags) permits refl tree_is parts_are refl refl
-    c.are_ascending.ensures c.are_counted.ensures
+    (flags_of c.args.flags) permits refl tree_is parts_are refl refl c.are_ascending.ensures c.are_counted.ensures
 
 abbrev after : (c : goal.After-drop-parts-2) → WorldValue
-after c =
-    with_store c.mount_new.new.store
-    (record (the_view c.self.inside) {
-      mounts = c.mount_new.new.mounts;
-      groups = c.mount_new.new.groups;
-      next = c.self.inside.next + c.in-Some.taken;
-    })
+after c = with_store c.mount_new.new.store (record (the_view c.self.inside) {
+  mounts = c.mount_new.new.mounts;
+  groups = c.mount_new.new.groups;
+  next = c.self.inside.next + c.in-Some.taken;
+})
 
 -- the world then is the one that the permit leaves
 done : (c : goal.After-drop-parts-2) → IsDone (the_view c.self.inside) c.args.name.now
@@ -87,11 +80,7 @@ done c =
     let value = the_view c.self.inside in
     let graft : Graft = record {
       parts = c.deref.result;
-      tree = record {
-        ref_ptr =
-            (c.tree-1.given, 0);
-        now = c.mount_of_new.result ∷ [];
-      };
+      tree = record { ref_ptr = (c.tree-1.given, 0); now = c.mount_of_new.result ∷ [] };
       place = c.args.place;
       moves = false;
     } in
@@ -111,16 +100,13 @@ done c =
     (kept_of value).overlays) c.self.inside.groups (kept c.mount_new.new.mounts c.mount_new.new.store)
     c.mount_new.new.groups =
     subst (λ k. IsGrafted graft counts k c.self.inside.groups (kept c.mount_new.new.mounts c.mount_new.new.store)
-    c.mount_new.new.groups)
-    (λ i. kept_with c.self.inside.mounts (c.self.inside.store.plain ++ made.0 ∷ [])
+    c.mount_new.new.groups) (λ i. kept_with c.self.inside.mounts (c.self.inside.store.plain ++ made.0 ∷ [])
     (kept_is value c.self.inside.store i).overlays) made.2 in
-    done_in_store value
-    (record value {
+    done_in_store value (record value {
       mounts = c.mount_new.new.mounts;
       groups = c.mount_new.new.groups;
       next = c.self.inside.next + c.in-Some.taken;
-    })
-    c.self.inside.store c.mount_new.new.store c.self.invariant
+    }) c.self.inside.store c.mount_new.new.store c.self.invariant
     (left_still c.self.inside.store.overlays c.mount_new.new.store.overlays c.in_ok-mount_new.ensures.overlays)
     c.args.name.now (ToMountPlain (location_of c.args.place) (flags_of c.args.flags)) permits
     (new_mount_is_done value c.self.invariant c.args.name.now graft counts
@@ -133,8 +119,7 @@ pub invariant_of-self-2 : goal.invariant_of-self-2
 invariant_of-self-2 c = (done c).held
 
 pub returns-clause-ok : goal.returns-clause-ok
-returns-clause-ok c =
-    subst (λ (v : WorldValue). Becomes v c.args.name.now
+returns-clause-ok c = subst (λ (v : WorldValue). Becomes v c.args.name.now
     (ToMountPlain (location_of c.args.place) (flags_of c.args.flags)) (after c)) c.self.view_is (done c).becomes
 
 pub returns-clause-counts : goal.returns-clause-counts

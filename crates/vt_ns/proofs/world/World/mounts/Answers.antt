@@ -16,8 +16,7 @@ returns-in-Some c = record {
   ok = λ task called.
       let world : World ℕ = world_of c.args.self.now in
       let namespace = same_Some (counted c.in-Some.namespace.count) task.namespace
-      (sym (ap (option_map (λ (id : NamespaceId). counted id.count)) c.in-Some.is)
-      ∙ c.namespace_called.ensures
+      (sym (ap (option_map (λ (id : NamespaceId). counted id.count)) c.in-Some.is) ∙ c.namespace_called.ensures
       ∙ ap (λ (value : WorldValue). option_map (λ (task : Task ℕ). task.namespace)
       (task_called (world_of value) c.args.name.now)) c.self.view_is
       ∙ ap (option_map (λ (task : Task ℕ). task.namespace)) called) in

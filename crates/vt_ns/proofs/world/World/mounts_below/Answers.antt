@@ -24,8 +24,7 @@ unwrap-top-requires c =
     let number = counted c.args.mount.count in
     sym (is_some_mapped mount_of c.get.result) ∙ ap is_some c.get.ensures
     ∙ found_there number (find (λ mount. nat_eq number mount.number) (mounts_in c.self.inside.mounts))
-    (ap (λ (v : WorldValue). is_some (mount_numbered nat_eq (world_of v) number).namespace)
-    c.self.view_is ∙ c.requires)
+    (ap (λ (v : WorldValue). is_some (mount_numbered nat_eq (world_of v) number).namespace) c.self.view_is ∙ c.requires)
 
 pub returns : goal.returns
 returns c = record {
@@ -40,6 +39,5 @@ returns c = record {
       ∙ tree_below value (counted c.args.mount.count) there c.are_ascending.ensures c.unwrap-top.result
       (sym (ap (option_map mount_of) c.unwrap-top.ensures) ∙ c.get.ensures) c.deref.result.now are
       ∙ ap (λ (v : WorldValue). mount_tree nat_eq (mounts_in v.mounts)
-      (mount_numbered nat_eq (world_of v) (counted c.args.mount.count))) c.self.view_is)
-      c.bound_mounts.ensures;
+      (mount_numbered nat_eq (world_of v) (counted c.args.mount.count))) c.self.view_is) c.bound_mounts.ensures;
 }

@@ -26,6 +26,5 @@ returns c = record {
       ∙ tree_bound value c.self.invariant c.args.source c.args.recursive
       small there c.are_ascending.ensures c.deref.result.now are
       ∙ ap (λ (v : WorldValue). bind_tree nat_eq (world_of v) (location_of c.args.source) c.args.recursive)
-      c.self.view_is)
-      c.bound_mounts.ensures;
+      c.self.view_is) c.bound_mounts.ensures;
 }

@@ -25,8 +25,7 @@ surely (Ok a) uses limit room so = so
 surely (Err refused) uses limit room so = absurd (room (limit.0 refl))
 
 abbrev after : (c : goal.After-self-in-Some-1) → WorldValue
-after c =
-    with_store (record c.self.inside.store { plain = c.unpin.new.self })
+after c = with_store (record c.self.inside.store { plain = c.unpin.new.self })
     (record (the_view c.self.inside) { mounts = c.move_to.new.self })
 
 -- the world then is the one that the permit leaves
@@ -44,22 +43,17 @@ done c =
     moved_in_store (the_view c.self.inside) c.self.inside.store c.self.invariant c.args.name.now
     (counted c.args.mount.count) c.args.place c.mount_point-left.result c.move_to.new.self c.unpin.new.self permits
     (ap (λ (value : WorldValue). is_shared (mount_at nat_eq (world_of value) (location_of c.args.place)).propagation)
-    c.self.view_is ∙ c.requires.alone)
-    small
-    (λ point is. let same : c.in-Some.point ≡ point = cc in
+    c.self.view_is ∙ c.requires.alone) small (λ point is. let same : c.in-Some.point ≡ point = cc in
     subst (λ (at : Location). is_small_node at.node ≡ true) same c.in-Some.ensures.slot)
     (c.mount_point-left.ensures.point
     ∙ ap (λ (value : WorldValue). (mount_numbered nat_eq (world_of value) (counted c.args.mount.count)).mount_point)
-    (sym c.self.view_is))
-    (unpins c.in-Some.point.node.filesystem.count
+    (sym c.self.view_is)) (unpins c.in-Some.point.node.filesystem.count
     (number_of c.in-Some.point.node) c.pin.new.self c.unpin.new.self
-    (rw c.plain_mut-in-Some.ensures.value at c.unpin.ensures)
-    ∙ ap (unpinned_in (inode_of c.in-Some.point.node))
+    (rw c.plain_mut-in-Some.ensures.value at c.unpin.ensures) ∙ ap (unpinned_in (inode_of c.in-Some.point.node))
     (pins c.args.place.node.filesystem.count
     (number_of c.args.place.node) c.self.inside.store.plain c.pin.new.self pinned_so)
     ∙ ap (λ o. unpinned_at o (pinned_in (inode_of c.args.place.node) (shown c.self.inside.store.plain)))
-    (sym c.in-Some.is))
-    c.in_ok-move_to.ensures.ok
+    (sym c.in-Some.is)) c.in_ok-move_to.ensures.ok
 
 pub invariant_of-self-in-Some : goal.invariant_of-self-in-Some
 invariant_of-self-in-Some c = (done c).held
@@ -71,8 +65,7 @@ returns-in-Some-clause-ok c =
 
 -- and where it had no mount point
 abbrev after_none : (c : In_default) → WorldValue
-after_none c =
-    with_store (record c.self.inside.store { plain = c.pin.new.self })
+after_none c = with_store (record c.self.inside.store { plain = c.pin.new.self })
     (record (the_view c.self.inside) { mounts = c.move_to.new.self })
 
 done_none : (c : In_default) → IsDone (the_view c.self.inside) c.args.name.now
@@ -89,17 +82,12 @@ done_none c =
     moved_in_store (the_view c.self.inside) c.self.inside.store c.self.invariant c.args.name.now
     (counted c.args.mount.count) c.args.place c.mount_point-left.result c.move_to.new.self c.pin.new.self permits
     (ap (λ (value : WorldValue). is_shared (mount_at nat_eq (world_of value) (location_of c.args.place)).propagation)
-    c.self.view_is ∙ c.requires.alone)
-    small
-    (λ point is. absurd cc)
-    (c.mount_point-left.ensures.point
+    c.self.view_is ∙ c.requires.alone) small (λ point is. absurd cc) (c.mount_point-left.ensures.point
     ∙ ap (λ (value : WorldValue). (mount_numbered nat_eq (world_of value) (counted c.args.mount.count)).mount_point)
-    (sym c.self.view_is))
-    (pins c.args.place.node.filesystem.count
+    (sym c.self.view_is)) (pins c.args.place.node.filesystem.count
     (number_of c.args.place.node) c.self.inside.store.plain c.pin.new.self pinned_so
     ∙ ap (λ o. unpinned_at o (pinned_in (inode_of c.args.place.node) (shown c.self.inside.store.plain)))
-    (sym c.in_default.is))
-    c.in_ok-move_to.ensures.ok
+    (sym c.in_default.is)) c.in_ok-move_to.ensures.ok
 
 pub invariant_of-self-in_default : goal.invariant_of-self-in_default
 invariant_of-self-in_default c = (done_none c).held

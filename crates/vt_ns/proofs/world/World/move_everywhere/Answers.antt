@@ -29,23 +29,17 @@ use Rattle.vt_ns.proofs.world.World.move_everywhere.Goals as goal
 pub mounts_below-requires : goal.mounts_below-requires
 mounts_below-requires c =
     let permits : Permits (the_view c.self.inside) c.args.name.now
-    (ToMove (counted c.args.mount.count) (location_of c.args.place)) =
-    subst (λ value. Permits value c.args.name.now
-    (ToMove (counted c.args.mount.count) (location_of c.args.place)))
-    (sym c.self.view_is) c.requires.permitted in
+    (ToMove (counted c.args.mount.count) (location_of c.args.place)) = subst (λ value. Permits value c.args.name.now
+    (ToMove (counted c.args.mount.count) (location_of c.args.place))) (sym c.self.view_is) c.requires.permitted in
     subst (λ (v : WorldValue). is_some (mount_numbered nat_eq (world_of v) (counted c.args.mount.count)).namespace
-    ≡ true)
-    c.self.view_is
-    (moved_there (the_view c.self.inside) c.self.invariant c.args.name.now
+    ≡ true) c.self.view_is (moved_there (the_view c.self.inside) c.self.invariant c.args.name.now
     (counted c.args.mount.count) c.args.place permits)
 
 pub parts-requires : goal.parts-requires
 parts-requires c =
     let permits : Permits (the_view c.self.inside) c.args.name.now
-    (ToMove (counted c.args.mount.count) (location_of c.args.place)) =
-    subst (λ value. Permits value c.args.name.now
-    (ToMove (counted c.args.mount.count) (location_of c.args.place)))
-    (sym c.self.view_is) c.requires.permitted in
+    (ToMove (counted c.args.mount.count) (location_of c.args.place)) = subst (λ value. Permits value c.args.name.now
+    (ToMove (counted c.args.mount.count) (location_of c.args.place))) (sym c.self.view_is) c.requires.permitted in
     place_mounted (the_view c.self.inside) c.args.place
     (move_place_there (the_view c.self.inside) c.self.invariant c.args.name.now
     (counted c.args.mount.count) c.args.place permits)
@@ -53,20 +47,16 @@ parts-requires c =
 pub move_tree-requires-clause-may : goal.move_tree-requires-clause-may
 move_tree-requires-clause-may c =
     let permits : Permits (the_view c.self.inside) c.args.name.now
-    (ToMove (counted c.args.mount.count) (location_of c.args.place)) =
-    subst (λ value. Permits value c.args.name.now
-    (ToMove (counted c.args.mount.count) (location_of c.args.place)))
-    (sym c.self.view_is) c.requires.permitted in
+    (ToMove (counted c.args.mount.count) (location_of c.args.place)) = subst (λ value. Permits value c.args.name.now
+    (ToMove (counted c.args.mount.count) (location_of c.args.place))) (sym c.self.view_is) c.requires.permitted in
     let value = the_view c.self.inside in
     let graft : Graft = record { parts = c.deref.result; tree = c.deref-2.result; place = c.args.place; moves = true } in
     let counts : Counts = record { first = c.self.inside.next; step = 1 } in
-    let tree_is : map mount_of c.deref-2.result.now
-    ≡ mount_tree nat_eq (mounts_in value.mounts)
+    let tree_is : map mount_of c.deref-2.result.now ≡ mount_tree nat_eq (mounts_in value.mounts)
     (mount_numbered nat_eq (world_of value) (counted c.args.mount.count)) =
     ap (map mount_of) c.deref-2.ensures.value ∙ c.in_ok-tree.ensures.ok
     ∙ ap (λ (v : WorldValue). mount_tree nat_eq (mounts_in v.mounts)
-    (mount_numbered nat_eq (world_of v) (counted c.args.mount.count)))
-    (sym c.self.view_is) in
+    (mount_numbered nat_eq (world_of v) (counted c.args.mount.count))) (sym c.self.view_is) in
     let parts_are : map mount_of c.deref.result.now ≡ parts_of nat_eq (world_of value) (location_of c.args.place) =
     parts_found value c.args.self.now c.self.view_is c.self.invariant c.args.place c.in_ok-parts.parts.items
     c.deref.result.now c.deref.ensures.value c.in_ok-parts.ensures.ok in
@@ -75,23 +65,19 @@ move_tree-requires-clause-may c =
     c.are_ascending.ensures c.are_counted.ensures
 
 abbrev after : (c : goal.After-drop-tree-2) → WorldValue
-after c =
-    with_store c.move_tree.new.store
-    (record (the_view c.self.inside) {
-      mounts = c.move_tree.new.mounts;
-      groups = c.move_tree.new.groups;
-      next = c.self.inside.next + c.in-Some.taken;
-    })
+after c = with_store c.move_tree.new.store (record (the_view c.self.inside) {
+  mounts = c.move_tree.new.mounts;
+  groups = c.move_tree.new.groups;
+  next = c.self.inside.next + c.in-Some.taken;
+})
 
 -- the world then is the one that the permit leaves
 done : (c : goal.After-drop-tree-2) → IsDone (the_view c.self.inside) c.args.name.now
     (ToMove (counted c.args.mount.count) (location_of c.args.place)) (after c)
 done c =
     let permits : Permits (the_view c.self.inside) c.args.name.now
-    (ToMove (counted c.args.mount.count) (location_of c.args.place)) =
-    subst (λ value. Permits value c.args.name.now
-    (ToMove (counted c.args.mount.count) (location_of c.args.place)))
-    (sym c.self.view_is) c.requires.permitted in
+    (ToMove (counted c.args.mount.count) (location_of c.args.place)) = subst (λ value. Permits value c.args.name.now
+    (ToMove (counted c.args.mount.count) (location_of c.args.place))) (sym c.self.view_is) c.requires.permitted in
     let value = the_view c.self.inside in
     let graft : Graft = record {
       parts = c.deref.result;
@@ -100,20 +86,17 @@ done c =
       moves = true;
     } in
     let counts : Counts = record { first = c.self.inside.next; step = 1 } in
-    let tree_is : map mount_of c.deref-2.result.now
-    ≡ mount_tree nat_eq (mounts_in value.mounts)
+    let tree_is : map mount_of c.deref-2.result.now ≡ mount_tree nat_eq (mounts_in value.mounts)
     (mount_numbered nat_eq (world_of value) (counted c.args.mount.count)) =
     ap (map mount_of) c.deref-2.ensures.value ∙ c.in_ok-tree.ensures.ok
     ∙ ap (λ (v : WorldValue). mount_tree nat_eq (mounts_in v.mounts)
-    (mount_numbered nat_eq (world_of v) (counted c.args.mount.count)))
-    (sym c.self.view_is) in
+    (mount_numbered nat_eq (world_of v) (counted c.args.mount.count))) (sym c.self.view_is) in
     let parts_are : map mount_of c.deref.result.now ≡ parts_of nat_eq (world_of value) (location_of c.args.place) =
     parts_found value c.args.self.now c.self.view_is c.self.invariant c.args.place c.in_ok-parts.parts.items
     c.deref.result.now c.deref.ensures.value c.in_ok-parts.ensures.ok in
     let shared : is_shared (mount_at nat_eq (world_of value) (location_of c.args.place)).propagation ≡ true =
     ap (λ (v : WorldValue). is_shared
-    (mount_at nat_eq (world_of v) (location_of c.args.place)).propagation) c.self.view_is
-    ∙ c.requires.shared in
+    (mount_at nat_eq (world_of v) (location_of c.args.place)).propagation) c.self.view_is ∙ c.requires.shared in
     let one : c.len.result
     ≡ length c.deref.result.now = let many = c.len.ensures in let alike = c.deref.ensures.len in omega
     (arith, many, alike) in
@@ -128,13 +111,11 @@ done c =
     subst (λ k. IsMovedBy graft counts k c.self.inside.groups
     (kept c.move_tree.new.mounts c.move_tree.new.store) c.move_tree.new.groups)
     (kept_is value c.self.inside.store) c.in_ok-move_tree.ensures.ok in
-    done_in_store value
-    (record value {
+    done_in_store value (record value {
       mounts = c.move_tree.new.mounts;
       groups = c.move_tree.new.groups;
       next = c.self.inside.next + c.in-Some.taken;
-    })
-    c.self.inside.store c.move_tree.new.store c.self.invariant
+    }) c.self.inside.store c.move_tree.new.store c.self.invariant
     (left_still c.self.inside.store.overlays c.move_tree.new.store.overlays c.move_tree.ensures.overlays)
     c.args.name.now (ToMove (counted c.args.mount.count) (location_of c.args.place)) permits
     (move_is_done value c.self.invariant c.args.name.now (counted c.args.mount.count) graft counts permits tree_is
@@ -146,20 +127,17 @@ pub invariant_of-self-2 : goal.invariant_of-self-2
 invariant_of-self-2 c = (done c).held
 
 pub returns-clause-ok : goal.returns-clause-ok
-returns-clause-ok c =
-    subst (λ (v : WorldValue). Becomes v c.args.name.now
+returns-clause-ok c = subst (λ (v : WorldValue). Becomes v c.args.name.now
     (ToMove (counted c.args.mount.count) (location_of c.args.place)) (after c)) c.self.view_is (done c).becomes
 
 pub returns-clause-counts : goal.returns-clause-counts
 returns-clause-counts c =
     let value = the_view c.self.inside in
-    let tree_is : map mount_of c.deref-2.result.now
-    ≡ mount_tree nat_eq (mounts_in value.mounts)
+    let tree_is : map mount_of c.deref-2.result.now ≡ mount_tree nat_eq (mounts_in value.mounts)
     (mount_numbered nat_eq (world_of value) (counted c.args.mount.count)) =
     ap (map mount_of) c.deref-2.ensures.value ∙ c.in_ok-tree.ensures.ok
     ∙ ap (λ (v : WorldValue). mount_tree nat_eq (mounts_in v.mounts)
-    (mount_numbered nat_eq (world_of v) (counted c.args.mount.count)))
-    (sym c.self.view_is) in
+    (mount_numbered nat_eq (world_of v) (counted c.args.mount.count))) (sym c.self.view_is) in
     let parts_are : map mount_of c.deref.result.now ≡ parts_of nat_eq (world_of value) (location_of c.args.place) =
     parts_found value c.args.self.now c.self.view_is c.self.invariant c.args.place c.in_ok-parts.parts.items
     c.deref.result.now c.deref.ensures.value c.in_ok-parts.ensures.ok in

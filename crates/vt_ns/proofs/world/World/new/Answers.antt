@@ -9,28 +9,23 @@ use Rattle.vt_mounting.proofs.attach.OpeningLemmas.{mounts_made, namespaces_made
 use Rattle.vt_ns.proofs.world.World.new.Goals as goal
 
 pub invariant_of-result : goal.invariant_of-result
-invariant_of-result c =
-    subst (λ (store : StoreValue). IsHeld (record {
-      mounts = c.in-Ok-first_mounts.mounts;
-      groups = c.new-3.result;
-      filesystems = store.plain;
-      overlays = overlays_of_store store;
-      namespaces = entries_of c.in-Ok.namespaces.entries;
-      tasks = c.in_ok-tasks.tasks;
-      next = 3;
-    })) (sym c.new-2.ensures)
+invariant_of-result c = subst (λ (store : StoreValue). IsHeld (record {
+  mounts = c.in-Ok-first_mounts.mounts;
+  groups = c.new-3.result;
+  filesystems = store.plain;
+  overlays = overlays_of_store store;
+  namespaces = entries_of c.in-Ok.namespaces.entries;
+  tasks = c.in_ok-tasks.tasks;
+  next = 3;
+})) (sym c.new-2.ensures)
     (opening_held c.in-Ok-first_mounts.mounts c.new-3.result c.in-Ok-first_filesystems.filesystems
-    (entries_of c.in-Ok.namespaces.entries)
-    c.in_ok-tasks.tasks
-    (c.in-Ok-first_mounts.ensures.ok
+    (entries_of c.in-Ok.namespaces.entries) c.in_ok-tasks.tasks (c.in-Ok-first_mounts.ensures.ok
     ∙ mounts_made c.new-number.result c.new-namespace.result c.new-filesystem.result c.plain.result
-    c.new-number.ensures c.new-namespace.ensures c.new-filesystem.ensures c.plain.ensures)
-    c.new-3.ensures
+    c.new-number.ensures c.new-namespace.ensures c.new-filesystem.ensures c.plain.ensures) c.new-3.ensures
     (c.in-Ok-first_filesystems.ensures.ok ∙ ap (λ (id : FilesystemId). first_shown id.count) c.new-filesystem.ensures)
     (c.in-Ok.ensures.ok
     ∙ namespaces_made c.new-number.result c.new-namespace.result c.new-filesystem.result c.plain.result
-    c.new-number.ensures c.new-namespace.ensures c.new-filesystem.ensures c.plain.ensures)
-    (c.in_ok-tasks.ensures.ok
+    c.new-number.ensures c.new-namespace.ensures c.new-filesystem.ensures c.plain.ensures) (c.in_ok-tasks.ensures.ok
     ∙ tasks_made c.new-number.result c.new-namespace.result c.new-filesystem.result c.plain.result
     c.new-number.ensures c.new-namespace.ensures c.new-filesystem.ensures c.plain.ensures))
 
@@ -44,19 +39,14 @@ returns c = record {
     namespaces = entries_of c.in-Ok.namespaces.entries;
     tasks = c.in_ok-tasks.tasks;
     next = 3;
-  })) c.new-2.ensures
-      ∙ opening_seen c.in-Ok-first_mounts.mounts c.new-3.result c.in-Ok-first_filesystems.filesystems
-      (entries_of c.in-Ok.namespaces.entries)
-      c.in_ok-tasks.tasks
-      (c.in-Ok-first_mounts.ensures.ok
+  })) c.new-2.ensures ∙ opening_seen c.in-Ok-first_mounts.mounts c.new-3.result c.in-Ok-first_filesystems.filesystems
+      (entries_of c.in-Ok.namespaces.entries) c.in_ok-tasks.tasks (c.in-Ok-first_mounts.ensures.ok
       ∙ mounts_made c.new-number.result c.new-namespace.result c.new-filesystem.result c.plain.result
-      c.new-number.ensures c.new-namespace.ensures c.new-filesystem.ensures c.plain.ensures)
-      c.new-3.ensures
+      c.new-number.ensures c.new-namespace.ensures c.new-filesystem.ensures c.plain.ensures) c.new-3.ensures
       (c.in-Ok-first_filesystems.ensures.ok ∙ ap (λ (id : FilesystemId). first_shown id.count) c.new-filesystem.ensures)
       (c.in-Ok.ensures.ok
       ∙ namespaces_made c.new-number.result c.new-namespace.result c.new-filesystem.result c.plain.result
-      c.new-number.ensures c.new-namespace.ensures c.new-filesystem.ensures c.plain.ensures)
-      (c.in_ok-tasks.ensures.ok
+      c.new-number.ensures c.new-namespace.ensures c.new-filesystem.ensures c.plain.ensures) (c.in_ok-tasks.ensures.ok
       ∙ tasks_made c.new-number.result c.new-namespace.result c.new-filesystem.result c.plain.result
       c.new-number.ensures c.new-namespace.ensures c.new-filesystem.ensures c.plain.ensures);
 }

@@ -18,11 +18,9 @@ returns-in-Some c =
     ∙ (λ i. inode_number (c.in-Some.ensures.filesystem i).count next.slot) in
     subst (λ value. NextInodeIsVacant value (location_of c.args.directory)) c.self.view_is
     (next_is_vacant (the_view c.self.inside) c.self.invariant (omega arith) c.are_counted.ensures c.groups_are_counted.ensures
-    (location_of c.args.directory) count
-    (subst (λ value. counted count
+    (location_of c.args.directory) count (subst (λ value. counted count
     ≡ (mount_numbered nat_eq (world_of value) (counted c.args.directory.mount.count)).filesystem)
-    (sym c.self.view_is) c.shown-filesystem.ensures)
-    next.slot (omega arith)
+    (sym c.self.view_is) c.shown-filesystem.ensures) next.slot (omega arith)
     (ap Some (sym number) ∙ rw c.plain.ensures at c.in-Some.ensures.number)
     (subst (λ n. (inodes_at c.self.inside.store.plain count).inode n ≡ None) number (rw c.plain.ensures at c.in-Some.ensures.vacant)))
 
@@ -31,8 +29,6 @@ returns-in_default c =
     let count = c.shown-filesystem.result.count in
     subst (λ value. NextInodeIsVacant value (location_of c.args.directory)) c.self.view_is
     (none_is_vacant (the_view c.self.inside) c.self.invariant (omega arith) c.are_counted.ensures c.groups_are_counted.ensures
-    (location_of c.args.directory) count
-    (subst (λ value. counted count
+    (location_of c.args.directory) count (subst (λ value. counted count
     ≡ (mount_numbered nat_eq (world_of value) (counted c.args.directory.mount.count)).filesystem)
-    (sym c.self.view_is) c.shown-filesystem.ensures)
-    (rw c.plain.ensures at c.in_default.ensures.number))
+    (sym c.self.view_is) c.shown-filesystem.ensures) (rw c.plain.ensures at c.in_default.ensures.number))

@@ -12,8 +12,7 @@ use Rattle.vt_ns.proofs.world.StoresKept.{kept_is, same_in_store}
 use Rattle.vt_ns.proofs.world.World.open.Goals as goal
 
 pub open-requires : goal.open-requires
-open-requires c =
-    may_open_more (the_view c.self.inside) c.self.invariant c.args.name.now (location_of c.args.file)
+open-requires c = may_open_more (the_view c.self.inside) c.self.invariant c.args.name.now (location_of c.args.file)
     (access_of c.args.access)
     (subst (λ value. Permits value c.args.name.now (ToOpen (location_of c.args.file) (access_of c.args.access)))
     (sym c.self.view_is) c.requires)
@@ -29,8 +28,7 @@ invariant_of-self-2 c =
     (file_is_opened (the_view c.self.inside) c.args.name.now
     (record { location = c.args.file; access = c.args.access }) c.hold_once_more.new.mounts
     c.hold_once_more.new.store.plain (map merged_of c.hold_once_more.new.store.overlays) c.open.new.self
-    c.self.invariant permits c.hold_once_more.ensures.slot c.in_ok-number.ensures.ok
-    (c.hold_once_more.ensures.held
+    c.self.invariant permits c.hold_once_more.ensures.slot c.in_ok-number.ensures.ok (c.hold_once_more.ensures.held
     ∙ (λ i. with_location c.args.file (c.writes.ensures i)
     (kept_is (the_view c.self.inside) c.self.inside.store i))))).held
 
@@ -42,15 +40,13 @@ returns-clause-ok c =
     (with_store c.hold_once_more.new.store (record (the_view c.self.inside) {
       mounts = c.hold_once_more.new.mounts;
       tasks = c.open.new.self;
-    }))) c.self.view_is
-    (same_in_store (the_view c.self.inside)
+    }))) c.self.view_is (same_in_store (the_view c.self.inside)
     (record (the_view c.self.inside) { mounts = c.hold_once_more.new.mounts; tasks = c.open.new.self })
     c.self.inside.store c.hold_once_more.new.store c.self.invariant c.hold_once_more.ensures.overlays
     c.args.name.now (ToOpen (location_of c.args.file) (access_of c.args.access)) permits
     (file_is_opened (the_view c.self.inside) c.args.name.now
     (record { location = c.args.file; access = c.args.access }) c.hold_once_more.new.mounts
     c.hold_once_more.new.store.plain (map merged_of c.hold_once_more.new.store.overlays) c.open.new.self
-    c.self.invariant permits c.hold_once_more.ensures.slot c.in_ok-number.ensures.ok
-    (c.hold_once_more.ensures.held
+    c.self.invariant permits c.hold_once_more.ensures.slot c.in_ok-number.ensures.ok (c.hold_once_more.ensures.held
     ∙ (λ i. with_location c.args.file (c.writes.ensures i)
     (kept_is (the_view c.self.inside) c.self.inside.store i))))).becomes

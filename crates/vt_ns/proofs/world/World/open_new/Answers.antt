@@ -31,16 +31,14 @@ new_pinned (Err refused) uses full once p =
 
 pub unwrap-file-requires : goal.unwrap-file-requires
 unwrap-file-requires c =
-    let permits = subst (λ value. Permits value c.args.name.now
-    (descriptor_permit (OpenNew c.args.new)))
+    let permits = subst (λ value. Permits value c.args.name.now (descriptor_permit (OpenNew c.args.new)))
     (sym c.self.view_is) c.requires in
     has_next (the_view c.self.inside) c.self.invariant c.args.name.now c.args.new.directory c.args.new.name.items c.args.new.node
     (access_of c.args.new.access) (omega arith) permits c.next_number.result (rw c.plain.ensures at c.next_number.ensures.number)
 
 pub open_next-requires-clause-may : goal.open_next-requires-clause-may
 open_next-requires-clause-may c =
-    let permits = subst (λ value. Permits value c.args.name.now
-    (descriptor_permit (OpenNew c.args.new)))
+    let permits = subst (λ value. Permits value c.args.name.now (descriptor_permit (OpenNew c.args.new)))
     (sym c.self.view_is) c.requires in
     may_open_one (the_view c.self.inside) c.self.invariant c.args.name.now c.args.new.directory c.args.new.name.items c.args.new.node
     (access_of c.args.new.access) (omega arith) permits
@@ -48,43 +46,37 @@ open_next-requires-clause-may c =
 pub open_next-requires-clause-directory : goal.open_next-requires-clause-directory
 open_next-requires-clause-directory c =
     rw c.plain_mut-filesystems.ensures.value (let permits = subst (λ value. Permits value c.args.name.now
-    (descriptor_permit (OpenNew c.args.new)))
-    (sym c.self.view_is) c.requires in
+    (descriptor_permit (OpenNew c.args.new))) (sym c.self.view_is) c.requires in
     (make_fits (the_view c.self.inside) c.self.invariant c.args.name.now c.args.new.directory c.args.new.name.items c.args.new.node
     (access_of c.args.new.access) (omega arith) permits).0)
 
 pub open_next-requires-clause-free : goal.open_next-requires-clause-free
 open_next-requires-clause-free c =
     rw c.plain_mut-filesystems.ensures.value (let permits = subst (λ value. Permits value c.args.name.now
-    (descriptor_permit (OpenNew c.args.new)))
-    (sym c.self.view_is) c.requires in
+    (descriptor_permit (OpenNew c.args.new))) (sym c.self.view_is) c.requires in
     (make_fits (the_view c.self.inside) c.self.invariant c.args.name.now c.args.new.directory c.args.new.name.items c.args.new.node
     (access_of c.args.new.access) (omega arith) permits).1)
 
 pub open_next-requires-clause-node : goal.open_next-requires-clause-node
 open_next-requires-clause-node c =
-    let permits = subst (λ value. Permits value c.args.name.now
-    (descriptor_permit (OpenNew c.args.new)))
+    let permits = subst (λ value. Permits value c.args.name.now (descriptor_permit (OpenNew c.args.new)))
     (sym c.self.view_is) c.requires in
     new_in_directory (the_view c.self.inside) c.self.invariant c.args.name.now c.args.new.directory c.args.new.name.items c.args.new.node
     (access_of c.args.new.access) (omega arith) permits
 
 pub invariant_of-self-2 : goal.invariant_of-self-2
 invariant_of-self-2 c =
-    let permits = subst (λ value. Permits value c.args.name.now
-    (descriptor_permit (OpenNew c.args.new)))
+    let permits = subst (λ value. Permits value c.args.name.now (descriptor_permit (OpenNew c.args.new)))
     (sym c.self.view_is) c.requires in
     let number = next_is_numbered (the_view c.self.inside) c.self.invariant c.args.name.now c.args.new.directory
     c.args.new.name.items c.args.new.node (access_of c.args.new.access) (omega arith)
     permits c.next_number.result c.unwrap-file.result (rw c.plain.ensures at c.next_number.ensures.number) c.unwrap-file.ensures in
-    let inside = subst (λ next. IfSome next
-    (λ (node : NodeRef). node.filesystem
+    let inside = subst (λ next. IfSome next (λ (node : NodeRef). node.filesystem
     ≡ c.args.new.directory.node.filesystem)) c.unwrap-file.ensures c.next_number.ensures.filesystem in
     let own = here_is_own c.unwrap-file.result (omega arith) (omega arith)
     (subst (λ next. IfSome next (λ (node : NodeRef). node.birth ≡ Here)) c.unwrap-file.ensures
     c.next_number.ensures.birth) in
-    let made = subst (λ n. ChangesInodes c.args.new.directory.node.filesystem.count
-    (λ inodes. changed nat_eq inodes
+    let made = subst (λ n. ChangesInodes c.args.new.directory.node.filesystem.count (λ inodes. changed nat_eq inodes
     (Make (number_of c.args.new.directory.node) c.args.new.name.items n
     (node_seen c.args.new.directory.node.filesystem.count c.args.new.node)))
     c.self.inside.store.plain c.open_next.new.filesystems) (sym number)
@@ -104,32 +96,27 @@ invariant_of-self-2 c =
     (new_opens (the_view c.self.inside) c.self.invariant c.args.name.now c.args.new.directory c.args.new.name.items c.args.new.node
     (access_of c.args.new.access) (omega arith)
     permits c.open_next.new.filesystems c.unwrap-file.result (search rules) own inside number made
-    c.hold.new.self c.pin.new.self (map merged_seen (the_view c.self.inside).overlays)
-    (λ i. record {
+    c.hold.new.self c.pin.new.self (map merged_seen (the_view c.self.inside).overlays) (λ i. record {
       mounts = (mounts ∙ ap (λ writes. changed_mounts (counted c.args.new.directory.mount.count)
           (held writes) c.self.inside.mounts) c.writes.ensures) i;
       filesystems = pins c.unwrap-file.result.filesystem.count
           (number_of c.unwrap-file.result) c.open_next.new.filesystems c.pin.new.self filesystems i;
       overlays = map merged_seen (the_view c.self.inside).overlays;
-    })
-    c.open_next.new.tasks c.in_ok-number.ensures.ok)).held
+    }) c.open_next.new.tasks c.in_ok-number.ensures.ok)).held
 
 pub returns-clause-ok : goal.returns-clause-ok
 returns-clause-ok c =
-    let permits = subst (λ value. Permits value c.args.name.now
-    (descriptor_permit (OpenNew c.args.new)))
+    let permits = subst (λ value. Permits value c.args.name.now (descriptor_permit (OpenNew c.args.new)))
     (sym c.self.view_is) c.requires in
     let number = next_is_numbered (the_view c.self.inside) c.self.invariant c.args.name.now c.args.new.directory
     c.args.new.name.items c.args.new.node (access_of c.args.new.access) (omega arith)
     permits c.next_number.result c.unwrap-file.result (rw c.plain.ensures at c.next_number.ensures.number) c.unwrap-file.ensures in
-    let inside = subst (λ next. IfSome next
-    (λ (node : NodeRef). node.filesystem
+    let inside = subst (λ next. IfSome next (λ (node : NodeRef). node.filesystem
     ≡ c.args.new.directory.node.filesystem)) c.unwrap-file.ensures c.next_number.ensures.filesystem in
     let own = here_is_own c.unwrap-file.result (omega arith) (omega arith)
     (subst (λ next. IfSome next (λ (node : NodeRef). node.birth ≡ Here)) c.unwrap-file.ensures
     c.next_number.ensures.birth) in
-    let made = subst (λ n. ChangesInodes c.args.new.directory.node.filesystem.count
-    (λ inodes. changed nat_eq inodes
+    let made = subst (λ n. ChangesInodes c.args.new.directory.node.filesystem.count (λ inodes. changed nat_eq inodes
     (Make (number_of c.args.new.directory.node) c.args.new.name.items n
     (node_seen c.args.new.directory.node.filesystem.count c.args.new.node)))
     c.self.inside.store.plain c.open_next.new.filesystems) (sym number)
@@ -143,8 +130,7 @@ returns-clause-ok c =
     let mounts = of-ok c.hold.result (c.hold.ensures.few room.0 room.1) c.hold.ensures.ok in
     let filesystems = new_pinned c.pin.result _ (rw c.plain_mut.ensures.value at c.pin.ensures.limit).0 once
     (rw c.plain_mut.ensures.value at c.pin.ensures.ok) in
-    subst (λ value. Becomes value c.args.name.now
-    (descriptor_permit (OpenNew c.args.new))
+    subst (λ value. Becomes value c.args.name.now (descriptor_permit (OpenNew c.args.new))
     (with_store (record c.self.inside.store { plain = c.pin.new.self })
     (record (the_view c.self.inside) { mounts = c.hold.new.self; tasks = c.open_next.new.tasks }))) c.self.view_is
     (done_plainly (the_view c.self.inside) c.self.inside.store c.self.invariant c.args.name.now
@@ -153,12 +139,10 @@ returns-clause-ok c =
     (new_opens (the_view c.self.inside) c.self.invariant c.args.name.now c.args.new.directory c.args.new.name.items c.args.new.node
     (access_of c.args.new.access) (omega arith)
     permits c.open_next.new.filesystems c.unwrap-file.result (search rules) own inside number made
-    c.hold.new.self c.pin.new.self (map merged_seen (the_view c.self.inside).overlays)
-    (λ i. record {
+    c.hold.new.self c.pin.new.self (map merged_seen (the_view c.self.inside).overlays) (λ i. record {
       mounts = (mounts ∙ ap (λ writes. changed_mounts (counted c.args.new.directory.mount.count)
           (held writes) c.self.inside.mounts) c.writes.ensures) i;
       filesystems = pins c.unwrap-file.result.filesystem.count
           (number_of c.unwrap-file.result) c.open_next.new.filesystems c.pin.new.self filesystems i;
       overlays = map merged_seen (the_view c.self.inside).overlays;
-    })
-    c.open_next.new.tasks c.in_ok-number.ensures.ok)).becomes
+    }) c.open_next.new.tasks c.in_ok-number.ensures.ok)).becomes

@@ -8,11 +8,8 @@ use Rattle.vt_mounting.proofs.attach.Binding.{is_seen}
 
 pub returns : goal.returns
 returns c = record {
-  ok = IfOk-weaker c.parts.result _ _
-      (λ parts tells.
+  ok = IfOk-weaker c.parts.result _ _ (λ parts tells.
       tells (world_of c.args.self.now)
       (subst (λ value. IsSeen (world_of value) c.self.inside.mounts c.self.inside.groups) c.self.view_is
-      (is_seen (the_view c.self.inside) c.self.invariant))
-      (λ filesystem top directory. refl))
-      c.parts.ensures.ok;
+      (is_seen (the_view c.self.inside) c.self.invariant)) (λ filesystem top directory. refl)) c.parts.ensures.ok;
 }

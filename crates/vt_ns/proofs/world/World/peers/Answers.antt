@@ -9,11 +9,9 @@ use Rattle.vt_ns.proofs.world.World.peers.Goals as goal
 
 pub returns : goal.returns
 returns c = record {
-  ok = IfOk-weaker c.peer_lines.result _ _
-      (λ lines told. told (world_of c.args.self.now) c.table.ensures.shown
+  ok = IfOk-weaker c.peer_lines.result _ _ (λ lines told. told (world_of c.args.self.now) c.table.ensures.shown
       (ap (map (λ (id : NamespaceId). counted id.count)) (c.as_slice.ensures ∙ c.keys.ensures.rest)
       ∙ namespaces_kept c.self.inside.namespaces.entries
       ∙ ap (λ (value : WorldValue). map (λ (namespace : Namespace ℕ). namespace.number)
-      (map namespace_of value.namespaces)) c.self.view_is))
-      c.peer_lines.ensures.ok;
+      (map namespace_of value.namespaces)) c.self.view_is)) c.peer_lines.ensures.ok;
 }

@@ -63,17 +63,13 @@ hold_each-requires c =
     permits c.unwrap-task.result.now
     (sym (ap (λ found. option_map task_of (option_copied found)) c.unwrap-task.ensures) ∙ c.get.ensures)
     c.unwrap-root.result c.unwrap-new_root.result c.root_location-left.result c.root_location-entered.result
-    c.unwrap-point.result
-    (sym (ap (option_map mount_of) c.unwrap-root.ensures) ∙ c.get-2.ensures)
+    c.unwrap-point.result (sym (ap (option_map mount_of) c.unwrap-root.ensures) ∙ c.get-2.ensures)
     (sym (ap (option_map mount_of) c.unwrap-new_root.ensures) ∙ c.get-3.ensures)
     c.root_location-left.ensures c.root_location-entered.ensures
     (sym (ap (option_map location_of) c.unwrap-point.ensures) ∙ c.mount_point.ensures.point
     ∙ ap (λ (value : WorldValue). (mount_numbered nat_eq (world_of value) (counted c.args.new.count)).mount_point)
-    (sym c.self.view_is))
-    c.places_at-moved.result c.places_at-moved.ensures.count
-    c.pivot.new.self c.pin.new.self
-    (c.has_room.ensures.0 (let room = c.if-not-has_room.false in search rules))
-    c.in_ok-pivot.ensures.ok
+    (sym c.self.view_is)) c.places_at-moved.result c.places_at-moved.ensures.count c.pivot.new.self c.pin.new.self
+    (c.has_room.ensures.0 (let room = c.if-not-has_room.false in search rules)) c.in_ok-pivot.ensures.ok
     (pins c.args.put.node.filesystem.count (number_of c.args.put.node) c.self.inside.store.plain c.pin.new.self
     pinned_so)
 
@@ -81,8 +77,7 @@ hold_each-requires c =
 held_so : (c : goal.After-pivot-2) → kept c.hold_each.new.mounts c.hold_each.new.store
     ≡ with_uses c.places_at-moved.result c.root_location-entered.result
     (kept_with c.pivot.new.self c.pin.new.self (map merged_seen (the_view c.self.inside).overlays))
-held_so c =
-    c.hold_each.ensures.held ∙ ap (with_uses c.places_at-moved.result c.root_location-entered.result)
+held_so c = c.hold_each.ensures.held ∙ ap (with_uses c.places_at-moved.result c.root_location-entered.result)
     (λ i. kept_with c.pivot.new.self c.pin.new.self (kept_is (the_view c.self.inside) c.self.inside.store i).overlays)
 
 abbrev after : (c : goal.After-pivot-2) → WorldValue
@@ -116,21 +111,17 @@ done c =
     c.root_location-left.ensures c.root_location-entered.ensures
     (sym (ap (option_map location_of) c.unwrap-point.ensures) ∙ c.mount_point.ensures.point
     ∙ ap (λ (value : WorldValue). (mount_numbered nat_eq (world_of value) (counted c.args.new.count)).mount_point)
-    (sym c.self.view_is))
-    c.places_at-moved.result c.places_at-moved.ensures.count
+    (sym c.self.view_is)) c.places_at-moved.result c.places_at-moved.ensures.count
     c.pivot.new.self c.hold_each.new.mounts c.release_each.new.mounts c.pin.new.self c.hold_each.new.store.plain
     c.release_each.new.store.plain c.unpin.new.self (map merged_of c.hold_each.new.store.overlays)
     (map merged_of c.release_each.new.store.overlays) c.pivot-2.new.self
     (search rules) c.hold_each.ensures.slot c.release_each.ensures.slot
     (subst (λ found. IfSome found (λ (at : Location). is_small_node at.node ≡ true)) c.unwrap-point.ensures
-    c.mount_point.ensures.slot)
-    c.in_ok-pivot.ensures.ok
+    c.mount_point.ensures.slot) c.in_ok-pivot.ensures.ok
     (pins c.args.put.node.filesystem.count (number_of c.args.put.node) c.self.inside.store.plain c.pin.new.self
-    pinned_so)
-    (held_so c) c.release_each.ensures.left
+    pinned_so) (held_so c) c.release_each.ensures.left
     (unpins point.node.filesystem.count (number_of point.node) c.release_each.new.store.plain c.unpin.new.self
-    (rw c.plain_mut-2.ensures.value at c.unpin.ensures))
-    c.pivot-2.ensures)
+    (rw c.plain_mut-2.ensures.value at c.unpin.ensures)) c.pivot-2.ensures)
 
 pub invariant_of-self-2 : goal.invariant_of-self-2
 invariant_of-self-2 c = (done c).held

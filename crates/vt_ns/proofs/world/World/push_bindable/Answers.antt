@@ -30,9 +30,7 @@ returns c =
     (λ pushed. next-deep mounts c.args.waiting.now.items c.args.branch (c.args.branch.depth - 1)
     (bindable mounts) c.children.result.now deep kids
     ∙ ap (λ waiting. counted c.args.branch.mount.count ∷ bindable_to_come mounts waiting) (sym pushed.0))
-    (items_from_extend c.extend.result c.extend.ensures.ran
-    (YieldsList-from_map _ (branch_of (c.args.branch.depth - 1))
+    (items_from_extend c.extend.result c.extend.ensures.ran (YieldsList-from_map _ (branch_of (c.args.branch.depth - 1))
     (YieldsList-from_filter _ (bindable mounts) (YieldsList-from_rev_slice c.children.result.now cc)
     (let same : c.map.result.iter.p ≡ c.filter.result.p = cc in same ∙ c.filter.ensures.closure)
-    (λ x b q k. search rules))
-    c.map.ensures.closure (λ x r q k. search rules)))
+    (λ x b q k. search rules)) c.map.ensures.closure (λ x r q k. search rules)))

@@ -30,16 +30,12 @@ returns c =
     let kids = bound_kids mounts held.in_world.mounts.one_number number c.children.result.now
     (c.children.ensures.children ∙ ap (λ (value : WorldValue). numbers
     (children nat_eq (mounts_in value.mounts) number)) c.self.view_is) under in
-    OnOk_then c.extend.result
-    (λ pushed.
-    ap (bindable_to_come mounts) pushed.0
-    ∙ ap (λ depth. bindable_to_come mounts
+    OnOk_then c.extend.result (λ pushed.
+    ap (bindable_to_come mounts) pushed.0 ∙ ap (λ depth. bindable_to_come mounts
     (c.args.waiting.now.items ++ map (branch_of depth) (filter test (reverse c.children.result.now)))) deep
     ∙ chosen-come mounts (length mounts) c.args.waiting.now.items test c.children.result.now
     (filter under (bindable_children nat_eq mounts number)) kids)
-    (items_from_extend c.extend.result c.extend.ensures.ran
-    (YieldsList-from_map _ (branch_of c.len-depth.result)
+    (items_from_extend c.extend.result c.extend.ensures.ran (YieldsList-from_map _ (branch_of c.len-depth.result)
     (YieldsList-from_filter _ test (YieldsList-from_rev_slice c.children.result.now cc)
     (let same : c.map.result.iter.p ≡ c.filter.result.p = cc in same ∙ c.filter.ensures.closure)
-    (λ x b q k. search rules))
-    c.map.ensures.closure (λ x r q k. search rules)))
+    (λ x b q k. search rules)) c.map.ensures.closure (λ x r q k. search rules)))

@@ -16,8 +16,7 @@ object_there-requires c =
     let seen = seen_if_there (the_view c.self.inside) c.self.inside.store c.args.self.now c.self.view_is
     c.self.invariant c.args.file (search rules) there in record {
       standing = store_stands (the_view c.self.inside) c.self.inside.store c.self.invariant;
-      there =
-          ap is_some (object_is (the_view c.self.inside) c.self.inside.store c.args.self.now c.self.view_is
+      there = ap is_some (object_is (the_view c.self.inside) c.self.inside.store c.args.self.now c.self.view_is
           c.self.invariant c.args.file (search rules) seen)
           ∙ lent_there ((looks_of_value c.args.self.now).node (location_of c.args.file))
           (lent_of_world (world_of c.args.self.now)

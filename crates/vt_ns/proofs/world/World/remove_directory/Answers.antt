@@ -12,35 +12,28 @@ use Rattle.vt_ns.proofs.world.World.remove_directory.Goals.{then-not-is_empty, e
 pub unlink-requires-clause-one_filesystem : goal.unlink-requires-clause-one_filesystem
 unlink-requires-clause-one_filesystem c =
     removed_in (the_view c.self.inside) c.self.invariant c.args.name.now c.args.removed.parent c.args.removed.name.items
-    c.args.removed.directory
-    (omega arith) (omega arith)
-    (subst (λ value. Permits value c.args.name.now
-    (remove_permit (Directory c.args.removed)))
-    (sym c.self.view_is) c.requires)
+    c.args.removed.directory (omega arith) (omega arith) (subst (λ value. Permits value c.args.name.now
+    (remove_permit (Directory c.args.removed))) (sym c.self.view_is) c.requires)
 
 pub unlink-requires-clause-there : goal.unlink-requires-clause-there
 unlink-requires-clause-there c =
     rw c.plain_mut.ensures.value (removed_is_kept (the_view c.self.inside) c.self.invariant c.args.name.now
-    c.args.removed.parent c.args.removed.name.items c.args.removed.directory
-    (omega arith) (omega arith)
-    (subst (λ value. Permits value c.args.name.now
-    (remove_permit (Directory c.args.removed)))
+    c.args.removed.parent c.args.removed.name.items c.args.removed.directory (omega arith) (omega arith)
+    (subst (λ value. Permits value c.args.name.now (remove_permit (Directory c.args.removed)))
     (sym c.self.view_is) c.requires))
 
 pub unlink-requires-clause-named : goal.unlink-requires-clause-named
 unlink-requires-clause-named c =
     rw c.plain_mut.ensures.value (rw c.as_slice.ensures.value ((removal_fits (the_view c.self.inside) c.self.invariant
     c.args.name.now c.args.removed.parent c.args.removed.name.items c.args.removed.directory (omega arith) (omega arith)
-    (subst (λ value. Permits value c.args.name.now
-    (remove_permit (Directory c.args.removed)))
+    (subst (λ value. Permits value c.args.name.now (remove_permit (Directory c.args.removed)))
     (sym c.self.view_is) c.requires)).0))
 
 pub unlink-requires-clause-empty : goal.unlink-requires-clause-empty
 unlink-requires-clause-empty c =
     rw c.plain_mut.ensures.value ((removal_fits (the_view c.self.inside) c.self.invariant c.args.name.now
     c.args.removed.parent c.args.removed.name.items c.args.removed.directory (omega arith) (omega arith)
-    (subst (λ value. Permits value c.args.name.now
-    (remove_permit (Directory c.args.removed)))
+    (subst (λ value. Permits value c.args.name.now (remove_permit (Directory c.args.removed)))
     (sym c.self.view_is) c.requires)).1)
 
 pub invariant_of-self : goal.invariant_of-self
@@ -73,8 +66,7 @@ returns-clause-ok c =
       | then-not-is_empty w ↦
           let some : length c.in_ok-gone.gone.items ≢ 0 = search rules in
           subst (λ new. Becomes c.args.self.now c.args.name.now (remove_permit (Directory c.args.removed)) new)
-          (sym w.self-is)
-          (subst (λ value. Becomes value c.args.name.now (remove_permit (Directory c.args.removed))
+          (sym w.self-is) (subst (λ value. Becomes value c.args.name.now (remove_permit (Directory c.args.removed))
           (with_store w.detach_together.new.store (record (the_view c.self.inside) {
             mounts = w.detach_together.new.mounts;
             groups = w.detach_together.new.groups;
@@ -88,8 +80,7 @@ returns-clause-ok c =
       | else-not-is_empty w ↦
           let none : length c.in_ok-gone.gone.items ≡ 0 = search rules in
           subst (λ new. Becomes c.args.self.now c.args.name.now (remove_permit (Directory c.args.removed)) new)
-          (sym w.self-is)
-          (subst (λ value. Becomes value c.args.name.now (remove_permit (Directory c.args.removed))
+          (sym w.self-is) (subst (λ value. Becomes value c.args.name.now (remove_permit (Directory c.args.removed))
           (with_store (record c.self.inside.store { plain = c.unlink.new.self }) (the_view c.self.inside)))
           c.self.view_is
           (directory_goes_alone (the_view c.self.inside) c.self.inside.store c.self.invariant c.args.name.now

@@ -13,24 +13,21 @@ pub rename-requires-clause-one_filesystem : goal.rename-requires-clause-one_file
 rename-requires-clause-one_filesystem c =
     renamed_to (the_view c.self.inside) c.self.invariant c.args.name.now c.args.renamed.from c.args.renamed.old.items
     c.args.renamed.to c.args.renamed.new.items c.args.renamed.object c.args.renamed.replaced (omega arith) (omega arith)
-    (omega arith)
-    (subst (λ value. Permits value c.args.name.now
+    (omega arith) (subst (λ value. Permits value c.args.name.now
     (remove_permit (Rename c.args.renamed))) (sym c.self.view_is) c.requires)
 
 pub rename-requires-clause-of_object : goal.rename-requires-clause-of_object
 rename-requires-clause-of_object c =
     renamed_object (the_view c.self.inside) c.self.invariant c.args.name.now c.args.renamed.from
     c.args.renamed.old.items c.args.renamed.to c.args.renamed.new.items c.args.renamed.object c.args.renamed.replaced
-    (omega arith) (omega arith) (omega arith)
-    (subst (λ value. Permits value c.args.name.now
+    (omega arith) (omega arith) (omega arith) (subst (λ value. Permits value c.args.name.now
     (remove_permit (Rename c.args.renamed))) (sym c.self.view_is) c.requires)
 
 pub rename-requires-clause-there : goal.rename-requires-clause-there
 rename-requires-clause-there c =
     rw c.plain_mut.ensures.value (renamed_is_kept (the_view c.self.inside) c.self.invariant c.args.name.now
     c.args.renamed.from c.args.renamed.old.items c.args.renamed.to c.args.renamed.new.items c.args.renamed.object
-    c.args.renamed.replaced (omega arith) (omega arith) (omega arith)
-    (subst (λ value. Permits value c.args.name.now
+    c.args.renamed.replaced (omega arith) (omega arith) (omega arith) (subst (λ value. Permits value c.args.name.now
     (remove_permit (Rename c.args.renamed))) (sym c.self.view_is) c.requires))
 
 pub rename-requires-clause-named : goal.rename-requires-clause-named
@@ -45,24 +42,21 @@ pub rename-requires-clause-directory : goal.rename-requires-clause-directory
 rename-requires-clause-directory c =
     rw c.plain_mut.ensures.value ((rename_fits (the_view c.self.inside) c.self.invariant c.args.name.now
     c.args.renamed.from c.args.renamed.old.items c.args.renamed.to c.args.renamed.new.items c.args.renamed.object
-    c.args.renamed.replaced (omega arith) (omega arith) (omega arith)
-    (subst (λ value. Permits value c.args.name.now
+    c.args.renamed.replaced (omega arith) (omega arith) (omega arith) (subst (λ value. Permits value c.args.name.now
     (remove_permit (Rename c.args.renamed))) (sym c.self.view_is) c.requires)).1)
 
 pub rename-requires-clause-replaced : goal.rename-requires-clause-replaced
 rename-requires-clause-replaced c =
     rw c.plain_mut.ensures.value ((rename_fits (the_view c.self.inside) c.self.invariant c.args.name.now
     c.args.renamed.from c.args.renamed.old.items c.args.renamed.to c.args.renamed.new.items c.args.renamed.object
-    c.args.renamed.replaced (omega arith) (omega arith) (omega arith)
-    (subst (λ value. Permits value c.args.name.now
+    c.args.renamed.replaced (omega arith) (omega arith) (omega arith) (subst (λ value. Permits value c.args.name.now
     (remove_permit (Rename c.args.renamed))) (sym c.self.view_is) c.requires)).2)
 
 pub rename-requires-clause-outside : goal.rename-requires-clause-outside
 rename-requires-clause-outside c =
     rw c.plain_mut.ensures.value ((rename_fits (the_view c.self.inside) c.self.invariant c.args.name.now
     c.args.renamed.from c.args.renamed.old.items c.args.renamed.to c.args.renamed.new.items c.args.renamed.object
-    c.args.renamed.replaced (omega arith) (omega arith) (omega arith)
-    (subst (λ value. Permits value c.args.name.now
+    c.args.renamed.replaced (omega arith) (omega arith) (omega arith) (subst (λ value. Permits value c.args.name.now
     (remove_permit (Rename c.args.renamed))) (sym c.self.view_is) c.requires)).3)
 
 pub invariant_of-self-then-not-is_empty : goal.invariant_of-self-then-not-is_empty
@@ -97,13 +91,11 @@ returns-clause-ok c =
       | then-not-is_empty w ↦
           let some : length c.in_ok-gone.gone.items ≢ 0 = search rules in
           subst (λ new. Becomes c.args.self.now c.args.name.now (remove_permit (Rename c.args.renamed)) new)
-          (sym w.self-is)
-          (subst (λ value. Becomes value c.args.name.now (remove_permit (Rename c.args.renamed))
+          (sym w.self-is) (subst (λ value. Becomes value c.args.name.now (remove_permit (Rename c.args.renamed))
           (with_store w.detach_together.new.store (record (the_view c.self.inside) {
             mounts = w.detach_together.new.mounts;
             groups = w.detach_together.new.groups;
-          }))) c.self.view_is
-          (rename_over (the_view c.self.inside) c.self.inside.store c.self.invariant c.args.name.now
+          }))) c.self.view_is (rename_over (the_view c.self.inside) c.self.inside.store c.self.invariant c.args.name.now
           c.args.renamed.from c.args.renamed.old.items c.args.renamed.to c.args.renamed.new.items c.args.renamed.object
           c.args.renamed.replaced (omega arith) (omega arith) (omega arith) c.trees_replaced.ensures.small permits
           c.in_ok-gone.gone.items c.in_ok-gone.ensures.ok some c.rename.new.self
@@ -113,11 +105,9 @@ returns-clause-ok c =
       | else-not-is_empty w ↦
           let none : length c.in_ok-gone.gone.items ≡ 0 = search rules in
           subst (λ new. Becomes c.args.self.now c.args.name.now (remove_permit (Rename c.args.renamed)) new)
-          (sym w.self-is)
-          (subst (λ value. Becomes value c.args.name.now (remove_permit (Rename c.args.renamed))
+          (sym w.self-is) (subst (λ value. Becomes value c.args.name.now (remove_permit (Rename c.args.renamed))
           (with_store (record c.self.inside.store { plain = c.rename.new.self }) (the_view c.self.inside)))
-          c.self.view_is
-          (rename_stays (the_view c.self.inside) c.self.inside.store c.self.invariant c.args.name.now
+          c.self.view_is (rename_stays (the_view c.self.inside) c.self.inside.store c.self.invariant c.args.name.now
           c.args.renamed.from c.args.renamed.old.items c.args.renamed.to c.args.renamed.new.items c.args.renamed.object
           c.args.renamed.replaced (omega arith) (omega arith) (omega arith) c.trees_replaced.ensures.small permits
           c.in_ok-gone.gone.items c.in_ok-gone.ensures.ok none c.rename.new.self

@@ -7,8 +7,6 @@ root_spot-requires c = record { standing = c.table.ensures.standing; once = c.ta
 
 pub returns : goal.returns
 returns c = record {
-  ok =
-      IfOk-weaker c.root_spot.result _ _
-      (λ spot told. told (world_of c.args.self.now) c.table.ensures.shown)
+  ok = IfOk-weaker c.root_spot.result _ _ (λ spot told. told (world_of c.args.self.now) c.table.ensures.shown)
       c.root_spot.ensures.ok;
 }

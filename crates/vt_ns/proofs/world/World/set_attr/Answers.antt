@@ -24,8 +24,7 @@ returns c =
     (ToChange (location_of c.args.object) (SetAttr (number_of c.args.object.node) c.args.attr))) (sym c.self.view_is) c.requires in
     subst (λ value. Becomes value c.args.name.now
     (ToChange (location_of c.args.object) (SetAttr (number_of c.args.object.node) c.args.attr))
-    (with_store (record c.self.inside.store { plain = c.set_attr.new.self }) (the_view c.self.inside)))
-    c.self.view_is
+    (with_store (record c.self.inside.store { plain = c.set_attr.new.self }) (the_view c.self.inside))) c.self.view_is
     (files_stored (the_view c.self.inside) c.self.inside.store c.self.invariant c.args.name.now
     (ToChange (location_of c.args.object) (SetAttr (number_of c.args.object.node) c.args.attr)) permits c.set_attr.new.self
     (attr_is_set (the_view c.self.inside) c.self.invariant c.args.name.now c.args.object c.args.attr c.set_attr.new.self

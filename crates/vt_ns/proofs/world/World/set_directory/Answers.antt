@@ -15,16 +15,14 @@ use Rattle.vt_ns.proofs.world.StoresKept.{kept_is}
 use Rattle.vt_ns.proofs.world.World.set_directory.Goals as goal
 
 abbrev after : (c : goal.After-leave) → WorldValue
-after c =
-    record (remade (the_view c.self.inside) c.leave.new.mounts c.leave.new.store.plain c.set_directory.new.self) {
-      overlays = overlays_of_store c.leave.new.store;
-    }
+after c = record (remade (the_view c.self.inside) c.leave.new.mounts c.leave.new.store.plain c.set_directory.new.self) {
+  overlays = overlays_of_store c.leave.new.store;
+}
 
 -- what the task leaves, once its new place is held
 left_so : (c : goal.After-leave) → kept c.leave.new.mounts c.leave.new.store
     ≡ without_location c.in-Some.left false (with_location c.args.directory false (kept_of (the_view c.self.inside)))
-left_so c =
-    c.leave.ensures.left ∙ ap (without_location c.in-Some.left false)
+left_so c = c.leave.ensures.left ∙ ap (without_location c.in-Some.left false)
     (c.in_ok-hold.ensures.ok ∙ ap (with_location c.args.directory false)
     (kept_is (the_view c.self.inside) c.self.inside.store))
 

@@ -10,8 +10,7 @@ use Rattle.vt_mounting.proofs.detach.Staying.{IsDone}
 use Rattle.vt_ns.proofs.world.World.set_flags.Goals as goal
 
 pub invariant_of-self : goal.invariant_of-self
-invariant_of-self c =
-    (subst (λ mounts. IsDone (the_view c.self.inside) c.args.name.now
+invariant_of-self c = (subst (λ mounts. IsDone (the_view c.self.inside) c.args.name.now
     (ToSetFlags (counted c.args.mount.count) (flags_of c.args.flags))
     (remade (the_view c.self.inside) mounts c.self.inside.store.plain c.self.inside.tasks)) (sym c.set_flags.ensures)
     (flags_are_set (the_view c.self.inside) c.self.invariant c.args.name.now (counted c.args.mount.count)

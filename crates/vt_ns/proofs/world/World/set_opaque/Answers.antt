@@ -24,8 +24,7 @@ returns c =
     (ToChange (location_of c.args.directory) (SetMark (number_of c.args.directory.node) c.args.opaque))) (sym c.self.view_is) c.requires in
     subst (λ value. Becomes value c.args.name.now
     (ToChange (location_of c.args.directory) (SetMark (number_of c.args.directory.node) c.args.opaque))
-    (with_store (record c.self.inside.store { plain = c.set_opaque.new.self }) (the_view c.self.inside)))
-    c.self.view_is
+    (with_store (record c.self.inside.store { plain = c.set_opaque.new.self }) (the_view c.self.inside))) c.self.view_is
     (files_stored (the_view c.self.inside) c.self.inside.store c.self.invariant c.args.name.now
     (ToChange (location_of c.args.directory) (SetMark (number_of c.args.directory.node) c.args.opaque)) permits c.set_opaque.new.self
     (mark_is_set (the_view c.self.inside) c.self.invariant c.args.name.now c.args.directory c.args.opaque

@@ -15,16 +15,14 @@ use Rattle.vt_ns.proofs.world.StoresKept.{kept_is}
 use Rattle.vt_ns.proofs.world.World.set_root.Goals as goal
 
 abbrev after : (c : goal.After-leave) → WorldValue
-after c =
-    record (remade (the_view c.self.inside) c.leave.new.mounts c.leave.new.store.plain c.set_root.new.self) {
-      overlays = overlays_of_store c.leave.new.store;
-    }
+after c = record (remade (the_view c.self.inside) c.leave.new.mounts c.leave.new.store.plain c.set_root.new.self) {
+  overlays = overlays_of_store c.leave.new.store;
+}
 
 -- what the task leaves, once its new place is held
 left_so : (c : goal.After-leave) → kept c.leave.new.mounts c.leave.new.store
     ≡ without_location c.in-Some.left false (with_location c.args.root false (kept_of (the_view c.self.inside)))
-left_so c =
-    c.leave.ensures.left ∙ ap (without_location c.in-Some.left false)
+left_so c = c.leave.ensures.left ∙ ap (without_location c.in-Some.left false)
     (c.in_ok-hold.ensures.ok ∙ ap (with_location c.args.root false)
     (kept_is (the_view c.self.inside) c.self.inside.store))
 
@@ -42,8 +40,7 @@ done c =
     (root_is_set (the_view c.self.inside) c.args.name.now c.args.root c.in-Some.left c.leave.new.mounts
     c.leave.new.store.plain (map merged_of c.leave.new.store.overlays) c.set_root.new.self c.self.invariant permits
     c.in_ok-hold.ensures.slot c.leave.ensures.slot
-    (sym (ap (option_map location_of) c.in-Some.is) ∙ c.set_root.ensures.left)
-    c.set_root.ensures.rest (left_so c))
+    (sym (ap (option_map location_of) c.in-Some.is) ∙ c.set_root.ensures.left) c.set_root.ensures.rest (left_so c))
 
 pub invariant_of-self-in-Some : goal.invariant_of-self-in-Some
 invariant_of-self-in-Some c = (done c).held

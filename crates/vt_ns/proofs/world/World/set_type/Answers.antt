@@ -24,8 +24,7 @@ invariant_of-self-then-recursive c =
     ∙ ap (λ b. numbers_of (named_mounts nat_eq (world_of value) number b)) (sym c.if-recursive.true) in
     (types_done value c.self.invariant c.args.name.now number (type_word_of c.args.change.word) c.args.change.recursive
     (subst (λ one. Permits one c.args.name.now (ToSetType number (type_word_of c.args.change.word) c.args.change.recursive))
-    (sym c.self.view_is) c.requires)
-    c.change_types.new.mounts c.change_types.new.groups c.in_ok-self-inside.field-0
+    (sym c.self.view_is) c.requires) c.change_types.new.mounts c.change_types.new.groups c.in_ok-self-inside.field-0
     (subst (λ some. IsRetyped (type_word_of c.args.change.word) c.self.inside.next c.in_ok-self-inside.field-0 some
     c.self.inside.groups c.change_types.new.groups c.self.inside.mounts c.change_types.new.mounts)
     numbers c.in_ok-self-inside.ensures.ok)).held
@@ -46,8 +45,7 @@ returns-then-recursive-clause-ok c =
     })) c.self.view_is
     (types_done value c.self.invariant c.args.name.now number (type_word_of c.args.change.word) c.args.change.recursive
     (subst (λ one. Permits one c.args.name.now (ToSetType number (type_word_of c.args.change.word) c.args.change.recursive))
-    (sym c.self.view_is) c.requires)
-    c.change_types.new.mounts c.change_types.new.groups c.in_ok-self-inside.field-0
+    (sym c.self.view_is) c.requires) c.change_types.new.mounts c.change_types.new.groups c.in_ok-self-inside.field-0
     (subst (λ some. IsRetyped (type_word_of c.args.change.word) c.self.inside.next c.in_ok-self-inside.field-0 some
     c.self.inside.groups c.change_types.new.groups c.self.inside.mounts c.change_types.new.mounts)
     numbers c.in_ok-self-inside.ensures.ok)).becomes

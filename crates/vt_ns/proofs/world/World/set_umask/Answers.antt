@@ -12,8 +12,7 @@ invariant_of-self c =
     (sym c.self.view_is) c.requires) c.set_umask.ensures).held
 
 pub returns : goal.returns
-returns c =
-    subst (λ value. Becomes value c.args.name.now (ToSetUmask c.args.umask)
+returns c = subst (λ value. Becomes value c.args.name.now (ToSetUmask c.args.umask)
     (after (the_view c.self.inside) c.set_umask.new.self)) c.self.view_is
     (umask_is_set (the_view c.self.inside) c.args.name.now c.args.umask c.set_umask.new.self c.self.invariant
     (subst (λ value. Permits value c.args.name.now (ToSetUmask c.args.umask))

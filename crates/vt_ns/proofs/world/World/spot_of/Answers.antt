@@ -7,8 +7,6 @@ mount_point_spot-requires c = record { standing = c.table.ensures.standing; once
 
 pub returns : goal.returns
 returns c = record {
-  ok =
-      IfOk-weaker c.mount_point_spot.result _ _
-      (λ spot told. told (world_of c.args.self.now) c.table.ensures.shown)
+  ok = IfOk-weaker c.mount_point_spot.result _ _ (λ spot told. told (world_of c.args.self.now) c.table.ensures.shown)
       c.mount_point_spot.ensures.ok;
 }

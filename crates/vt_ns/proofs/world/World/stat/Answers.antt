@@ -21,7 +21,6 @@ pub returns-in-None : goal.returns-in-None
 returns-in-None c =
     let at = location_of c.args.object in
     let world = world_of c.args.self.now in
-    c.told_of_nothing.ensures
-    ∙ ap stat_line (sym (none_lent (node_at nat_eq world at)
+    c.told_of_nothing.ensures ∙ ap stat_line (sym (none_lent (node_at nat_eq world at)
     (lent_of_world world (mount_at nat_eq world at).filesystem (number_of c.args.object.node))
     (sym c.node.ensures ∙ ap option_copied c.in-None.is)))

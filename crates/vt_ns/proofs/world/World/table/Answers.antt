@@ -26,8 +26,7 @@ returns-clause-shown c =
           c.self.view_is;
       above = λ count directory. above_shown base store c.self.invariant count directory
           ∙ ap (λ (value : WorldValue). ancestors nat_eq
-          (filesystem_numbered nat_eq (world_of value) (counted count)).files directory)
-          c.self.view_is;
+          (filesystem_numbered nat_eq (world_of value) (counted count)).files directory) c.self.view_is;
     }
 
 pub returns-clause-standing : goal.returns-clause-standing

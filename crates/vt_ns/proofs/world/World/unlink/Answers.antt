@@ -14,17 +14,14 @@ use Rattle.vt_ns.proofs.world.World.unlink.Goals as goal
 pub unlink-requires-clause-one_filesystem : goal.unlink-requires-clause-one_filesystem
 unlink-requires-clause-one_filesystem c =
     unlinked_in (the_view c.self.inside) c.self.invariant c.args.name.now c.args.gone.directory c.args.gone.name.items
-    c.args.gone.object (omega arith) (omega arith)
-    (subst (λ value. Permits value c.args.name.now
-    (remove_permit (Unlink c.args.gone)))
-    (sym c.self.view_is) c.requires)
+    c.args.gone.object (omega arith) (omega arith) (subst (λ value. Permits value c.args.name.now
+    (remove_permit (Unlink c.args.gone))) (sym c.self.view_is) c.requires)
 
 pub unlink-requires-clause-there : goal.unlink-requires-clause-there
 unlink-requires-clause-there c =
     rw c.plain_mut.ensures.value (unlinked_is_kept (the_view c.self.inside) c.self.invariant c.args.name.now
     c.args.gone.directory c.args.gone.name.items c.args.gone.object (omega arith) (omega arith)
-    (subst (λ value. Permits value c.args.name.now
-    (remove_permit (Unlink c.args.gone)))
+    (subst (λ value. Permits value c.args.name.now (remove_permit (Unlink c.args.gone)))
     (sym c.self.view_is) c.requires))
 
 pub unlink-requires-clause-named : goal.unlink-requires-clause-named
@@ -32,16 +29,14 @@ unlink-requires-clause-named c =
     rw c.plain_mut.ensures.value (rw c.as_slice.ensures.value ((change_fits (the_view c.self.inside) c.self.invariant
     c.args.name.now c.args.gone.directory (omega arith)
     (Remove (number_of c.args.gone.directory.node) c.args.gone.name.items (number_of c.args.gone.object))
-    (subst (λ value. Permits value c.args.name.now
-    (remove_permit (Unlink c.args.gone)))
+    (subst (λ value. Permits value c.args.name.now (remove_permit (Unlink c.args.gone)))
     (sym c.self.view_is) c.requires)).0))
 
 pub unlink-requires-clause-empty : goal.unlink-requires-clause-empty
 unlink-requires-clause-empty c =
     rw c.plain_mut.ensures.value ((change_fits (the_view c.self.inside) c.self.invariant c.args.name.now c.args.gone.directory (omega arith)
     (Remove (number_of c.args.gone.directory.node) c.args.gone.name.items (number_of c.args.gone.object))
-    (subst (λ value. Permits value c.args.name.now
-    (remove_permit (Unlink c.args.gone)))
+    (subst (λ value. Permits value c.args.name.now (remove_permit (Unlink c.args.gone)))
     (sym c.self.view_is) c.requires)).1)
 
 pub invariant_of-self : goal.invariant_of-self
@@ -58,10 +53,8 @@ pub returns : goal.returns
 returns c =
     let permits = subst (λ value. Permits value c.args.name.now
     (remove_permit (Unlink c.args.gone))) (sym c.self.view_is) c.requires in
-    subst (λ value. Becomes value c.args.name.now
-    (remove_permit (Unlink c.args.gone))
-    (with_store (record c.self.inside.store { plain = c.unlink.new.self }) (the_view c.self.inside)))
-    c.self.view_is
+    subst (λ value. Becomes value c.args.name.now (remove_permit (Unlink c.args.gone))
+    (with_store (record c.self.inside.store { plain = c.unlink.new.self }) (the_view c.self.inside))) c.self.view_is
     (files_stored (the_view c.self.inside) c.self.inside.store c.self.invariant c.args.name.now
     (remove_permit (Unlink c.args.gone)) permits c.unlink.new.self
     (unlink_is_done (the_view c.self.inside) c.self.invariant c.args.name.now c.args.gone.directory

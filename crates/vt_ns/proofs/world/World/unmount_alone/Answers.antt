@@ -26,8 +26,7 @@ done c =
     let value : WorldValue = the_view c.self.inside in
     let permits = subst (λ one. Permits one c.args.name.now (ToUnmount (counted c.args.mount.count)))
     (sym c.self.view_is) c.requires.permitted in
-    let alone = and_parts _ _ (subst
-    (λ one. unmounts_alone (mounts_in one.mounts) (counted c.args.mount.count) ≡ true)
+    let alone = and_parts _ _ (subst (λ one. unmounts_alone (mounts_in one.mounts) (counted c.args.mount.count) ≡ true)
     (sym c.self.view_is) c.requires.alone) in
     done_in_store value (record value { mounts = c.detach.new.mounts }) c.self.inside.store c.detach.new.store
     c.self.invariant c.detach.ensures.overlays c.args.name.now (ToUnmount (counted c.args.mount.count)) permits

@@ -20,8 +20,7 @@ use Rattle.vt_ns.proofs.world.StoresKept.{kept_is}
 use Rattle.vt_ns.proofs.world.World.unmount_everywhere.Goals as goal
 
 abbrev after : (c : goal.After-drop-plan-3) → WorldValue
-after c =
-    with_store c.take_away.new.store
+after c = with_store c.take_away.new.store
     (record (the_view c.self.inside) { mounts = c.take_away.new.mounts; groups = c.take_away.new.groups })
 
 -- the world then is the one that the permit leaves
@@ -48,11 +47,9 @@ done c =
     c.self.inside.store c.take_away.new.store c.self.invariant c.in_ok-take_away.ensures.overlays
     c.args.name.now (ToUnmount (counted c.args.mount.count)) permits
     (unmounted_everywhere value c.self.invariant c.args.name.now (counted c.args.mount.count) permits
-    planned gone c.in_ok-plan.plan.points.items
-    (IsPermutation-map (λ (id : MountNumber). counted id.count)
+    planned gone c.in_ok-plan.plan.points.items (IsPermutation-map (λ (id : MountNumber). counted id.count)
     c.in_ok-plan.plan.gone.items c.newest_first.new.plan.gone.items c.newest_first.ensures.gone)
-    (c.in_ok-plan.ensures.gone world seen) (c.in_ok-plan.ensures.left world refl)
-    (c.in_ok-plan.ensures.each world refl)
+    (c.in_ok-plan.ensures.gone world seen) (c.in_ok-plan.ensures.left world refl) (c.in_ok-plan.ensures.each world refl)
     c.take_away.new.mounts c.take_away.new.groups c.take_away.new.store.plain
     (map merged_of c.take_away.new.store.overlays) go)
 

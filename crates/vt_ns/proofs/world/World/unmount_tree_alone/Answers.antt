@@ -28,18 +28,14 @@ done c =
     let tree : List ℕ = map (λ id. counted id.count) c.args.tree.now in
     let permits = subst (λ one. Permits one c.args.name.now (ToUnmountLazily number)) (sym c.self.view_is)
     c.requires.permitted in
-    let alone = and_parts _ _ (subst
-    (λ (one : WorldValue). (are_ungrouped (mounts_in one.mounts) tree
-    && not (stands_on_shared (mounts_in one.mounts) number)) ≡ true)
-    (sym c.self.view_is) c.requires.alone) in
+    let alone = and_parts _ _ (subst (λ (one : WorldValue). (are_ungrouped (mounts_in one.mounts) tree
+    && not (stands_on_shared (mounts_in one.mounts) number)) ≡ true) (sym c.self.view_is) c.requires.alone) in
     done_in_store value (record value { mounts = c.detach_each.new.mounts }) c.self.inside.store
     c.detach_each.new.store c.self.invariant c.detach_each.ensures.overlays c.args.name.now (ToUnmountLazily number)
-    permits
-    (lazy_unmount_is_done value c.args.name.now number tree c.detach_each.new.mounts
+    permits (lazy_unmount_is_done value c.args.name.now number tree c.detach_each.new.mounts
     c.detach_each.new.store.plain (map merged_of c.detach_each.new.store.overlays) c.self.invariant permits
     (subst (λ (one : WorldValue). tree ≡ tree_numbers (mounts_in one.mounts) number) (sym c.self.view_is)
-    c.requires.tree)
-    alone.0 (not-true _ alone.1)
+    c.requires.tree) alone.0 (not-true _ alone.1)
     (subst (λ k. LeaveInTurn tree k (kept c.detach_each.new.mounts c.detach_each.new.store))
     (kept_is value c.self.inside.store) c.detach_each.ensures.left))
 
@@ -47,6 +43,5 @@ pub invariant_of-self : goal.invariant_of-self
 invariant_of-self c = (done c).held
 
 pub returns : goal.returns
-returns c =
-    subst (λ value. Becomes value c.args.name.now (ToUnmountLazily (counted c.args.mount.count)) (after c))
+returns c = subst (λ value. Becomes value c.args.name.now (ToUnmountLazily (counted c.args.mount.count)) (after c))
     c.self.view_is (done c).becomes

@@ -61,8 +61,7 @@ move_use-requires-2-clause-uses c = λ other.
     made.added c.attach_copies.new.mounts c.attach_copies.new.store.plain
     (map merged_of c.attach_copies.new.store.overlays)
     (made.attached ∙ ap (with_attached made.added) (kept_is (the_view c.self.inside) c.self.inside.store)) own.directory
-    c.moved-new_directory.result c.moved-new_directory.ensures other
-    (counted own.root.mount.count)
+    c.moved-new_directory.result c.moved-new_directory.ensures other (counted own.root.mount.count)
     (counted c.moved-new_root.result.mount.count) c.move_use.new.mounts c.move_use.ensures
 
 pub move_use-requires-2-clause-writers : goal.move_use-requires-2-clause-writers
@@ -74,16 +73,14 @@ move_use-requires-2-clause-writers c = λ other.
     made.added c.attach_copies.new.mounts c.attach_copies.new.store.plain
     (map merged_of c.attach_copies.new.store.overlays)
     (made.attached ∙ ap (with_attached made.added) (kept_is (the_view c.self.inside) c.self.inside.store)) own.directory
-    c.moved-new_directory.result c.moved-new_directory.ensures other
-    (counted own.root.mount.count)
+    c.moved-new_directory.result c.moved-new_directory.ensures other (counted own.root.mount.count)
     (counted c.moved-new_root.result.mount.count) c.move_use.new.mounts c.move_use.ensures
 
 permitted : (c : goal.After-self-1) → Permits (the_view c.self.inside) c.args.name.now ToUnshare
 permitted c = subst (λ value. Permits value c.args.name.now ToUnshare) (sym c.self.view_is) c.requires
 
 -- the new namespace comes last
-entered : (c : goal.After-self-1)
-    → entries_of c.insert.new.self.entries ≡ entries_of c.self.inside.namespaces.entries
+entered : (c : goal.After-self-1) → entries_of c.insert.new.self.entries ≡ entries_of c.self.inside.namespaces.entries
     ++ record { count = c.self.inside.next; tasks = 1 } ∷ []
 entered c =
     let room = not-err c.reserve.result c.if-is_err.ensures.value c.reserve.ensures.ok in
@@ -107,8 +104,7 @@ after c = record {
 made_so : (c : goal.After-self-1) → CopiesAttached c.self.inside.next (counted c.unwrap-task.result.now.namespace.count)
     (kept_of (the_view c.self.inside)) c.self.inside.groups (kept c.attach_copies.new.mounts c.attach_copies.new.store)
     c.attach_copies.new.groups
-made_so c =
-    subst (λ k. CopiesAttached c.self.inside.next (counted c.unwrap-task.result.now.namespace.count) k
+made_so c = subst (λ k. CopiesAttached c.self.inside.next (counted c.unwrap-task.result.now.namespace.count) k
     c.self.inside.groups (kept c.attach_copies.new.mounts c.attach_copies.new.store) c.attach_copies.new.groups)
     (kept_is (the_view c.self.inside) c.self.inside.store) c.in_ok-attach_copies.ensures.ok
 
@@ -134,8 +130,7 @@ done c =
     c.move_use-2.new.mounts (map merged_of c.leave_namespace.new.store.overlays) (entries_of c.insert.new.self.entries)
     (record (after c) {
       overlays = overlays_kept (map merged_of c.leave_namespace.new.store.overlays) (the_view c.self.inside).overlays;
-    })
-    (record {
+    }) (record {
       made = made_so c;
       root_is = c.moved-new_root.ensures;
       directory_is = c.moved-new_directory.ensures;
@@ -145,16 +140,12 @@ done c =
       left = c.leave_namespace.ensures.mounts;
       before = numbers_before (the_view c.self.inside) c.self.invariant c.are_counted.ensures;
       namespaces_left = c.leave_namespace.ensures.namespaces;
-      tasks = c.move_root_and_directory.ensures.rest
-          ∙ ap (λ n. changed_called c.args.name.now
-          (λ task. record task {
-            namespace = counted n;
-            root = location_of root;
-            directory = location_of directory;
-          }) c.self.inside.tasks)
-          (ap (λ (id : NamespaceId). id.count) c.new-new.ensures);
-      next = ap (λ n. c.self.inside.next + 2 * n)
-          (as_many c.attached_in.result.now
+      tasks = c.move_root_and_directory.ensures.rest ∙ ap (λ n. changed_called c.args.name.now (λ task. record task {
+        namespace = counted n;
+        root = location_of root;
+        directory = location_of directory;
+      }) c.self.inside.tasks) (ap (λ (id : NamespaceId). id.count) c.new-new.ensures);
+      next = ap (λ n. c.self.inside.next + 2 * n) (as_many c.attached_in.result.now
           (attached_in (counted own.namespace.count) c.self.inside.mounts) c.attached_in.ensures.are);
       same_overlays = refl;
     }))

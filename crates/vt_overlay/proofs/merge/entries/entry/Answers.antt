@@ -13,8 +13,7 @@ returns-in_err-slot-clause-number c =
     let is : (tree_of c.in_ok-tree.field-0.now).node c.slot_of.result ≡ Some c.in_ok-node.field-0.now = search rules in
     let none : c.from_residual-in_err-slot.result ≡ None = search rules in
     let missing : c.entry.result ≡ None = search rules in
-    ap (option_map inode_of) none
-    ∙ ap (option_map (exchanged f)) (sym missing ∙ c.entry.ensures)
+    ap (option_map inode_of) none ∙ ap (option_map (exchanged f)) (sym missing ∙ c.entry.ensures)
     ∙ entry_seen f (option_copied c.args.tree) c.in_ok-tree.field-0.now c.slot_of.result _ c.args.name.now
     c.in_ok-node.field-0.now lent c.slot_of.ensures.number is
 
@@ -24,7 +23,6 @@ returns-clause-number c =
     let lent : option_copied c.args.tree ≡ Some c.in_ok-tree.field-0.now = search rules in
     let is : (tree_of c.in_ok-tree.field-0.now).node c.slot_of.result ≡ Some c.in_ok-node.field-0.now = search rules in
     let there : c.entry.result ≡ Some c.in_ok-slot.slot = search rules in
-    ap Some c.beside.ensures.number
-    ∙ ap (option_map (exchanged f)) (sym there ∙ c.entry.ensures)
+    ap Some c.beside.ensures.number ∙ ap (option_map (exchanged f)) (sym there ∙ c.entry.ensures)
     ∙ entry_seen f (option_copied c.args.tree) c.in_ok-tree.field-0.now c.slot_of.result _ c.args.name.now
     c.in_ok-node.field-0.now lent c.slot_of.ensures.number is

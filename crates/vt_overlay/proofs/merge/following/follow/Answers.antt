@@ -9,14 +9,12 @@ use Rattle.vt_overlay.proofs.merge.TreesLent.{tree_lent}
 use Rattle.vt_overlay.proofs.merge.following.follow.Goals as goal
 
 pub returns-clause-object : goal.returns-clause-object
-returns-clause-object g c =
-    c.follow_in.ensures.object
+returns-clause-object g c = c.follow_in.ensures.object
     ∙ ap (λ tree. led tree (inode_of c.args.directory) (g.W.Way.names c.args.path.now))
     (tree_lent c.args.trees.now c.args.directory.filesystem.count (option_copied c.get.result) c.get.ensures)
 
 pub returns-clause-cut : goal.returns-clause-cut
-returns-clause-cut g c =
-    c.follow_in.ensures.cut
+returns-clause-cut g c = c.follow_in.ensures.cut
     ∙ ap (λ tree. cut_on tree (g.W.Way.names c.args.path.now) (inode_of c.args.directory))
     (tree_lent c.args.trees.now c.args.directory.filesystem.count (option_copied c.get.result) c.get.ensures)
     ∙ sym (cuts_on (files_at c.args.trees.now c.args.directory.filesystem.count).tree

@@ -18,8 +18,7 @@ returns-in_default-clause-object g c =
     let none : None ≡ entry_at (tree_seen here.filesystem.count lent) (inode_of here) c.name.result.now = search rules in
     let same = ap (λ (id : FilesystemId). tree_seen id.count lent) c.loop-index.invariant.filesystem in
     stops tree (inode_of here) names c.loop-index.index c.name.result.now c.name.ensures
-    (none ∙ ap (λ t. entry_at t (inode_of here) c.name.result.now) same)
-    ∙ sym c.loop-index.invariant.leads
+    (none ∙ ap (λ t. entry_at t (inode_of here) c.name.result.now) same) ∙ sym c.loop-index.invariant.leads
 
 pub returns-in_default-clause-cut : goal.returns-in_default-clause-cut
 returns-in_default-clause-cut g c =
@@ -29,11 +28,9 @@ returns-in_default-clause-cut g c =
     let names = g.W.Way.names c.args.path.now in
     let none : None ≡ entry_at (tree_seen here.filesystem.count lent) (inode_of here) c.name.result.now = search rules in
     let same = ap (λ (id : FilesystemId). tree_seen id.count lent) c.loop-index.invariant.filesystem in
-    sym (c.loop-index.invariant.cuts
-    ∙ ap (λ b. c.loop-index.cut || b)
+    sym (c.loop-index.invariant.cuts ∙ ap (λ b. c.loop-index.cut || b)
     (stops_cut tree (inode_of here) names c.loop-index.index c.name.result.now c.name.ensures
-    (none ∙ ap (λ t. entry_at t (inode_of here) c.name.result.now) same))
-    ∙ or_false c.loop-index.cut)
+    (none ∙ ap (λ t. entry_at t (inode_of here) c.name.result.now) same)) ∙ or_false c.loop-index.cut)
 
 pub loop-index-preserved : goal.loop-index-preserved
 loop-index-preserved g c =
@@ -49,8 +46,7 @@ loop-index-preserved g c =
     c.in-Some.ensures.number ∙ ap (λ t. entry_at t (inode_of here) c.name.result.now) same in
     let rest = cut_on tree (drop (c.loop-index.index + 1) names) (inode_of next) in
     let hidden = λ (id : FilesystemId). hides ((tree_seen id.count lent).node (inode_of next)) in
-    let cut : c.if-cut.cut ≡ (c.loop-index.cut || hidden next.filesystem) =
-    elim c.if-cut.branch [
+    let cut : c.if-cut.cut ≡ (c.loop-index.cut || hidden next.filesystem) = elim c.if-cut.branch [
       | then-cut w ↦
           let is : c.if-cut.cut ≡ true = search rules in
           let was : c.loop-index.cut ≡ true = search rules in
@@ -63,11 +59,9 @@ loop-index-preserved g c =
     record {
       leads = c.loop-index.invariant.leads
           ∙ goes_on tree (inode_of here) names c.loop-index.index c.name.result.now c.name.ensures (inode_of next) at;
-      cuts = c.loop-index.invariant.cuts
-          ∙ ap (λ b. c.loop-index.cut || b)
+      cuts = c.loop-index.invariant.cuts ∙ ap (λ b. c.loop-index.cut || b)
           (goes_on_cut tree (inode_of here) names c.loop-index.index c.name.result.now c.name.ensures
-          (inode_of next) at)
-          ∙ or_assoc c.loop-index.cut (hides (tree.node (inode_of next))) rest
+          (inode_of next) at) ∙ or_assoc c.loop-index.cut (hides (tree.node (inode_of next))) rest
           ∙ ap (λ b. b || rest) (ap (λ id. c.loop-index.cut || hidden id) (sym filesystem) ∙ sym cut);
       filesystem = filesystem;
     }

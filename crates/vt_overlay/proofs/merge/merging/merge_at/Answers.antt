@@ -10,8 +10,7 @@ use Rattle.vt_overlay.proofs.merge.merging.merge_at.Goals as goal
 
 pub loop-index-init : goal.loop-index-init
 loop-index-init g c = record {
-  shows = λ rest some.
-      ap (λ views. shown_in views rest) (c.push_directories.ensures.placed c.args.trees.now)
+  shows = λ rest some. ap (λ views. shown_in views rest) (c.push_directories.ensures.placed c.args.trees.now)
       ∙ sym (placed_show_the_same (map view_of (layers_of c.args.trees.now c.args.layers.now)) rest);
   led = c.push_directories.ensures.led c.args.trees.now;
 }
@@ -24,9 +23,7 @@ loop-index-preserved g c =
     let at = c.loop-index in
     let name = c.name.result.now in
     record {
-      shows = λ rest some.
-          c.narrow.ensures.shows rest some
-          ∙ at.invariant.shows (name ∷ rest) (λ empty. cc)
+      shows = λ rest some. c.narrow.ensures.shows rest some ∙ at.invariant.shows (name ∷ rest) (λ empty. cc)
           ∙ ap (shown (layers_of trees layers)) (take_named names at.index name c.name.ensures rest);
       led = subst (λ path. All (IsMergedAt trees layers path) c.narrow.new.merged.items)
           (take_named names at.index name c.name.ensures [] ∙ append-nil _)
@@ -37,5 +34,4 @@ pub returns-clause-led : goal.returns-clause-led
 returns-clause-led g c =
     subst (λ path. All (IsMergedAt c.args.trees.now c.args.layers.now path) c.loop-index.merged.items)
     (take_all c.loop-index.index (g.W.Way.names c.args.path.now)
-    (subst (λ n. n ≤ c.loop-index.index) c.len-index-end.ensures c.loop-index-test.false))
-    c.loop-index.invariant.led
+    (subst (λ n. n ≤ c.loop-index.index) c.len-index-end.ensures c.loop-index-test.false)) c.loop-index.invariant.led

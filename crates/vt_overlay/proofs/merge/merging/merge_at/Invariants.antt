@@ -7,8 +7,7 @@ use Rattle.vt_overlay.proofs.merge.merging.merge_at.Given as goal
 
 abbrev pub invariant-loop-index : goal.invariant-loop-index
 invariant-loop-index g l = record {
-  shows : (rest : List (List ℕ)) → rest ≢ []
-      → shown_in (placed_views l.trees l.merged.items) rest
+  shows : (rest : List (List ℕ)) → rest ≢ [] → shown_in (placed_views l.trees l.merged.items) rest
       ≡ shown (layers_of l.trees l.layers) (take l.index (g.W.Way.names l.path) ++ rest);
   led : All (IsMergedAt l.trees l.layers (take l.index (g.W.Way.names l.path))) l.merged.items;
 }

@@ -12,13 +12,11 @@ returns-clause-shows g c = λ path some.
     let name = c.args.name.now in
     let old = c.args.merged.now.items in
     let moved = c.narrow_in_front-kept.new.merged in
-    let items : c.truncate.new.self.items ≡ take c.narrow_in_front-kept.result moved =
-    c.truncate.ensures.items
+    let items : c.truncate.new.self.items ≡ take c.narrow_in_front-kept.result moved = c.truncate.ensures.items
     ∙ ap (take c.narrow_in_front-kept.result)
     (refilled old moved (c.narrow_in_front-kept.ensures.len ∙ ap length c.as_mut_slice.ensures.value)) in
     ap (λ l. shown_in (placed_views trees l) path) items
-    ∙ shows trees name old (take c.narrow_in_front-kept.result moved)
-    (c.narrow_in_front-kept.ensures.value
+    ∙ shows trees name old (take c.narrow_in_front-kept.result moved) (c.narrow_in_front-kept.ensures.value
     ∙ ap (λ l. directories_under (placed_layers trees l) name) c.as_mut_slice.ensures.value) path some
 
 pub returns-clause-led : goal.returns-clause-led
@@ -26,8 +24,7 @@ returns-clause-led g c = λ layers path all.
     let trees = c.args.trees.now in
     let old = c.args.merged.now.items in
     let moved = c.narrow_in_front-kept.new.merged in
-    let items : c.truncate.new.self.items ≡ take c.narrow_in_front-kept.result moved =
-    c.truncate.ensures.items
+    let items : c.truncate.new.self.items ≡ take c.narrow_in_front-kept.result moved = c.truncate.ensures.items
     ∙ ap (take c.narrow_in_front-kept.result)
     (refilled old moved (c.narrow_in_front-kept.ensures.len ∙ ap length c.as_mut_slice.ensures.value)) in
     subst (All (IsMergedAt trees layers (path ++ c.args.name.now ∷ []))) (sym items)

@@ -8,8 +8,7 @@ use Rattle.vt_overlay.proofs.merge.merging.narrow_in_front.Given as goal
 -- what is kept so far, and then what is merged of those that are left
 abbrev pub invariant-loop-index : goal.invariant-loop-index
 invariant-loop-index l = record {
-  value :
-      placed_layers l.trees (take l.kept l.merged)
+  value : placed_layers l.trees (take l.kept l.merged)
       ++ directories_under (placed_layers l.trees (drop l.index l.initial.merged)) l.name
       ≡ directories_under (placed_layers l.trees l.initial.merged) l.name;
   left : (place : ℕ) → l.index ≤ place → drop place l.merged ≡ drop place l.initial.merged;

@@ -11,12 +11,9 @@ loop-place-preserved g c =
     let room = at.invariant.room in
     let more = c.push.ensures.len in
     record {
-      value = λ trees.
-          one_placed trees layers at.merged.items c.push.new.self.items at.place _ c.loop-place-test.true
-          c.push.ensures.items
-          ∙ at.invariant.value trees;
-      led = λ trees.
-          subst (All (IsMergedAt trees layers [])) (sym c.push.ensures.items)
+      value = λ trees. one_placed trees layers at.merged.items c.push.new.self.items at.place _ c.loop-place-test.true
+          c.push.ensures.items ∙ at.invariant.value trees;
+      led = λ trees. subst (All (IsMergedAt trees layers [])) (sym c.push.ensures.items)
           (All-push (IsMergedAt trees layers []) at.merged.items _ (at.invariant.led trees)
           (own_merged trees layers at.place _ c.loop-place-test.true));
       room = omega (arith, room, more);

@@ -9,8 +9,7 @@ use Rattle.vt_overlay.proofs.merge.merging.push_directories.Given as goal
 
 abbrev pub invariant-loop-place : goal.invariant-loop-place
 invariant-loop-place g l = record {
-  value : (trees : Filesystems)
-      → placed_views trees l.merged.items
+  value : (trees : Filesystems) → placed_views trees l.merged.items
       ++ placed_from l.place (map view_of (layers_of trees (drop l.place l.layers)))
       ≡ placed (map view_of (layers_of trees l.layers));
   led : (trees : Filesystems) → All (IsMergedAt trees l.layers []) l.merged.items;

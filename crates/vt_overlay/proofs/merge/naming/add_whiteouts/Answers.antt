@@ -22,17 +22,14 @@ loop-name-preserved c name =
     let is_white : white ≡ is_white_under fs top key.items =
     c.is_whiteout_under.ensures ∙ ap (is_white_under fs top) c.as_slice.ensures.value in
     let grown : hits c.if-is_whiteout_under.whiteouts.keys
-    ≡ (hits at.whiteouts.keys || (white && is_name name key.items)) =
-    elim c.if-is_whiteout_under.branch [
-      | then-is_whiteout_under+in_ok-insert w ↦
-          (let one = w.as_slice-then-is_whiteout_under.result in
+    ≡ (hits at.whiteouts.keys || (white && is_name name key.items)) = elim c.if-is_whiteout_under.branch [
+      | then-is_whiteout_under+in_ok-insert w ↦ (let one = w.as_slice-then-is_whiteout_under.result in
           let put : c.if-is_whiteout_under.whiteouts.keys
           ≡ insert_key (λ a b. pointwise nat_eq a.now b.now) at.whiteouts.keys one = search rules in
           ap hits put
           ∙ any_inserted name key.items at.whiteouts.keys one w.as_slice-then-is_whiteout_under.ensures.value
           ∙ ap (λ b. hits at.whiteouts.keys || (b && is_name name key.items)) (sym w.if-is_whiteout_under.true))
-      | else-is_whiteout_under w ↦
-          ap (λ whiteouts. hits whiteouts.keys) w.whiteouts-is
+      | else-is_whiteout_under w ↦ ap (λ whiteouts. hits whiteouts.keys) w.whiteouts-is
           ∙ sym (or_false (hits at.whiteouts.keys))
           ∙ ap (λ b. hits at.whiteouts.keys || (b && is_name name key.items)) (sym w.if-is_whiteout_under.false)
     ] in

@@ -23,6 +23,4 @@ returns c =
     let names = map (λ name. name.items) c.loop-top.all.items in
     subst (λ l. IsPermutation l (names_had c.args.trees.now c.args.merged.now))
     (at_drop_all (λ l. names ++ names_had c.args.trees.now l) c.args.merged.now c.loop-top.top-index
-    c.loop-top-test.false
-    ∙ append-nil names)
-    c.loop-top.invariant
+    c.loop-top-test.false ∙ append-nil names) c.loop-top.invariant

@@ -21,7 +21,6 @@ returns c name =
     let merged = c.args.merged.now in
     let white : List ℕ → Bool = λ name. list_any (λ one. is_name name one.now) c.in_ok-whiteouts.whiteouts.keys in
     passing_shown trees merged c.in_ok-names.names.items c.in_ok-names.ensures white c.in_ok-whiteouts.ensures name
-    c.retain.new.self.items
-    (filter_same _ (λ (name : Vec ℕ Global). not (white name.items)
+    c.retain.new.self.items (filter_same _ (λ (name : Vec ℕ Global). not (white name.items)
     || is_some (shown_in (placed_views trees merged) (name.items ∷ []))) _ (λ x b f' k. search rules) _ _
     c.retain.ensures.filtered)

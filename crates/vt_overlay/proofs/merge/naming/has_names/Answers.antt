@@ -13,8 +13,7 @@ returns-then-shows_any_of g c =
     let directories = c.as_slice-directories.result.now in
     let layers = layers_of trees c.args.layers.now in
     let path = g.W.Way.names c.args.path.now in
-    sym (has_names_if trees directories layers path
-    (λ rest some.
+    sym (has_names_if trees directories layers path (λ rest some.
     ap (λ items. shown_in (placed_views trees items) rest) c.as_slice-directories.ensures.value
     ∙ c.merge_at.ensures.shows rest some)
     (list_any_at (shows_own trees directories) directories c.loop-top.top-index _ c.loop-top-test.true
@@ -26,9 +25,7 @@ returns g c =
     let directories = c.as_slice-directories.result.now in
     let layers = layers_of trees c.args.layers.now in
     let path = g.W.Way.names c.args.path.now in
-    sym (has_none_if trees directories layers path
-    (λ rest some.
+    sym (has_none_if trees directories layers path (λ rest some.
     ap (λ items. shown_in (placed_views trees items) rest) c.as_slice-directories.ensures.value
-    ∙ c.merge_at.ensures.shows rest some)
-    (ap (list_any (shows_own trees directories))
+    ∙ c.merge_at.ensures.shows rest some) (ap (list_any (shows_own trees directories))
     (sym (take_all c.loop-top.top-index directories c.loop-top-test.false)) ∙ c.loop-top.invariant))

@@ -17,18 +17,14 @@ loop-name-preserved c =
     let copy = c.in_ok-copied_bytes.field-0 in
     let so_far = bytes old ++ bytes (take at.name-index names) in
     let grown : c.push.new.self.items ≡ at.all.items ++ copy ∷ [] = search rules in
-    ap bytes grown
-    ∙ map-append (λ (name : Vec ℕ Global). name.items) at.all.items (copy ∷ [])
+    ap bytes grown ∙ map-append (λ (name : Vec ℕ Global). name.items) at.all.items (copy ∷ [])
     ∙ (λ i. at.invariant i ++ (c.in_ok-copied_bytes.ensures.ok ∙ c.as_slice.ensures.value) i ∷ [])
     ∙ ap (λ (one : Vec ℕ Global). so_far ++ one.items ∷ []) c.name-item.is
     ∙ append_assoc (bytes old) (bytes (take at.name-index names)) (bytes (get_or names at.name-index name ∷ []))
-    ∙ ap (λ l. bytes old ++ l)
-    (sym (map-append (λ (name : Vec ℕ Global). name.items) (take at.name-index names)
+    ∙ ap (λ l. bytes old ++ l) (sym (map-append (λ (name : Vec ℕ Global). name.items) (take at.name-index names)
     (get_or names at.name-index name ∷ [])))
     ∙ ap (λ l. bytes old ++ bytes l) (sym (take_more names at.name-index name c.loop-name-test.true))
 
 pub returns : goal.returns
-returns c =
-    c.loop-name.invariant
-    ∙ ap (λ l. bytes c.args.all.now.items ++ bytes l)
+returns c = c.loop-name.invariant ∙ ap (λ l. bytes c.args.all.now.items ++ bytes l)
     (take_all c.loop-name.name-index c.args.names.now c.loop-name-test.false)

@@ -9,6 +9,5 @@ pub returns : goal.returns
 returns c =
     let test : List ℕ → Bool =
     λ name. is_some (shown_in (placed_views c.args.trees.now c.args.merged.now) (name ∷ [])) in
-    c.shows_one.ensures
-    ∙ sym (list_any_of_map test (λ (name : Vec ℕ Global). name.items) c.kept_names.result.now)
+    c.shows_one.ensures ∙ sym (list_any_of_map test (λ (name : Vec ℕ Global). name.items) c.kept_names.result.now)
     ∙ list_any-IsPermutation test _ _ c.kept_names.ensures

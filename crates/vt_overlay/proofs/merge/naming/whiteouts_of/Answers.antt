@@ -17,7 +17,5 @@ loop-top-preserved c name =
     (c.loop-top.invariant name) c.kept_names.ensures (search rules)
 
 pub returns : goal.returns
-returns c name =
-    c.loop-top.invariant name
-    ∙ ap (list_any (λ top. is_white_under c.args.trees.now top name))
+returns c name = c.loop-top.invariant name ∙ ap (list_any (λ top. is_white_under c.args.trees.now top name))
     (take_all c.loop-top.top-index c.args.merged.now c.loop-top-test.false)

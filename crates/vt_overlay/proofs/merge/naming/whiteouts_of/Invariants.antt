@@ -6,6 +6,5 @@ use Rattle.vt_overlay.proofs.merge.naming.whiteouts_of.Given as goal
 
 -- the whiteouts of the directories so far
 abbrev pub invariant-loop-top : goal.invariant-loop-top
-invariant-loop-top l =
-    (name : List ℕ) → list_any (λ one. is_name name one.now) l.whiteouts.keys
+invariant-loop-top l = (name : List ℕ) → list_any (λ one. is_name name one.now) l.whiteouts.keys
     ≡ list_any (λ top. is_white_under l.trees top name) (take l.top-index l.merged)

@@ -8,8 +8,7 @@ returns-in-Some-clause-value g c =
     shows_here c.args.trees.now c.args.layers.now c.loop-place.place _ (g.W.Way.names c.args.path.now)
     c.loop-place-test.true c.follow-found.result.object c.follow-found.result.cut c.follow-found.ensures.object
     c.follow-found.ensures.cut c.in-Some.inode c.in-Some.is c.follow-found.ensures.filesystem
-    (option_map seen_of c.visible.result) c.visible.ensures.value
-    ∙ sym c.loop-place.invariant
+    (option_map seen_of c.visible.result) c.visible.ensures.value ∙ sym c.loop-place.invariant
 
 pub returns-in-Some-clause-tree : goal.returns-in-Some-clause-tree
 returns-in-Some-clause-tree g c =
@@ -23,8 +22,7 @@ returns-then-found-clause-value g c =
     let none : c.follow-found.result.object ≡ None = search rules in
     stops_here c.args.trees.now c.args.layers.now c.loop-place.place _ (g.W.Way.names c.args.path.now)
     c.loop-place-test.true c.follow-found.result.object c.follow-found.result.cut c.follow-found.ensures.object
-    c.follow-found.ensures.cut none c.if-found.true
-    ∙ sym c.loop-place.invariant
+    c.follow-found.ensures.cut none c.if-found.true ∙ sym c.loop-place.invariant
 
 pub loop-place-preserved : goal.loop-place-preserved
 loop-place-preserved g c =

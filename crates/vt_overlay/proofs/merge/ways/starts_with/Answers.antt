@@ -25,8 +25,7 @@ returns-then-ne-clause-no g c = λ differs rest e.
     let front = g.V.Way.names c.args.front.now in
     let a = c.name.result.now in
     let b = c.name-in-loop-index.result.now in
-    let same : a ≡ b =
-    same_Some a b (sym c.name.ensures ∙ ap (λ l. slice_get l c.loop-index.index) (sym e)
+    let same : a ≡ b = same_Some a b (sym c.name.ensures ∙ ap (λ l. slice_get l c.loop-index.index) (sym e)
     ∙ found_in_front front rest c.loop-index.index b c.name-in-loop-index.ensures) in
     differ a b (c.if-ne.ensures {u = tt}) same
 

@@ -75,8 +75,7 @@ returns g c = λ lower layer.
     let ranked : c.rank_in-rank.result
     ≡ (if is_directory_node ((files_at trees lower.directory.filesystem.count).tree.node (inode_of real.inode)) then 0
     else rank_among (entries_in ((files_at trees lower.directory.filesystem.count).tree.node (inode_of directory))) name
-    (inode_of real.inode)) =
-    c.rank_in-rank.ensures
+    (inode_of real.inode)) = c.rank_in-rank.ensures
     ∙ (λ i. if is_directory_node ((files_at trees (own i).count).tree.node (inode_of real.inode)) then 0
     else rank_among (entries_in ((files_at trees (beside i).count).tree.node (inode_of directory))) name
     (inode_of real.inode)) in

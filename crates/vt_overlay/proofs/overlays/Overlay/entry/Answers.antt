@@ -9,9 +9,7 @@ use Rattle.vt_overlay.proofs.ObjectsPlaced.{nothing_is_none}
 use Rattle.vt_overlay.proofs.overlays.Overlay.entry.Goals as goal
 
 pub returns-in_err-real-clause-node : goal.returns-in_err-real-clause-node
-returns-in_err-real-clause-node c =
-    absurd (nothing_is_none _
-    (sym (ap (option_map seen_of) c.in_err-real.was)
+returns-in_err-real-clause-node c = absurd (nothing_is_none _ (sym (ap (option_map seen_of) c.in_err-real.was)
     ∙ c.real_shown.ensures.value c.args.trees.now c.requires.layers c.requires.shown) c.requires.shown)
 
 pub returns-in_err-found-clause-node : goal.returns-in_err-found-clause-node

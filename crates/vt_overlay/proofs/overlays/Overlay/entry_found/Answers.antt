@@ -13,8 +13,7 @@ pub returns-in_err-object-clause-node : goal.returns-in_err-object-clause-node
 returns-in_err-object-clause-node c = λ path first.
     let f = c.args.found.object.filesystem.count in
     absurd (true≢false (sym (object_is_there c.args.trees.now c.args.self.now c.requires.layers c.requires.few path
-    c.args.name.now c.args.found first)
-    ∙ ap is_some (sym c.real_of.ensures
+    c.args.name.now c.args.found first) ∙ ap is_some (sym c.real_of.ensures
     ∙ ap (λ o. option_map (node_seen f) (option_copied o)) c.in_err-object.was)))
 
 pub returns-then-is_white-clause-node : goal.returns-then-is_white-clause-node
@@ -37,9 +36,7 @@ returns-clause-node c = λ path first.
     let white = ap (is_kind_in White) seen ∙ sym (c.is_white.ensures f) ∙ c.if-is_white.false in
     let number : number_of c.node_of.result
     ≡ number_of (born_below c.args.self.now.number found.above.layer found.above.directory.slot c.rank_to-rank.result
-    found.object.slot) =
-    ap number_of c.node_of.ensures.is
-    ∙ (λ i. number_of (record {
+    found.object.slot) = ap number_of c.node_of.ensures.is ∙ (λ i. number_of (record {
       filesystem = (ap (λ (overlay : OverlayValue). overlay.number) c.self.view_is) i;
       slot = found.object.slot;
       birth = c.born_in-birth.ensures.is i;
@@ -56,14 +53,11 @@ returns-clause-object c = λ path first.
     let white = ap (is_kind_in White) seen ∙ sym (c.is_white.ensures f) ∙ c.if-is_white.false in
     let number : number_of c.node_of.result
     ≡ number_of (born_below c.args.self.now.number found.above.layer found.above.directory.slot c.rank_to-rank.result
-    found.object.slot) =
-    ap number_of c.node_of.ensures.is
-    ∙ (λ i. number_of (record {
+    found.object.slot) = ap number_of c.node_of.ensures.is ∙ (λ i. number_of (record {
       filesystem = (ap (λ (overlay : OverlayValue). overlay.number) c.self.view_is) i;
       slot = found.object.slot;
       birth = c.born_in-birth.ensures.is i;
     })) in
     is_lent c.args.trees.now c.args.self.now c.requires.layers c.requires.few path c.args.name.now found first white
     c.rank_to-rank.result c.rank_to-rank.ensures c.node_of.ensures.slot c.born_in-birth.ensures.slot
-    (Some c.in_ok-object.object.now) (sym seen)
-    ∙ ap (real_lent c.args.trees.now c.args.self.now) (sym number)
+    (Some c.in_ok-object.object.now) (sym seen) ∙ ap (real_lent c.args.trees.now c.args.self.now) (sym number)

@@ -11,8 +11,7 @@ returns c =
   where
     by : (o : Option (List (List ℕ))) → o ≡ directory_path c.args.trees.now c.args.self.now (number_of c.args.directory)
         → is_none o ≡ is_removed nat_eq (merged_tree c.args.trees.now c.args.self.now) (number_of c.args.directory)
-    by None e =
-        removed c.args.trees.now c.args.self.now c.requires.layers c.requires.few (number_of c.args.directory)
+    by None e = removed c.args.trees.now c.args.self.now c.requires.layers c.requires.few (number_of c.args.directory)
         (some_number c.args.directory) (sym e)
     by (Some path) e =
         not_removed c.args.trees.now c.args.self.now c.requires.layers c.requires.few (number_of c.args.directory) path

@@ -17,7 +17,6 @@ returns-in-Some-clause-ok c =
     IfOk-weaker c.merged_names.result _ _ (λ names is. is ∙ shows) c.merged_names.ensures
 
 pub returns-in-None-clause-ok : goal.returns-in-None-clause-ok
-returns-in-None-clause-ok c =
-    ap (map (λ name. name.items)) c.new-in-None.ensures.items
+returns-in-None-clause-ok c = ap (map (λ name. name.items)) c.new-in-None.ensures.items
     ∙ names_of_none c.args.trees.now c.args.self.now c.requires.layers (number_of c.args.node)
     (sym c.in-None.is ∙ c.way.ensures)

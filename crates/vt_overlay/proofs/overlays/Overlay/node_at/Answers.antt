@@ -36,8 +36,7 @@ birth_at-requires-clause-tree g c =
     let layers : c.as_slice.result.now ≡ c.args.self.now.lowers =
     c.as_slice.ensures.value ∙ ap (λ (overlay : OverlayValue). overlay.lowers) c.self.view_is in
     ap (λ l. option_map (λ (layer : LayerRef). layer.directory.filesystem) (slice_get l c.in_ok-real.real.layer))
-    (sym layers)
-    ∙ c.in_ok-real.ensures.tree
+    (sym layers) ∙ c.in_ok-real.ensures.tree
 
 pub returns-in_err-birth : goal.returns-in_err-birth
 returns-in_err-birth g c =

@@ -18,8 +18,7 @@ pub returns-in_err-lower-clause-value : goal.returns-in_err-lower-clause-value
 returns-in_err-lower-clause-value c =
     let trees = c.args.trees.now in
     let overlay = c.args.self.now in
-    let b : Birthplace trees overlay =
-    record {
+    let b : Birthplace trees overlay = record {
       are = c.requires.layers;
       few = c.requires.few;
       place = c.args.layer;
@@ -41,8 +40,7 @@ pub returns-in_err-way-clause-value : goal.returns-in_err-way-clause-value
 returns-in_err-way-clause-value c =
     let trees = c.args.trees.now in
     let overlay = c.args.self.now in
-    let b : Birthplace trees overlay =
-    record {
+    let b : Birthplace trees overlay = record {
       are = c.requires.layers;
       few = c.requires.few;
       place = c.args.layer;
@@ -54,8 +52,7 @@ returns-in_err-way-clause-value c =
       slot_small = let h = c.ranges.slot.fits in omega (arith, h);
     } in
     let lower = c.in_ok-lower.lower in
-    let layer : slice_get overlay.lowers c.args.layer ≡ Some lower =
-    sym c.layer_at.ensures ∙ c.in_ok-lower.was in
+    let layer : slice_get overlay.lowers c.args.layer ≡ Some lower = sym c.layer_at.ensures ∙ c.in_ok-lower.was in
     let is = c.inode_in-above.ensures.is in
     let up = c.inode_in-above.result in
     let number = above_number trees overlay b lower layer up is in
@@ -68,8 +65,7 @@ pub returns-in_err-node-clause-value : goal.returns-in_err-node-clause-value
 returns-in_err-node-clause-value c =
     let trees = c.args.trees.now in
     let overlay = c.args.self.now in
-    let b : Birthplace trees overlay =
-    record {
+    let b : Birthplace trees overlay = record {
       are = c.requires.layers;
       few = c.requires.few;
       place = c.args.layer;
@@ -81,14 +77,12 @@ returns-in_err-node-clause-value c =
       slot_small = let h = c.ranges.slot.fits in omega (arith, h);
     } in
     let lower = c.in_ok-lower.lower in
-    let layer : slice_get overlay.lowers c.args.layer ≡ Some lower =
-    sym c.layer_at.ensures ∙ c.in_ok-lower.was in
+    let layer : slice_get overlay.lowers c.args.layer ≡ Some lower = sym c.layer_at.ensures ∙ c.in_ok-lower.was in
     let is = c.inode_in-above.ensures.is in
     let up = c.inode_in-above.result in
     let none : None ≡ (files_at trees up.filesystem.count).tree.node (inode_of up) =
     (λ i. option_map (node_seen ((sym c.node_ref.ensures.value) i).filesystem.count)
-    (option_copied ((sym c.in_err-node.was) i)))
-    ∙ c.node.ensures
+    (option_copied ((sym c.in_err-node.was) i))) ∙ c.node.ensures
     ∙ ap (λ (n : NodeRef). (files_at trees n.filesystem.count).tree.node (number_of n)) c.node_ref.ensures.value in
     ap (option_map seen_of) c.from_residual-in_err-node.ensures
     ∙ no_directory trees overlay b lower layer (sym (none ∙ above_node trees overlay b lower layer up is))
@@ -97,8 +91,7 @@ pub returns-in_err-name-clause-value : goal.returns-in_err-name-clause-value
 returns-in_err-name-clause-value c =
     let trees = c.args.trees.now in
     let overlay = c.args.self.now in
-    let b : Birthplace trees overlay =
-    record {
+    let b : Birthplace trees overlay = record {
       are = c.requires.layers;
       few = c.requires.few;
       place = c.args.layer;
@@ -110,30 +103,26 @@ returns-in_err-name-clause-value c =
       slot_small = let h = c.ranges.slot.fits in omega (arith, h);
     } in
     let lower = c.in_ok-lower.lower in
-    let layer : slice_get overlay.lowers c.args.layer ≡ Some lower =
-    sym c.layer_at.ensures ∙ c.in_ok-lower.was in
+    let layer : slice_get overlay.lowers c.args.layer ≡ Some lower = sym c.layer_at.ensures ∙ c.in_ok-lower.was in
     let is = c.inode_in-above.ensures.is in
     let up = c.inode_in-above.result in
     let node = c.in_ok-node.node.now in
     let seen : Some (node_seen up.filesystem.count node)
     ≡ (files_at trees up.filesystem.count).tree.node (inode_of up) =
     (λ i. option_map (node_seen ((sym c.node_ref.ensures.value) i).filesystem.count)
-    (option_copied ((sym c.in_ok-node.was) i)))
-    ∙ c.node.ensures
+    (option_copied ((sym c.in_ok-node.was) i))) ∙ c.node.ensures
     ∙ ap (λ (n : NodeRef). (files_at trees n.filesystem.count).tree.node (number_of n)) c.node_ref.ensures.value in
     let slot : c.slot_of.result ≡ c.args.slot =
     c.slot_of.ensures.value ∙ ap (λ (n : InodeRef). n.slot) c.inode_in-object.ensures.is in
     let names = name_seen trees overlay b lower layer up is node seen c.slot_of.result slot in
-    ap (option_map seen_of) c.from_residual-in_err-name.ensures
-    ∙ no_name trees overlay b lower layer
+    ap (option_map seen_of) c.from_residual-in_err-name.ensures ∙ no_name trees overlay b lower layer
     (sym names ∙ sym c.name_ranked.ensures ∙ ap option_copied c.in_err-name.was)
 
 pub returns-in_err-real-clause-value : goal.returns-in_err-real-clause-value
 returns-in_err-real-clause-value c =
     let trees = c.args.trees.now in
     let overlay = c.args.self.now in
-    let b : Birthplace trees overlay =
-    record {
+    let b : Birthplace trees overlay = record {
       are = c.requires.layers;
       few = c.requires.few;
       place = c.args.layer;
@@ -145,16 +134,14 @@ returns-in_err-real-clause-value c =
       slot_small = let h = c.ranges.slot.fits in omega (arith, h);
     } in
     let lower = c.in_ok-lower.lower in
-    let layer : slice_get overlay.lowers c.args.layer ≡ Some lower =
-    sym c.layer_at.ensures ∙ c.in_ok-lower.was in
+    let layer : slice_get overlay.lowers c.args.layer ≡ Some lower = sym c.layer_at.ensures ∙ c.in_ok-lower.was in
     let is = c.inode_in-above.ensures.is in
     let up = c.inode_in-above.result in
     let node = c.in_ok-node.node.now in
     let seen : Some (node_seen up.filesystem.count node)
     ≡ (files_at trees up.filesystem.count).tree.node (inode_of up) =
     (λ i. option_map (node_seen ((sym c.node_ref.ensures.value) i).filesystem.count)
-    (option_copied ((sym c.in_ok-node.was) i)))
-    ∙ c.node.ensures
+    (option_copied ((sym c.in_ok-node.was) i))) ∙ c.node.ensures
     ∙ ap (λ (n : NodeRef). (files_at trees n.filesystem.count).tree.node (number_of n)) c.node_ref.ensures.value in
     let slot : c.slot_of.result ≡ c.args.slot =
     c.slot_of.ensures.value ∙ ap (λ (n : InodeRef). n.slot) c.inode_in-object.ensures.is in
@@ -179,8 +166,7 @@ pub returns-then-real-from-clause-value : goal.returns-then-real-from-clause-val
 returns-then-real-from-clause-value c =
     let trees = c.args.trees.now in
     let overlay = c.args.self.now in
-    let b : Birthplace trees overlay =
-    record {
+    let b : Birthplace trees overlay = record {
       are = c.requires.layers;
       few = c.requires.few;
       place = c.args.layer;
@@ -192,16 +178,14 @@ returns-then-real-from-clause-value c =
       slot_small = let h = c.ranges.slot.fits in omega (arith, h);
     } in
     let lower = c.in_ok-lower.lower in
-    let layer : slice_get overlay.lowers c.args.layer ≡ Some lower =
-    sym c.layer_at.ensures ∙ c.in_ok-lower.was in
+    let layer : slice_get overlay.lowers c.args.layer ≡ Some lower = sym c.layer_at.ensures ∙ c.in_ok-lower.was in
     let is = c.inode_in-above.ensures.is in
     let up = c.inode_in-above.result in
     let node = c.in_ok-node.node.now in
     let seen : Some (node_seen up.filesystem.count node)
     ≡ (files_at trees up.filesystem.count).tree.node (inode_of up) =
     (λ i. option_map (node_seen ((sym c.node_ref.ensures.value) i).filesystem.count)
-    (option_copied ((sym c.in_ok-node.was) i)))
-    ∙ c.node.ensures
+    (option_copied ((sym c.in_ok-node.was) i))) ∙ c.node.ensures
     ∙ ap (λ (n : NodeRef). (files_at trees n.filesystem.count).tree.node (number_of n)) c.node_ref.ensures.value in
     let slot : c.slot_of.result ≡ c.args.slot =
     c.slot_of.ensures.value ∙ ap (λ (n : InodeRef). n.slot) c.inode_in-object.ensures.is in
@@ -220,16 +204,14 @@ returns-then-real-from-clause-value c =
     (λ i. shown (layers_of trees ((sym layers) i)) ((sym c.under.ensures) i)) ∙ sym c.shown.ensures.value in
     let other : c.in_ok-real.real.layer ≢ c.args.layer = search rules in
     shown_elsewhere trees overlay b lower layer way name leads directory has_name (λ seen e same.
-    let it = same_Some seen (seen_of c.in_ok-real.real)
-    (sym e ∙ shows ∙ ap (option_map seen_of) c.in_ok-real.was) in
+    let it = same_Some seen (seen_of c.in_ok-real.real) (sym e ∙ shows ∙ ap (option_map seen_of) c.in_ok-real.was) in
     other (ap (λ (s : Shown ℕ). s.layer) (sym it) ∙ same))
 
 pub returns-clause-value : goal.returns-clause-value
 returns-clause-value c =
     let trees = c.args.trees.now in
     let overlay = c.args.self.now in
-    let b : Birthplace trees overlay =
-    record {
+    let b : Birthplace trees overlay = record {
       are = c.requires.layers;
       few = c.requires.few;
       place = c.args.layer;
@@ -241,16 +223,14 @@ returns-clause-value c =
       slot_small = let h = c.ranges.slot.fits in omega (arith, h);
     } in
     let lower = c.in_ok-lower.lower in
-    let layer : slice_get overlay.lowers c.args.layer ≡ Some lower =
-    sym c.layer_at.ensures ∙ c.in_ok-lower.was in
+    let layer : slice_get overlay.lowers c.args.layer ≡ Some lower = sym c.layer_at.ensures ∙ c.in_ok-lower.was in
     let is = c.inode_in-above.ensures.is in
     let up = c.inode_in-above.result in
     let node = c.in_ok-node.node.now in
     let seen : Some (node_seen up.filesystem.count node)
     ≡ (files_at trees up.filesystem.count).tree.node (inode_of up) =
     (λ i. option_map (node_seen ((sym c.node_ref.ensures.value) i).filesystem.count)
-    (option_copied ((sym c.in_ok-node.was) i)))
-    ∙ c.node.ensures
+    (option_copied ((sym c.in_ok-node.was) i))) ∙ c.node.ensures
     ∙ ap (λ (n : NodeRef). (files_at trees n.filesystem.count).tree.node (number_of n)) c.node_ref.ensures.value in
     let slot : c.slot_of.result ≡ c.args.slot =
     c.slot_of.ensures.value ∙ ap (λ (n : InodeRef). n.slot) c.inode_in-object.ensures.is in

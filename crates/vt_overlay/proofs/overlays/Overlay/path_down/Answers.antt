@@ -10,8 +10,7 @@ pub returns-in_default : goal.returns-in_default
 returns-in_default c =
     let top = number_of c.args.top in
     let directory = number_of c.args.directory in
-    c.path_to_itself.ensures
-    ∙ to_itself c.args.trees.now c.args.self.now c.requires.layers c.requires.few top directory
+    c.path_to_itself.ensures ∙ to_itself c.args.trees.now c.args.self.now c.requires.layers c.requires.few top directory
     (under_no_directory c.args.trees.now c.args.self.now c.requires.layers c.requires.few top directory
     (sym c.way.ensures ∙ c.in_default.is))
 
@@ -51,6 +50,5 @@ returns c =
     let names : map (λ name. name.items) c.in_ok-names.names.items ≡ more.0 =
     c.in_ok-names.ensures ∙ ap (λ n. drop n lower) c.len.ensures ∙ ap (drop (length upper)) (sym more.1)
     ∙ drop-append_seam upper more.0 in
-    ap Some names
-    ∙ down_by_ways trees overlay c.requires.layers c.requires.few top directory upper more.0 top_is
+    ap Some names ∙ down_by_ways trees overlay c.requires.layers c.requires.few top directory upper more.0 top_is
     (is ∙ ap Some (sym more.1)) under

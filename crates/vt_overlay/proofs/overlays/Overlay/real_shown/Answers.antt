@@ -13,16 +13,14 @@ pub returns-in-Here-clause-value : goal.returns-in-Here-clause-value
 returns-in-Here-clause-value c = λ trees are some.
     let overlay = c.args.self.now in
     let small = small_parts c.args.node c.real_in.ensures.small in
-    let same : number_of (born_here overlay.number c.args.node.slot) ≡ number_of c.args.node =
-    (λ i. number_of (record {
+    let same : number_of (born_here overlay.number c.args.node.slot) ≡ number_of c.args.node = (λ i. number_of (record {
       filesystem = (sym c.requires.own) i;
       slot = c.args.node.slot;
       birth = (sym c.in-Here.is) i;
     })) in
     ap (option_map seen_of) c.real_in.ensures.value
     ∙ real_here trees overlay are c.requires.few c.args.node.slot small.slot
-    (subst (λ n. IsSome (object_shown trees overlay n)) (sym same) some)
-    ∙ ap (object_shown trees overlay) same
+    (subst (λ n. IsSome (object_shown trees overlay n)) (sym same) some) ∙ ap (object_shown trees overlay) same
 
 pub returns-in-Here-clause-tree : goal.returns-in-Here-clause-tree
 returns-in-Here-clause-tree c =
@@ -34,8 +32,7 @@ returns-in-Below-clause-value c = λ trees are some.
     let small = small_parts c.args.node c.real_in-in-Below.ensures.small in
     let birth = subst IsSmallBirth c.in-Below.is small.birth in
     let place = c.from.ensures in
-    let b : Birthplace trees overlay =
-    record {
+    let b : Birthplace trees overlay = record {
       are = are;
       few = c.requires.few;
       place = c.in-Below.layer;
@@ -47,8 +44,7 @@ returns-in-Below-clause-value c = λ trees are some.
       slot_small = small.slot;
     } in
     let same : number_of (born_below overlay.number c.in-Below.layer c.in-Below.directory c.in-Below.rank
-    c.args.node.slot) ≡ number_of c.args.node =
-    (λ i. number_of (record {
+    c.args.node.slot) ≡ number_of c.args.node = (λ i. number_of (record {
       filesystem = (sym c.requires.own) i;
       slot = c.args.node.slot;
       birth = (sym c.in-Below.is) i;

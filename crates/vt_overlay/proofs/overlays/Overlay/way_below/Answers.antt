@@ -8,8 +8,7 @@ pub returns-in_err-lower : goal.returns-in_err-lower
 returns-in_err-lower c =
     let trees = c.args.trees.now in
     let overlay = c.args.self.now in
-    let b : Birthplace c.args.trees.now c.args.self.now =
-    record {
+    let b : Birthplace c.args.trees.now c.args.self.now = record {
       are = c.requires.layers;
       few = c.requires.few;
       place = c.args.layer;
@@ -26,8 +25,7 @@ pub returns-then-rank-ne0 : goal.returns-then-rank-ne0
 returns-then-rank-ne0 c =
     let trees = c.args.trees.now in
     let overlay = c.args.self.now in
-    let b : Birthplace c.args.trees.now c.args.self.now =
-    record {
+    let b : Birthplace c.args.trees.now c.args.self.now = record {
       are = c.requires.layers;
       few = c.requires.few;
       place = c.args.layer;
@@ -39,8 +37,7 @@ returns-then-rank-ne0 c =
       slot_small = let h = c.ranges.slot.fits in omega (arith, h);
     } in
     let lower = c.in_ok-lower.lower in
-    let layer : slice_get overlay.lowers c.args.layer ≡ Some lower =
-    sym c.layer_at.ensures ∙ c.in_ok-lower.was in
+    let layer : slice_get overlay.lowers c.args.layer ≡ Some lower = sym c.layer_at.ensures ∙ c.in_ok-lower.was in
     let some : c.args.rank ≢ 0 = search rules in
     other_rank trees overlay b lower layer some
 
@@ -48,8 +45,7 @@ pub returns-in_err-parent_slot : goal.returns-in_err-parent_slot
 returns-in_err-parent_slot c =
     let trees = c.args.trees.now in
     let overlay = c.args.self.now in
-    let b : Birthplace c.args.trees.now c.args.self.now =
-    record {
+    let b : Birthplace c.args.trees.now c.args.self.now = record {
       are = c.requires.layers;
       few = c.requires.few;
       place = c.args.layer;
@@ -61,8 +57,7 @@ returns-in_err-parent_slot c =
       slot_small = let h = c.ranges.slot.fits in omega (arith, h);
     } in
     let lower = c.in_ok-lower.lower in
-    let layer : slice_get overlay.lowers c.args.layer ≡ Some lower =
-    sym c.layer_at.ensures ∙ c.in_ok-lower.was in
+    let layer : slice_get overlay.lowers c.args.layer ≡ Some lower = sym c.layer_at.ensures ∙ c.in_ok-lower.was in
     c.from_residual-in_err-parent_slot.ensures
     ∙ no_inode trees overlay b lower layer c.inode_in-inode.result c.inode_in-inode.ensures.is c.parent_slot.result
     c.parent_slot.ensures c.in_err-parent_slot.was
@@ -71,8 +66,7 @@ pub returns-then-branch-directory : goal.returns-then-branch-directory
 returns-then-branch-directory c =
     let trees = c.args.trees.now in
     let overlay = c.args.self.now in
-    let b : Birthplace c.args.trees.now c.args.self.now =
-    record {
+    let b : Birthplace c.args.trees.now c.args.self.now = record {
       are = c.requires.layers;
       few = c.requires.few;
       place = c.args.layer;
@@ -84,8 +78,7 @@ returns-then-branch-directory c =
       slot_small = let h = c.ranges.slot.fits in omega (arith, h);
     } in
     let lower = c.in_ok-lower.lower in
-    let layer : slice_get overlay.lowers c.args.layer ≡ Some lower =
-    sym c.layer_at.ensures ∙ c.in_ok-lower.was in
+    let layer : slice_get overlay.lowers c.args.layer ≡ Some lower = sym c.layer_at.ensures ∙ c.in_ok-lower.was in
     let other : c.in_ok-parent_slot.field-0 ≢ c.args.directory = search rules in
     not_its_parent trees overlay b lower layer c.inode_in-inode.result c.inode_in-inode.ensures.is c.parent_slot.result
     c.parent_slot.ensures c.in_ok-parent_slot.field-0 c.in_ok-parent_slot.was other
@@ -98,8 +91,7 @@ pub returns-in_err-way : goal.returns-in_err-way
 returns-in_err-way c =
     let trees = c.args.trees.now in
     let overlay = c.args.self.now in
-    let b : Birthplace c.args.trees.now c.args.self.now =
-    record {
+    let b : Birthplace c.args.trees.now c.args.self.now = record {
       are = c.requires.layers;
       few = c.requires.few;
       place = c.args.layer;
@@ -111,12 +103,10 @@ returns-in_err-way c =
       slot_small = let h = c.ranges.slot.fits in omega (arith, h);
     } in
     let lower = c.in_ok-lower.lower in
-    let layer : slice_get overlay.lowers c.args.layer ≡ Some lower =
-    sym c.layer_at.ensures ∙ c.in_ok-lower.was in
+    let layer : slice_get overlay.lowers c.args.layer ≡ Some lower = sym c.layer_at.ensures ∙ c.in_ok-lower.was in
     let number = inode_number_is trees overlay b lower layer c.inode_in-inode.result c.inode_in-inode.ensures.is in
     let none : c.way_down.result ≡ None = c.in_err-way.was in
-    c.from_residual-in_err-way.ensures
-    ∙ no_way trees overlay b lower layer (λ is path leads.
+    c.from_residual-in_err-way.ensures ∙ no_way trees overlay b lower layer (λ is path leads.
     c.way_down.ensures.nowhere none (subst (IsDirectory (files trees overlay b lower layer)) (sym number) is) path
     (leads ∙ ap Some (sym number)))
 
@@ -124,8 +114,7 @@ pub returns-then-len-eq0 : goal.returns-then-len-eq0
 returns-then-len-eq0 c =
     let trees = c.args.trees.now in
     let overlay = c.args.self.now in
-    let b : Birthplace c.args.trees.now c.args.self.now =
-    record {
+    let b : Birthplace c.args.trees.now c.args.self.now = record {
       are = c.requires.layers;
       few = c.requires.few;
       place = c.args.layer;
@@ -137,8 +126,7 @@ returns-then-len-eq0 c =
       slot_small = let h = c.ranges.slot.fits in omega (arith, h);
     } in
     let lower = c.in_ok-lower.lower in
-    let layer : slice_get overlay.lowers c.args.layer ≡ Some lower =
-    sym c.layer_at.ensures ∙ c.in_ok-lower.was in
+    let layer : slice_get overlay.lowers c.args.layer ≡ Some lower = sym c.layer_at.ensures ∙ c.in_ok-lower.was in
     let way = c.in_ok-way.way in
     let number = inode_number_is trees overlay b lower layer c.inode_in-inode.result c.inode_in-inode.ensures.is in
     let leads : led (files trees overlay b lower layer) (start trees overlay b lower layer) way
@@ -152,8 +140,7 @@ pub returns-then-not-shows_in : goal.returns-then-not-shows_in
 returns-then-not-shows_in c =
     let trees = c.args.trees.now in
     let overlay = c.args.self.now in
-    let b : Birthplace c.args.trees.now c.args.self.now =
-    record {
+    let b : Birthplace c.args.trees.now c.args.self.now = record {
       are = c.requires.layers;
       few = c.requires.few;
       place = c.args.layer;
@@ -165,8 +152,7 @@ returns-then-not-shows_in c =
       slot_small = let h = c.ranges.slot.fits in omega (arith, h);
     } in
     let lower = c.in_ok-lower.lower in
-    let layer : slice_get overlay.lowers c.args.layer ≡ Some lower =
-    sym c.layer_at.ensures ∙ c.in_ok-lower.was in
+    let layer : slice_get overlay.lowers c.args.layer ≡ Some lower = sym c.layer_at.ensures ∙ c.in_ok-lower.was in
     let way = c.in_ok-way.way in
     let number = inode_number_is trees overlay b lower layer c.inode_in-inode.result c.inode_in-inode.ensures.is in
     let leads : led (files trees overlay b lower layer) (start trees overlay b lower layer) way
@@ -179,8 +165,7 @@ pub returns : goal.returns
 returns c =
     let trees = c.args.trees.now in
     let overlay = c.args.self.now in
-    let b : Birthplace c.args.trees.now c.args.self.now =
-    record {
+    let b : Birthplace c.args.trees.now c.args.self.now = record {
       are = c.requires.layers;
       few = c.requires.few;
       place = c.args.layer;
@@ -192,8 +177,7 @@ returns c =
       slot_small = let h = c.ranges.slot.fits in omega (arith, h);
     } in
     let lower = c.in_ok-lower.lower in
-    let layer : slice_get overlay.lowers c.args.layer ≡ Some lower =
-    sym c.layer_at.ensures ∙ c.in_ok-lower.was in
+    let layer : slice_get overlay.lowers c.args.layer ≡ Some lower = sym c.layer_at.ensures ∙ c.in_ok-lower.was in
     let way = c.in_ok-way.way in
     let number = inode_number_is trees overlay b lower layer c.inode_in-inode.result c.inode_in-inode.ensures.is in
     let leads : led (files trees overlay b lower layer) (start trees overlay b lower layer) way

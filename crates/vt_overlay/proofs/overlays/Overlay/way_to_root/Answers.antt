@@ -19,8 +19,7 @@ returns-then-top-slot c =
     other_slot c.args.trees.now c.args.self.now c.requires.layers c.requires.few c.args.slot slot_small top layer other
 
 pub way_down-requires-clause-tree : goal.way_down-requires-clause-tree
-way_down-requires-clause-tree c =
-    (c.requires.layers 0 c.in_ok-top.top (sym c.layer_at.ensures ∙ c.in_ok-top.was)).tree
+way_down-requires-clause-tree c = (c.requires.layers 0 c.in_ok-top.top (sym c.layer_at.ensures ∙ c.in_ok-top.was)).tree
 
 pub returns : goal.returns
 returns c =

@@ -6,8 +6,7 @@ use Rattle.vt_propagate.specs.Copying.{as_kept, copied, parts_seen, tree_seen}
 use Rattle.vt_propagate.proofs.numbering.Copying.all_copies.Given as goal
 
 abbrev pub invariant-loop-part : goal.invariant-loop-part
-invariant-loop-part l =
-    map mount_of l.copies.items
+invariant-loop-part l = map mount_of l.copies.items
     ++ flat_map (λ (part : meant.Mount ℕ). map (copied (as_kept l.mounts l.groups) l.self part) (tree_seen l.self))
     (map mount_of (drop l.part-index l.part-items))
     ≡ flat_map (λ (part : meant.Mount ℕ). map (copied (as_kept l.mounts l.groups) l.self part) (tree_seen l.self))

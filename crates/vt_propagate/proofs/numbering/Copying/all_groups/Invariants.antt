@@ -6,8 +6,7 @@ use Rattle.vt_propagate.specs.Copying.{as_kept, made, new_group, parts_seen, tre
 use Rattle.vt_propagate.proofs.numbering.Copying.all_groups.Given as goal
 
 abbrev pub invariant-loop-part : goal.invariant-loop-part
-invariant-loop-part l =
-    map new_group l.new.items
+invariant-loop-part l = map new_group l.new.items
     ++ flat_map (λ (part : meant.Mount ℕ). filter_map (made (as_kept l.mounts l.groups) l.self part) (tree_seen l.self))
     (map mount_of (drop l.part-index l.part-items))
     ≡ flat_map (λ (part : meant.Mount ℕ). filter_map (made (as_kept l.mounts l.groups) l.self part) (tree_seen l.self))

@@ -6,6 +6,5 @@ use Rattle.vt_propagate.proofs.Places.{is_some-place}
 use Rattle.vt_propagate.proofs.numbering.Copying.has_part.Goals as goal
 
 pub returns : goal.returns
-returns c =
-    c.is_some.ensures ∙ ap is_some c.group_place.ensures
+returns c = c.is_some.ensures ∙ ap is_some c.group_place.ensures
     ∙ is_some-place (is_member_of nat_eq (counted c.args.group.count)) 0 (parts_seen c.args.self.now)

@@ -12,5 +12,4 @@ loop-preserved c =
     ≡ suc (c.len-end.result - (c.loop.counter + 1)) = omega (arith, c.loop-test.true) in
     find_up (has_members nat_eq (parts_seen c.args.self.now)) (master_in c.args.groups.now)
     (counted c.loop.here.count) (counted c.in_ok-here.here.count) _ _ n
-    (sym c.has_part.ensures ∙ c.if-has_part.false) (sym c.in_ok-here.ensures)
-    ∙ c.loop.invariant
+    (sym c.has_part.ensures ∙ c.if-has_part.false) (sym c.in_ok-here.ensures) ∙ c.loop.invariant

@@ -7,7 +7,6 @@ use Rattle.vt_location.specs.Numbers.{counted}
 use Rattle.vt_propagate.proofs.numbering.Copying.nearest.Given as goal
 
 abbrev pub invariant-loop : goal.invariant-loop
-invariant-loop l =
-    find (has_members nat_eq (parts_seen l.self))
+invariant-loop l = find (has_members nat_eq (parts_seen l.self))
     (chain (l.end - l.counter) (master_in l.groups) (counted l.here.count))
     ≡ find (has_members nat_eq (parts_seen l.self)) (chain l.end (master_in l.groups) (counted l.fn.group.count))

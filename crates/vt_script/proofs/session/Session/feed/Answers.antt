@@ -26,8 +26,7 @@ returns-in_err-take_line-clause-feeds g c =
     rw p.1 (λ begun reading.
     let first = inv.feeds begun reading in
     subst (λ bytes. Broke g.W.Sink
-    (moment (state_of g.C.Calls.world c.args.self.now) begun) bytes c.args.sink.now c.take_line.new.sink)
-    (sym split)
+    (moment (state_of g.C.Calls.world c.args.self.now) begun) bytes c.args.sink.now c.take_line.new.sink) (sym split)
     (broke_before g.W.Sink _ (inv.read ++ line) after _ _
     (broke_then g.W.Sink _ inv.read line _ _ _ _ first (c.in_err-take_line.ensures.feeds first.line first.reading))))
 
@@ -39,8 +38,7 @@ loop-line-preserved g c =
     record {
       failures = c.in_ok-take_line.ensures.kept ∙ inv.failures;
       read = inv.read ++ line;
-      split =
-          inv.split ∙ ap (λ rest. inv.read ++ rest)
+      split = inv.split ∙ ap (λ rest. inv.read ++ rest)
           (c.in-Some.ensures.0 ∙ sym (append_assoc c.in-Some.line.now (10 ∷ []) after))
           ∙ sym (append_assoc inv.read line after);
       begun = omega (arith, c.in_ok-take_line.ensures.begun, inv.begun, length-append inv.read line, length-append c.in-Some.line.now (10 ∷ []));

@@ -25,8 +25,7 @@ loop-layer-preserved c =
     let layer = get_or layers index none in
     let one_more : length layers - index ≡ length layers - (index + 1) + 1 = omega arith in
     record {
-      counted = λ before is.
-          subst (λ all. AreCounted all c.add_one.new.self)
+      counted = λ before is. subst (λ all. AreCounted all c.add_one.new.self)
           (append_assoc before (take index layers) (layer ∷ [])
           ∙ ap (λ all. before ++ all) (sym (take_more layers index none (omega arith))))
           (subst (λ node. AreCounted ((before ++ take index layers) ++ layer_at layer.directory.filesystem node ∷ [])
@@ -37,6 +36,5 @@ loop-layer-preserved c =
     }
 
 pub returns : goal.returns
-returns c = λ before is.
-    subst (λ layers. AreCounted (before ++ layers) c.loop-layer.self)
+returns c = λ before is. subst (λ layers. AreCounted (before ++ layers) c.loop-layer.self)
     (take_all c.loop-layer.layer-index c.args.layers.now (omega arith)) (c.loop-layer.invariant.counted before is)

@@ -23,8 +23,7 @@ returns-clause-counted c = λ before is.
       directories = λ q.
           c.add-2.ensures.times q ∙ ap (λ n. cond (same_inode q c.new.result) (n + 1) n) (is.directories q)
           ∙ ap (λ inode. cond (same_inode q inode) (count_by (stands_at q) before + 1) (count_by (stands_at q) before))
-          c.new.ensures
-          ∙ sym (counted_more (stands_at q) before added);
+          c.new.ensures ∙ sym (counted_more (stands_at q) before added);
       small = All-append (λ (layer : LayerRef). layer.directory.slot < 2 ^ 64) before (added ∷ []) is.small
           (All-cons (λ (layer : LayerRef). layer.directory.slot < 2 ^ 64) added [] small
           (All-nil (λ (layer : LayerRef). layer.directory.slot < 2 ^ 64)));

@@ -8,11 +8,9 @@ pub loop-layer-preserved : goal.loop-layer-preserved
 loop-layer-preserved c = λ left is.
     let layers = c.args.layers.now in
     let index = c.loop-layer.layer-index in
-    c.take_one.ensures (drop (index + 1) layers ++ left)
-    (subst (λ rest. AreCounted (rest ++ left) c.loop-layer.self)
+    c.take_one.ensures (drop (index + 1) layers ++ left) (subst (λ rest. AreCounted (rest ++ left) c.loop-layer.self)
     (drop_more layers index (layer_at (record { count = 0 }) 0) (omega arith)) (c.loop-layer.invariant left is))
 
 pub returns : goal.returns
-returns c = λ left is.
-    subst (λ rest. AreCounted (rest ++ left) c.loop-layer.self)
+returns c = λ left is. subst (λ rest. AreCounted (rest ++ left) c.loop-layer.self)
     (drop_all c.loop-layer.layer-index c.args.layers.now (omega arith)) (c.loop-layer.invariant left is)

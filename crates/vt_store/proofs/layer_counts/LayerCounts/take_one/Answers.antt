@@ -14,8 +14,7 @@ invariant_of-self c = record {
 
 pub returns : goal.returns
 returns c = λ left is. record {
-  filesystems = λ q.
-      c.take.ensures q
+  filesystems = λ q. c.take.ensures q
       ∙ ap (λ n. cond (same_filesystem q c.args.layer.directory.filesystem) (n - 1) n) (is.filesystems q)
       ∙ counted_less (stands_in q.count) c.args.layer left;
   directories = λ q.

@@ -38,8 +38,7 @@ invariant_of-self-2 c =
     (ap (λ (overlay : OverlayValue). overlay.number) c.new-overlay.ensures)
     (ap (λ (overlay : OverlayValue). overlay.lowers) c.new-overlay.ensures)
     (ap (λ all. list_all (λ (entry : OverlayEntry). nat_lt entry.count c.args.id.count) all)
-    (ap kept_overlays c.reserve-2.ensures.entries ∙ c.self.view_is) ∙ c.requires)
-    updates.0
+    (ap kept_overlays c.reserve-2.ensures.entries ∙ c.self.view_is) ∙ c.requires) updates.0
     (λ all counted. subst (λ lowers. AreCounted (all ++ lowers) c.add.new.self) c.as_slice.ensures.value
     (c.add.ensures all counted)))
 

@@ -15,8 +15,7 @@ pub returns-in-Some : goal.returns-in-Some
 returns-in-Some c =
     let small : c.args.directory.slot < 18446744073709551616 =
     let h = c.node-node.type_inv in let e = c.node-node.ensures in omega (arith, h, e) in
-    c.has_above.ensures
-    ∙ ap (λ node. list_any (λ slot. has_layer_at c.self.inside.layers
+    c.has_above.ensures ∙ ap (λ node. list_any (λ slot. has_layer_at c.self.inside.layers
     (record { filesystem = c.args.directory.filesystem; slot = slot }))
     (ancestors nat_eq (inodes_of c.in-Some.tree.now) node)) c.node-node.ensures
     ∙ layers_above (kept_overlays c.self.inside.by_number.entries) c.self.inside.layers c.self.invariant.layers
@@ -34,8 +33,7 @@ pub returns-in-None : goal.returns-in-None
 returns-in-None c =
     let small : c.args.directory.slot < 18446744073709551616 =
     let h = c.node-node.type_inv in let e = c.node-node.ensures in omega (arith, h, e) in
-    c.has_at.ensures
-    ∙ ap (λ node. has_layer_at c.self.inside.layers
+    c.has_at.ensures ∙ ap (λ node. has_layer_at c.self.inside.layers
     (record { filesystem = c.args.directory.filesystem; slot = node })) c.node-node.ensures
     ∙ layers_alone (kept_overlays c.self.inside.by_number.entries) c.self.inside.layers c.self.invariant.layers
     c.args.plain.now c.args.directory small

@@ -6,8 +6,7 @@ use Rattle.vt_store.proofs.LayersKept.{kept_removed}
 use Rattle.vt_store.proofs.overlays.Overlays.remove.Goals as goal
 
 pub returns-in_err-overlay-clause-value : goal.returns-in_err-overlay-clause-value
-returns-in_err-overlay-clause-value c =
-    c.from_residual.ensures
+returns-in_err-overlay-clause-value c = c.from_residual.ensures
     ∙ overlay_of-kept c.args.id.count c.self.inside.by_number.entries c.args.self.now None c.self.view_is
     (sym c.in_err-overlay.was ∙ c.swap_remove.ensures.value)
 
@@ -34,6 +33,5 @@ returns-clause-value c =
     c.self.view_is (sym c.in_ok-overlay.was ∙ c.swap_remove.ensures.value)
 
 pub returns-clause-removed : goal.returns-clause-removed
-returns-clause-removed c =
-    removed c.args.id.count c.self.inside.by_number.entries _ c.swap_remove.ensures.updates.0
+returns-clause-removed c = removed c.args.id.count c.self.inside.by_number.entries _ c.swap_remove.ensures.updates.0
     ∙ ap (without_overlay c.args.id.count) c.self.view_is

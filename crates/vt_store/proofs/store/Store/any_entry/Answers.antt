@@ -11,51 +11,41 @@ pub entry-requires-clause-layers : goal.entry-requires-clause-layers
 entry-requires-clause-layers c =
     over_layers c.args.self.now c.self.inside.plain (ap (λ (store : StoreValue). store.plain) c.self.view_is)
     c.args.directory.filesystem.count c.in-Some.overlay.now
-    (sym c.overlay.ensures.value ∙ ap option_copied c.in-Some.is)
-    c.requires.standing
+    (sym c.overlay.ensures.value ∙ ap option_copied c.in-Some.is) c.requires.standing
 
 pub entry-requires-clause-few : goal.entry-requires-clause-few
 entry-requires-clause-few c =
     over_few c.args.self.now c.self.inside.plain (ap (λ (store : StoreValue). store.plain) c.self.view_is)
     c.args.directory.filesystem.count c.in-Some.overlay.now
-    (sym c.overlay.ensures.value ∙ ap option_copied c.in-Some.is)
-    c.requires.standing
+    (sym c.overlay.ensures.value ∙ ap option_copied c.in-Some.is) c.requires.standing
 
 pub entry-requires-clause-shown : goal.entry-requires-clause-shown
 entry-requires-clause-shown c =
     lent_is_shown c.self.inside.plain c.in-Some.overlay.now (number_of c.args.directory) c.args.object.now
     (over_lent c.args.self.now c.self.inside.plain (ap (λ (store : StoreValue). store.plain) c.self.view_is)
     c.args.directory.filesystem.count c.in-Some.overlay.now
-    (sym c.overlay.ensures.value ∙ ap option_copied c.in-Some.is) (number_of c.args.directory)
-    ∙ c.requires.object)
+    (sym c.overlay.ensures.value ∙ ap option_copied c.in-Some.is) (number_of c.args.directory) ∙ c.requires.object)
 
 pub returns-in-Some-clause-node : goal.returns-in-Some-clause-node
-returns-in-Some-clause-node c =
-    c.entry.ensures.node
-    ∙ ap (λ node. entry_named c.args.name.now (entries_in node))
+returns-in-Some-clause-node c = c.entry.ensures.node ∙ ap (λ node. entry_named c.args.name.now (entries_in node))
     (over_node c.args.self.now c.self.inside.plain (ap (λ (store : StoreValue). store.plain) c.self.view_is)
     c.args.directory.filesystem.count c.in-Some.overlay.now
     (sym c.overlay.ensures.value ∙ ap option_copied c.in-Some.is) (number_of c.args.directory))
 
 pub returns-in-Some-clause-object : goal.returns-in-Some-clause-object
-returns-in-Some-clause-object c =
-    lent_with c.entry.result _ (lent_in c.args.self.now c.args.directory.filesystem.count)
+returns-in-Some-clause-object c = lent_with c.entry.result _ (lent_in c.args.self.now c.args.directory.filesystem.count)
     (over_lent c.args.self.now c.self.inside.plain (ap (λ (store : StoreValue). store.plain) c.self.view_is)
     c.args.directory.filesystem.count c.in-Some.overlay.now
-    (sym c.overlay.ensures.value ∙ ap option_copied c.in-Some.is))
-    c.entry.ensures.object
+    (sym c.overlay.ensures.value ∙ ap option_copied c.in-Some.is)) c.entry.ensures.object
 
 pub plain_entry-requires : goal.plain_entry-requires
 plain_entry-requires c =
     plain_lent c.args.self.now c.self.inside.plain (ap (λ (store : StoreValue). store.plain) c.self.view_is)
     c.args.directory.filesystem.count (sym c.overlay.ensures.value ∙ ap option_copied c.in-None.is)
-    (number_of c.args.directory)
-    ∙ c.requires.object
+    (number_of c.args.directory) ∙ c.requires.object
 
 pub returns-in-None-clause-node : goal.returns-in-None-clause-node
-returns-in-None-clause-node c =
-    c.plain_entry.ensures.node
-    ∙ ap (λ node. entry_named c.args.name.now (entries_in node))
+returns-in-None-clause-node c = c.plain_entry.ensures.node ∙ ap (λ node. entry_named c.args.name.now (entries_in node))
     (plain_node c.args.self.now c.self.inside.plain (ap (λ (store : StoreValue). store.plain) c.self.view_is)
     c.args.directory.filesystem.count (sym c.overlay.ensures.value ∙ ap option_copied c.in-None.is)
     (number_of c.args.directory))

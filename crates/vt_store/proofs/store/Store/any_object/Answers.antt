@@ -19,8 +19,7 @@ inode-requires-clause-few c =
     c.requires
 
 pub returns-in-Some : goal.returns-in-Some
-returns-in-Some c =
-    c.inode.ensures.lent
+returns-in-Some c = c.inode.ensures.lent
     ∙ over_lent c.args.self.now c.self.inside.plain (ap (λ (store : StoreValue). store.plain) c.self.view_is)
     c.args.node.filesystem.count c.in-Some.overlay.now
     (sym c.overlay.ensures.value ∙ ap option_copied c.in-Some.is) (number_of c.args.node)

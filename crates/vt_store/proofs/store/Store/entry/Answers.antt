@@ -12,14 +12,12 @@ plain_entry-requires c =
     let f = c.args.directory.filesystem.count in
     plain_lent c.args.self.now c.self.inside.plain (ap (λ (store : StoreValue). store.plain) c.self.view_is) f
     (ap (λ overlays. overlay_of overlays f) (c.has_overlays.ensures.0 c.if-has_overlays.false))
-    (number_of c.args.directory)
-    ∙ c.requires.object
+    (number_of c.args.directory) ∙ c.requires.object
 
 pub returns-else-has_overlays-clause-node : goal.returns-else-has_overlays-clause-node
 returns-else-has_overlays-clause-node c =
     let f = c.args.directory.filesystem.count in
-    c.plain_entry.ensures.node
-    ∙ ap (λ node. entry_named c.args.name.now (entries_in node))
+    c.plain_entry.ensures.node ∙ ap (λ node. entry_named c.args.name.now (entries_in node))
     (plain_node c.args.self.now c.self.inside.plain (ap (λ (store : StoreValue). store.plain) c.self.view_is) f
     (ap (λ overlays. overlay_of overlays f) (c.has_overlays.ensures.0 c.if-has_overlays.false))
     (number_of c.args.directory))

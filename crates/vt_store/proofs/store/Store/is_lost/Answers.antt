@@ -31,25 +31,20 @@ is_under-requires-clause-few c =
     c.requires.standing
 
 pub is_lost-requires-clause-named : goal.is_lost-requires-clause-named
-is_lost-requires-clause-named c =
-    subst (λ (files : FileTree ℕ). ParentsAreNamed files.tree)
+is_lost-requires-clause-named c = subst (λ (files : FileTree ℕ). ParentsAreNamed files.tree)
     (sym (plain_files c.args.self.now c.self.inside.plain (ap (λ (store : StoreValue). store.plain) c.self.view_is)
-    c.args.root.filesystem.count (sym c.overlay.ensures.value ∙ ap option_copied c.in-None.is)))
-    c.requires.named
+    c.args.root.filesystem.count (sym c.overlay.ensures.value ∙ ap option_copied c.in-None.is))) c.requires.named
 
 pub is_lost-requires-clause-rooted : goal.is_lost-requires-clause-rooted
-is_lost-requires-clause-rooted c =
-    subst LieUnderRoot
+is_lost-requires-clause-rooted c = subst LieUnderRoot
     (sym (plain_files c.args.self.now c.self.inside.plain (ap (λ (store : StoreValue). store.plain) c.self.view_is)
-    c.args.root.filesystem.count (sym c.overlay.ensures.value ∙ ap option_copied c.in-None.is)))
-    c.requires.rooted
+    c.args.root.filesystem.count (sym c.overlay.ensures.value ∙ ap option_copied c.in-None.is))) c.requires.rooted
 
 pub returns-then-is_removed : goal.returns-then-is_removed
 returns-then-is_removed c =
     let files = files_in c.args.self.now c.args.root.filesystem.count in
     let same = over_files c.args.self.now c.self.inside.plain (ap (λ (store : StoreValue). store.plain) c.self.view_is)
-    c.args.root.filesystem.count c.in-Some.overlay.now
-    (sym c.overlay.ensures.value ∙ ap option_copied c.in-Some.is) in
+    c.args.root.filesystem.count c.in-Some.overlay.now (sym c.overlay.ensures.value ∙ ap option_copied c.in-Some.is) in
     c.if-is_removed.true
     ∙ ap (λ b. b || not (is_directory_under nat_eq files (number_of c.args.root) (number_of c.args.directory)))
     (sym c.if-is_removed.true ∙ c.is_removed.ensures
@@ -59,18 +54,15 @@ pub returns-else-is_removed : goal.returns-else-is_removed
 returns-else-is_removed c =
     let files = files_in c.args.self.now c.args.root.filesystem.count in
     let same = over_files c.args.self.now c.self.inside.plain (ap (λ (store : StoreValue). store.plain) c.self.view_is)
-    c.args.root.filesystem.count c.in-Some.overlay.now
-    (sym c.overlay.ensures.value ∙ ap option_copied c.in-Some.is) in
+    c.args.root.filesystem.count c.in-Some.overlay.now (sym c.overlay.ensures.value ∙ ap option_copied c.in-Some.is) in
     ap not (c.is_under.ensures
     ∙ ap (λ (files : FileTree ℕ). is_directory_under nat_eq files (number_of c.args.root) (number_of c.args.directory))
-    same)
-    ∙ ap (λ b. b || not (is_directory_under nat_eq files (number_of c.args.root) (number_of c.args.directory)))
+    same) ∙ ap (λ b. b || not (is_directory_under nat_eq files (number_of c.args.root) (number_of c.args.directory)))
     (sym c.if-is_removed.false ∙ c.is_removed.ensures
     ∙ ap (λ (files : FileTree ℕ). is_removed nat_eq files.tree (number_of c.args.directory)) same)
 
 pub returns-in-None : goal.returns-in-None
-returns-in-None c =
-    c.is_lost.ensures
+returns-in-None c = c.is_lost.ensures
     ∙ ap (λ (files : FileTree ℕ). is_lost_under files (number_of c.args.root) (number_of c.args.directory))
     (plain_files c.args.self.now c.self.inside.plain (ap (λ (store : StoreValue). store.plain) c.self.view_is)
     c.args.root.filesystem.count (sym c.overlay.ensures.value ∙ ap option_copied c.in-None.is))

@@ -11,27 +11,22 @@ pub is_nonempty-requires-clause-layers : goal.is_nonempty-requires-clause-layers
 is_nonempty-requires-clause-layers c =
     over_layers c.args.self.now c.self.inside.plain (ap (λ (store : StoreValue). store.plain) c.self.view_is)
     c.args.directory.filesystem.count c.in-Some.overlay.now
-    (sym c.overlay.ensures.value ∙ ap option_copied c.in-Some.is)
-    c.requires
+    (sym c.overlay.ensures.value ∙ ap option_copied c.in-Some.is) c.requires
 
 pub is_nonempty-requires-clause-few : goal.is_nonempty-requires-clause-few
 is_nonempty-requires-clause-few c =
     over_few c.args.self.now c.self.inside.plain (ap (λ (store : StoreValue). store.plain) c.self.view_is)
     c.args.directory.filesystem.count c.in-Some.overlay.now
-    (sym c.overlay.ensures.value ∙ ap option_copied c.in-Some.is)
-    c.requires
+    (sym c.overlay.ensures.value ∙ ap option_copied c.in-Some.is) c.requires
 
 pub returns-in-Some : goal.returns-in-Some
-returns-in-Some c =
-    c.is_nonempty.ensures
-    ∙ ap (λ node. not (is_empty_list (entries_in node)))
+returns-in-Some c = c.is_nonempty.ensures ∙ ap (λ node. not (is_empty_list (entries_in node)))
     (over_node c.args.self.now c.self.inside.plain (ap (λ (store : StoreValue). store.plain) c.self.view_is)
     c.args.directory.filesystem.count c.in-Some.overlay.now
     (sym c.overlay.ensures.value ∙ ap option_copied c.in-Some.is) (number_of c.args.directory))
 
 pub returns-in-None : goal.returns-in-None
-returns-in-None c =
-    c.has_entries.ensures
+returns-in-None c = c.has_entries.ensures
     ∙ ap not (sym (empty-seen c.args.directory.filesystem.count (option_copied c.node.result)))
     ∙ ap (λ node. not (is_empty_list (entries_in node))) (c.node.ensures
     ∙ plain_node c.args.self.now c.self.inside.plain (ap (λ (store : StoreValue). store.plain) c.self.view_is)

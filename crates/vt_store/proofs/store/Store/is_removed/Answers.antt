@@ -10,27 +10,23 @@ pub is_removed-requires-clause-layers : goal.is_removed-requires-clause-layers
 is_removed-requires-clause-layers c =
     over_layers c.args.self.now c.self.inside.plain (ap (λ (store : StoreValue). store.plain) c.self.view_is)
     c.args.directory.filesystem.count c.in-Some.overlay.now
-    (sym c.overlay.ensures.value ∙ ap option_copied c.in-Some.is)
-    c.requires.standing
+    (sym c.overlay.ensures.value ∙ ap option_copied c.in-Some.is) c.requires.standing
 
 pub is_removed-requires-clause-few : goal.is_removed-requires-clause-few
 is_removed-requires-clause-few c =
     over_few c.args.self.now c.self.inside.plain (ap (λ (store : StoreValue). store.plain) c.self.view_is)
     c.args.directory.filesystem.count c.in-Some.overlay.now
-    (sym c.overlay.ensures.value ∙ ap option_copied c.in-Some.is)
-    c.requires.standing
+    (sym c.overlay.ensures.value ∙ ap option_copied c.in-Some.is) c.requires.standing
 
 pub returns-in-Some : goal.returns-in-Some
-returns-in-Some c =
-    c.is_removed.ensures
+returns-in-Some c = c.is_removed.ensures
     ∙ ap (λ (files : FileTree ℕ). is_removed nat_eq files.tree (number_of c.args.directory))
     (over_files c.args.self.now c.self.inside.plain (ap (λ (store : StoreValue). store.plain) c.self.view_is)
     c.args.directory.filesystem.count c.in-Some.overlay.now
     (sym c.overlay.ensures.value ∙ ap option_copied c.in-Some.is))
 
 pub returns-in-None : goal.returns-in-None
-returns-in-None c =
-    c.is_removed-in-None.ensures
+returns-in-None c = c.is_removed-in-None.ensures
     ∙ ap (λ (files : FileTree ℕ). is_removed nat_eq files.tree (number_of c.args.directory))
     (plain_files c.args.self.now c.self.inside.plain (ap (λ (store : StoreValue). store.plain) c.self.view_is)
     c.args.directory.filesystem.count (sym c.overlay.ensures.value ∙ ap option_copied c.in-None.is))

@@ -19,22 +19,18 @@ is_under-requires-clause-few c =
     c.requires.standing
 
 pub returns-in-Some : goal.returns-in-Some
-returns-in-Some c =
-    c.is_under.ensures
+returns-in-Some c = c.is_under.ensures
     ∙ ap (λ (files : FileTree ℕ). is_directory_under nat_eq files (number_of c.args.top) (number_of c.args.directory))
     (over_files c.args.self.now c.self.inside.plain (ap (λ (store : StoreValue). store.plain) c.self.view_is)
     c.args.top.filesystem.count c.in-Some.overlay.now (sym c.overlay.ensures.value ∙ ap option_copied c.in-Some.is))
 
 pub returns-in-None : goal.returns-in-None
-returns-in-None c =
-    c.is_under-in-None.ensures
+returns-in-None c = c.is_under-in-None.ensures
     ∙ ap (λ (files : FileTree ℕ). is_directory_under nat_eq files (number_of c.args.top) (number_of c.args.directory))
     (plain_files c.args.self.now c.self.inside.plain (ap (λ (store : StoreValue). store.plain) c.self.view_is)
     c.args.top.filesystem.count (sym c.overlay.ensures.value ∙ ap option_copied c.in-None.is))
 
 pub is_under-requires-in-None-clause-named : goal.is_under-requires-in-None-clause-named
-is_under-requires-in-None-clause-named c =
-    subst (λ (files : FileTree ℕ). ParentsAreNamed files.tree)
+is_under-requires-in-None-clause-named c = subst (λ (files : FileTree ℕ). ParentsAreNamed files.tree)
     (sym (plain_files c.args.self.now c.self.inside.plain (ap (λ (store : StoreValue). store.plain) c.self.view_is)
-    c.args.top.filesystem.count (sym c.overlay.ensures.value ∙ ap option_copied c.in-None.is)))
-    c.requires.named
+    c.args.top.filesystem.count (sym c.overlay.ensures.value ∙ ap option_copied c.in-None.is))) c.requires.named

@@ -9,27 +9,23 @@ pub names-requires-clause-layers : goal.names-requires-clause-layers
 names-requires-clause-layers c =
     over_layers c.args.self.now c.self.inside.plain (ap (λ (store : StoreValue). store.plain) c.self.view_is)
     c.args.directory.filesystem.count c.in-Some.overlay.now
-    (sym c.overlay.ensures.value ∙ ap option_copied c.in-Some.is)
-    c.requires
+    (sym c.overlay.ensures.value ∙ ap option_copied c.in-Some.is) c.requires
 
 pub names-requires-clause-few : goal.names-requires-clause-few
 names-requires-clause-few c =
     over_few c.args.self.now c.self.inside.plain (ap (λ (store : StoreValue). store.plain) c.self.view_is)
     c.args.directory.filesystem.count c.in-Some.overlay.now
-    (sym c.overlay.ensures.value ∙ ap option_copied c.in-Some.is)
-    c.requires
+    (sym c.overlay.ensures.value ∙ ap option_copied c.in-Some.is) c.requires
 
 pub returns-in-Some-clause-ok : goal.returns-in-Some-clause-ok
 returns-in-Some-clause-ok c =
     subst (λ node. IfOk c.names.result (λ names. map (λ name. name.items) names.items ≡ names_in node))
     (over_node c.args.self.now c.self.inside.plain (ap (λ (store : StoreValue). store.plain) c.self.view_is)
     c.args.directory.filesystem.count c.in-Some.overlay.now
-    (sym c.overlay.ensures.value ∙ ap option_copied c.in-Some.is) (number_of c.args.directory))
-    c.names.ensures.ok
+    (sym c.overlay.ensures.value ∙ ap option_copied c.in-Some.is) (number_of c.args.directory)) c.names.ensures.ok
 
 pub returns-in-Some-clause-empty : goal.returns-in-Some-clause-empty
-returns-in-Some-clause-empty c = λ none.
-    c.names.ensures.empty (ap entries_in
+returns-in-Some-clause-empty c = λ none. c.names.ensures.empty (ap entries_in
     (over_node c.args.self.now c.self.inside.plain (ap (λ (store : StoreValue). store.plain) c.self.view_is)
     c.args.directory.filesystem.count c.in-Some.overlay.now
     (sym c.overlay.ensures.value ∙ ap option_copied c.in-Some.is) (number_of c.args.directory)) ∙ none)
@@ -39,12 +35,10 @@ returns-in-None-clause-ok c =
     subst (λ node. IfOk c.list.result (λ names. map (λ name. name.items) names.items ≡ names_in node))
     (plain_node c.args.self.now c.self.inside.plain (ap (λ (store : StoreValue). store.plain) c.self.view_is)
     c.args.directory.filesystem.count
-    (sym c.overlay.ensures.value ∙ ap option_copied c.in-None.is) (number_of c.args.directory))
-    c.list.ensures.ok
+    (sym c.overlay.ensures.value ∙ ap option_copied c.in-None.is) (number_of c.args.directory)) c.list.ensures.ok
 
 pub returns-in-None-clause-empty : goal.returns-in-None-clause-empty
-returns-in-None-clause-empty c = λ none.
-    c.list.ensures.empty (ap entries_in
+returns-in-None-clause-empty c = λ none. c.list.ensures.empty (ap entries_in
     (plain_node c.args.self.now c.self.inside.plain (ap (λ (store : StoreValue). store.plain) c.self.view_is)
     c.args.directory.filesystem.count
     (sym c.overlay.ensures.value ∙ ap option_copied c.in-None.is) (number_of c.args.directory)) ∙ none)

@@ -9,8 +9,7 @@ use Rattle.vt_store.proofs.Looked.{plain_lent}
 use Rattle.vt_store.proofs.store.Store.object.Goals as goal
 
 pub returns-then-has_overlays : goal.returns-then-has_overlays
-returns-then-has_overlays c =
-    c.any_object.ensures
+returns-then-has_overlays c = c.any_object.ensures
     ∙ ap (λ (node : NodeRef). lent_in c.args.self.now node.filesystem.count (number_of node)) c.copied.ensures
 
 pub returns-else-has_overlays : goal.returns-else-has_overlays

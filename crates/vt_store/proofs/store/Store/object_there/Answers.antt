@@ -31,12 +31,10 @@ inode_shown-requires-clause-shown c =
     let lent = something (lent_in c.args.self.now count number) c.requires.there in
     lent_is_shown c.self.inside.plain c.in-Some.overlay.now number lent.0
     (over_lent c.args.self.now c.self.inside.plain (ap (λ (store : StoreValue). store.plain) c.self.view_is) count
-    c.in-Some.overlay.now (sym c.overlay.ensures.value ∙ ap option_copied c.in-Some.is) number
-    ∙ lent.1)
+    c.in-Some.overlay.now (sym c.overlay.ensures.value ∙ ap option_copied c.in-Some.is) number ∙ lent.1)
 
 pub returns-in-Some : goal.returns-in-Some
-returns-in-Some c =
-    c.inode_shown.ensures
+returns-in-Some c = c.inode_shown.ensures
     ∙ over_lent c.args.self.now c.self.inside.plain (ap (λ (store : StoreValue). store.plain) c.self.view_is)
     c.args.node.filesystem.count c.in-Some.overlay.now
     (sym c.overlay.ensures.value ∙ ap option_copied c.in-Some.is) (number_of c.args.node)

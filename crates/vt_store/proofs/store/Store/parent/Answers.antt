@@ -25,8 +25,7 @@ returns-in-Some-parent c =
     let node = (files_in c.args.self.now c.args.node.filesystem.count).tree.node own in
     when_is (is_directory_node node) (parent_in own node) (number_of c.in-Some-parent.parent)
     (elim c.match-overlay.branch [
-      | in-Some w ↦
-          ap (option_map number_of) (sym c.in-Some-parent.is ∙ w.parent-is) ∙ w.parent-parent.ensures
+      | in-Some w ↦ ap (option_map number_of) (sym c.in-Some-parent.is ∙ w.parent-is) ∙ w.parent-parent.ensures
           ∙ ap (λ node. when (is_directory_node node) (parent_in own node))
           (over_node c.args.self.now c.self.inside.plain (ap (λ (store : StoreValue). store.plain) c.self.view_is)
           c.args.node.filesystem.count w.in-Some.overlay.now
@@ -42,10 +41,8 @@ pub returns-in-None-parent : goal.returns-in-None-parent
 returns-in-None-parent c =
     let own = number_of c.args.node in
     let node = (files_in c.args.self.now c.args.node.filesystem.count).tree.node own in
-    no_directory own node
-    (elim c.match-overlay.branch [
-      | in-Some w ↦
-          ap (option_map number_of) (sym c.in-None-parent.is ∙ w.parent-is) ∙ w.parent-parent.ensures
+    no_directory own node (elim c.match-overlay.branch [
+      | in-Some w ↦ ap (option_map number_of) (sym c.in-None-parent.is ∙ w.parent-is) ∙ w.parent-parent.ensures
           ∙ ap (λ node. when (is_directory_node node) (parent_in own node))
           (over_node c.args.self.now c.self.inside.plain (ap (λ (store : StoreValue). store.plain) c.self.view_is)
           c.args.node.filesystem.count w.in-Some.overlay.now

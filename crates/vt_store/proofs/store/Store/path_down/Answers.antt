@@ -19,11 +19,9 @@ path_down-requires-clause-few c =
     c.requires.standing
 
 pub path_down-requires-in-None-clause-once : goal.path_down-requires-in-None-clause-once
-path_down-requires-in-None-clause-once c =
-    subst (λ (files : FileTree ℕ). NamesDirectoriesOnce files.tree)
+path_down-requires-in-None-clause-once c = subst (λ (files : FileTree ℕ). NamesDirectoriesOnce files.tree)
     (sym (plain_files c.args.self.now c.self.inside.plain (ap (λ (store : StoreValue). store.plain) c.self.view_is)
-    c.args.top.filesystem.count (sym c.overlay.ensures.value ∙ ap option_copied c.in-None.is)))
-    c.requires.once
+    c.args.top.filesystem.count (sym c.overlay.ensures.value ∙ ap option_copied c.in-None.is))) c.requires.once
 
 pub returns-in-Some : goal.returns-in-Some
 returns-in-Some c = record {
@@ -31,8 +29,7 @@ returns-in-Some c = record {
       (λ path. option_map (λ names. map (λ name. name.items) names.items) path
       ≡ path_down nat_eq files (number_of c.args.top) (number_of c.args.directory)))
       (over_files c.args.self.now c.self.inside.plain (ap (λ (store : StoreValue). store.plain) c.self.view_is)
-      c.args.top.filesystem.count c.in-Some.overlay.now
-      (sym c.overlay.ensures.value ∙ ap option_copied c.in-Some.is))
+      c.args.top.filesystem.count c.in-Some.overlay.now (sym c.overlay.ensures.value ∙ ap option_copied c.in-Some.is))
       c.path_down.ensures;
 }
 

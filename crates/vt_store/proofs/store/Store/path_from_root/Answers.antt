@@ -17,15 +17,13 @@ pub path_down-requires-clause-layers : goal.path_down-requires-clause-layers
 path_down-requires-clause-layers c =
     over_layers c.args.self.now c.self.inside.plain (ap (λ (store : StoreValue). store.plain) c.self.view_is)
     c.args.directory.filesystem.count c.in-Some.overlay.now
-    (sym c.overlay.ensures.value ∙ ap option_copied c.in-Some.is)
-    c.requires.standing
+    (sym c.overlay.ensures.value ∙ ap option_copied c.in-Some.is) c.requires.standing
 
 pub path_down-requires-clause-few : goal.path_down-requires-clause-few
 path_down-requires-clause-few c =
     over_few c.args.self.now c.self.inside.plain (ap (λ (store : StoreValue). store.plain) c.self.view_is)
     c.args.directory.filesystem.count c.in-Some.overlay.now
-    (sym c.overlay.ensures.value ∙ ap option_copied c.in-Some.is)
-    c.requires.standing
+    (sym c.overlay.ensures.value ∙ ap option_copied c.in-Some.is) c.requires.standing
 
 pub returns-in-Some : goal.returns-in-Some
 returns-in-Some c =
@@ -40,20 +38,16 @@ returns-in-Some c =
           (λ path. option_map (λ names. map (λ name. name.items) names.items) path
           ≡ path_down nat_eq files files.tree.root (number_of c.args.directory)))
           (over_files c.args.self.now c.self.inside.plain same c.args.directory.filesystem.count c.in-Some.overlay.now
-          is)
-          (subst (λ (number : ℕ). IfOk c.path_down.result
+          is) (subst (λ (number : ℕ). IfOk c.path_down.result
           (λ path. option_map (λ names. map (λ name. name.items) names.items) path
           ≡ path_down nat_eq (merged_files c.self.inside.plain c.in-Some.overlay.now) number
-          (number_of c.args.directory)))
-          root c.path_down.ensures);
+          (number_of c.args.directory))) root c.path_down.ensures);
     }
 
 pub path_from_root-requires : goal.path_from_root-requires
-path_from_root-requires c =
-    subst (λ (files : FileTree ℕ). NamesDirectoriesOnce files.tree)
+path_from_root-requires c = subst (λ (files : FileTree ℕ). NamesDirectoriesOnce files.tree)
     (sym (plain_files c.args.self.now c.self.inside.plain (ap (λ (store : StoreValue). store.plain) c.self.view_is)
-    c.args.directory.filesystem.count (sym c.overlay.ensures.value ∙ ap option_copied c.in-None.is)))
-    c.requires.once
+    c.args.directory.filesystem.count (sym c.overlay.ensures.value ∙ ap option_copied c.in-None.is))) c.requires.once
 
 pub returns-in-None : goal.returns-in-None
 returns-in-None c = record {

@@ -16,9 +16,7 @@ returns-in-Some-clause-number c =
     ∙ root_over c.args.self.now c.args.filesystem.count c.in-Some.overlay.now is
 
 pub returns-in-None-clause-number : goal.returns-in-None-clause-number
-returns-in-None-clause-number c =
-    c.root-in-None.ensures.number
+returns-in-None-clause-number c = c.root-in-None.ensures.number
     ∙ ap (λ (plain : Filesystems). option_map (λ entry. (inodes_seen entry).root)
     (entry_of plain c.args.filesystem.count)) (ap (λ (store : StoreValue). store.plain) c.self.view_is)
-    ∙ root_plain c.args.self.now c.args.filesystem.count
-    (sym c.overlay.ensures.value ∙ ap option_copied c.in-None.is)
+    ∙ root_plain c.args.self.now c.args.filesystem.count (sym c.overlay.ensures.value ∙ ap option_copied c.in-None.is)

@@ -6,13 +6,10 @@ use Rattle.vt_tasks.proofs.descriptors.Descriptors.files.Goals as goal
 use Rattle.vt_spec.specs.Language.Calls.{opens_for_writing}
 
 pub returns-clause-locations : goal.returns-clause-locations
-returns-clause-locations c =
-    ap (map (λ held. location_of held.location)) (c.as_slice.ensures ∙ c.values.ensures.rest)
-    ∙ files-opened c.self.inside.by_number.entries
-    ∙ ap (map (λ d. d.location)) c.self.view_is
+returns-clause-locations c = ap (map (λ held. location_of held.location)) (c.as_slice.ensures ∙ c.values.ensures.rest)
+    ∙ files-opened c.self.inside.by_number.entries ∙ ap (map (λ d. d.location)) c.self.view_is
 
 pub returns-clause-writes : goal.returns-clause-writes
 returns-clause-writes c =
     ap (map (λ held. opens_for_writing (access_of held.access))) (c.as_slice.ensures ∙ c.values.ensures.rest)
-    ∙ writes-opened c.self.inside.by_number.entries
-    ∙ ap (map (λ d. d.writes)) c.self.view_is
+    ∙ writes-opened c.self.inside.by_number.entries ∙ ap (map (λ d. d.writes)) c.self.view_is

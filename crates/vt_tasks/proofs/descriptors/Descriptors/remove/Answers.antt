@@ -5,18 +5,15 @@ use Rattle.vt_tasks.proofs.OpenLemmas.{ascending-removed, find-opened, opened, o
 use Rattle.vt_tasks.proofs.descriptors.Descriptors.remove.Goals as goal
 
 pub invariant_of-self : goal.invariant_of-self
-invariant_of-self c =
-    ap (are_ascending 0) c.shift_remove.ensures.entries
+invariant_of-self c = ap (are_ascending 0) c.shift_remove.ensures.entries
     ∙ ascending-removed c.args.number 0 c.self.inside.by_number.entries c.self.invariant
 
 pub returns-clause-value : goal.returns-clause-value
-returns-clause-value c =
-    ap (option_map (numbered c.args.number)) c.shift_remove.ensures.value
+returns-clause-value c = ap (option_map (numbered c.args.number)) c.shift_remove.ensures.value
     ∙ find-opened c.args.number c.self.inside.by_number.entries
     ∙ ap (find (λ d. nat_eq c.args.number d.number)) c.self.view_is
 
 pub returns-clause-rest : goal.returns-clause-rest
-returns-clause-rest c =
-    ap opened c.shift_remove.ensures.entries
+returns-clause-rest c = ap opened c.shift_remove.ensures.entries
     ∙ opened-removed c.args.number 0 c.self.inside.by_number.entries c.self.invariant
     ∙ ap (filter (λ d. not (nat_eq c.args.number d.number))) c.self.view_is

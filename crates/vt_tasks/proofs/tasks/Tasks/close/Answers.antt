@@ -33,8 +33,7 @@ pub invariant_of-self-2 : goal.invariant_of-self-2
 invariant_of-self-2 c =
     written-fit c.numbers.result.now c.self.inside.by_name _ c.self.invariant c.in_ok-task.task.now _
     (sym c.get_mut.ensures.value ∙ ap option_copied_mut c.in_ok-task.was) refl refl c.get_mut.ensures.unique
-    (c.get_mut.follows.holds _) (omega arith)
-    (λ e. ap (are_ascending_from 0) c.remove.ensures.rest
+    (c.get_mut.follows.holds _) (omega arith) (λ e. ap (are_ascending_from 0) c.remove.ensures.rest
     ∙ ascending-filter (λ d. not (nat_eq c.args.number d.number)) 0 c.in_ok-task.task.now.descriptors e)
 
 pub returns-clause-value : goal.returns-clause-value
@@ -42,17 +41,14 @@ returns-clause-value c =
     let map = c.self.inside.by_name in
     let found = called-found c.numbers.result.now map map c.self.invariant c.in_ok-task.task.now
     (sym c.get_mut.ensures.value ∙ ap option_copied_mut c.in_ok-task.was) in
-    c.remove.ensures.value
-    ∙ sym (ap (option_and_then (λ task. descriptor_numbered task c.args.number))
+    c.remove.ensures.value ∙ sym (ap (option_and_then (λ task. descriptor_numbered task c.args.number))
     ((λ i. called (sym c.numbers.ensures.value i) (sym c.self.view_is i)) ∙ found))
 
 pub returns-clause-rest : goal.returns-clause-rest
-returns-clause-rest c =
-    written-change c.numbers.result.now c.self.inside.by_name _ c.self.invariant
+returns-clause-rest c = written-change c.numbers.result.now c.self.inside.by_name _ c.self.invariant
     (λ task. without_descriptor task c.args.number) c.in_ok-task.task.now _
     (sym c.get_mut.ensures.value ∙ ap option_copied_mut c.in_ok-task.was) refl refl c.get_mut.ensures.unique
-    (c.get_mut.follows.holds _)
-    (λ i. record (task_of c.in_ok-task.task.now) { descriptors = c.remove.ensures.rest i })
+    (c.get_mut.follows.holds _) (λ i. record (task_of c.in_ok-task.task.now) { descriptors = c.remove.ensures.rest i })
     ∙ (λ i. changed_called (c.numbers.ensures.value i) (λ task. without_descriptor task c.args.number)
     (c.self.view_is i))
 

@@ -28,8 +28,7 @@ the_parent next q name tasks m parent kept same view found = (λ i. called (sym 
 pub unwrap-parent-requires : goal.unwrap-parent-requires
 unwrap-parent-requires c =
     let map = c.self.inside.by_name in
-    there-shared c.get.result
-    (λ none. granted-there _ _ c.requires
+    there-shared c.get.result (λ none. granted-there _ _ c.requires
     ((λ i. called (sym c.numbers-numbers.ensures.value i) (sym c.self.view_is i))
     ∙ called-absent c.numbers-numbers.result.now map map c.self.invariant (sym c.get.ensures.value ∙ none)))
 
@@ -58,14 +57,12 @@ invariant_of-self-2 c =
     ∙ c.numbers.ensures.value ∙ c.in_ok-child_name.ensures.cases in
     let inserts = c.in_ok-insert.ensures.entries in
     elim c.match-get_mut.branch [
-      | in-Some w ↦
-          subst (λ inside. AreKept inside.births inside.by_name.entries) (sym w.self-inside-is)
+      | in-Some w ↦ subst (λ inside. AreKept inside.births inside.by_name.entries) (sym w.self-inside-is)
           (kept-forked c.self.inside.births name map c.insert.new.self _ c.in_ok-key.key parent c.in_ok-child.child
           c.args.cred c.self.invariant is key_is c.in_ok-child.ensures.child c.in_ok-child.ensures.birth inserts
           c.get_mut.ensures.unique w.in-Some.parent.now _
           (sym c.get_mut.ensures.value ∙ ap option_copied_mut w.in-Some.is) refl (c.get_mut.follows.holds _))
-      | in_default w ↦
-          absurd (never-absent c.self.inside.births name map c.insert.new.self c.insert.new.self
+      | in_default w ↦ absurd (never-absent c.self.inside.births name map c.insert.new.self c.insert.new.self
           c.in_ok-key.key parent c.in_ok-child.child c.args.cred c.self.invariant is key_is c.in_ok-child.ensures.child
           c.in_ok-child.ensures.birth inserts c.get_mut.ensures.unique
           (sym c.get_mut.ensures.value ∙ ap option_copied_mut w.in_default.is))
@@ -89,8 +86,7 @@ returns-clause-ok c =
     ∙ c.numbers.ensures.value ∙ c.in_ok-child_name.ensures.cases in
     let inserts = c.in_ok-insert.ensures.entries in
     elim c.match-get_mut.branch [
-      | in-Some w ↦
-          ap (λ inside. tasks_of (in_order inside.by_name.entries)) w.self-inside-is
+      | in-Some w ↦ ap (λ inside. tasks_of (in_order inside.by_name.entries)) w.self-inside-is
           ∙ forked-so c.self.inside.births name map c.insert.new.self _ c.in_ok-key.key parent c.in_ok-child.child
           c.args.cred c.self.invariant is key_is c.in_ok-child.ensures.child c.in_ok-child.ensures.birth inserts
           c.get_mut.ensures.unique w.in-Some.parent.now _

@@ -4,7 +4,5 @@ use Rattle.vt_tasks.proofs.KeptTasks.{born-kept}
 use Rattle.vt_tasks.proofs.tasks.Tasks.kept.Goals as goal
 
 pub returns : goal.returns
-returns c =
-    ap born_in_order (c.as_slice.ensures ∙ c.values.ensures.rest)
-    ∙ born-kept c.self.inside.by_name.entries
+returns c = ap born_in_order (c.as_slice.ensures ∙ c.values.ensures.rest) ∙ born-kept c.self.inside.by_name.entries
     ∙ c.self.view_is

@@ -11,8 +11,7 @@ use Rattle.vt_spec.proofs.Options.{OnOk_then}
 pub unwrap-task-requires : goal.unwrap-task-requires
 unwrap-task-requires c =
     let map = c.self.inside.by_name in
-    there-mut c.get_mut.result
-    (λ none. granted-there _ _ c.requires
+    there-mut c.get_mut.result (λ none. granted-there _ _ c.requires
     ((λ i. called (sym c.numbers.ensures.value i) (sym c.self.view_is i))
     ∙ called-absent c.numbers.result.now map map c.self.invariant (sym c.get_mut.ensures.value ∙ none)))
 
@@ -43,23 +42,17 @@ returns-clause-number c =
     c.insert.ensures.number
 
 pub returns-clause-ok : goal.returns-clause-ok
-returns-clause-ok c =
-    OnOk_then c.insert.result
-    (λ is.
+returns-clause-ok c = OnOk_then c.insert.result (λ is.
     written-change c.numbers.result.now c.self.inside.by_name _ c.self.invariant
     (with_open c.args.opened) c.unwrap-task.result.now _
     (sym c.get_mut.ensures.value ∙ ap option_copied_mut c.unwrap-task.ensures) refl refl c.get_mut.ensures.unique
-    (c.get_mut.follows.holds _)
-    (λ i. record (task_of c.unwrap-task.result.now) { descriptors = is i })
+    (c.get_mut.follows.holds _) (λ i. record (task_of c.unwrap-task.result.now) { descriptors = is i })
     ∙ (λ i. changed_called (c.numbers.ensures.value i) (with_open c.args.opened) (c.self.view_is i)))
     (opened-under c.insert.result c.args.opened _ _ _ c.insert.ensures.number c.insert.ensures.ok)
 
 pub returns-clause-err : goal.returns-clause-err
-returns-clause-err c =
-    on-err c.insert.result
-    (λ same.
+returns-clause-err c = on-err c.insert.result (λ same.
     ap tasks_of (written-same c.numbers.result.now c.self.inside.by_name _ c.self.invariant c.unwrap-task.result.now _
     (λ i. record c.unwrap-task.result.now { descriptors = same i })
     (sym c.get_mut.ensures.value ∙ ap option_copied_mut c.unwrap-task.ensures) (c.get_mut.follows.holds _))
-    ∙ c.self.view_is)
-    c.insert.ensures.err
+    ∙ c.self.view_is) c.insert.ensures.err

@@ -40,8 +40,7 @@ loop-index-preserved c =
             ∙ changed-next change c.loop-index.index es (tasks_of old) w.in-Some.task.now _ c.loop-index.invariant.3
             (sym c.get_index_mut.ensures.value ∙ ap option_copied_mut w.in-Some.is) w.pivot.ensures.task,
       )
-      | in_default w ↦
-          absurd (true≢false (sym (subst IsSome w.in_default.is
+      | in_default w ↦ absurd (true≢false (sym (subst IsSome w.in_default.is
           (c.get_index_mut.ensures.found.1 (omega (arith, c.loop-index-test.true, c.len-index-end.ensures.len, as-many old es c.loop-index.invariant.1))))))
     ]
 

@@ -8,8 +8,7 @@ use Rattle.vt_tasks.proofs.PivotLemmas.{changed_first}
 use Rattle.vt_tasks.proofs.tasks.Tasks.pivot.Given as goal
 
 abbrev pub invariant-loop-index : goal.invariant-loop-index
-invariant-loop-index l =
-    (l.self-inside.births ≡ l.initial.self-inside.births)
+invariant-loop-index l = (l.self-inside.births ≡ l.initial.self-inside.births)
     × (keys_of l.self-inside.by_name.entries ≡ keys_of l.initial.self-inside.by_name.entries)
     × (births_of l.self-inside.by_name.entries ≡ births_of l.initial.self-inside.by_name.entries)
     × (tasks_of l.self-inside.by_name.entries

@@ -25,8 +25,7 @@ returns-clause-count c =
     let namespace = counted c.args.namespace.count in
     let place = location_of c.args.at in
     let test = held_places namespace place in
-    c.loop-task.invariant.told
-    ∙ ap (sum_by test) (take_all c.loop-task.task-index _ c.loop-task-test.false
+    c.loop-task.invariant.told ∙ ap (sum_by test) (take_all c.loop-task.task-index _ c.loop-task-test.false
     ∙ c.as_slice-task-items.ensures ∙ c.values.ensures.rest)
     ∙ counted_in_order namespace place c.self.inside.by_name.entries c.self.invariant.apart
     ∙ ap (all_places_at namespace place) c.self.view_is

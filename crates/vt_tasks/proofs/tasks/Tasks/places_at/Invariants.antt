@@ -8,7 +8,6 @@ use Rattle.vt_tasks.proofs.tasks.Tasks.places_at.Given as goal
 -- those before the next are counted, two of each at most
 abbrev pub invariant-loop-task : goal.invariant-loop-task
 invariant-loop-task l = record {
-  told : l.count
-      ≡ sum_by (held_places (counted l.namespace.count) (location_of l.at)) (take l.task-index l.task-items);
+  told : l.count ≡ sum_by (held_places (counted l.namespace.count) (location_of l.at)) (take l.task-index l.task-items);
   few : l.count ≤ 2 * l.task-index;
 }

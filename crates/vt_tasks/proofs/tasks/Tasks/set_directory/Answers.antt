@@ -11,8 +11,7 @@ returns-in_err-task-clause-left c =
     let map = c.self.inside.by_name in
     let absent = called-absent c.numbers.result.now map map c.self.invariant
     (sym c.get_mut.ensures.value ∙ ap option_copied_mut c.in_err-task.was) in
-    ap (option_map location_of) c.from_residual.ensures
-    ∙ sym (ap (option_map (λ task. task.directory))
+    ap (option_map location_of) c.from_residual.ensures ∙ sym (ap (option_map (λ task. task.directory))
     ((λ i. called (sym c.numbers.ensures.value i) (sym c.self.view_is i)) ∙ absent))
 
 pub returns-in_err-task-clause-rest : goal.returns-in_err-task-clause-rest
@@ -36,13 +35,11 @@ returns-clause-left c =
     let map = c.self.inside.by_name in
     let found = called-found c.numbers.result.now map map c.self.invariant c.in_ok-task.task.now
     (sym c.get_mut.ensures.value ∙ ap option_copied_mut c.in_ok-task.was) in
-    ap (λ left. Some (location_of left)) c.replace.ensures.value
-    ∙ sym (ap (option_map (λ task. task.directory))
+    ap (λ left. Some (location_of left)) c.replace.ensures.value ∙ sym (ap (option_map (λ task. task.directory))
     ((λ i. called (sym c.numbers.ensures.value i) (sym c.self.view_is i)) ∙ found))
 
 pub returns-clause-rest : goal.returns-clause-rest
-returns-clause-rest c =
-    written-change c.numbers.result.now c.self.inside.by_name _ c.self.invariant
+returns-clause-rest c = written-change c.numbers.result.now c.self.inside.by_name _ c.self.invariant
     (λ task. record task { directory = location_of c.args.directory }) c.in_ok-task.task.now _
     (sym c.get_mut.ensures.value ∙ ap option_copied_mut c.in_ok-task.was) refl refl c.get_mut.ensures.unique
     (c.get_mut.follows.holds _)

@@ -9,10 +9,8 @@ use Rattle.vt_fs.specs.declared.tree.names.Named.{Named}
 pub returns : goal.returns
 returns c =
     let items = c.self.inside.named.items in
-    let kept : counts c.match-get_mut.self-inside.named.items ≡ counts items =
-    elim c.match-get_mut.branch [
-      | in-Some w ↦
-          ap (λ inside. counts inside.named.items) w.self-inside-is
+    let kept : counts c.match-get_mut.self-inside.named.items ≡ counts items = elim c.match-get_mut.branch [
+      | in-Some w ↦ ap (λ inside. counts inside.named.items) w.self-inside-is
           ∙ map-set_same (λ (named : Named). named.count) items c.index.result _ w.in-Some.named.now
           (ap (λ (named : Named). named.count) w.in-Some.ensures.value)
       | in_default w ↦ ap (λ inside. counts inside.named.items) w.self-inside-is

@@ -7,6 +7,5 @@ pub loop-self-init : goal.loop-self-init
 loop-self-init c = ap count_of c.self.view_is
 
 pub loop-self-preserved : goal.loop-self-preserved
-loop-self-preserved c =
-    ap (λ items. count_of (counts items)) c.in_ok-push.ensures.items
+loop-self-preserved c = ap (λ items. count_of (counts items)) c.in_ok-push.ensures.items
     ∙ count_pushed c.loop-self.self-inside.named.items _ refl ∙ c.loop-self.invariant

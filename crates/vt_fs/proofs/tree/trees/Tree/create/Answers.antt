@@ -32,8 +32,7 @@ invariant_of-self-in_err-reserve-2 c =
     c.in_err-reserve-2.ensures.counts c.self.invariant
 
 pub invariant_of-self-in_err-insert_entry : goal.invariant_of-self-in_err-insert_entry
-invariant_of-self-in_err-insert_entry c =
-    counted_as _ _ _ _
+invariant_of-self-in_err-insert_entry c = counted_as _ _ _ _
     (ap (inodes_in c.self.inside.root) (c.in_err-insert_entry.ensures.err ∙ c.in_ok-reserve.ensures.rest_kept))
     c.in_ok-reserve-2.ensures.counts c.self.invariant
 

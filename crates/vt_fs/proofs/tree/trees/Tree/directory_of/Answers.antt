@@ -19,8 +19,7 @@ returns c =
     let ranked : is_some (name_ranked (entries_of node.content) c.args.object 0) ≡ true =
     sym (ap is_some c.name_ranked.ensures) ∙ ap (λ o. is_some (option_copied o)) c.in_ok-name_ranked.was in
     let named : is_among nat_eq c.args.object (targets_in (tree.node c.in_ok-directory.directory)) ≡ true =
-    ap (λ o. is_among nat_eq c.args.object (targets_in o))
-    (sym c.get.ensures ∙ ap option_copied c.in_ok-get.was)
+    ap (λ o. is_among nat_eq c.args.object (targets_in o)) (sym c.get.ensures ∙ ap option_copied c.in_ok-get.was)
     ∙ ranked_among (entries_of node.content) c.args.object 0 (entries_of node.content) ranked in
     subst (λ value. AloneNames (tree_of value) c.args.object c.in_ok-directory.directory) c.self.view_is (
       named,

@@ -15,5 +15,4 @@ loop-left-preserved c =
     ∙ sym c.if-eq-2.ensures in
     ap (λ parent. is_among nat_eq c.args.top
     (chain (c.loop-left.left - 1) (parent_above nat_eq inodes) parent)) c.parent-here.ensures
-    ∙ sym (climb inodes c.args.top c.loop-left.here c.loop-left.left some other below)
-    ∙ c.loop-left.invariant
+    ∙ sym (climb inodes c.args.top c.loop-left.here c.loop-left.left some other below) ∙ c.loop-left.invariant

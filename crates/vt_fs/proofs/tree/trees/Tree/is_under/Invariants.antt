@@ -6,8 +6,7 @@ use Rattle.vt_fs.proofs.tree.trees.Tree.is_under.Given as goal
 
 -- the way that is left leads to the top where the whole way does
 abbrev pub invariant-loop-left : goal.invariant-loop-left
-invariant-loop-left l =
-    is_among nat_eq l.top (chain l.left (parent_above nat_eq (inodes_of l.self)) l.here)
+invariant-loop-left l = is_among nat_eq l.top (chain l.left (parent_above nat_eq (inodes_of l.self)) l.here)
     ≡ is_directory_under nat_eq (inodes_of l.self) l.top l.fn.directory
 
 abbrev pub decreases-loop-left : goal.decreases-loop-left

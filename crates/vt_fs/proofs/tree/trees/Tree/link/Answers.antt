@@ -41,9 +41,7 @@ invariant_of-self-2 c =
     let root = c.self.inside.root in
     counted_as _ _ _ _
     (inodes-acquired root c.insert_entry.new.slots c.count_use.new.self c.args.object c.count_use.ensures.acquired
-    c.count_use.ensures.len)
-    c.add.ensures
-    (pin_keeps (inodes_in root c.insert_entry.new.slots) c.args.object _
+    c.count_use.ensures.len) c.add.ensures (pin_keeps (inodes_in root c.insert_entry.new.slots) c.args.object _
     (counted_as _ _ _ _ (c.in_ok-insert_entry.ensures.ok root) refl
     (name_more (inodes_in root c.self.inside.slots) c.args.directory c.args.name.items c.args.object
     (count_of c.reserve.new.self) c.insert_entry.ensures.in_order

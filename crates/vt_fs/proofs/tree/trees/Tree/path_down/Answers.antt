@@ -13,10 +13,8 @@ loop-alloc-preserved c =
     (map (λ name. name.items) c.push.new.self.items)
     c.in_ok-copied_bytes.field-0.items c.loop-alloc.left c.loop-alloc.here _ _
     (ap (map (λ name. name.items)) c.in_ok-push.ensures.items
-    ∙ map-append (λ name. name.items) c.loop-alloc.names.items _)
-    (search rules) other c.in-Some.ensures.parent
-    (search rules)
-    c.loop-alloc.invariant
+    ∙ map-append (λ name. name.items) c.loop-alloc.names.items _) (search rules) other c.in-Some.ensures.parent
+    (search rules) c.loop-alloc.invariant
 
 pub returns : goal.returns
 returns c =

@@ -8,8 +8,7 @@ use Rattle.vt_fs.proofs.tree.trees.Tree.path_down.Given as goal
 
 -- the names so far are the last of the path, and the way that is left leads to the others
 abbrev pub invariant-loop-alloc : goal.invariant-loop-alloc
-invariant-loop-alloc l =
-    path_from (inodes_of l.self) l.top (map (λ name. name.items) l.names.items)
+invariant-loop-alloc l = path_from (inodes_of l.self) l.top (map (λ name. name.items) l.names.items)
     (chain l.left (named_parent nat_eq (tree_of l.self)) l.here)
     ≡ path_in nat_eq (inodes_of l.self) l.top l.fn.directory
 

@@ -18,26 +18,21 @@ use Rattle.vt_fs.proofs.tree.trees.Tree.rename.Goals.{After-set_parent}
 abbrev with_entries_moved : After-set_parent → Inodes ℕ
 with_entries_moved c = with_changed nat_eq
     (with_changed nat_eq (with_changed nat_eq (inodes_of c.args.self.now) c.args.from
-    (node_without_entry c.args.old.now))
-    c.args.to (node_with_entry c.args.new.items c.args.object))
+    (node_without_entry c.args.old.now)) c.args.to (node_with_entry c.args.new.items c.args.object))
     c.args.object (node_with_parent c.args.to)
 
 placed : (c : After-set_parent) → inodes_in c.self.inside.root c.set_parent.new.slots ≡ with_entries_moved c
 placed c =
-    let sorted =
-    sym (ap (λ value. is_sorted name_cmp (entries_in ((tree_of value).node c.args.to))) c.self.view_is)
+    let sorted = sym (ap (λ value. is_sorted name_cmp (entries_in ((tree_of value).node c.args.to))) c.self.view_is)
     ∙ c.insert_entry.ensures.in_order in
     moved (inodes_of c.args.self.now) c.args.from c.args.old.now c.args.to c.args.new.items c.args.object sorted
-    c.requires.named
-    (replaced_other (tree_of c.args.self.now) c.args.object
+    c.requires.named (replaced_other (tree_of c.args.self.now) c.args.object
     (entry_at (tree_of c.args.self.now) c.args.to c.args.new.items) c.requires.replaced)
     (inodes_in c.self.inside.root c.insert_entry.new.slots) (inodes_in c.self.inside.root c.remove_entry.new.slots)
-    (inodes_in c.self.inside.root c.set_parent.new.slots)
-    (c.in_ok-insert_entry.ensures.ok c.self.inside.root
+    (inodes_in c.self.inside.root c.set_parent.new.slots) (c.in_ok-insert_entry.ensures.ok c.self.inside.root
     ∙ ap (λ value. with_changed nat_eq (inodes_of value) c.args.to
     (node_with_entry c.args.new.items c.args.object)) c.self.view_is)
-    (c.remove_entry.ensures.removed c.self.inside.root)
-    (c.set_parent.ensures.set c.self.inside.root)
+    (c.remove_entry.ensures.removed c.self.inside.root) (c.set_parent.ensures.set c.self.inside.root)
 
 -- what had the new name
 replaced : (c : After-set_parent)
@@ -75,8 +70,7 @@ counted c =
     ∙ ap (λ inodes. with_changed nat_eq inodes c.args.object (node_with_parent c.args.to))
     (c.remove_entry.ensures.removed root
     ∙ ap (λ inodes. with_changed nat_eq inodes c.args.from (node_without_entry c.args.old.now))
-    (c.in_ok-insert_entry.ensures.ok root)))
-    (ap (λ value. λ number. count_of c.self.inside.names number
+    (c.in_ok-insert_entry.ensures.ok root))) (ap (λ value. λ number. count_of c.self.inside.names number
     - one_if_some number (entry_at (tree_of value) c.args.to c.args.new.items)) (sym c.self.view_is))
     (name_moved before c.args.from c.args.to c.args.old.now c.args.new.items c.args.object
     (count_of c.self.inside.names) c.insert_entry.ensures.in_order named c.self.invariant)
@@ -87,8 +81,7 @@ invariant_of-self-in-Some c =
     let root = c.self.inside.root in
     counted_as _ _ _ _ (c.remove_object.ensures.removed root)
     (c.take.ensures ∙ ap (λ counts. put_at (count_of counts) c.in-Some.other (count_of counts c.in-Some.other - 1))
-    c.move_to.ensures)
-    (replaced_keeps (inodes_in root c.set_parent.new.slots) c.in-Some.other _
+    c.move_to.ensures) (replaced_keeps (inodes_in root c.set_parent.new.slots) c.in-Some.other _
     (most_weaker (nodes_of (inodes_in root c.set_parent.new.slots)) _ _ (counted path)
     (λ number. replaced_counted (count_of c.self.inside.names) _ c.in-Some.other number
     (sym (replaced path) ∙ c.in-Some.is))))

@@ -8,12 +8,10 @@ use Rattle.vt_fs.specs.Trees.Slots.{inodes_in}
 use Rattle.vt_fs.proofs.tree.trees.Tree.set_attr.Goals as goal
 
 pub returns : goal.returns
-returns c =
-    c.set_attr.ensures.set c.self.inside.root
+returns c = c.set_attr.ensures.set c.self.inside.root
     ∙ ap (λ value. with_changed nat_eq (inodes_of value) c.args.object (node_with_attr c.args.attr)) c.self.view_is
 
 pub invariant_of-self : goal.invariant_of-self
-invariant_of-self c =
-    counted_as _ _ _ _ (c.set_attr.ensures.set c.self.inside.root) refl
+invariant_of-self c = counted_as _ _ _ _ (c.set_attr.ensures.set c.self.inside.root) refl
     (change_keeps (inodes_in c.self.inside.root c.self.inside.slots) c.args.object (node_with_attr c.args.attr) _
     (entries-node_with_attr c.args.attr) c.self.invariant)

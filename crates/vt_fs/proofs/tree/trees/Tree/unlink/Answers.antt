@@ -9,11 +9,9 @@ use Rattle.vt_fs.specs.Trees.TreeValue.{tree_of}
 use Rattle.vt_fs.proofs.tree.trees.Tree.unlink.Goals as goal
 
 pub returns : goal.returns
-returns c =
-    c.remove_object.ensures.removed c.self.inside.root
+returns c = c.remove_object.ensures.removed c.self.inside.root
     ∙ ap (λ inodes. without_replaced nat_eq inodes (Some c.args.object))
-    (c.remove_entry.ensures.removed c.self.inside.root)
-    ∙ ap (λ value. without_replaced nat_eq
+    (c.remove_entry.ensures.removed c.self.inside.root) ∙ ap (λ value. without_replaced nat_eq
     (with_changed nat_eq (inodes_of value) c.args.directory (node_without_entry c.args.name.now))
     (Some c.args.object)) c.self.view_is
 

@@ -10,6 +10,5 @@ returns c = c.release.ensures.released c.self.inside.root
     ∙ ap (λ value. unpinned nat_eq (inodes_of value) c.args.object) c.self.view_is
 
 pub invariant_of-self : goal.invariant_of-self
-invariant_of-self c =
-    counted_as _ _ _ _ (c.release.ensures.released c.self.inside.root) refl
+invariant_of-self c = counted_as _ _ _ _ (c.release.ensures.released c.self.inside.root) refl
     (unpin_keeps (inodes_in c.self.inside.root c.self.inside.slots) c.args.object _ c.self.invariant)

@@ -10,13 +10,10 @@ use Rattle.vt_fs.specs.Trees.Slots.{inodes_in, node_at}
 use Rattle.vt_fs.proofs.tree.trees.Tree.write_at.Goals as goal
 
 pub returns-clause-ok : goal.returns-clause-ok
-returns-clause-ok c =
-    on_ok_weaker c.write_bytes.result
-    (λ written. written
+returns-clause-ok c = on_ok_weaker c.write_bytes.result (λ written. written
     ∙ ap (λ value. with_changed nat_eq (inodes_of value) c.args.file
     (node_with_bytes (overwritten c.args.offset c.args.bytes.now
-    (bytes_in ((tree_of value).node c.args.file))))) c.self.view_is)
-    (c.write_bytes.ensures.ok c.self.inside.root)
+    (bytes_in ((tree_of value).node c.args.file))))) c.self.view_is) (c.write_bytes.ensures.ok c.self.inside.root)
 
 -- it is written, or stays as it is
 pub invariant_of-self : goal.invariant_of-self
@@ -26,5 +23,4 @@ invariant_of-self c =
     either_counted c.write_bytes.result c.self.inside.root slots c.write_bytes.new.slots _ _
     (c.write_bytes.ensures.ok c.self.inside.root) c.write_bytes.ensures.err
     (change_keeps (inodes_in c.self.inside.root slots) c.args.file (node_with_bytes bytes) _
-    (entries-node_with_bytes bytes) c.self.invariant)
-    c.self.invariant
+    (entries-node_with_bytes bytes) c.self.invariant) c.self.invariant

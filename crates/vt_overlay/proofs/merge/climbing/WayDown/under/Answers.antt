@@ -8,7 +8,6 @@ overflow_add-result c = let room = c.self.invariant.room in omega (arith, room)
 
 pub invariant_of-result : goal.invariant_of-result
 invariant_of-result c =
-    let many : length c.args.self.now ≡ c.self.inside.len =
-    sym (ap length c.self.view_is)
+    let many : length c.args.self.now ≡ c.self.inside.len = sym (ap length c.self.view_is)
     ∙ length-names_up (tree_of c.self.inside.tree.now) c.self.inside.len c.self.inside.directory in
     omega (arith, many)

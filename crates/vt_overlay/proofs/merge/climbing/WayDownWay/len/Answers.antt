@@ -4,6 +4,5 @@ use Rattle.vt_overlay.proofs.merge.GoingUp.{length-names_up}
 use Rattle.vt_overlay.proofs.merge.climbing.WayDownWay.len.Goals as goal
 
 pub returns : goal.returns
-returns c =
-    sym (length-names_up (tree_of c.self.inside.tree.now) c.self.inside.len c.self.inside.directory)
+returns c = sym (length-names_up (tree_of c.self.inside.tree.now) c.self.inside.len c.self.inside.directory)
     ∙ ap length c.self.view_is

@@ -7,8 +7,7 @@ use Rattle.vt_overlay.proofs.merge.climbing.WayDownWay.name.Goals as goal
 pub overflow_sub-self-inside-2 : goal.overflow_sub-self-inside-2
 overflow_sub-self-inside-2 c =
     let within = c.requires in
-    let many : length c.args.self.now ≡ c.self.inside.len =
-    sym (ap length c.self.view_is)
+    let many : length c.args.self.now ≡ c.self.inside.len = sym (ap length c.self.view_is)
     ∙ length-names_up (tree_of c.self.inside.tree.now) c.self.inside.len c.self.inside.directory in
     omega (arith, within, many)
 
