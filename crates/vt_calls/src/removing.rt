@@ -21,6 +21,6 @@ pub(crate) fn remove(world: &mut World, name: &TaskName, grant: RemoveGrant) -> 
             Ok(Answer::Done)
         }
         RemoveGrant::Directory(removed) => done(world.remove_directory(name, removed)),
-        RemoveGrant::Rename(renamed) => done(world.rename(name, renamed)),
+        RemoveGrant::Rename(renamed) => done(world.rename(name, Box::into_inner(renamed))),
     }
 }

@@ -99,9 +99,10 @@ impl World {
         ensures ok { OnOk result (Becomes self.old name.now (make_permit (Node new)) self.new) }
         ensures err { OnErr result (self.new ≡ self.old) }
     {
+        let node = new.node.into_node(self.alloc);
         self.store
             .plain_mut()
-            .create(new.directory.node, new.name, new.node)?;
+            .create(new.directory.node, new.name, node)?;
         Ok(())
     }
 }

@@ -43,13 +43,14 @@ impl World {
             return Err(AllocError);
         }
         let access = new.access;
+        let made = new.node.into_node(self.alloc);
         let opened = OpenFile {
             location: Location { mount, node: file },
             access,
         };
         let tasks = &mut self.tasks;
         let filesystems = self.store.plain_mut();
-        let number = open_next(tasks, filesystems, name, opened, node, new.name, new.node)?;
+        let number = open_next(tasks, filesystems, name, opened, node, new.name, made)?;
         // They cannot fail: the mount has room for a use more, and a new inode has one use.
         let _ = self.mounts.hold(mount, access.writes());
         let _ = self.store.plain_mut().pin(file);

@@ -3,8 +3,7 @@ ghost use Rattle.std.specs.Prelude.{◌≡◌, IfOk, IfSome, OnErr, OnOk, map, t
 ghost use Rattle.vt_location.specs.Locations.{is_small_node};
 ghost use Rattle.vt_location.specs.Numbers.{mount_number};
 ghost use Rattle.vt_mount.specs.MountsValue.{mounts_in};
-ghost use Rattle.vt_permits.specs.GrantValue.{remove_permit};
-ghost use Rattle.vt_permits.specs.declared.grant.RemoveGrant.TheVariants.{Rename};
+ghost use Rattle.vt_permits.specs.GrantValue.{rename_permit};
 ghost use Rattle.vt_mounting.specs.Detach.Detached.{trees_of_replaced};
 ghost use Rattle.vt_mounting.specs.Detach.Events.{Becomes, Permits};
 
@@ -21,8 +20,8 @@ impl World {
     /// Renames an inode, and replaces what had the new name: rename(2). Mounts on what is replaced are detached with
     /// all their descendants.
     pub fn rename(&mut self, name: &TaskName, renamed: ToRename) -> Result<(), AllocError>
-        requires { Permits self.old name.now (remove_permit (Rename renamed)) }
-        ensures ok { OnOk result (Becomes self.old name.now (remove_permit (Rename renamed)) self.new) }
+        requires { Permits self.old name.now (rename_permit renamed) }
+        ensures ok { OnOk result (Becomes self.old name.now (rename_permit renamed) self.new) }
         ensures err { OnErr result (self.new ≡ self.old) }
     {
         let ToRename {

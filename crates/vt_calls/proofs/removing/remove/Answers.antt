@@ -17,8 +17,8 @@ remove_directory-requires c =
 
 pub rename-requires : goal.rename-requires
 rename-requires c =
-    permitted c.args.world.now c.args.name.now (Remove c.args.grant) (remove_permit (granted.Rename c.in-Rename.renamed))
-    (λ task called. ap remove_permit c.in-Rename.is) tt c.requires
+    rw c.into_inner.ensures (permitted c.args.world.now c.args.name.now (Remove c.args.grant) (remove_permit (granted.Rename c.in-Rename.renamed))
+    (λ task called. ap remove_permit c.in-Rename.is) tt c.requires)
 
 pub returns-in-Unlink : goal.returns-in-Unlink
 returns-in-Unlink c =
@@ -35,4 +35,5 @@ pub returns-in-Rename : goal.returns-in-Rename
 returns-in-Rename c =
     changed c.args.world.now c.args.name.now (Remove c.args.grant) (remove_permit (granted.Rename c.in-Rename.renamed))
     (λ task called. ap remove_permit c.in-Rename.is) _ c.rename.result c.done-in-Rename.result c.done-in-Rename.ensures tt
-    (λ task called. refl) refl c.rename.ensures.ok c.rename.ensures.err
+    (λ task called. refl) refl
+    (rw c.into_inner.ensures at c.rename.ensures.ok) c.rename.ensures.err

@@ -23,9 +23,9 @@ create-requires-clause-free c =
 
 pub create-requires-clause-node : goal.create-requires-clause-node
 create-requires-clause-node c =
-    new_in_directory (the_view c.self.inside) c.self.invariant c.args.name.now c.args.new.directory
+    rw c.into_node-node.ensures (new_in_directory (the_view c.self.inside) c.self.invariant c.args.name.now c.args.new.directory
     c.args.new.name.items c.args.new.node (omega arith) (subst (λ value. Permits value c.args.name.now
-    (make_permit (Node c.args.new))) (sym c.self.view_is) c.requires)
+    (make_permit (Node c.args.new))) (sym c.self.view_is) c.requires))
 
 pub invariant_of-self-2 : goal.invariant_of-self-2
 invariant_of-self-2 c =
@@ -37,7 +37,7 @@ invariant_of-self-2 c =
     c.args.new.node (omega arith) permits c.create.new.self c.in_ok-create.field-0
     (here_is_own c.in_ok-create.field-0 (omega arith) (omega arith) c.in_ok-create.ensures.birth)
     c.in_ok-create.ensures.filesystem (rw c.plain_mut.ensures.value at c.in_ok-create.ensures.number)
-    (rw c.plain_mut.ensures.value at c.in_ok-create.ensures.ok))).held
+    (rw c.into_node-node.ensures at (rw c.plain_mut.ensures.value at c.in_ok-create.ensures.ok)))).held
 
 pub returns-clause-ok : goal.returns-clause-ok
 returns-clause-ok c =
@@ -51,4 +51,4 @@ returns-clause-ok c =
     c.args.new.node (omega arith) permits c.create.new.self c.in_ok-create.field-0
     (here_is_own c.in_ok-create.field-0 (omega arith) (omega arith) c.in_ok-create.ensures.birth)
     c.in_ok-create.ensures.filesystem (rw c.plain_mut.ensures.value at c.in_ok-create.ensures.number)
-    (rw c.plain_mut.ensures.value at c.in_ok-create.ensures.ok))).becomes
+    (rw c.into_node-node.ensures at (rw c.plain_mut.ensures.value at c.in_ok-create.ensures.ok)))).becomes

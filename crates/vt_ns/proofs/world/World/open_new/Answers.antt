@@ -59,10 +59,10 @@ open_next-requires-clause-free c =
 
 pub open_next-requires-clause-node : goal.open_next-requires-clause-node
 open_next-requires-clause-node c =
-    let permits = subst (λ value. Permits value c.args.name.now (descriptor_permit (OpenNew c.args.new)))
+    rw c.into_node-made.ensures (let permits = subst (λ value. Permits value c.args.name.now (descriptor_permit (OpenNew c.args.new)))
     (sym c.self.view_is) c.requires in
     new_in_directory (the_view c.self.inside) c.self.invariant c.args.name.now c.args.new.directory c.args.new.name.items c.args.new.node
-    (access_of c.args.new.access) (omega arith) permits
+    (access_of c.args.new.access) (omega arith) permits)
 
 pub invariant_of-self-2 : goal.invariant_of-self-2
 invariant_of-self-2 c =
@@ -80,7 +80,7 @@ invariant_of-self-2 c =
     (Make (number_of c.args.new.directory.node) c.args.new.name.items n
     (node_seen c.args.new.directory.node.filesystem.count c.args.new.node)))
     c.self.inside.store.plain c.open_next.new.filesystems) (sym number)
-    (rw c.plain_mut-filesystems.ensures.value at c.in_ok-number.ensures.made.made) in
+    (rw c.into_node-made.ensures at (rw c.plain_mut-filesystems.ensures.value at c.in_ok-number.ensures.made.made)) in
     let once = ap (λ filesystem. uses_in ((inodes_at c.open_next.new.filesystems filesystem.count).inode
     (number_of c.unwrap-file.result))) inside
     ∙ used_once (the_view c.self.inside) c.self.invariant c.args.name.now c.args.new.directory c.args.new.name.items
@@ -120,7 +120,7 @@ returns-clause-ok c =
     (Make (number_of c.args.new.directory.node) c.args.new.name.items n
     (node_seen c.args.new.directory.node.filesystem.count c.args.new.node)))
     c.self.inside.store.plain c.open_next.new.filesystems) (sym number)
-    (rw c.plain_mut-filesystems.ensures.value at c.in_ok-number.ensures.made.made) in
+    (rw c.into_node-made.ensures at (rw c.plain_mut-filesystems.ensures.value at c.in_ok-number.ensures.made.made)) in
     let once = ap (λ filesystem. uses_in ((inodes_at c.open_next.new.filesystems filesystem.count).inode
     (number_of c.unwrap-file.result))) inside
     ∙ used_once (the_view c.self.inside) c.self.invariant c.args.name.now c.args.new.directory c.args.new.name.items
