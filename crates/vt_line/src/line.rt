@@ -34,7 +34,8 @@ pub enum Line {
     Ask(Directive),
 }
 
-/// Lets go of a call whose task's name was refused memory. It is kept out of line, so that elsewhere a call is moved as one.
+/// Lets go of a call, where the name of its task was refused memory. Out of line, so that elsewhere a call is moved as a
+/// whole.
 #[inline(never)]
 fn given_up(_call: Call) -> Deny
     ensures { result ≡ denial S5 }
@@ -60,7 +61,11 @@ fn task_call(
     if !is_task(task) {
         return Err(Rule::S1.denial());
     }
-    let call = call(version, alloc, name, words)?;
+    // By `?` it would be moved more often.
+    let call = match call(version, alloc, name, words) {
+        Ok(call) => call,
+        Err(error) => return Err(Deny::from(error)),
+    };
     let Ok(task) = task_name(alloc, task) else {
         return Err(given_up(call));
     };
