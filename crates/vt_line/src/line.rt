@@ -34,8 +34,8 @@ pub enum Line {
     Ask(Directive),
 }
 
-/// Lets go of a call, where the name of its task was refused memory. Out of line, so that elsewhere a call is moved as a
-/// whole.
+/// Lets go of a call, where the name of its task was refused memory. Out of line, so that elsewhere a call is moved
+/// as a whole.
 #[inline(never)]
 fn given_up(_call: Call) -> Deny
     ensures { result ≡ denial S5 }
@@ -101,8 +101,8 @@ fn words_request(version: Version, alloc: Global, mut words: Words<'_>) -> Resul
     Ok(Line::Ask(directive))
 }
 
-/// What a line asks for that has escapes, or bytes that no token has. The texts take much of the stack, so it is no part
-/// of its callers.
+/// What a line asks for that has escapes, or bytes that no token has. Out of line, since the texts take much of the
+/// stack.
 #[inline(never)]
 fn escaped_request(version: Version, alloc: Global, line: &[u8]) -> Result<Line, Deny>
     requires { length line.now ≤ longest_line }

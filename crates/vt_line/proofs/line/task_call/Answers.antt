@@ -1,11 +1,9 @@
-use Rattle.std.proofs.Common.{◌≡◌, ◌∷◌, ◌<◌, Err, length, option_map, sym, ap, ◌∙◌, subst, rules}
-use Rattle.vt_spec.specs.Errors.{denial}
-use Rattle.vt_spec.specs.declared.errors.Rule.TheVariants.{S5}
+use Rattle.std.proofs.Common.{◌∷◌, ◌<◌, Err, length, option_map, sym, ap, ◌∙◌, subst}
 use Rattle.vt_spec.specs.Language.Script.{asked_by, overlays, task_word}
 use Rattle.vt_spec.specs.Language.Script.Request.{Calling}
 use Rattle.vt_spec.specs.Language.Script.Who.{Someone}
 use Rattle.vt_request.specs.Requests.{call_of}
-use Rattle.vt_line.specs.Calls.{IsRequestRead, call_named, refusal}
+use Rattle.vt_line.specs.Calls.{IsRequestRead, call_named}
 use Rattle.vt_line.specs.Versions.{version_of}
 use Rattle.vt_line.proofs.RequestLemmas.{if_some, request-long, request-refused, task-named}
 use Rattle.vt_line.proofs.line.task_call.Goals as goal
