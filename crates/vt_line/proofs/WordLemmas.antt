@@ -1,7 +1,6 @@
 -- Task names and capabilities.
-use Rattle.std.proofs.Common.{◌≡◌, ℕ, zero, suc, Bool, true, false, cond, List, [], ◌∷◌, codes, drop, is_some, IsSome, length, length-drop, Option, Some, None, option_map, refl, sym, ap, ◌∙◌, arith, nat_eq, eqb, leb, ltb, ◌≤◌, ◌<◌, ◌&&◌, subst, lit<}
+use Rattle.std.proofs.Common.{◌≡◌, ℕ, zero, suc, Bool, true, false, cond, List, [], ◌∷◌, codes, drop, is_some, IsSome, length, Option, Some, None, option_map, refl, sym, ap, ◌∙◌, arith, nat_eq, eqb, leb, ltb, ◌≤◌, ◌<◌, ◌&&◌, subst, lit<}
 use Rattle.std.proofs.lemmas.Bool.{ltb-true, and_parts, false≢true}
-use Rattle.std.proofs.lemmas.List.{drop_all}
 use Rattle.std.specs.Bool.{then_some}
 use Rattle.std.specs.List.{list_all}
 use Rattle.std.specs.Str.{bytes_eq, IsUtf8, IsAscii}

@@ -34,7 +34,8 @@ pub enum Line {
     Ask(Directive),
 }
 
-/// Lets go of a call whose task's name was refused memory. It is kept out of line, so that elsewhere a call is moved as one.
+/// Lets go of a call, where the name of its task was refused memory. Out of line, so that elsewhere a call is moved
+/// as a whole.
 #[inline(never)]
 fn given_up(_call: Call) -> Deny
     ensures { result ≡ denial S5 }
@@ -60,7 +61,11 @@ fn task_call(
     if !is_task(task) {
         return Err(Rule::S1.denial());
     }
-    let call = call(version, alloc, name, words)?;
+    // By `?` it would be moved more often.
+    let call = match call(version, alloc, name, words) {
+        Ok(call) => call,
+        Err(error) => return Err(Deny::from(error)),
+    };
     let Ok(task) = task_name(alloc, task) else {
         return Err(given_up(call));
     };
@@ -96,8 +101,8 @@ fn words_request(version: Version, alloc: Global, mut words: Words<'_>) -> Resul
     Ok(Line::Ask(directive))
 }
 
-/// What a line asks for that has escapes, or bytes that no token has. The texts take much of the stack, so it is no part
-/// of its callers.
+/// What a line asks for that has escapes, or bytes that no token has. Out of line, since the texts take much of the
+/// stack.
 #[inline(never)]
 fn escaped_request(version: Version, alloc: Global, line: &[u8]) -> Result<Line, Deny>
     requires { length line.now ≤ longest_line }

@@ -1,18 +1,16 @@
-use Rattle.std.proofs.Common.{◌≡◌, ◌∷◌, ◌<◌, Err, length, option_map, sym, ap, ◌∙◌, subst, rules}
-use Rattle.vt_spec.specs.Errors.{denial}
-use Rattle.vt_spec.specs.declared.errors.Rule.TheVariants.{S5}
+use Rattle.std.proofs.Common.{◌∷◌, ◌<◌, Err, length, option_map, sym, ap, ◌∙◌, subst}
 use Rattle.vt_spec.specs.Language.Script.{asked_by, overlays, task_word}
 use Rattle.vt_spec.specs.Language.Script.Request.{Calling}
 use Rattle.vt_spec.specs.Language.Script.Who.{Someone}
 use Rattle.vt_request.specs.Requests.{call_of}
-use Rattle.vt_line.specs.Calls.{IsRequestRead, call_named, refusal}
+use Rattle.vt_line.specs.Calls.{IsRequestRead, call_named}
 use Rattle.vt_line.specs.Versions.{version_of}
 use Rattle.vt_line.proofs.RequestLemmas.{if_some, request-long, request-refused, task-named}
 use Rattle.vt_line.proofs.line.task_call.Goals as goal
 use Rattle.vt_spec.proofs.Options.{some_from_is_some}
 
-pub returns-in_err-call : goal.returns-in_err-call
-returns-in_err-call c =
+pub returns-in-Err : goal.returns-in-Err
+returns-in-Err c =
     let task = c.args.task.now in
     let name = c.args.name.now in
     let words = c.args.words.now in
@@ -20,9 +18,8 @@ returns-in_err-call c =
     let named = some_from_is_some (task_word task) (sym c.is_task.ensures ∙ c.if-not-is_task.false) in
     let asked = task-named (version_of c.args.version) task name words named.0 c.in-Some.name named.1 c.in-Some.ensures.named in
     let all = asked_by (overlays (version_of c.args.version)) (option_map Someone (task_word task)) (name ∷ words) in
-    let error : c.from_residual.result ≡ Err (refusal c.in_err-call.field-0.0) = search rules in
-    subst (IsRequestRead all) (sym error)
-    (request-refused all named.0 call c.in_err-call.field-0.0 asked c.in_err-call.ensures)
+    subst (λ deny. IsRequestRead all (Err deny)) (sym c.from.ensures)
+    (request-refused all named.0 call c.in-Err.error asked c.in-Err.ensures)
 
 pub returns-in_default-task_name : goal.returns-in_default-task_name
 returns-in_default-task_name c =
@@ -35,10 +32,10 @@ returns-in_default-task_name c =
     let all = asked_by (overlays (version_of c.args.version)) (option_map Someone (task_word task)) (name ∷ words) in
     let long = if_some (λ name. 8 < length name) (task_word task) named.0 named.1 c.in_default-task_name.ensures.memory in
     subst (λ deny. IsRequestRead all (Err deny)) (sym c.given_up.ensures)
-    (request-long all named.0 call (call_of c.in_ok-call.call) asked c.in_ok-call.ensures long)
+    (request-long all named.0 call (call_of c.in-Ok.call) asked c.in-Ok.ensures long)
 
 pub returns : goal.returns
 returns c =
-    task-named (version_of c.args.version) c.args.task.now c.args.name.now c.args.words.now c.in-Ok.task c.in-Some.name
-    c.in-Ok.ensures.value c.in-Some.ensures.named
-    ∙ ap (option_map (Calling c.in-Ok.task)) c.in_ok-call.ensures
+    task-named (version_of c.args.version) c.args.task.now c.args.name.now c.args.words.now c.in-Ok-task_name.task c.in-Some.name
+    c.in-Ok-task_name.ensures.value c.in-Some.ensures.named
+    ∙ ap (option_map (Calling c.in-Ok-task_name.task)) c.in-Ok.ensures

@@ -1,4 +1,4 @@
-use Rattle.std.proofs.Common.{◌≡◌, false, sym, ◌∙◌, rules}
+use Rattle.std.proofs.Common.{rules}
 use Rattle.vt_spec.specs.Language.Script.{overlays, request_of}
 use Rattle.vt_line.specs.Lines.{IsSpoken}
 use Rattle.vt_line.specs.Versions.{version_of}
