@@ -20,8 +20,7 @@ use Rattle.vt_line.specs.Names.{pair_call, path_call}
 
 -- Words that are read alone, and then made a call
 then_some-map : {A B C : Type 0} (f : B → C) (a : Option A) (next : A → Option B) (next' : A → Option C)
-    → ((x : A) → next' x ≡ option_map f (next x))
-    → then_some a next' ≡ option_map f (then_some a next)
+    → ((x : A) → next' x ≡ option_map f (next x)) → then_some a next' ≡ option_map f (then_some a next)
 then_some-map f None next next' e = refl
 then_some-map f (Some a) next next' e = e a
 
@@ -30,8 +29,7 @@ no_more-map : {A B : Type 0} (f : A → B) (a : A) (words : List (List ℕ))
 no_more-map f a [] = refl
 no_more-map f a (word ∷ rest) = refl
 
-word_then-map :
-    {A B C : Type 0} (f : B → C) (read : List ℕ → Option A) (next : A → List (List ℕ) → Option B)
+word_then-map : {A B C : Type 0} (f : B → C) (read : List ℕ → Option A) (next : A → List (List ℕ) → Option B)
     (next' : A → List (List ℕ) → Option C) (words : List (List ℕ)) →
     ((x : A) (rest : List (List ℕ)) → next' x rest ≡ option_map f (next x rest)) →
     word_then read next' words ≡ option_map f (word_then read next words)
@@ -52,8 +50,7 @@ two_paths-pair call words =
     word_then-map (with_pair call) path_word (λ first. word_then path_word (λ second. no_more (first, second)))
     (λ first. word_then path_word (λ second. no_more (call first second))) words
     (λ first rest. word_then-map (with_pair call) path_word (λ second. no_more (first, second))
-    (λ second. no_more (call first second)) rest
-    (λ second rest. no_more-map (with_pair call) (first, second) rest))
+    (λ second. no_more (call first second)) rest (λ second rest. no_more-map (with_pair call) (first, second) rest))
 
 some_keeps : {A : Type 0} (call : A → Call) (paths : Option A) → ((x : A) → KeepsWords (call x)) → IsSome paths
     → IsSomeAnd (option_map call paths) KeepsWords
@@ -140,8 +137,7 @@ two_unread : (call : List ℕ → List ℕ → Call) → ((a b : List ℕ) → K
     → ArePathsRead {B = Vec ℕ × Vec ℕ} (λ paths. (paths.0.items, paths.1.items)) (path_pair words) (Err e)
     → IsCallRead asked (Err e)
 two_unread call keeps words asked is Grammar none = is ∙ ap (option_map (with_pair call)) none
-two_unread call keeps words asked is Memory some =
-    subst (λ asked. IsSomeAnd asked KeepsWords) (sym is)
+two_unread call keeps words asked is Memory some = subst (λ asked. IsSomeAnd asked KeepsWords) (sym is)
     (some_keeps (with_pair call) (path_pair words) (λ pair. keeps pair.0 pair.1) some)
 
 pair_unread : (version : Version) (name : PairCall) (words : List (List ℕ)) (e : ReadError) →
@@ -162,22 +158,19 @@ path_refused version name of words {read} e is error paths =
 pub pair_refused : (version : Version) (name : CallName) (of : PairCall) (words : List (List ℕ)) {read : Result KeptCall ReadError}
     (e : ReadError) →
     name ≡ Pair of → read ≡ Err e → ArePathsRead {B = Vec ℕ × Vec ℕ} (λ paths. (paths.0.items, paths.1.items))
-    (path_pair words) (Err e) →
-    IsCallRead (call_named version name words) read
+    (path_pair words) (Err e) → IsCallRead (call_named version name words) read
 pair_refused version name of words {read} e is error paths =
     subst (λ read. IsCallRead (call_named version name words) read) (sym error)
     (subst (λ name. IsCallRead (call_named version name words) (Err e)) (sym is) (pair_unread version of words e paths))
 
 -- and those that were
 pub path_asked : (version : Version) (name : CallName) (of : PathCall) (words : List (List ℕ)) (path : List ℕ) → name ≡ Path of
-    → lone_path words ≡ Some path →
-    call_named version name words ≡ Some (path_call of path)
+    → lone_path words ≡ Some path → call_named version name words ≡ Some (path_call of path)
 path_asked version name of words path is e =
     ap (λ name. call_named version name words) is ∙ path_named version of words ∙ ap (option_map (path_call of)) e
 
 pub pair_asked : (version : Version) (name : CallName) (of : PairCall) (words : List (List ℕ)) (a b : List ℕ) → name ≡ Pair of
-    → path_pair words ≡ Some (a, b) →
-    call_named version name words ≡ Some (pair_call of a b)
+    → path_pair words ≡ Some (a, b) → call_named version name words ≡ Some (pair_call of a b)
 pair_asked version name of words a b is e =
     ap (λ name. call_named version name words) is ∙ pair_named version of words ∙ ap (option_map (with_pair (pair_call of))) e
 
@@ -200,10 +193,8 @@ pivot_refused version words {read} e is error paths =
     (ap (λ version. call_named version PivotRoot words) is ∙ pivot_named words) e paths)
 
 pub pivot_asked : (version : Version) (words : List (List ℕ)) (new put : List ℕ) → version ≡ Two
-    → path_pair words ≡ Some (new, put)
-    → call_named version PivotRoot words ≡ Some (spec.Call.PivotRoot new put)
-pivot_asked version words new put is e =
-    ap (λ version. call_named version PivotRoot words) is ∙ pivot_named words
+    → path_pair words ≡ Some (new, put) → call_named version PivotRoot words ≡ Some (spec.Call.PivotRoot new put)
+pivot_asked version words new put is e = ap (λ version. call_named version PivotRoot words) is ∙ pivot_named words
     ∙ ap (option_map (with_pair spec.Call.PivotRoot)) e
 
 -- each version has the same calls of paths
@@ -211,14 +202,12 @@ pub path_every : (version : Version) (name : CallName) (of : PathCall) (words : 
     → name ≡ Path of → IsCallRead (call_named One (Path of) words) read → IsCallRead (call_named version name words) read
 path_every version name of words read is known =
     let same : call_named One (Path of) words ≡ call_named version name words =
-    path_named One of words ∙ sym (path_named version of words)
-    ∙ ap (λ name. call_named version name words) (sym is) in
+    path_named One of words ∙ sym (path_named version of words) ∙ ap (λ name. call_named version name words) (sym is) in
     subst (λ asked. IsCallRead asked read) same known
 
 pub pair_every : (version : Version) (name : CallName) (of : PairCall) (words : List (List ℕ)) (read : Result KeptCall ReadError)
     → name ≡ Pair of → IsCallRead (call_named One (Pair of) words) read → IsCallRead (call_named version name words) read
 pair_every version name of words read is known =
     let same : call_named One (Pair of) words ≡ call_named version name words =
-    pair_named One of words ∙ sym (pair_named version of words)
-    ∙ ap (λ name. call_named version name words) (sym is) in
+    pair_named One of words ∙ sym (pair_named version of words) ∙ ap (λ name. call_named version name words) (sym is) in
     subst (λ asked. IsCallRead asked read) same known

@@ -34,8 +34,7 @@ digit-value true v d e f = cc
 digit-value false v d e f = cc
 
 -- what a number that was read says of its text
-all_by_some :
-    (a b c d : Bool) (v n : ℕ) → cond (a && b && c && d) (Some v) None ≡ Some n
+all_by_some : (a b c d : Bool) (v n : ℕ) → cond (a && b && c && d) (Some v) None ≡ Some n
     → (a ≡ true) × (c ≡ true) × (d ≡ true) × (v ≡ n)
 all_by_some true true true true v n e = (refl, refl, refl, cc)
 all_by_some false b c d v n e = cc
@@ -51,8 +50,7 @@ positive byte n bytes digits nonzero e =
     let digit : 48 ≤ byte = grind (arith, nat_tests) in
     omega arith
 
-range_by :
-    (zero : Bool) (byte n : ℕ) (bytes : List ℕ) → zero ≡ eqb byte 48
+range_by : (zero : Bool) (byte n : ℕ) (bytes : List ℕ) → zero ≡ eqb byte 48
     → cond zero None (number_in 10 2 64 (byte ∷ bytes)) ≡ Some n → (1 ≤ n) × (n ≤ 64)
 range_by true byte n bytes is_zero e = cc
 range_by false byte n bytes is_zero e =

@@ -93,8 +93,7 @@ printed-escape done plain others rest text after byte so_far whole all first oth
     let stop : is_plain byte ≡ false = ap (λ now. is_plain (slice_index now 0)) (sym first) ∙ other in
     let next : flat_map printed_byte others ≡ escape byte ++ flat_map printed_byte after =
     ap (flat_map printed_byte) first ∙ ap (λ now. now ++ flat_map printed_byte after) (printed_byte-other byte stop) in
-    append_assoc done plain (escape byte ++ flat_map printed_byte after)
-    ∙ ap (λ now. done ++ (plain ++ now)) (sym next)
+    append_assoc done plain (escape byte ++ flat_map printed_byte after) ∙ ap (λ now. done ++ (plain ++ now)) (sym next)
     ∙ printed-front done plain others rest text so_far whole all
 
 -- the names of an answer

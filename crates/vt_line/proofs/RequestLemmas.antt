@@ -71,26 +71,21 @@ module _ (version : Version) (words : List (List ℕ)) (many : 4 < length words)
       (word_then-stops 0 path_word (λ path. no_more (call path)) (λ path. no_more-stops (call path))) (lit≤ tt)
 
   a_pair : (call : List ℕ → List ℕ → Call) → two_paths call words ≡ None
-  a_pair call =
-      by 2 (two_paths call) (word_then-stops 1 path_word
+  a_pair call = by 2 (two_paths call) (word_then-stops 1 path_word
       (λ first. word_then path_word (λ second. no_more (call first second)))
       (λ first. word_then-stops 0 path_word (λ second. no_more (call first second))
       (λ second. no_more-stops (call first second)))) (lit≤ tt)
 
   mounted : (kind : List ℕ) (rest : List (List ℕ)) → 3 < length rest → mount_words version kind rest ≡ None
-  mounted kind rest h =
-      neither (bytes_eq kind (codes "plain")) _ _
+  mounted kind rest h = neither (bytes_eq kind (codes "plain")) _ _
       (word_then-stops 1 path_word (λ path. flags_or_plain version (λ given. MountPlain path given))
       (λ path. may_have-stops (flags_word version) (λ given. MountPlain path (unwrap_or given plain_flags))) rest
-      (omega arith))
-      (neither (bytes_eq kind (codes "overlay")) _ _
-      (word_then-stops 2 path_word (λ path.
+      (omega arith)) (neither (bytes_eq kind (codes "overlay")) _ _ (word_then-stops 2 path_word (λ path.
       word_then bytes_word (λ options. flags_or_plain version (λ given. MountOverlay path (options_of options) given)))
       (λ path. word_then-stops 1 bytes_word
       (λ options. flags_or_plain version (λ given. MountOverlay path (options_of options) given))
       (λ options. may_have-stops (flags_word version)
-      (λ given. MountOverlay path (options_of options) (unwrap_or given plain_flags)))) rest (omega arith))
-      refl)
+      (λ given. MountOverlay path (options_of options) (unwrap_or given plain_flags)))) rest (omega arith)) refl)
 
   second-none : (version : Version) (name : List ℕ) → second_words version name words ≡ None
   second-none One name = refl
@@ -99,32 +94,25 @@ module _ (version : Version) (words : List (List ℕ)) (many : 4 < length words)
   mounting-none : (name : List ℕ) → mounting_words version name words ≡ None
   mounting-none name =
       neither (bytes_eq name (codes "mount")) _ _ (by 4 _ (word_then-stops 3 bytes_word _ mounted) (lit≤ tt))
-      (neither (bytes_eq name (codes "bind")) _ _ (a_pair _)
-      (neither (bytes_eq name (codes "rbind")) _ _ (a_pair _)
-      (neither (bytes_eq name (codes "move")) _ _ (a_pair _)
-      (neither (bytes_eq name (codes "umount")) _ _ (one_path _)
-      (neither (bytes_eq name (codes "lazy")) _ _ (one_path _)
-      (neither (bytes_eq name (codes "remount")) _ _
+      (neither (bytes_eq name (codes "bind")) _ _ (a_pair _) (neither (bytes_eq name (codes "rbind")) _ _ (a_pair _)
+      (neither (bytes_eq name (codes "move")) _ _ (a_pair _) (neither (bytes_eq name (codes "umount")) _ _ (one_path _)
+      (neither (bytes_eq name (codes "lazy")) _ _ (one_path _) (neither (bytes_eq name (codes "remount")) _ _
       (by 2 _ (word_then-stops 1 path_word _ (λ path. word_then-stops 0 (flags_word version) _ (λ given. no_more-stops _)))
-      (lit≤ tt))
-      (neither (bytes_eq name (codes "type")) _ _
+      (lit≤ tt)) (neither (bytes_eq name (codes "type")) _ _
       (by 2 _ (word_then-stops 1 path_word _ (λ path. word_then-stops 0 type_word _ (λ word. no_more-stops _)))
-      (lit≤ tt))
-      (neither (bytes_eq name (codes "rtype")) _ _
+      (lit≤ tt)) (neither (bytes_eq name (codes "rtype")) _ _
       (by 2 _ (word_then-stops 1 path_word _ (λ path. word_then-stops 0 type_word _ (λ word. no_more-stops _)))
       (lit≤ tt))
       (neither (bytes_eq name (codes "mounts")) _ _ (by 0 _ (no_more-stops _) (lit≤ tt)) (second-none version name))))))))))
 
   forked : Stops 4 fork_words
   forked [] h = absurd (omega arith)
-  forked (word ∷ rest) h =
-      word_then-stops 3 identity_word _
+  forked (word ∷ rest) h = word_then-stops 3 identity_word _
       (λ uid. word_then-stops 2 identity_word _ (λ gid. word_then-stops 1 groups_word _ (λ groups.
       word_then-stops 0 capabilities_word _ (λ capabilities. no_more-stops _)))) (word ∷ rest) h
 
   task-none : (name : List ℕ) → task_words version name words ≡ None
-  task-none name =
-      neither (bytes_eq name (codes "chdir")) _ _ (one_path _)
+  task-none name = neither (bytes_eq name (codes "chdir")) _ _ (one_path _)
       (neither (bytes_eq name (codes "chroot")) _ _ (one_path _)
       (neither (bytes_eq name (codes "umask")) _ _ (by 1 _ (word_then-stops 0 mode_word _ (λ mode. no_more-stops _)) (lit≤ tt))
       (neither (bytes_eq name (codes "drop")) _ _ (by 1 _ (word_then-stops 0 capabilities_word _ (λ which. no_more-stops _)) (lit≤ tt))
@@ -141,11 +129,9 @@ module _ (version : Version) (words : List (List ℕ)) (many : 4 < length words)
       (neither (bytes_eq word (codes "excl")) _ _ (word_then-stops 0 mode_word _ (λ mode. no_more-stops _) rest (omega arith)) refl)
 
   descriptor-none : (name : List ℕ) → descriptor_words version name words ≡ None
-  descriptor-none name =
-      neither (bytes_eq name (codes "open")) _ _
+  descriptor-none name = neither (bytes_eq name (codes "open")) _ _
       (by 4 _ (word_then-stops 3 path_word _ (λ path. word_then-stops 2 access_word _
-      (λ access rest h. ap (option_map _) (created rest h)))) (lit≤ tt))
-      (neither (bytes_eq name (codes "pread")) _ _
+      (λ access rest h. ap (option_map _) (created rest h)))) (lit≤ tt)) (neither (bytes_eq name (codes "pread")) _ _
       (by 3 _ (word_then-stops 2 descriptor_word _ (λ number. word_then-stops 1 offset_word _ (λ offset.
       word_then-stops 0 offset_word _ (λ size. no_more-stops _)))) (lit≤ tt))
       (neither (bytes_eq name (codes "pwrite")) _ _
@@ -160,21 +146,17 @@ module _ (version : Version) (words : List (List ℕ)) (many : 4 < length words)
   chown-stops path (Some uid) gid rest h = no_more-stops _ rest h
 
   attribute-none : (name : List ℕ) → attribute_words version name words ≡ None
-  attribute-none name =
-      neither (bytes_eq name (codes "chmod")) _ _
+  attribute-none name = neither (bytes_eq name (codes "chmod")) _ _
       (by 2 _ (word_then-stops 1 path_word _ (λ path. word_then-stops 0 mode_word _ (λ mode. no_more-stops _)))
-      (lit≤ tt))
-      (neither (bytes_eq name (codes "chown")) _ _
+      (lit≤ tt)) (neither (bytes_eq name (codes "chown")) _ _
       (by 3 _ (word_then-stops 2 path_word _ (λ path. word_then-stops 1 kept_or_identity _ (λ uid.
       word_then-stops 0 kept_or_identity _ (λ gid. chown-stops path uid gid)))) (lit≤ tt))
       (neither (bytes_eq name (codes "opaque")) _ _
       (by 2 _ (word_then-stops 1 path_word _ (λ path. word_then-stops 0 yes_or_no_word _ (λ mark. no_more-stops _)))
-      (lit≤ tt))
-      (descriptor-none name)))
+      (lit≤ tt)) (descriptor-none name)))
 
   naming-none : (name : List ℕ) → naming_words version name words ≡ None
-  naming-none name =
-      neither (bytes_eq name (codes "mkdir")) _ _
+  naming-none name = neither (bytes_eq name (codes "mkdir")) _ _
       (by 2 _ (word_then-stops 1 path_word _ (λ path. may_have-stops mode_word (asked.Call.Mkdir path))) (lit≤ tt))
       (neither (bytes_eq name (codes "symlink")) _ _ (a_pair asked.Call.SymlinkAt)
       (neither (bytes_eq name (codes "whiteout")) _ _ (one_path asked.Call.MakeWhiteout)
@@ -185,16 +167,14 @@ module _ (version : Version) (words : List (List ℕ)) (many : 4 < length words)
 
   -- no call has more than four words
   call-none : (name : List ℕ) → call_words version name words ≡ None
-  call-none name =
-      neither (bytes_eq name (codes "ls")) _ _ (one_path asked.Call.Ls)
+  call-none name = neither (bytes_eq name (codes "ls")) _ _ (one_path asked.Call.Ls)
       (neither (bytes_eq name (codes "stat")) _ _ (one_path asked.Call.Stat)
       (neither (bytes_eq name (codes "lstat")) _ _ (one_path asked.Call.Lstat)
       (neither (bytes_eq name (codes "readlink")) _ _ (one_path asked.Call.Readlink)
       (neither (bytes_eq name (codes "read")) _ _ (one_path asked.Call.Read)
       (neither (bytes_eq name (codes "write")) _ _
       (by 2 _ (word_then-stops 1 path_word _ (λ path. word_then-stops 0 bytes_word _ (λ bytes. no_more-stops _)))
-      (lit≤ tt))
-      (neither (bytes_eq name (codes "exec")) _ _ (one_path asked.Call.Exec) (naming-none name)))))))
+      (lit≤ tt)) (neither (bytes_eq name (codes "exec")) _ _ (one_path asked.Call.Exec) (naming-none name)))))))
 
 module _ (version : Version) where
   -- Whose line it is
@@ -272,8 +252,7 @@ module _ (version : Version) where
       → task_word first ≡ Some task → second ≡ name_text name
       → asked_by (overlays version) (option_map Someone (task_word first)) (second ∷ words)
       ≡ option_map (Calling task) (call_named version name words)
-  task-named first second words task name e f =
-      someone-asked (task_word first) (second ∷ words)
+  task-named first second words task name e f = someone-asked (task_word first) (second ∷ words)
       ∙ ap (λ task. then_some task (λ task. call_asked (overlays version) task (second ∷ words))) e
       ∙ ap (λ second. call_asked (overlays version) task (second ∷ words)) f ∙ call-asked task name words
 
@@ -332,8 +311,7 @@ some_takes task None keeps = keeps
 some_takes task (Some call) keeps = inl keeps
 
 pub request-long : (asked : Option Request) (task : List ℕ) (call : Option Call) (c : Call)
-    → asked ≡ option_map (Calling task) call → call ≡ Some c
-    → 8 < length task → IsRequestRead asked (Err (denial S5))
+    → asked ≡ option_map (Calling task) call → call ≡ Some c → 8 < length task → IsRequestRead asked (Err (denial S5))
 request-long asked task call c is there long =
     inr (refl, subst (λ asked. IsSomeAnd asked TakesMemory) (sym (is ∙ ap (option_map (Calling task)) there)) (inr long))
 
@@ -341,8 +319,7 @@ pub if_some : {A : Type 0} (P : A → Type 0) (a : Option A) (x : A) → a ≡ S
 if_some P a x e h = subst (λ a. IfSome a P) e h
 
 pub request-refused : (asked : Option Request) (task : List ℕ) (call : Option Call) (e : ReadError)
-    → asked ≡ option_map (Calling task) call
-    → IsCallRead call (Err e) → IsRequestRead asked (Err (refusal e))
+    → asked ≡ option_map (Calling task) call → IsCallRead call (Err e) → IsRequestRead asked (Err (refusal e))
 request-refused asked task call Grammar is none = inl (refl, is ∙ ap (option_map (Calling task)) none)
 request-refused asked task call Memory is some =
     inr (refl, subst (λ asked. IsSomeAnd asked TakesMemory) (sym is) (some_takes task call some))
@@ -396,8 +373,7 @@ grammar-refusal asked (Err deny) (inr memory) = (
 )
 
 pub read-grammar : (text : List ℕ) (asked : Option Request) (r : Result Line Deny) → IsSpoken text
-    → IsRequestRead asked r
-    → (r ≡ Err (denial S1) → (longest_line < length text) ⊎ (IsSpoken text × (asked ≡ None)))
+    → IsRequestRead asked r → (r ≡ Err (denial S1) → (longest_line < length text) ⊎ (IsSpoken text × (asked ≡ None)))
     × ((longest_line < length text) ⊎ (IsSpoken text × (asked ≡ None)) → r ≡ Err (denial S1))
 read-grammar text asked r spoken read =
     let ways = grammar-refusal asked r read in (

@@ -41,8 +41,7 @@ YieldsList-skipped {steps = steps} {v = v} inner all road e count =
 pub each_of-more :
     {A B : Type 0} (read : A → Option B) (xs : List A) (n : ℕ) (x : A) → (n < length xs) × (x ≡ get_or xs n x)
     → each_of read (drop n xs) ≡ with_first (read x) (each_of read (drop (n + 1) xs))
-each_of-more read xs n x h =
-    at_drop_more (each_of read) xs n x h.0
+each_of-more read xs n x h = at_drop_more (each_of read) xs n x h.0
     ∙ ap (λ first. with_first (read first) (each_of read (drop (n + 1) xs))) (sym h.1)
 
 pub each_of-end : {A B : Type 0} (read : A → Option B) (xs : List A) (n : ℕ) → length xs ≤ n
@@ -50,8 +49,7 @@ pub each_of-end : {A B : Type 0} (read : A → Option B) (xs : List A) (n : ℕ)
 each_of-end read xs n h = at_drop_all (each_of read) xs n h
 
 pub each_of-none : {A B : Type 0} (read : A → Option B) (xs : List A) (n : ℕ) (x : A)
-    → (n < length xs) × (x ≡ get_or xs n x) → read x ≡ None
-    → each_of read (drop n xs) ≡ None
+    → (n < length xs) × (x ≡ get_or xs n x) → read x ≡ None → each_of read (drop n xs) ≡ None
 each_of-none read xs n x h e = each_of-more read xs n x h
     ∙ ap (λ first. with_first first (each_of read (drop (n + 1) xs))) e
 
@@ -84,8 +82,7 @@ each_of-length read (x ∷ xs) ys e =
     ap length parts.3 ∙ ap suc (each_of-length read xs parts.1 parts.2)
 
 pub long_enough : {A B : Type 0} (read : A → Option B) (xs : List A) (most : ℕ) (all : Option (List B))
-    → all ≡ each_of read xs → most < length xs
-    → IfSome all (λ all. most < length all)
+    → all ≡ each_of read xs → most < length xs → IfSome all (λ all. most < length all)
 long_enough read xs most None e h = tt
 long_enough read xs most (Some all) e h = let same = each_of-length read xs all (sym e) in omega arith
 

@@ -27,8 +27,7 @@ with_byte-cond false byte texts = with_byte-onto_first byte texts
 
 pub parts-split : (separator : ℕ) (text : List ℕ) → parts separator text ≡ slice_split (λ byte. eqb byte separator) text
 parts-split separator [] = refl
-parts-split separator (byte ∷ bytes) =
-    with_byte-cond (eqb byte separator) byte (parts separator bytes)
+parts-split separator (byte ∷ bytes) = with_byte-cond (eqb byte separator) byte (parts separator bytes)
     ∙ ap (λ rest. cond (eqb byte separator) ([] ∷ rest) (onto_first byte rest)) (parts-split separator bytes)
 
 -- a line is silent by its first byte that is no space
@@ -48,8 +47,7 @@ find-cons false byte rest = refl
 pub is_silent-first : (line : List ℕ)
     → is_silent line ≡ option_map_or (λ first. eqb first 35) (find (λ byte. not (eqb byte 32)) line) true
 is_silent-first [] = refl
-is_silent-first (byte ∷ bytes) =
-    silent_after (eqb byte 32) byte (parts 32 bytes)
+is_silent-first (byte ∷ bytes) = silent_after (eqb byte 32) byte (parts 32 bytes)
     ∙ ap (λ rest. cond (eqb byte 32) rest (eqb byte 35)) (is_silent-first bytes)
     ∙ find-cons (eqb byte 32) byte (find (λ byte. not (eqb byte 32)) bytes)
 
@@ -70,13 +68,11 @@ no_bytes (byte ∷ bytes) = grind (arith, nat_tests)
 filter-same : (parts : List (List ℕ))
     → filter (λ part. not (eqb (length part) 0)) parts ≡ filter (λ part. not (is_empty part)) parts
 filter-same [] = refl
-filter-same (part ∷ rest) =
-    ap (λ empty. cond (not empty) (part ∷ filter (λ part. not (eqb (length part) 0)) rest)
+filter-same (part ∷ rest) = ap (λ empty. cond (not empty) (part ∷ filter (λ part. not (eqb (length part) 0)) rest)
     (filter (λ part. not (eqb (length part) 0)) rest)) (no_bytes part)
     ∙ ap (λ kept. cond (not (is_empty part)) (part ∷ kept) kept) (filter-same rest)
 
-pub YieldsList-tokens :
-    {S A : Type 0} {steps : S → Option A → S → Type 0} {v : A → List ℕ} {s : S} (line : List ℕ)
+pub YieldsList-tokens : {S A : Type 0} {steps : S → Option A → S → Type 0} {v : A → List ℕ} {s : S} (line : List ℕ)
     → YieldsList steps v s (filter (λ part. not (eqb (length part) 0)) (slice_split (λ byte. eqb byte 32) line))
     → YieldsList steps v s (raw_tokens line)
 YieldsList-tokens line road = rw (← filter-same (parts 32 line), parts-split) road
@@ -110,8 +106,7 @@ abbrev pub all_plain : List ℕ → Bool
 all_plain text = list_all is_plain text
 
 plain-step : (plain escape : Bool) (byte : ℕ) (bytes : List ℕ) → plain ≡ true → escape ≡ false →
-    spelled Between bytes ≡ Some bytes →
-    with_completed (cond plain (Some byte) None)
+    spelled Between bytes ≡ Some bytes → with_completed (cond plain (Some byte) None)
     (spelled (cond escape AfterBackslash (cond plain Between Failed)) bytes) ≡ Some (byte ∷ bytes)
 plain-step true false byte bytes e f rest = ap (option_map (λ bytes. byte ∷ bytes)) rest
 plain-step true true byte bytes e f rest = cc
@@ -138,8 +133,7 @@ plain-text token e = by_test (bytes_eq token (codes "\\e")) refl where
       absurd (false≢true (subst (λ text. all_plain text ≡ true) ((bytes_eq-Decides token (codes "\\e")).0 f) e))
 
 plain-parts : (is_space : Bool) (byte : ℕ) (texts : List (List ℕ)) → list_all all_plain texts ≡ true
-    → (is_space || is_plain byte) ≡ true
-    → list_all all_plain (with_byte is_space byte texts) ≡ true
+    → (is_space || is_plain byte) ≡ true → list_all all_plain (with_byte is_space byte texts) ≡ true
 plain-parts true byte texts e f = e
 plain-parts false byte [] e f = ap (λ plain. (plain && true) && true) f
 plain-parts false byte (part ∷ rest) e f =
@@ -162,8 +156,7 @@ plain-texts ([] ∷ rest) e = plain-texts rest e
 plain-texts ((byte ∷ bytes) ∷ rest) e =
     let halves = and_parts (all_plain (byte ∷ bytes)) (list_all all_plain rest) e in
     ap (λ first. with_first first (each_of token_text (filter (λ part. not (is_empty part)) rest)))
-    (plain-text (byte ∷ bytes) halves.0)
-    ∙ ap (with_first (Some (byte ∷ bytes))) (plain-texts rest halves.1)
+    (plain-text (byte ∷ bytes) halves.0) ∙ ap (with_first (Some (byte ∷ bytes))) (plain-texts rest halves.1)
 
 pub plain-tokens : (line : List ℕ) → list_all (λ byte. eqb byte 32 || is_plain byte) line ≡ true
     → each_of token_text (raw_tokens line) ≡ Some (raw_tokens line)

@@ -71,8 +71,7 @@ these-united (Some sets) = ap (λ bits. Some (These bits)) (sym (or_zero_l (unio
 
 pub capabilities_word-names : (text : List ℕ) → bytes_eq text (codes "-") ≡ false → bytes_eq text (codes "*") ≡ false
     → capabilities_word text ≡ option_map These (united 0 (each_of capability_named (parts 44 text)))
-capabilities_word-names text none held =
-    rw none (rw held (these-united (each_of capability_named (parts 44 text))))
+capabilities_word-names text none held = rw none (rw held (these-united (each_of capability_named (parts 44 text))))
 
 -- The names of capabilities are those of the table.
 eqb_comm : (a b : ℕ) → eqb a b ≡ eqb b a
@@ -153,8 +152,7 @@ groups_word-many text some many =
     groups_word-parts text some ∙ ap (λ test. cond test (each_of identity_word (parts 44 text)) None) test
 
 pub groups_word-wrong : (text : List ℕ) → bytes_eq text (codes "-") ≡ false → each_of identity_word (parts 44 text) ≡ None → groups_word text ≡ None
-groups_word-wrong text some wrong =
-    groups_word-parts text some
+groups_word-wrong text some wrong = groups_word-parts text some
     ∙ cond-None (leb (length (parts 44 text)) 32) (each_of identity_word (parts 44 text)) wrong
 
 -- words end where none is left

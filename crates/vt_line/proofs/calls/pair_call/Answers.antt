@@ -12,5 +12,4 @@ returns-in_err-first c =
 pub returns : goal.returns
 returns c =
     pair_asked One (Pair c.args.name) c.args.name c.args.words.now c.in_ok-first.first.items c.in_ok-first.second.items refl
-    c.in_ok-first.ensures
-    ∙ ap Some (sym c.call.ensures)
+    c.in_ok-first.ensures ∙ ap Some (sym c.call.ensures)

@@ -7,12 +7,11 @@ use Rattle.vt_line.proofs.RequestLemmas.{request-few}
 use Rattle.vt_line.proofs.line.escaped_request.Goals as goal
 
 pub returns-in_default : goal.returns-in_default
-returns-in_default c =
-    inl (
-      c.denial.ensures,
-      request-few (version_of c.args.version) c.args.line.now ∙ ap (λ texts. then_some texts (request_of_texts (overlays (version_of c.args.version))))
-          (sym c.from_line.ensures ∙ c.in_default.is),
-    )
+returns-in_default c = inl (
+  c.denial.ensures,
+  request-few (version_of c.args.version) c.args.line.now ∙ ap (λ texts. then_some texts (request_of_texts (overlays (version_of c.args.version))))
+      (sym c.from_line.ensures ∙ c.in_default.is),
+)
 
 pub returns : goal.returns
 returns c =

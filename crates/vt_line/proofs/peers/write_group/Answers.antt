@@ -27,6 +27,5 @@ returns-in_err-write_members g c =
     let front : WroteFront g.W.Sink c.args.sink.now c.write_members.new.sink (spaced words) =
     WroteFront-part g.W.Sink after before c.in_err-write_members.ensures.printed
     (ap (λ members. (group ++ master) ++ ((32 ∷ printed_members (map mount_place_of members)) ++ after))
-    c.deref.ensures.value
-    ∙ append_assoc group master (members ++ after)) in
+    c.deref.ensures.value ∙ append_assoc group master (members ++ after)) in
     search rules

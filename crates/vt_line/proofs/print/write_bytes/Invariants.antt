@@ -5,8 +5,7 @@ use Rattle.vt_io.specs.Sink.{Wrote}
 use Rattle.vt_line.proofs.print.write_bytes.Given as goal
 
 abbrev pub invariant-loop-byte : goal.invariant-loop-byte
-invariant-loop-byte g l =
-    (done : List ℕ) × Wrote g.W.Sink l.initial.sink l.sink done
+invariant-loop-byte g l = (done : List ℕ) × Wrote g.W.Sink l.initial.sink l.sink done
     × (done ++ flat_map printed_byte l.rest ≡ flat_map printed_byte l.text)
 
 abbrev pub decreases-loop-byte : goal.decreases-loop-byte

@@ -12,8 +12,7 @@ returns-in_err-write_owner g c =
     let line = c.args.line.now in
     let further = spaced (further_words line.kind (stat_line_of line)) in
     let text : spaced (stat_words line.kind (stat_line_of line)) ≡ spaced (owner_words c.kind_text.result.now line.attr)
-    ++ further =
-    stat_words-further line.kind (stat_line_of line)
+    ++ further = stat_words-further line.kind (stat_line_of line)
     ∙ ap (λ kind. spaced (owner_words kind line.attr) ++ further) (sym c.kind_text.ensures) in
     let front : WroteFront g.W.Sink c.args.sink.now c.write_owner.new.sink
     (spaced (stat_words line.kind (stat_line_of line))) =
@@ -25,7 +24,6 @@ returns g c =
     let line = c.args.line.now in
     let further = spaced (further_words line.kind (stat_line_of line)) in
     let text : spaced (stat_words line.kind (stat_line_of line)) ≡ spaced (owner_words c.kind_text.result.now line.attr)
-    ++ further =
-    stat_words-further line.kind (stat_line_of line)
+    ++ further = stat_words-further line.kind (stat_line_of line)
     ∙ ap (λ kind. spaced (owner_words kind line.attr) ++ further) (sym c.kind_text.ensures) in
     record { printed = rw text (Prints-append g.W.Sink c.write_further.new.sink further c.write_further.result c.in_ok-write_owner.ensures.printed c.write_further.ensures.printed) }

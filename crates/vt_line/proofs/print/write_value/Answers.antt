@@ -10,8 +10,7 @@ use Rattle.vt_line.proofs.print.write_value.Goals as goal
 pub returns-in_err-write_all-in-Bytes : goal.returns-in_err-write_all-in-Bytes
 returns-in_err-write_all-in-Bytes g c =
     let front : WroteFront g.W.Sink c.args.sink.now c.write_all.new.sink
-    (spaced (printed_value (answer_of c.args.answer.now))) =
-    rw c.in-Bytes.is (WroteFront-longer g.W.Sink
+    (spaced (printed_value (answer_of c.args.answer.now))) = rw c.in-Bytes.is (WroteFront-longer g.W.Sink
     (printed_text c.in-Bytes.bytes.items ++ []) c.in_err-write_all-in-Bytes.ensures.printed) in
     search rules
 

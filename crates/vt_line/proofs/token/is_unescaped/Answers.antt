@@ -12,8 +12,7 @@ loop-byte-preserved c =
     || is_plain byte) line c.loop-byte.byte-index 0 c.loop-byte-test.true in
     ap (λ before. before && c.is_unescaped_byte-unescaped.result) c.loop-byte.invariant
     ∙ ap (λ here. list_all (λ byte. byte == 32 || is_plain byte) (take c.loop-byte.byte-index line) && here)
-    c.is_unescaped_byte-unescaped.ensures
-    ∙ sym more
+    c.is_unescaped_byte-unescaped.ensures ∙ sym more
 
 pub returns : goal.returns
 returns c =

@@ -25,15 +25,11 @@ returns c =
     let within : end ≤ length (drop start xs) = rw rest at found.within in
     let before : (k : ℕ) → k < end → get_or (drop start xs) k 0 ≢ 32 = rw rest at found.before in
     let space : end < length (drop start xs) → get_or (drop start xs) end 0 ≡ 32 = rw rest at found.space in
-    let some : 0 < end =
-    ⊎_elim
-    (λ positive. positive)
-    (λ at_most_zero.
+    let some : 0 < end = ⊎_elim (λ positive. positive) (λ at_most_zero.
     let zero : end ≡ 0 = omega arith in
     let inside_rest : end < length (drop start xs) = omega (arith, length-drop start xs) in
     absurd (first (sym first_at ∙ ap (λ n. get_or (drop start xs) n 0) (sym zero) ∙ space inside_rest)))
-    (cases_lt 0 end)
-    in
+    (cases_lt 0 end) in
     let cut = words_between_first 32 (drop start xs) end some within before space in
     let front : c.split_at.result.0.now ≡ take end (drop start xs) = rw rest at c.split_at.ensures.front in
     let back : c.split_at.result.1.now ≡ drop end (drop start xs) = rw rest at c.split_at.ensures.back in

@@ -8,7 +8,6 @@ use Rattle.vt_line.proofs.token.unescape.Given as goal
 abbrev pub invariant-loop-byte : goal.invariant-loop-byte
 invariant-loop-byte l = record {
   size : length l.text.items ≤ length l.initial.text.items + l.byte-index;
-  read :
-      read_before l.text.items (spelled (reading_of l.reading) (drop l.byte-index l.token))
+  read : read_before l.text.items (spelled (reading_of l.reading) (drop l.byte-index l.token))
       ≡ read_before l.initial.text.items (spelled Between l.token);
 }

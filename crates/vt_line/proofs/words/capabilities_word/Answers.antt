@@ -61,11 +61,9 @@ loop-name-preserved c =
     record {
       can_next = search rules;
       is_finite = search rules;
-      read =
-          ap (λ all. united all (each_of capability_named
+      read = ap (λ all. united all (each_of capability_named
           (drop (length (c.loop-name.yielded ++ c.in-Some.name ∷ [])) (parts 44 text)))) (c.union-caps.ensures tt)
           ∙ ap (λ at. united (bit_or caps set) (each_of capability_named (drop at (parts 44 text)))) more
-          ∙ united-more caps set (each_of capability_named (drop (n + 1) (parts 44 text)))
-          ∙ ap (united caps) (sym left)
+          ∙ united-more caps set (each_of capability_named (drop (n + 1) (parts 44 text))) ∙ ap (united caps) (sym left)
           ∙ c.loop-name.invariant.read;
     }

@@ -59,13 +59,11 @@ loop-part-preserved c =
       is_finite = search rules;
       count = search rules;
       few = search rules;
-      read =
-          ap (λ now. read_before now (each_of identity_word
+      read = ap (λ now. read_before now (each_of identity_word
           (drop (length (c.loop-part.yielded ++ c.in-Some.part ∷ [])) (parts 44 text)))) c.push.ensures.items
           ∙ ap (λ at. read_before (groups ++ group ∷ []) (each_of identity_word (drop at (parts 44 text)))) more
           ∙ read_before-first groups group (each_of identity_word (drop (n + 1) (parts 44 text)))
-          ∙ ap (read_before groups) (sym left)
-          ∙ c.loop-part.invariant.read;
+          ∙ ap (read_before groups) (sym left) ∙ c.loop-part.invariant.read;
     }
 
 pub returns : goal.returns

@@ -10,7 +10,6 @@ invariant-loop-part l = record {
   is_finite : (goal.iterator-loop-part).is_finite l.part-iterator;
   count : length l.groups.items ≡ length l.yielded;
   few : length l.groups.items ≤ 32;
-  read :
-      read_before l.groups.items (each_of identity_word (drop (length l.yielded) (parts 44 l.fn.text)))
+  read : read_before l.groups.items (each_of identity_word (drop (length l.yielded) (parts 44 l.fn.text)))
       ≡ each_of identity_word (parts 44 l.fn.text);
 }

@@ -31,8 +31,7 @@ returns-then-is_none c =
     let others = YieldsList-at c.into_iter-part-iterator.ensures.into_iter_gives first.1 in
     let n = length c.loop-part.yielded in
     let turn = YieldsList-turn others c.loop-part.yielded _ c.loop-part.yielded_by _ _ c.in-Some-part.part c.in-Some-part.is c.next-in-loop-part.ensures.steps in
-    let none : child_number c.in-Some-part.part.now ≡ None =
-    sym c.child_number.ensures.value
+    let none : child_number c.in-Some-part.part.now ≡ None = sym c.child_number.ensures.value
     ∙ none_from_not_some c.child_number.result (c.is_none.ensures ∙ ap not c.if-is_none.true) in
     ap is_some (sym (each_of-none child_number (drop 1 all) n c.in-Some-part.part.now turn none))
     ∙ c.loop-part.invariant.read
@@ -55,8 +54,7 @@ loop-part-preserved c =
     record {
       can_next = search rules;
       is_finite = search rules;
-      read =
-          ap (λ at. is_some (each_of child_number (drop at (drop 1 all)))) more
+      read = ap (λ at. is_some (each_of child_number (drop at (drop 1 all)))) more
           ∙ sym (each_of-goes child_number (drop 1 all) n c.in-Some-part.part.now turn some)
           ∙ c.loop-part.invariant.read;
     }

@@ -15,8 +15,7 @@ unreachable-requires c =
     let rest = drop 1 (parts 46 text) in
     let split = YieldsList-parts 46 text
     (YieldsList-from_slice_split _ (λ byte. eqb byte 46) text (cc) (cc) (cc) (λ x b q k. search (rules, tests))) in
-    let others = YieldsList-at c.into_iter-part-iterator.ensures.into_iter_gives
-    (YieldsList-skipped c.split.result
+    let others = YieldsList-at c.into_iter-part-iterator.ensures.into_iter_gives (YieldsList-skipped c.split.result
     (parts 46 text) split c.skip-part-items.ensures.source c.skip-part-items.ensures.count) in
     let n = length c.loop-part.yielded in
     let task = task_word-some text c.requires in
@@ -34,8 +33,7 @@ returns-in_err-name-clause-memory c =
     let rest = drop 1 (parts 46 text) in
     let split = YieldsList-parts 46 text
     (YieldsList-from_slice_split _ (λ byte. eqb byte 46) text (cc) (cc) (cc) (λ x b q k. search (rules, tests))) in
-    let others = YieldsList-at c.into_iter-part-iterator.ensures.into_iter_gives
-    (YieldsList-skipped c.split.result
+    let others = YieldsList-at c.into_iter-part-iterator.ensures.into_iter_gives (YieldsList-skipped c.split.result
     (parts 46 text) split c.skip-part-items.ensures.source c.skip-part-items.ensures.count) in
     let n = length c.loop-part.yielded in
     let task = task_word-some text c.requires in
@@ -50,8 +48,7 @@ loop-part-preserved c =
     let rest = drop 1 (parts 46 text) in
     let split = YieldsList-parts 46 text
     (YieldsList-from_slice_split _ (λ byte. eqb byte 46) text (cc) (cc) (cc) (λ x b q k. search (rules, tests))) in
-    let others = YieldsList-at c.into_iter-part-iterator.ensures.into_iter_gives
-    (YieldsList-skipped c.split.result
+    let others = YieldsList-at c.into_iter-part-iterator.ensures.into_iter_gives (YieldsList-skipped c.split.result
     (parts 46 text) split c.skip-part-items.ensures.source c.skip-part-items.ensures.count) in
     let n = length c.loop-part.yielded in
     let task = task_word-some text c.requires in
@@ -70,12 +67,10 @@ loop-part-preserved c =
       is_finite = search rules;
       count = ap length c.in_ok-name.ensures.ok ∙ length_push name number ∙ ap (λ n. n + 1) c.loop-part.invariant.count
           ∙ sym more;
-      read =
-          ap (λ now. read_before now (each_of child_number
+      read = ap (λ now. read_before now (each_of child_number
           (drop (length (c.loop-part.yielded ++ c.in-Some.part ∷ [])) rest))) c.in_ok-name.ensures.ok
           ∙ ap (λ at. read_before (name ++ number ∷ []) (each_of child_number (drop at rest))) more
-          ∙ read_before-first name number (each_of child_number (drop (n + 1) rest))
-          ∙ ap (read_before name) (sym left)
+          ∙ read_before-first name number (each_of child_number (drop (n + 1) rest)) ∙ ap (read_before name) (sym left)
           ∙ c.loop-part.invariant.read;
     }
 
@@ -85,8 +80,7 @@ returns-clause-value c =
     let rest = drop 1 (parts 46 text) in
     let split = YieldsList-parts 46 text
     (YieldsList-from_slice_split _ (λ byte. eqb byte 46) text (cc) (cc) (cc) (λ x b q k. search (rules, tests))) in
-    let others = YieldsList-at c.into_iter-part-iterator.ensures.into_iter_gives
-    (YieldsList-skipped c.split.result
+    let others = YieldsList-at c.into_iter-part-iterator.ensures.into_iter_gives (YieldsList-skipped c.split.result
     (parts 46 text) split c.skip-part-items.ensures.source c.skip-part-items.ensures.count) in
     let n = length c.loop-part.yielded in
     let task = task_word-some text c.requires in

@@ -9,7 +9,6 @@ invariant-loop-part l = record {
   can_next : (goal.iterator-loop-part).can_next l.part-iterator;
   is_finite : (goal.iterator-loop-part).is_finite l.part-iterator;
   count : length l.name ≡ length l.yielded;
-  read :
-      read_before l.name (each_of child_number (drop (length l.yielded) (drop 1 (parts 46 l.text))))
+  read : read_before l.name (each_of child_number (drop (length l.yielded) (drop 1 (parts 46 l.text))))
       ≡ each_of child_number (drop 1 (parts 46 l.text));
 }

@@ -49,13 +49,11 @@ returns-then-not-unescape c =
     let turn = YieldsList-turn road c.loop-token.yielded _ c.loop-token.yielded_by _ _ c.in-Some.token c.in-Some.is c.next.ensures.steps in
     let token = c.in-Some.token.now in
     let bytes = c.loop-token.bytes.items in
-    let none : token_text token ≡ None =
-    not_appended bytes (token_text token)
+    let none : token_text token ≡ None = not_appended bytes (token_text token)
     (ap (λ done. cond done (Some c.unescape.new.text.items) None) (sym c.if-not-unescape.true)
     ∙ c.unescape.ensures.value) in
     let texts = cut bytes c.loop-token.sizes.items in
-    let wrong : each_of token_text (raw_tokens line) ≡ None =
-    sym c.loop-token.invariant.read
+    let wrong : each_of token_text (raw_tokens line) ≡ None = sym c.loop-token.invariant.read
     ∙ ap (read_before texts) (each_of-none token_text (raw_tokens line) n token turn none) in
     sym (few_texts-wrong line wrong)
 
@@ -91,8 +89,7 @@ loop-token-preserved c =
     step ∙ ap (λ first. with_first first (each_of token_text (drop (n + 1) (raw_tokens line)))) text.1 in
     let texts : cut c.unescape.new.text.items c.push.new.self.items ≡ cut bytes sizes ++ text.0 ∷ [] =
     ap (λ sizes. cut c.unescape.new.text.items sizes) pushed
-    ∙ ap (λ bytes. cut bytes (sizes ++ length text.0 ∷ [])) text.2
-    ∙ cut-push bytes text.0 sizes whole in
+    ∙ ap (λ bytes. cut bytes (sizes ++ length text.0 ∷ [])) text.2 ∙ cut-push bytes text.0 sizes whole in
     record {
       can_next = search rules;
       is_finite = search rules;
@@ -100,15 +97,12 @@ loop-token-preserved c =
       few = search rules;
       room = rw more (omega (arith, room, left_room, same, c.unescape.ensures.size));
       whole = ap sum pushed ∙ sum-push sizes (length text.0) ∙ ap (λ all. all + length text.0) whole ∙ sym longer;
-      read =
-          ap (λ texts. read_before texts
-          (each_of token_text (drop (length (c.loop-token.yielded ++ c.in-Some.token ∷ []))
-          (raw_tokens line)))) texts
+      read = ap (λ texts. read_before texts
+          (each_of token_text (drop (length (c.loop-token.yielded ++ c.in-Some.token ∷ [])) (raw_tokens line)))) texts
           ∙ ap (λ at. read_before (cut bytes sizes ++ text.0 ∷ [])
           (each_of token_text (drop at (raw_tokens line)))) more
           ∙ read_before-first (cut bytes sizes) text.0 (each_of token_text (drop (n + 1) (raw_tokens line)))
-          ∙ ap (read_before (cut bytes sizes)) (sym left)
-          ∙ c.loop-token.invariant.read;
+          ∙ ap (read_before (cut bytes sizes)) (sym left) ∙ c.loop-token.invariant.read;
     }
 
 pub returns : goal.returns

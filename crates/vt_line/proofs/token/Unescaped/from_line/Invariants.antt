@@ -14,8 +14,6 @@ invariant-loop-token l = record {
   room : length l.bytes.items + sum_by length (drop (length l.yielded) (raw_tokens l.fn.line)) ≤ sum_by length
       (raw_tokens l.fn.line);
   whole : sum l.sizes.items ≡ length l.bytes.items;
-  read :
-      read_before (cut l.bytes.items l.sizes.items)
-      (each_of token_text (drop (length l.yielded) (raw_tokens l.fn.line)))
-      ≡ each_of token_text (raw_tokens l.fn.line);
+  read : read_before (cut l.bytes.items l.sizes.items)
+      (each_of token_text (drop (length l.yielded) (raw_tokens l.fn.line))) ≡ each_of token_text (raw_tokens l.fn.line);
 }

@@ -20,6 +20,5 @@ returns-in-Some c =
     let bytes = c.self.inside.bytes.now in
     let sizes = c.in-Some.sizes.now in
     let view : cut bytes sizes ≡ left = ap (words_left bytes) (sym c.in-Some.is) ∙ c.self.view_is in
-    words_end left c.then_some-in-Some.result
-    (c.then_some-in-Some.ensures
+    words_end left c.then_some-in-Some.result (c.then_some-in-Some.ensures
     ∙ ap (λ none. then_some none tt) (c.is_empty.ensures ∙ cut_end bytes sizes ∙ ap is_empty_list view))
