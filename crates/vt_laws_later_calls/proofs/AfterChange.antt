@@ -1,6 +1,7 @@
 -- The world that a granted call leaves which changed a tree: mounts are as they were, and each inode is as the change
 -- left it, or is gone.
-use Rattle.std.proofs.Common.{◌≡◌, refl, sym, ap, subst, ◌∙◌, inl, inr, ◌⊎◌, ⊎_elim, true≢false, ℕ, nat_eq, eqb-true, Bool, true, false, cond, ◌||◌, ◌++◌, List, [], ◌∷◌, map, find, Some, None, is_some}
+use Rattle.std.proofs.Common.{arith, ◌≡◌, refl, sym, ap, subst, ◌∙◌, inl, inr, ◌⊎◌, ⊎_elim, true≢false, ℕ, nat_eq, eqb-true, Bool, true, false, cond, ◌||◌, ◌++◌, List, [], ◌∷◌, map, find, Some, None, is_some}
+use Rattle.std.proofs.lemmas.Grind.{common_steps}
 use Rattle.std.specs.Prelude.{unwrap_or}
 use Rattle.vt_spec.specs.declared.errors.Deny.{Deny}
 use Rattle.vt_spec.specs.declared.errors.Rule.TheVariants.{W6}
@@ -251,13 +252,7 @@ module _ (world : World ℕ) (fresh : Fresh ℕ) (name : TaskName) (call : Call)
     }
       where
         itself : (t : FileTree ℕ) → TreeStays t.tree t.tree Refused
-        itself t = record {
-          root = refl;
-          directory = λ n was. refl;
-          parent = λ n was. refl;
-          link = λ n was. refl;
-          entry = λ directory entry n e. inl e;
-        }
+        itself t = grind (arith, common_steps)
 
         each : (number : ℕ) → TreeStays (tree_in world number) (tree_in spent number) Refused
         each = in_each (λ number t. TreeStays (tree_in world number) t.tree Refused) stay (λ number. itself

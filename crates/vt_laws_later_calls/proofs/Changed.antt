@@ -1,5 +1,6 @@
 -- What a change of a plain filesystem leaves of it, and of the others.
-use Rattle.std.proofs.Common.{◌≡◌, refl, sym, ap, ◌∙◌, true≢false, ⊎_elim, ℕ, nat_eq, eqb-true, Bool, true, false, cond, List, [], ◌∷◌, Some, find, map, is_some}
+use Rattle.std.proofs.Common.{arith, ◌≡◌, refl, sym, ap, ◌∙◌, true≢false, ⊎_elim, ℕ, nat_eq, eqb-true, Bool, true, false, cond, List, [], ◌∷◌, Some, find, map, is_some}
+use Rattle.std.proofs.lemmas.Grind.{common_steps}
 use Rattle.std.specs.Prelude.{unwrap_or}
 use Rattle.vt_spec.specs.Language.Changes.{Change, changed}
 use Rattle.vt_spec.specs.Lists.{Fresh}
@@ -32,12 +33,7 @@ found_other new (first ∷ rest) number other =
 
     by : (b : Bool) → nat_eq new.number first.number ≡ b → numbered number (replaced_by new rest) ≡ numbered number rest
         → numbered number (cond b new first ∷ replaced_by new rest) ≡ numbered number (first ∷ rest)
-    by false e later = inside (nat_eq number first.number) later
-    by true e later =
-        let skips : nat_eq number new.number ≡ false = nat_eq_false_turned new.number number other in
-        ap (λ b. found_among number b new (replaced_by new rest)) skips ∙ later
-        ∙ sym (ap (λ b. found_among number b first rest)
-        (ap (nat_eq number) (sym (eqb-true new.number first.number e)) ∙ skips))
+    by b e later = grind (arith, common_steps, inside, nat_eq_false_turned, eqb-true)
 
 module _ (fresh : Fresh ℕ) (world : World ℕ) (plain : IsPlain world) (at : Location ℕ) (change : Change ℕ) where
   abbrev pub shown : ℕ

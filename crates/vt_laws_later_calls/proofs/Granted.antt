@@ -1,5 +1,6 @@
 -- What a granted call of the machine leaves.
-use Rattle.std.proofs.Common.{◌≡◌, refl, sym, ap, ◌∙◌, ℕ, nat_eq, Bool, true, false, cond, not, List, [], ◌∷◌, ◌||◌, Option, Some, None, Result, Ok, Err, find, is_ok, map, ok_or}
+use Rattle.std.proofs.Common.{arith, ◌≡◌, refl, sym, ap, ◌∙◌, ℕ, nat_eq, Bool, true, false, cond, not, List, [], ◌∷◌, ◌||◌, Option, Some, None, Result, Ok, Err, find, is_ok, map, ok_or}
+use Rattle.std.proofs.lemmas.Grind.{common_steps}
 use Rattle.std.specs.Prelude.{option_map}
 use Rattle.vt_spec.specs.declared.errors.Deny.{Deny}
 use Rattle.vt_spec.specs.declared.errors.Rule.TheVariants.{S2}
@@ -90,12 +91,7 @@ pub called_raised : (name reader : TaskName) (task : Task ℕ) (tasks : List (Ta
 called_raised name reader task tasks e = found_raised tasks ∙ ap (option_map (raised_task name)) e
   where
     same : (t : Task ℕ) → same_name reader (raised_task name t).name ≡ same_name reader t.name
-    same t = by (same_name name t.name)
-      where
-        by : (b : Bool) → same_name reader (cond b (record t { change = raised t.change }) t).name
-            ≡ same_name reader t.name
-        by true = refl
-        by false = refl
+    same t = grind (arith, common_steps)
 
     found_raised : (list : List (Task ℕ)) → find (λ (t : Task ℕ). same_name reader t.name) (map (raised_task name) list)
         ≡ option_map (raised_task name) (find (λ (t : Task ℕ). same_name reader t.name) list)

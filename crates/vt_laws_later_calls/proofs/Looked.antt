@@ -1,8 +1,9 @@
 -- What calls that look answer where their walks end.
-use Rattle.std.proofs.Common.{◌≡◌, refl, ap, ◌∙◌, ℕ, nat_eq, Bool, true, false, cond, not, ◌||◌, ◌&&◌, List, [], ◌∷◌, Option, Some, None, Ok, Err, ok_or}
+use Rattle.std.proofs.Common.{arith, ◌≡◌, refl, ap, ◌∙◌, ℕ, nat_eq, Bool, true, false, cond, not, ◌||◌, ◌&&◌, List, [], ◌∷◌, Option, Some, Ok, Err, ok_or}
+use Rattle.std.proofs.lemmas.Grind.{common_steps}
 use Rattle.vt_spec.specs.declared.attributes.Attr.{Attr}
-use Rattle.vt_spec.specs.declared.attributes.Kind.TheVariants.{File, Symlink as SymlinkKind, White}
-use Rattle.vt_spec.specs.declared.errors.Rule.TheVariants.{B1, C1, E2, E5, E9, S2}
+use Rattle.vt_spec.specs.declared.attributes.Kind.TheVariants.{File, Symlink as SymlinkKind}
+use Rattle.vt_spec.specs.declared.errors.Rule.TheVariants.{B1, C1, E5, S2}
 use Rattle.vt_spec.specs.Errors.{denial, and_then, unless}
 use Rattle.vt_spec.specs.FileTree.{is_kind_in}
 use Rattle.vt_spec.specs.Language.Answers.Answer.{Bytes, Names, Told}
@@ -18,9 +19,9 @@ use Rattle.vt_spec.specs.Machine.Rightful.{mounter_allows, node_allows}
 use Rattle.vt_spec.specs.Machine.Walking.{Here, Stop, walk_end}
 use Rattle.vt_spec.proofs.Walk.{directory_walk, object_walk, symlink_walk}
 use Rattle.vt_spec.specs.Machine.World.{Task, World, mount_at, node_at, task_called}
-use Rattle.vt_spec.specs.Rights.{Credentials, allows, cap_dac_override, cap_dac_read_search, class_bits, execute_right, has_all, is_directory, read_right}
+use Rattle.vt_spec.specs.Rights.{Credentials, allows, execute_right, is_directory, read_right}
 use Rattle.vt_spec.specs.Tree.{Content, Node, bytes_in, is_directory_node, kind_of, names_in}
-use Rattle.vt_spec.specs.Tree.Content.{Directory, Regular, Symlink, Whiteout}
+use Rattle.vt_spec.specs.Tree.Content.{Regular, Symlink}
 use Rattle.vt_laws_worlds.specs.Worlds.Kept.{IsPlain}
 use Rattle.vt_laws_worlds.proofs.Plain.{plain_numbered}
 use Rattle.vt_laws_later_calls.specs.LaterPaths.{reads_all}
@@ -34,43 +35,17 @@ use Rattle.vt_spec.specs.declared.errors.Deny.{Deny}
 -- with one of two capabilities that grant it, a request is granted
 granted_by : (own one other first second : Bool) → (one || other) ≡ true → first ≡ true → second ≡ true
     → (own || (one && first) || (other && second)) ≡ true
-granted_by true one other first second some e f = refl
-granted_by false true other true second some e f = refl
-granted_by false true other false second some e f = cc
-granted_by false false true first true some e f = refl
-granted_by false false true first false some e f = cc
-granted_by false false false first second some e f = cc
+granted_by own one other first second some e f = grind (arith, common_steps)
 
 -- every directory may be searched: CAP_DAC_OVERRIDE or CAP_DAC_READ_SEARCH
 pub search_all : (who : Credentials) → reads_all who ≡ true → (o : Option (Node ℕ)) → is_directory_node o ≡ true
     → node_allows who execute_right o ≡ true
-search_all who all None is = cc
-search_all who all (Some node) is = by node.content is
-  where
-    by : (content : Content ℕ) → is_directory (kind_of content) ≡ true
-        → allows who node.attr (kind_of content) execute_right ≡ true
-    by (Directory parent entries opaque) e =
-        granted_by (has_all (class_bits who node.attr) execute_right) (has_all who.capabilities cap_dac_override)
-        (has_all who.capabilities cap_dac_read_search) true true all refl refl
-    by (Regular bytes) e = cc
-    by (Symlink text) e = cc
-    by Whiteout e = cc
+search_all who all o is = grind (arith, common_steps, granted_by)
 
 -- and every object read
 pub read_all : (who : Credentials) → reads_all who ≡ true → (attr : Attr) (content : Content ℕ)
     → allows who attr (kind_of content) read_right ≡ true
-read_all who all attr (Directory parent entries opaque) =
-    granted_by (has_all (class_bits who attr) read_right) (has_all who.capabilities cap_dac_override)
-    (has_all who.capabilities cap_dac_read_search) true true all refl refl
-read_all who all attr (Regular bytes) =
-    granted_by (has_all (class_bits who attr) read_right) (has_all who.capabilities cap_dac_override)
-    (has_all who.capabilities cap_dac_read_search) true true all refl refl
-read_all who all attr (Symlink text) =
-    granted_by (has_all (class_bits who attr) read_right) (has_all who.capabilities cap_dac_override)
-    (has_all who.capabilities cap_dac_read_search) true true all refl refl
-read_all who all attr Whiteout =
-    granted_by (has_all (class_bits who attr) read_right) (has_all who.capabilities cap_dac_override)
-    (has_all who.capabilities cap_dac_read_search) true true all refl refl
+read_all who all attr content = grind (arith, common_steps, granted_by)
 
 -- a call of a task, which is there
 module _ (world : World ℕ) (fresh : Fresh ℕ) (name : TaskName) (task : Task ℕ)
@@ -153,18 +128,4 @@ module _ (world : World ℕ) (fresh : Fresh ℕ) (name : TaskName) (task : Task 
       → (policy nat_eq fresh world name (Read path)).answer
       ≡ cond (allows task.credentials attr File read_right) (Ok (Bytes bytes)) (Err (denial C1))
   unfolding read_permit
-  read_of plain here walk attr bytes is = ap (λ o. (by_task (Read path) o).answer) called
-      ∙ ap (λ r. answer_of (and_then (walk_end r) (λ (here : Here ℕ).
-      unless (read_rules nat_eq world task here.location) (Ok (ToRead here.location))))) walk
-      ∙ (λ i. answer_of (unless ((is_directory_node (is i), E2) ∷ (is_kind_in White (is i), E9)
-      ∷ (not (node_allows task.credentials read_right (is i)), C1) ∷ (
-        not (mounter_allows (plain_numbered world plain (mount_at nat_eq world here.location).filesystem i) read_right
-            (is i)),
-        B1,
-      ) ∷ []) (Ok (ToRead here.location)))) ∙ by (allows task.credentials attr File read_right)
-    where
-      by : (b : Bool)
-          → answer_of (unless ((false, E2) ∷ (false, E9) ∷ (not b, C1) ∷ (false, B1) ∷ []) (Ok (ToRead here.location)))
-          ≡ cond b (Ok (Bytes bytes)) (Err (denial C1))
-      by true = ap (λ o. Ok (Bytes (bytes_in o))) is
-      by false = refl
+  read_of plain here walk attr bytes is = grind (arith, common_steps, read_rules, plain_numbered)

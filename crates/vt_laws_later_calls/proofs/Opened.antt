@@ -1,5 +1,6 @@
 -- What a granted open was permitted, and the descriptor that a task then has.
-use Rattle.std.proofs.Common.{◌≡◌, ◌≤◌, ◌<◌, refl, sym, ap, subst, ◌∙◌, ℕ, ◌+◌, nat_eq, eqb-true, eq-eqb, Bool, true, false, cond, ◌&&◌, List, [], ◌∷◌, Some, None, Ok, Err, Result, find, map, arith, nat_lt}
+use Rattle.std.proofs.lemmas.Grind.{common_steps}
+use Rattle.std.proofs.Common.{◌≡◌, ◌≤◌, ◌<◌, refl, sym, ap, ◌∙◌, ℕ, ◌+◌, nat_eq, eqb-true, eq-eqb, Bool, true, false, cond, ◌&&◌, List, [], ◌∷◌, Some, None, Ok, Err, Result, find, map, arith, nat_lt}
 use Rattle.std.proofs.lemmas.Bool.{and_parts, le-ltb, lt-ltb}
 use Rattle.std.proofs.lemmas.Slice.Eq.{bytes_eq-Decides}
 use Rattle.std.specs.Prelude.{nat_le}
@@ -55,26 +56,8 @@ inserted_found number (descriptor ∷ rest) new order free =
         → find (λ (d : Descriptor ℕ). nat_eq new.number d.number)
         (cond (nat_lt new.number descriptor.number) (new ∷ descriptor ∷ rest) (descriptor ∷ inserted new rest))
         ≡ Some new
-    by true e later =
-        let same : descriptor.number ≡ number = eqb-true descriptor.number number e in
-        let is : new.number ≡ free_from (number + 1) rest = is_free true e in
-        let above : number + 1 ≤ free_from (number + 1) rest = free_above (number + 1) rest in
-        let under : descriptor.number < new.number = omega arith in
-        let next : descriptor.number + 1 ≡ number + 1 = omega arith in
-        ap (λ b. find (λ (d : Descriptor ℕ). nat_eq new.number d.number)
-        (cond b (new ∷ descriptor ∷ rest) (descriptor ∷ inserted new rest)))
-        (le-ltb new.number descriptor.number (omega arith)) ∙ ap (λ b. cond b (Some descriptor)
-        (find (λ (d : Descriptor ℕ). nat_eq new.number d.number) (inserted new rest)))
-        (other new.number descriptor.number under)
-        ∙ later (subst (λ n. are_ascending_from n rest ≡ true) next parts.1) is
-    by false e later =
-        let is : new.number ≡ number = is_free false e in
-        let above : number < descriptor.number = less number descriptor.number parts.0 e in
-        ap (λ b. find (λ (d : Descriptor ℕ). nat_eq new.number d.number)
-        (cond b (new ∷ descriptor ∷ rest) (descriptor ∷ inserted new rest)))
-        (lt-ltb new.number descriptor.number (omega arith))
-        ∙ ap (λ b. cond b (Some new) (find (λ (d : Descriptor ℕ). nat_eq new.number d.number) (descriptor ∷ rest)))
-        (eq-eqb new.number new.number refl)
+    by c e later =
+        grind (arith, common_steps, eqb-true, is_free, free_above, le-ltb, other, parts, less, lt-ltb, eq-eqb)
 
 -- a task in the place of the one with its name is found
 pub called_replaced : (world : World ℕ) (name : TaskName) (task new : Task ℕ) → task_called world name ≡ Some task
@@ -95,15 +78,7 @@ called_replaced world name task new called own = go world.tasks called
         by : (b : Bool) → same_name name t.name ≡ b → (find (λ (t : Task ℕ). same_name name t.name) list ≡ Some task
             → find (λ (t : Task ℕ). same_name name t.name) (map (replaced_if_called new) list) ≡ Some new)
             → find (λ (t : Task ℕ). same_name name t.name) (map (replaced_if_called new) (t ∷ list)) ≡ Some new
-        by true f later =
-            ap (λ b. find (λ (t : Task ℕ). same_name name t.name) (cond b new t ∷ map (replaced_if_called new) list))
-            (test ∙ f) ∙ ap (λ b. cond b (Some new)
-            (find (λ (t : Task ℕ). same_name name t.name) (map (replaced_if_called new) list))) itself
-        by false f later =
-            ap (λ b. find (λ (t : Task ℕ). same_name name t.name) (cond b new t ∷ map (replaced_if_called new) list))
-            (test ∙ f) ∙ ap (λ b. cond b (Some t)
-            (find (λ (t : Task ℕ). same_name name t.name) (map (replaced_if_called new) list))) f
-            ∙ later (sym (ap (λ b. cond b (Some t) (find (λ (t : Task ℕ). same_name name t.name) list)) f) ∙ e)
+        by b f later = grind (arith, common_steps, test, itself)
 
 -- where a walk ended
 pub walk_ended : {A : Type 0} (walk : Result A (Stop ℕ)) (a : A) → walk_end walk ≡ Ok a → walk ≡ Ok a
@@ -124,11 +99,7 @@ open_spent fresh world plain task file access = ap (λ b. opened (with_copy nat_
     (plain_numbered world plain (mount_at nat_eq world file).filesystem) ∙ and-false (opens_for_writing access))
 
 pub opened_number : (a b : ℕ) → Path (Result Answer Deny) (Ok (Opened a)) (Ok (Opened b)) → b ≡ a
-opened_number a b e = sym (ap of_answer e)
-  where
-    of_answer : Result Answer Deny → ℕ
-    of_answer (Ok (Opened number)) = number
-    of_answer answer = 0
+opened_number a b e = grind (arith, common_steps)
 
 pub descriptors_in_order : (task : Task ℕ) → is_within_limits task ≡ true → are_ascending_from 0 task.descriptors ≡ true
 descriptors_in_order task h =

@@ -1,5 +1,6 @@
 -- The descriptor of an open is on the file that is there, or with creat on a new one, which is empty.
-use Rattle.std.proofs.Common.{◌≡◌, refl, sym, ap, subst, ◌∙◌, true≢false, ℕ, nat_eq, eq-eqb, true, false, cond, List, [], take, drop, Some, None, Ok, find}
+use Rattle.std.proofs.Common.{arith, ◌≡◌, refl, sym, ap, subst, ◌∙◌, true≢false, ℕ, nat_eq, eq-eqb, true, false, cond, List, [], take, drop, Some, None, Ok, find}
+use Rattle.std.proofs.lemmas.Grind.{common_steps}
 use Rattle.std.proofs.lemmas.Option.{same_Some}
 use Rattle.vt_spec.specs.FileTree.{FileTree}
 use Rattle.vt_spec.specs.Language.Answers.{Answer}
@@ -103,20 +104,7 @@ module _ (world : World ℕ) (fresh : Fresh ℕ) (name : TaskName) (task : Task 
   still_found = ap (find (λ (d : Descriptor ℕ). nat_eq number d.number)) (raised_descriptors name new_task) ∙ found
 
   pub opens_file : OpensFile world fresh name task call file access number
-  opens_file = (is_free, (raised_task name new_task, still, numbered_so))
-    where
-      numbered_so : descriptor_numbered (raised_task name new_task) number ≡ Some (record {
-        number = number;
-        location = file;
-        reads = opens_for_reading access;
-        writes = opens_for_writing access;
-      })
-      numbered_so = subst (λ n. descriptor_numbered (raised_task name new_task) number ≡ Some (record {
-        number = n;
-        location = file;
-        reads = opens_for_reading access;
-        writes = opens_for_writing access;
-      })) (sym is_free) still_found
+  opens_file = grind (arith, common_steps, is_free, still, still_found)
 
   pub reads_by : ReadsBy world fresh name call access number (bytes_in (node_at nat_eq base file))
   reads_by reads offset size later_fresh = pread_of later later_fresh name

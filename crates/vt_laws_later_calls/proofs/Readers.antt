@@ -1,6 +1,7 @@
 -- Who looks after a call that changed a tree, and where walks lead for him: for the caller himself, and for each task
 -- that stands where he does and may search everything.
-use Rattle.std.proofs.Common.{◌≡◌, refl, sym, ap, ◌∙◌, inl, inr, ◌⊎◌, true≢false, ℕ, zero, suc, nat_eq, Bool, true, false, cond, [], ◌∷◌, length, Option, Some, None, is_some, option_map, ok_or, find}
+use Rattle.std.proofs.Common.{arith, ◌≡◌, refl, sym, ap, ◌∙◌, inl, inr, ◌⊎◌, true≢false, ℕ, nat_eq, Bool, true, false, ◌∷◌, length, Option, Some, None, is_some, option_map, ok_or, find, zero, suc, []}
+use Rattle.std.proofs.lemmas.Grind.{common_steps}
 use Rattle.vt_spec.specs.declared.errors.Deny.{Deny}
 use Rattle.vt_spec.specs.declared.errors.Rule.TheVariants.{W4, W6}
 use Rattle.vt_spec.specs.Errors.{denial}
@@ -53,18 +54,10 @@ MayLook task reader = (reader.credentials ≡ task.credentials) ⊎ (reads_all r
 
 -- a task with its change number raised stands where it stood
 pub raised_stands : (name : TaskName) (task : Task ℕ) → StandsAs task (raised_task name task)
-raised_stands name task = by (same_name name task.name)
-  where
-    by : (b : Bool) → StandsAs task (cond b (record task { change = raised task.change }) task)
-    by true = record { root = refl; directory = refl }
-    by false = record { root = refl; directory = refl }
+raised_stands name task = grind (arith, common_steps)
 
 pub raised_credentials : (name : TaskName) (task : Task ℕ) → (raised_task name task).credentials ≡ task.credentials
-raised_credentials name task = by (same_name name task.name)
-  where
-    by : (b : Bool) → (cond b (record task { change = raised task.change }) task).credentials ≡ task.credentials
-    by true = refl
-    by false = refl
+raised_credentials name task = grind (arith, common_steps)
 
 pub all_stands : (world : World ℕ) (task : Task ℕ) (name : TaskName) (reading : Task ℕ)
     → LooksFrom world task name reading → StandsAs task reading

@@ -1,33 +1,33 @@
 -- Bytes that were written by a descriptor are read by one.
+use Rattle.std.proofs.lemmas.Grind.{common_steps}
 use Rattle.std.proofs.Common.{◌≡◌, refl, sym, ap, ◌∙◌, ⊎_elim, ℕ, nat_eq, eq-eqb, Bool, true, false, cond, List, [], ◌∷◌, length, take, drop, Option, Some, None, Ok, ok_or, option_to_list, find, true≢false, inr, ◌+◌, ◌-◌, ◌++◌, arith}
 use Rattle.std.specs.Prelude.{replicate}
 use Rattle.std.proofs.Math.Seq.{drop-append_seam, take-append_seam}
 use Rattle.std.proofs.lemmas.List.{append_assoc, length-append, length-replicate, length-take-le}
 use Rattle.std.proofs.lemmas.Option.{same_Some}
 use Rattle.vt_spec.specs.declared.attributes.Kind.TheVariants.{File}
-use Rattle.vt_spec.specs.declared.errors.Rule.TheVariants.{S2, S4}
-use Rattle.vt_spec.specs.Errors.{denial, and_then}
+use Rattle.vt_spec.specs.declared.errors.Rule.TheVariants.{S4}
+use Rattle.vt_spec.specs.Errors.{denial}
 use Rattle.vt_spec.specs.Machine.Apply.{apply}
 use Rattle.vt_spec.specs.Language.Calls.{Call, TaskName, same_name}
 use Rattle.vt_spec.specs.Language.Calls.Call.{Pread, Pwrite}
 use Rattle.vt_spec.specs.Language.Changes.Change.{SetBytes}
 use Rattle.vt_spec.specs.FileTree.{is_kind_in}
 use Rattle.vt_spec.specs.Machine.Filesystems.{raised, with_change}
-use Rattle.vt_spec.specs.Machine.Judge.{judge_in, pread_permit}
+use Rattle.vt_spec.specs.Machine.Judge.{pread_permit}
 use Rattle.vt_spec.specs.Lists.{Fresh}
 use Rattle.vt_spec.specs.Machine.Looks.{Looks, looks_of}
 use Rattle.vt_spec.specs.Machine.Mounts.{Location}
 use Rattle.vt_spec.specs.Machine.Descriptors.{overwritten, padded, pwritten}
-use Rattle.vt_spec.specs.Machine.Outcomes.{after, granted}
+use Rattle.vt_spec.specs.Machine.Outcomes.{granted}
 use Rattle.vt_spec.specs.Language.Answers.Answer.{Bytes, Done}
 use Rattle.vt_spec.specs.Machine.Permits.{Permit}
-use Rattle.vt_spec.specs.Machine.Permits.Permit.{ToWritePart, ToReadPart}
-use Rattle.vt_spec.specs.Machine.Policy.{call_outcome, filesystems_changed_by, finished, policy, raised_task}
+use Rattle.vt_spec.specs.Machine.Permits.Permit.{ToWritePart}
+use Rattle.vt_spec.specs.Machine.Policy.{policy, raised_task}
 use Rattle.vt_spec.specs.Machine.Rules.Descriptors.{descriptor_numbered}
 use Rattle.vt_spec.specs.Machine.World.{Descriptor, Filesystem, Task, World, locations_of, mount_at, node_at, task_called, with_filesystem}
 use Rattle.vt_spec.specs.Machine.Invariants.{IsWorld, has_regular_files_open}
-use Rattle.vt_spec.specs.Tree.{Content, Node, bytes_in, node_with_bytes}
-use Rattle.vt_spec.specs.Tree.Content.{Directory, Regular, Symlink, Whiteout}
+use Rattle.vt_spec.specs.Tree.{Node, bytes_in, node_with_bytes}
 use Rattle.vt_laws_mounts.proofs.letting_go.Lists.{Among, among-map, passes}
 use Rattle.vt_laws_worlds.specs.Worlds.Kept.{IsPlain}
 use Rattle.vt_laws_worlds.proofs.worlds.SeenTrees.{change_of_plain, changed_one, found_new, old_number}
@@ -65,11 +65,7 @@ descriptor_found o may descriptor is e = ap (λ o. ok_or (find may (option_to_li
 
 -- a task with its change number raised has what it had
 pub raised_descriptors : (name : TaskName) (task : Task ℕ) → (raised_task name task).descriptors ≡ task.descriptors
-raised_descriptors name task = by (same_name name task.name)
-  where
-    by : (b : Bool) → (cond b (record task { change = raised task.change }) task).descriptors ≡ task.descriptors
-    by true = refl
-    by false = refl
+raised_descriptors name task = grind (arith, common_steps)
 
 -- what pread answers by a descriptor that reads
 pub pread_of : (world : World ℕ) (fresh : Fresh ℕ) (name : TaskName) (task : Task ℕ) (read : Descriptor ℕ)
@@ -78,13 +74,7 @@ pub pread_of : (world : World ℕ) (fresh : Fresh ℕ) (name : TaskName) (task :
     ≡ Ok (Bytes (take size (drop offset (bytes_in (node_at nat_eq world read.location)))))
 unfolding pread_permit
 pread_of world fresh name task read number offset size called is reads =
-    ap (λ o. (after world (ok_or o (denial S2)) (λ t.
-    finished nat_eq world name (Pread number offset size)
-    (filesystems_changed_by nat_eq world (judge_in nat_eq fresh world t (Pread number offset size)))
-    (call_outcome nat_eq fresh world t (Pread number offset size)))).answer) called
-    ∙ ap (λ r. (after world (and_then r (λ (d : Descriptor ℕ). Ok (ToReadPart d.location offset size)))
-    (apply nat_eq fresh world task)).answer)
-    (descriptor_found (descriptor_numbered task number) (λ d. d.reads) read is reads)
+    grind (arith, common_steps, number, descriptor_found)
 
 -- what a granted pwrite was permitted
 pwrite_parts : (looks : Looks ℕ) {too_many : Permit ℕ → Bool} (task : Task ℕ) (written : Descriptor ℕ) (offset : ℕ)
@@ -98,15 +88,7 @@ pwrite_parts looks task written offset bytes permit is (writes_part _ _ _ descri
 -- a regular file with other bytes has these
 bytes_set : (bytes : List ℕ) (o : Option (Node ℕ)) → is_kind_in File o ≡ true
     → bytes_in (node_with_bytes bytes o) ≡ bytes
-bytes_set bytes None e = cc
-bytes_set bytes (Some node) e = by node.content e
-  where
-    by : (content : Content ℕ) → is_kind_in File (Some (record { attr = node.attr; content = content })) ≡ true
-        → bytes_in (node_with_bytes bytes (Some (record { attr = node.attr; content = content }))) ≡ bytes
-    by (Directory parent entries opaque) e = cc
-    by (Regular old) e = refl
-    by (Symlink text) e = cc
-    by Whiteout e = cc
+bytes_set bytes o e = grind (arith, common_steps)
 
 -- Where a file's bytes were set, it is seen with them from wherever it is seen.
 pub set_seen : (fresh : Fresh ℕ) (world : World ℕ) (plain : IsPlain world) (file other : Location ℕ) (bytes : List ℕ)

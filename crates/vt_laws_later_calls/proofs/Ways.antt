@@ -1,14 +1,15 @@
 -- Walks in what a call left: they lead where they led, or stop where what it left stops them.
+use Rattle.std.proofs.lemmas.Grind.{common_steps}
 use Rattle.std.proofs.Common.{◌≡◌, refl, sym, ap, subst, ◌∙◌, inl, inr, ◌⊎◌, ℕ, zero, suc, ◌-◌, ◌==◌, ◌≤◌, nat_eq, Bool, true, false, cond, not, List, [], ◌∷◌, reverse, Option, Some, None, Result, Ok, Err, arith}
 use Rattle.vt_spec.specs.declared.errors.Deny.{Deny}
-use Rattle.vt_spec.specs.declared.errors.Rule.TheVariants.{W3, W4, W5}
+use Rattle.vt_spec.specs.declared.errors.Rule.TheVariants.{W4}
 use Rattle.vt_spec.specs.Errors.{NoneFails, Rules, and_then, denial, unless}
 use Rattle.vt_spec.specs.FileTree.{symlink_text}
 use Rattle.vt_spec.specs.Machine.Looks.{Looks, is_directory_at, may, mount_at, mounter_may}
 use Rattle.vt_spec.specs.Machine.Mounts.{Location}
 use Rattle.vt_spec.specs.Machine.Walking.{Follow, Here, LastWord, Stop, follow_rules, if_symlink, last_word, search_rules, slash_rules, start_of, stepped, steps_with, stopped_by, symlink_start, symlink_walked, then_walk, walk_unless, word_walked, words_walked}
 use Rattle.vt_spec.specs.Machine.World.{Task}
-use Rattle.vt_spec.specs.PathText.{ends_in_slash, is_absolute, words}
+use Rattle.vt_spec.specs.PathText.{ends_in_slash, words}
 use Rattle.vt_spec.specs.Rights.{execute_right}
 use Rattle.vt_spec.proofs.Refusals.{passed, passing, same_ok}
 use Rattle.std.proofs.lemmas.Bool.{not-false}
@@ -106,23 +107,7 @@ module _ (looks later : Looks ℕ) (task reader : Task ℕ) (Refused : Deny → 
   pub search_too : (here : Location ℕ) → Known here → NoneFails (search_rules nat_eq looks task here)
       → NoneFails (search_rules nat_eq later reader here) ⊎ (Refused (denial W4) × ((answer : Result (Location ℕ) Deny)
       → unless (search_rules nat_eq later reader here) answer ≡ Err (denial W4)))
-  search_too here known pass = by (leads.search here known is (not-false _ pass.1.0))
-    where
-      is : is_directory_at looks here ≡ true
-      is = not-false _ pass.0
-
-      by : (may later reader here execute_right ≡ true)
-          ⊎ ((may later reader here execute_right ≡ false) × Refused (denial W4))
-          → NoneFails (search_rules nat_eq later reader here)
-          ⊎ (Refused (denial W4) × ((answer : Result (Location ℕ) Deny)
-          → unless (search_rules nat_eq later reader here) answer ≡ Err (denial W4)))
-      by (inl may_search) =
-          inl (ap not (leads.directory here known is), (ap not may_search, (ap not (leads.mounter here), tt)))
-      by (inr lost) = inr (
-        lost.1,
-        λ answer i. unless ((not (leads.directory here known is i), W3) ∷ (not (lost.0 i), W4)
-            ∷ (not (mounter_may later here execute_right), W5) ∷ []) answer,
-      )
+  search_too here known pass = grind (arith, common_steps, not-false)
 
   abbrev on : Here ℕ → List (List ℕ) → LastWord → Location ℕ → Result (Here ℕ) Deny
   on here steps word reached =
@@ -235,18 +220,10 @@ module _ (looks later : Looks ℕ) (task reader : Task ℕ) (Refused : Deny → 
   -- a path or text begins where it began
   pub start_same : (mine directory : Location ℕ) (text : List ℕ) → mine ≡ directory
       → start_of reader mine text ≡ start_of task directory text
-  start_same mine directory text same = by (is_absolute text)
-    where
-      by : (b : Bool) → cond b reader.root mine ≡ cond b task.root directory
-      by true = leads.root
-      by false = same
+  start_same mine directory text same = grind (arith, common_steps)
 
   pub start_known : (directory : Location ℕ) (text : List ℕ) → Known directory → Known (start_of task directory text)
-  start_known directory text known = by (is_absolute text)
-    where
-      by : (b : Bool) → Known (cond b task.root directory)
-      by true = leads.root_known
-      by false = known
+  start_known directory text known = grind (arith, common_steps)
 
   -- Links are followed alike, however deep they may stand in one another, if that is deep enough.
   link_too : (depth other : ℕ) (directory : Location ℕ) (link : Here ℕ) (text : List ℕ) (end : Here ℕ)

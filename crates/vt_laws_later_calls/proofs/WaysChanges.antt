@@ -1,5 +1,6 @@
 -- What changes of a tree leave of the ways through it.
-use Rattle.std.proofs.Common.{◌≡◌, ◌≢◌, refl, sym, ap, ◌∙◌, inl, inr, ◌⊎◌, ⊎_elim, true≢false, ℕ, nat_eq, eqb-true, ne_eqb, Bool, true, false, cond, not, List, Option, Some, None, is_some}
+use Rattle.std.proofs.Common.{arith, ◌≡◌, ◌≢◌, refl, sym, ap, ◌∙◌, inl, inr, ◌⊎◌, ⊎_elim, true≢false, ℕ, nat_eq, eqb-true, ne_eqb, Bool, true, false, cond, not, List, Option, Some, None, is_some}
+use Rattle.std.proofs.lemmas.Grind.{common_steps}
 use Rattle.std.proofs.lemmas.Bool.Decides.{eqb_tells}
 use Rattle.std.proofs.lemmas.Option.{same_Some}
 use Rattle.std.specs.Cmp.{tied_itself}
@@ -41,15 +42,7 @@ RightsStay tree later = (who : Credentials) (wanted n : ℕ) → is_some (tree.n
 
 -- What changes of an inode leave of a symlink
 pub link_with_bytes : (bytes : List ℕ) (o : Option (Node ℕ)) → symlink_text (node_with_bytes bytes o) ≡ symlink_text o
-link_with_bytes bytes None = refl
-link_with_bytes bytes (Some node) = by node.content
-  where
-    by : (content : Content ℕ) → symlink_text (Some (record { attr = node.attr; content = with_bytes content bytes }))
-        ≡ symlink_text (Some (record { attr = node.attr; content = content }))
-    by (Directory parent entries opaque) = refl
-    by (Regular old) = refl
-    by (Symlink text) = refl
-    by Whiteout = refl
+link_with_bytes bytes o = grind (arith, common_steps)
 
 pub link_with_attr : (attr : Attr) (o : Option (Node ℕ)) → symlink_text (node_with_attr attr o) ≡ symlink_text o
 link_with_attr attr None = refl
@@ -113,14 +106,7 @@ module _ (files : FileTree ℕ) (Refused : Deny → Type 0) where
       → ((own : ℕ) (o : Option (Node ℕ)) → parent_in own (change o) ≡ parent_in own o)
       → ((o : Option (Node ℕ)) → symlink_text (change o) ≡ symlink_text o)
       → TreeStays files.tree (changed_node nat_eq files number change).tree Refused
-  ways_changed number change kinds entries parents links = record {
-    root = refl;
-    directory = λ n is. part_stays files number change is_directory_node kinds n;
-    parent = λ n is. part_stays files number change (parent_in n) (parents n) n;
-    link = λ n is. part_stays files number change symlink_text links n;
-    entry = λ directory name object e.
-        inl (ap (entry_named name) (part_stays files number change entries_in entries directory) ∙ e);
-  }
+  ways_changed number change kinds entries parents links = grind (arith, common_steps, part_stays)
 
   pub ways_with_bytes : (file : ℕ) (bytes : List ℕ) → TreeStays files.tree (changed_node nat_eq files file
       (node_with_bytes bytes)).tree Refused
@@ -203,12 +189,7 @@ module _ (files : FileTree ℕ) (Refused : Deny → Type 0) where
 
       -- what was there is as it is with the name alone
       made_other : (n : ℕ) → is_some (files.tree.node n) ≡ true → made.tree.node n ≡ named.tree.node n
-      made_other n is = ap (λ o. cond (nat_eq n directory) (node_with_entry name object o)
-          (cond (nat_eq n object) (Some node) (files.tree.node n)))
-          (ap (λ b. cond b (Some node) (files.tree.node directory))
-          (ne_eqb directory object (not_new directory directory_is)))
-          ∙ ap (λ b. cond (nat_eq n directory) (node_with_entry name object (files.tree.node directory))
-          (cond b (Some node) (files.tree.node n))) (ne_eqb n object (not_new n is))
+      made_other n is = grind (arith, common_steps, ne_eqb, not_new, directory_is)
 
       pub made_entry : entry_at made.tree directory name ≡ Some object
       made_entry = ap (λ o. entry_named name (entries_in o)) (made_other directory directory_is) ∙ name_leads
@@ -242,17 +223,14 @@ module _ (files : FileTree ℕ) (Refused : Deny → Type 0) where
 
     -- its parent is not asked for
     removed_node : (n : ℕ) → removed.tree.node n ≡ unnamed.tree.node n
-    removed_node n = by (nat_eq n object) refl
-      where
-        kept : is_directory_node (unnamed.tree.node object) ≡ false
-        kept = part_stays files directory (node_without_entry name) is_directory_node
-            (is_directory-node_without_entry name) object ∙ no_directory
-
-        by : (b : Bool) → nat_eq n object ≡ b
-            → cond b (node_with_parent object (unnamed.tree.node object)) (unnamed.tree.node n) ≡ unnamed.tree.node n
-        by true e = node_with_parent-no_directory object (unnamed.tree.node object) kept
-            ∙ ap unnamed.tree.node (sym (eqb-true n object e))
-        by false e = refl
+    removed_node n = grind (
+      arith,
+      common_steps,
+      part_stays,
+      is_directory-node_without_entry,
+      node_with_parent-no_directory,
+      eqb-true,
+    )
 
     entry_less : (other : List ℕ) → entry_at removed.tree directory other
         ≡ cond (not (bytes_eq other name)) (entry_at files.tree directory other) None
@@ -345,19 +323,15 @@ module _ (files : FileTree ℕ) (Refused : Deny → Type 0) (from : ℕ) (old : 
       by false e = e
 
   moved_node : (n : ℕ) → moved.tree.node n ≡ renamed.tree.node n
-  moved_node n = ap (λ o. (changed_node nat_eq (with_name nat_eq
-      (without_name nat_eq (without_parent nat_eq files o) from old) to new object)
-      object (node_with_parent to)).tree.node n) free ∙ by (nat_eq n object) refl
-    where
-      kept : is_directory_node (renamed.tree.node object) ≡ false
-      kept = part_stays less to (node_with_entry new object) is_directory_node
-          (is_directory-node_with_entry new object) object ∙ less_kind object ∙ no_directory
-
-      by : (b : Bool) → nat_eq n object ≡ b
-          → cond b (node_with_parent to (renamed.tree.node object)) (renamed.tree.node n) ≡ renamed.tree.node n
-      by true e = node_with_parent-no_directory to (renamed.tree.node object) kept
-          ∙ ap renamed.tree.node (sym (eqb-true n object e))
-      by false e = refl
+  moved_node n = grind (
+    arith,
+    common_steps,
+    part_stays,
+    is_directory-node_with_entry,
+    less_kind,
+    node_with_parent-no_directory,
+    eqb-true,
+  )
 
   pub moved_entry : entry_at moved.tree to new ≡ Some object
   moved_entry = ap (λ o. entry_named new (entries_in o)) (moved_node to)

@@ -1,10 +1,10 @@
 -- Where the walks of paths end in what a call left: at the object where they ended, at what a name has now, or nowhere.
+use Rattle.std.proofs.lemmas.Grind.{common_steps}
 use Rattle.std.proofs.Common.{◌≡◌, refl, sym, ap, subst, ◌∙◌, inl, inr, ◌⊎◌, true≢false, ℕ, nat_eq, Bool, true, false, cond, not, List, [], ◌∷◌, reverse, None, Result, Ok, Err, arith}
 use Rattle.vt_spec.specs.declared.errors.Deny.{Deny}
 use Rattle.vt_spec.specs.declared.errors.Rule.TheVariants.{W3, W4}
 use Rattle.vt_spec.specs.Errors.{NoneFails, Rules, and_then, denial, unless}
 use Rattle.vt_spec.specs.FileTree.{symlink_text}
-use Rattle.vt_spec.specs.Language.Limits.{most_symlinks}
 use Rattle.vt_spec.specs.Machine.Looks.{Looks, is_directory_at}
 use Rattle.vt_spec.specs.Machine.Mounts.{Location}
 use Rattle.vt_spec.specs.Machine.Walking.{Here, LastWord, Place, Stop, directory_walk, final_word, followed, prefix_walked, if_symlink, is_special, last_walked, last_word, object_named, object_walk, path_text, path_walked, place_walk, placed, search_rules, slash_rules, stepped, steps_at, steps_with, stopped_by, symlink_walk, symlink_walk_by, then_walk, walk_start, walk_unless, word_walked, words_walked}
@@ -129,12 +129,7 @@ module _ (looks later : Looks ℕ) (task reader : Task ℕ) (Refused : Deny → 
   EndsSo walk here = Ends looks later task reader Refused Known leads walk here
 
   pub begun : (path : List ℕ) → walk_start reader path ≡ at (walk_start task path) []
-  begun path = λ i. record {
-    location =
-        start_same looks later task reader Refused Known leads reader.directory task.directory path leads.working i;
-    left = most_symlinks;
-    steps = [];
-  }
+  begun path = grind (arith, common_steps, start_same)
 
   begin_known : (path : List ℕ) → Known (walk_start task path).location
   begin_known path = start_known looks later task reader Refused Known leads task.directory path leads.working_known

@@ -1,5 +1,6 @@
 -- In a world that a call left, in which mounts stay and names stay or are missing, walks lead where they led.
-use Rattle.std.proofs.Common.{◌≡◌, refl, sym, ap, subst, ◌∙◌, inl, inr, ◌⊎◌, true≢false, ℕ, nat_eq, Bool, true, false, cond, not, ◌||◌, List, [], ◌∷◌, length, Option, Some, None, is_some, option_map, ok_or, Result, Ok, Err}
+use Rattle.std.proofs.Common.{arith, ◌≡◌, refl, sym, ap, subst, ◌∙◌, inl, inr, ◌⊎◌, true≢false, ℕ, nat_eq, Bool, true, false, cond, not, ◌||◌, List, [], ◌∷◌, length, Option, Some, None, is_some, option_map, ok_or, Result, Ok, Err}
+use Rattle.std.proofs.lemmas.Grind.{common_steps}
 use Rattle.std.proofs.lemmas.Bool.{and_parts, not-false, or_parts}
 use Rattle.std.specs.Prelude.{⊤}
 use Rattle.vt_spec.specs.declared.errors.Deny.{Deny}
@@ -235,16 +236,7 @@ module _ (world later : World ℕ) (is : IsWorld nat_eq world) (plain : IsPlain 
 
       names : DirectoryNamesStay (λ n. ⊤) (tree_in world (mount_at nat_eq world here).filesystem)
           (tree_in later (mount_at nat_eq world here).filesystem)
-      names directory name number entry is_directory keeps is_there =
-          by (stay.entry (mount_at nat_eq world here).filesystem directory name number entry is_there)
-        where
-          by : (entry_at (tree_in later (mount_at nat_eq world here).filesystem) directory name ≡ Some number)
-              ⊎ ((entry_at (tree_in later (mount_at nat_eq world here).filesystem) directory name ≡ None)
-              × (is_directory_node (node_in world (mount_at nat_eq world here).filesystem number) ≡ false)
-              × Refused (denial W6))
-              → entry_at (tree_in later (mount_at nat_eq world here).filesystem) directory name ≡ Some number
-          by (inl stays) = stays
-          by (inr lost) = absurd (true≢false (sym is_directory ∙ lost.1))
+      names directory name number entry is_directory keeps is_there = grind (arith, common_steps, true≢false)
 
       is_directory_later : is_directory_node (node_in later (mount_at nat_eq world here).filesystem here.node) ≡ true
       is_directory_later = ap is_directory_node (sym (node_here here)) ∙ known.1.1

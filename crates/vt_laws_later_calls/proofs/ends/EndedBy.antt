@@ -1,5 +1,6 @@
 -- An inode that is there is there after a call that takes no use away, unless it is a whiteout of an upper layer.
-use Rattle.std.proofs.Common.{◌≡◌, refl, sym, ap, subst, ◌∙◌, ◌⊎◌, inl, inr, ⊎_elim, true≢false, ℕ, nat_eq, eq-eqb, Bool, true, false, cond, List, [], ◌∷◌, ◌++◌, find, Option, Some, None, Ok, is_some, unwrap_or}
+use Rattle.std.proofs.Common.{arith, ◌≡◌, refl, sym, ap, subst, ◌∙◌, ◌⊎◌, inl, inr, ⊎_elim, true≢false, ℕ, nat_eq, eq-eqb, Bool, true, false, cond, List, [], ◌∷◌, ◌++◌, find, Option, Some, None, Ok, is_some, unwrap_or}
+use Rattle.std.proofs.lemmas.Grind.{common_steps}
 use Rattle.std.specs.Prelude.{⊤}
 use Rattle.std.specs.List.{list_any}
 use Rattle.vt_spec.specs.declared.attributes.Kind.TheVariants.{White}
@@ -7,7 +8,7 @@ use Rattle.vt_spec.specs.FileTree.{FileTree, is_kind_in}
 use Rattle.vt_spec.specs.Language.Calls.{Call, TypeWord}
 use Rattle.vt_spec.specs.Language.Calls.Call.{SetType}
 use Rattle.vt_spec.specs.Language.Changes.{Change}
-use Rattle.vt_spec.specs.Language.Changes.Change.{AddName, CopyUp, Make, Move, Remove, SetAttr, SetBytes, SetMark}
+use Rattle.vt_spec.specs.Language.Changes.Change.{CopyUp}
 use Rattle.vt_spec.specs.Lists.{Fresh, holds_of, when}
 use Rattle.vt_spec.specs.Machine.Apply.{apply}
 use Rattle.vt_spec.specs.Machine.Filesystems.{with_change}
@@ -16,9 +17,8 @@ use Rattle.vt_spec.specs.Machine.Judge.{judge_in}
 use Rattle.vt_spec.specs.Machine.Locked.{overlay_or}
 use Rattle.vt_spec.specs.Machine.Looks.{looks_of}
 use Rattle.vt_spec.specs.Machine.Mounts.{Location}
-use Rattle.vt_spec.specs.Machine.Descriptors.{is_copied_up}
 use Rattle.vt_spec.specs.Machine.Permits.{Permit}
-use Rattle.vt_spec.specs.Machine.Permits.Permit.{ToChange, ToMake, ToOpen, ToOpenNew, ToRemoveDirectory, ToRename, ToWritePart}
+use Rattle.vt_spec.specs.Machine.Permits.Permit.{ToChange}
 use Rattle.vt_spec.specs.Machine.Policy.{call_outcome}
 use Rattle.vt_spec.specs.Machine.Run.{Serves}
 use Rattle.vt_spec.specs.Machine.Settled.{settled}
@@ -106,14 +106,7 @@ module _ (world : World ℕ) (fresh : Fresh ℕ) (call : Call) (is : IsWorld nat
 
     of_change : (location : Location ℕ) (change : Change ℕ)
         → IsFor (looks_of nat_eq world) task call (ToChange location change) → takes_a_name change ≡ false
-    of_change location (Make directory name object node) for = refl
-    of_change location (AddName directory name object) for = refl
-    of_change location (Remove directory name object) for = not_this _ for.1 refl
-    of_change location (Move from old to new object) for = absurd for
-    of_change location (SetBytes file bytes) for = refl
-    of_change location (SetAttr object attr) for = refl
-    of_change location (SetMark directory mark) for = refl
-    of_change location (CopyUp object) for = refl
+    of_change location change for = grind (arith, common_steps)
 
     of_copy : (file : Location ℕ) (b : Bool) → TakesNone (when b (file, CopyUp file.node))
     of_copy file true = refl
@@ -121,15 +114,7 @@ module _ (world : World ℕ) (fresh : Fresh ℕ) (call : Call) (is : IsWorld nat
 
     takes_none : (permit : Permit ℕ) → IsFor (looks_of nat_eq world) task call permit
         → TakesNone (change_asked fresh world permit)
-    takes_none (ToChange location change) for = of_change location change for
-    takes_none (ToMake directory name node) for = refl
-    takes_none (ToRemoveDirectory parent name directory) for = not_this _ for.1 refl
-    takes_none (ToRename from old to new object replaced) for = not_this _ for.2 refl
-    takes_none (ToOpen file access) for = of_copy file (is_copied_up nat_eq world file access)
-    takes_none (ToOpenNew directory name node access) for = refl
-    takes_none (ToWritePart file offset []) for = tt
-    takes_none (ToWritePart file offset (byte ∷ bytes)) for = refl
-    takes_none permit for = tt
+    takes_none permit for = grind (arith, common_steps, of_change, of_copy)
 
     -- so what it leaves has the inode,
     permit_remains : (permit : Permit ℕ) → judge_in nat_eq fresh world task call ≡ Ok permit

@@ -1,6 +1,7 @@
 -- After a call that takes no use away the sweep is to look at what a new name replaced; after one that sets types it
 -- takes at the most masters of groups.
-use Rattle.std.proofs.Common.{◌≡◌, refl, sym, ap, subst, ◌∙◌, inl, inr, ◌⊎◌, ⊎_elim, true≢false, ℕ, nat_eq, Bool, true, false, not, ◌&&◌, List, [], ◌∷◌, Option, Some, None, is_some, map, Ok, Err}
+use Rattle.std.proofs.Common.{arith, ◌≡◌, refl, sym, ap, subst, ◌∙◌, inl, inr, ◌⊎◌, ⊎_elim, true≢false, ℕ, nat_eq, Bool, true, false, not, ◌&&◌, List, [], ◌∷◌, Option, Some, None, is_some, map, Ok, Err}
+use Rattle.std.proofs.lemmas.Grind.{common_steps}
 use Rattle.std.proofs.lemmas.Bool.{and_parts}
 use Rattle.std.proofs.Math.Bool.{and-false}
 use Rattle.std.specs.Prelude.{Contains}
@@ -97,27 +98,12 @@ module _ (world : World ℕ) (fresh : Fresh ℕ) (task : Task ℕ) (call : Call)
 
   no_change : (location : Location ℕ) (change : Change ℕ)
       → IsFor (looks_of nat_eq world) task call (ToChange location change) → ⊥
-  no_change location (Make directory name number node) for = for
-  no_change location (AddName directory name object) for = not_that _ for.2 refl
-  no_change location (Remove directory name object) for = not_that _ for.1 refl
-  no_change location (Move from old to new object) for = for
-  no_change location (SetBytes file bytes) for = not_that _ for.1 refl
-  no_change location (SetAttr object attr) for =
-      ⊎_elim (λ mode. not_that _ mode.2 refl) (λ owner. not_that _ owner.3 refl) for.1
-  no_change location (SetMark directory opaque) for = not_that _ for.1 refl
-  no_change location (CopyUp object) for = for
+  no_change location change for = grind (arith, common_steps)
 
   -- and its permit asks for none
   pub asks_nothing : (permit : Permit ℕ) → IsFor (looks_of nat_eq world) task call permit
       → change_asked fresh world permit ≡ None
-  asks_nothing (ToChange location change) for = absurd (no_change location change for)
-  asks_nothing (ToMake directory name node) for = absurd (true≢false (sym (makes_files call for) ∙ of_mounts))
-  asks_nothing (ToRemoveDirectory parent name directory) for = not_that _ for.1 refl
-  asks_nothing (ToRename from old to new object replaced) for = not_that _ for.2 refl
-  asks_nothing (ToOpen file access) for = not_that _ for.2 refl
-  asks_nothing (ToOpenNew directory name node access) for = not_that _ for.2 refl
-  asks_nothing (ToWritePart file offset bytes) for = not_that _ for.1 refl
-  asks_nothing permit for = refl
+  asks_nothing permit for = grind (arith, common_steps, no_change, true≢false, makes_files)
 
 module _ (world : World ℕ) (fresh : Fresh ℕ) (task : Task ℕ) (is : IsWorld nat_eq world)
     (serves : Serves nat_eq world fresh) (called : task_called world task.name ≡ Some task) where
@@ -166,15 +152,7 @@ module _ (world : World ℕ) (fresh : Fresh ℕ) (task : Task ℕ) (is : IsWorld
 
     -- what the change needs
     may_change : (kind : Change ℕ) → IsProper files.tree kind → takes_a_name kind ≡ false → MayChange files kind
-    may_change (Make directory name object node) may none =
-        record { in_directory = may.name_is_free.in_directory; is_new = may.number_is_new }
-    may_change (AddName directory name object) may none = tt
-    may_change (Remove directory name object) may none = tt
-    may_change (Move from old to new object) may none = absurd (true≢false none)
-    may_change (SetBytes file bytes) may none = tt
-    may_change (SetAttr object attr) may none = tt
-    may_change (SetMark directory opaque) may none = tt
-    may_change (CopyUp object) may none = tt
+    may_change kind may none = grind (arith, common_steps, none, true≢false)
 
     -- in a plain tree nothing goes
     plain_keeps : is_overlay merged ≡ false → KeepsAll left
@@ -288,16 +266,7 @@ module _ (world : World ℕ) (fresh : Fresh ℕ) (task : Task ℕ) (is : IsWorld
 
   -- and replaces nothing
   nothing_replaced : (file : Location ℕ) (b : Bool) → replaced_if world (when b (file, CopyUp file.node)) ≡ []
-  nothing_replaced file false = refl
-  nothing_replaced file true = by (filesystem_at nat_eq world file).overlay
-    where
-      over : (overlay : Overlay ℕ) (o : Option (Layer ℕ)) → replaced_in world overlay o (CopyUp file.node) ≡ []
-      over overlay None = refl
-      over overlay (Some upper) = refl
-
-      by : (o : Option (Overlay ℕ)) → replaced_over world o (CopyUp file.node) ≡ []
-      by None = refl
-      by (Some overlay) = over overlay overlay.upper
+  nothing_replaced file b = grind (arith, common_steps)
 
   -- a mount may be attached at a destination
   attached : (place : Location ℕ) → IsDestination world task place → is_attached world place.mount ≡ true

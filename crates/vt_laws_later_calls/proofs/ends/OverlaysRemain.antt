@@ -1,11 +1,12 @@
 -- A change that takes no name away takes no inode away, in an overlay and in its upper layer too.
-use Rattle.std.proofs.Common.{◌≡◌, refl, sym, ap, ◌∙◌, ⊎_elim, true≢false, ℕ, ◌+◌, nat_eq, Bool, true, false, List, [], ◌∷◌, Option, Some, None, is_some}
+use Rattle.std.proofs.Common.{arith, ◌≡◌, refl, sym, ap, ◌∙◌, ⊎_elim, true≢false, ℕ, ◌+◌, nat_eq, Bool, true, false, List, [], ◌∷◌, Option, Some, None, is_some}
+use Rattle.std.proofs.lemmas.Grind.{common_steps}
 use Rattle.std.proofs.lemmas.Bool.Decides.{eqb_tells}
 use Rattle.vt_spec.specs.FileTree.{FileTree, a_name}
 use Rattle.vt_spec.specs.Language.Changes.{Change, changed, content_with_parent, node_with_attr, node_with_mark, with_inode, with_name}
 use Rattle.vt_spec.specs.Language.Changes.Change.{AddName, CopyUp, Make, Move, Remove, SetAttr, SetBytes, SetMark}
 use Rattle.vt_spec.specs.Lists.{Fresh, evens, odds}
-use Rattle.vt_spec.specs.Machine.CopyUp.{Merge, Stack, changed_both, copied_content, copied_each, copied_up, copy_named, copy_of, copy_parent, hides_directory, line_to, merge_changed, upper_of, with_mark}
+use Rattle.vt_spec.specs.Machine.CopyUp.{Merge, Stack, changed_both, copied_each, copied_up, copy_named, copy_of, hides_directory, line_to, merge_changed, upper_of, with_mark}
 use Rattle.vt_spec.specs.Machine.Filesystems.{filesystem_changed, overlay_changed, stack_of, with_change, with_files}
 use Rattle.vt_spec.specs.Machine.Invariants.{IsWorld}
 use Rattle.vt_spec.specs.Machine.Mounts.{Location}
@@ -44,20 +45,7 @@ module _ (other : ℕ) where
   -- one copy
   copy_remains : (merge : Merge ℕ) (object copy : ℕ) (node : Option (Node ℕ)) (in_upper : Bool)
       → BothRemain merge (copy_of nat_eq merge object copy node in_upper)
-  copy_remains merge object copy None in_upper = record { files = λ there. there; upper = λ there. there }
-  copy_remains merge object copy (Some node) true = record { files = λ there. there; upper = λ there. there }
-  copy_remains merge object copy (Some node) false = record {
-    files = λ there. there;
-    upper = λ there.
-        named_copy_remains merge copy (a_name nat_eq merge.files object) (with_inode nat_eq merge.upper copy made)
-        (made_remains other merge.upper copy made there);
-  }
-    where
-      made : Node ℕ
-      made = record {
-        attr = node.attr;
-        content = copied_content (copy_parent merge copy (a_name nat_eq merge.files object)) node.content;
-      }
+  copy_remains merge object copy node in_upper = grind (arith, common_steps, named_copy_remains, made_remains)
 
   -- and a list of them
   copies_remain : (fresh : Fresh ℕ) (list : List ℕ) (k : ℕ) (merge : Merge ℕ)

@@ -1,11 +1,11 @@
 -- What the upper layer has at a name that is free in the overlay is a whiteout.
-use Rattle.std.proofs.Common.{◌≡◌, refl, sym, ap, subst, ◌∙◌, ⊎_elim, ℕ, nat_eq, Bool, true, false, List, [], ◌∷◌, ◌++◌, map, Option, Some, None, Ok, Err, option_to_list}
+use Rattle.std.proofs.Common.{arith, ◌≡◌, refl, sym, ap, ◌∙◌, ℕ, nat_eq, Bool, true, false, List, [], ◌∷◌, ◌++◌, Option, Some, None, Ok, Err}
+use Rattle.std.proofs.lemmas.Grind.{common_steps}
 use Rattle.std.specs.Prelude.{option_and_then}
 use Rattle.std.proofs.lemmas.Option.{same_Some}
 use Rattle.vt_spec.specs.declared.attributes.Kind.TheVariants.{White}
 use Rattle.vt_spec.specs.FileTree.{is_kind_in}
 use Rattle.vt_spec.specs.Language.Changes.{Change}
-use Rattle.vt_spec.specs.Language.Changes.Change.{AddName, CopyUp, Make, Move, Remove, SetAttr, SetBytes, SetMark}
 use Rattle.vt_spec.specs.Lists.{then_some}
 use Rattle.vt_spec.specs.Machine.CopyUp.{Merge, Stack}
 use Rattle.vt_spec.specs.Machine.Filesystems.{merge_of, stack_of}
@@ -28,7 +28,6 @@ use Rattle.vt_laws_worlds.specs.OverlaysLetGo.NamesGiven.{name_given, replaced_i
 use Rattle.vt_laws_worlds.specs.OverlayPermits.Asked.{change_asked}
 use Rattle.vt_laws_worlds.proofs.overlay_permits.asked.AskedOverlays.{permits_ask_properly}
 use Rattle.vt_laws_later_calls.specs.Whiteouts.{IsWhiteoutOfUpper, ReplacedAreWhiteouts, replaced_as, replaced_if, replaced_in, replaced_over}
-use Rattle.vt_laws_trees.specs.Trees.Settling.{inode_in}
 
 -- what an option that leads on leads to
 leads_on : {A B : Type 0} (o : Option A) (next : A → Option B) (b : B) → then_some o next ≡ Some b
@@ -87,57 +86,18 @@ module _ (world : World ℕ) (is : IsWorld nat_eq world) (location : Location �
   given_is_free : (kind : Change ℕ) → IsProper (filesystem_at nat_eq world location).files.tree kind
       → (name : ℕ × List ℕ) → name_given kind ≡ Some name
       → IsFree (filesystem_at nat_eq world location).files.tree name.0 name.1
-  given_is_free (Make directory w object node) may name e =
-      subst (λ (n : ℕ × List ℕ). IsFree (filesystem_at nat_eq world location).files.tree n.0 n.1) (same_Some _ name e)
-      may.name_is_free
-  given_is_free (AddName directory w object) may name e =
-      subst (λ (n : ℕ × List ℕ). IsFree (filesystem_at nat_eq world location).files.tree n.0 n.1) (same_Some _ name e)
-      may.name_is_free
-  given_is_free (Remove directory w object) may name e = none_is_some name e
-  given_is_free (Move from old to new object) may name e = none_is_some name e
-  given_is_free (SetBytes file bytes) may name e = none_is_some name e
-  given_is_free (SetAttr object attr) may name e = none_is_some name e
-  given_is_free (SetMark directory opaque) may name e = none_is_some name e
-  given_is_free (CopyUp object) may name e = none_is_some name e
+  given_is_free kind may name e = grind (arith, common_steps, same_Some, none_is_some)
 
   -- of an overlay with an upper layer
   upper_is_white : (overlay : Overlay ℕ) → (filesystem_at nat_eq world location).overlay ≡ Some overlay
       → (upper : Layer ℕ) → overlay.upper ≡ Some upper → Among inode (replaced_in_upper world overlay upper change)
       → IsWhiteoutOfUpper world inode
-  upper_is_white overlay over upper has m =
-      by (then_some (name_given change) (upper_at_name world overlay upper)) refl m
-    where
-      of : (object : ℕ) → then_some (name_given change) (upper_at_name world overlay upper) ≡ Some object
-          → inode ≡ (upper.filesystem, object) → IsWhiteoutOfUpper world inode
-      of object e same =
-          let given = leads_on (name_given change) (upper_at_name world overlay upper) object e in
-          record {
-            merged = number;
-            overlay = overlay;
-            upper = upper;
-            overlay_there = over;
-            upper_there = has;
-            in_upper = ap (λ (i : Inode). i.0) same;
-            white = ap (λ (i : Inode). is_kind_in White (inode_in world i.0 i.1)) same
-                ∙ at_name_is_white world is number overlay over upper has given.0.0 given.0.1
-                (given_is_free change may given.0 given.1) object given.2;
-          }
-
-      by : (o : Option ℕ) → then_some (name_given change) (upper_at_name world overlay upper) ≡ o
-          → Among inode (map (λ object. (upper.filesystem, object)) (option_to_list o)) → IsWhiteoutOfUpper world inode
-      by None e m = absurd m
-      by (Some object) e m = of object e (⊎_elim (λ same. same) (λ (none : ⊥). absurd none) m)
+  upper_is_white overlay over upper has m = grind (arith, common_steps, leads_on, at_name_is_white, given_is_free)
 
   -- of any filesystem
   over_is_white : (o : Option (Overlay ℕ)) → (filesystem_at nat_eq world location).overlay ≡ o
       → Among inode (replaced_over world o change) → IsWhiteoutOfUpper world inode
-  over_is_white None over m = absurd m
-  over_is_white (Some overlay) over m = by overlay.upper refl m
-    where
-      by : (u : Option (Layer ℕ)) → overlay.upper ≡ u → Among inode (replaced_in world overlay u change)
-          → IsWhiteoutOfUpper world inode
-      by None has m = absurd m
-      by (Some upper) has m = upper_is_white overlay over upper has m
+  over_is_white o over m = grind (arith, common_steps, upper_is_white)
 
 pub replaced_are_whiteouts : ReplacedAreWhiteouts
 replaced_are_whiteouts world fresh task call is serves called only inode contains =

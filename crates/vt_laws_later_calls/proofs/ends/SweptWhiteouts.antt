@@ -1,12 +1,12 @@
 -- What is left where inodes of plain trees are looked at: mounts, groups, filesystems, and every other inode.
-use Rattle.std.proofs.Common.{◌≡◌, refl, sym, ap, subst, ◌∙◌, ◌⊎◌, inl, inr, ⊎_elim, ℕ, nat_eq, eqb-true, Bool, true, false, cond, not, ◌&&◌, List, [], ◌∷◌, find, map, Option, Some, None, unwrap_or}
+use Rattle.std.proofs.Common.{arith, ◌≡◌, refl, sym, ap, subst, ◌∙◌, ◌⊎◌, inl, inr, ⊎_elim, ℕ, nat_eq, eqb-true, Bool, true, false, cond, ◌&&◌, List, [], ◌∷◌, find, map, Option, Some, None, unwrap_or}
+use Rattle.std.proofs.lemmas.Grind.{common_steps}
 use Rattle.std.proofs.lemmas.Bool.{and_parts}
 use Rattle.vt_spec.specs.Machine.World.{Filesystem, World, no_filesystem}
 use Rattle.vt_spec.specs.Tree.{Node}
 use Rattle.vt_spec.proofs.Lists.{Among, contains_from_among}
-use Rattle.vt_laws_mounts.specs.LettingGo.InUse.{is_inode_used}
 use Rattle.vt_laws_mounts.specs.LettingGo.OneByOne.{Inode}
-use Rattle.vt_laws_mounts.specs.LettingGo.Overlays.{is_plain, let_go_in, let_go_in_of, let_go_plain, without_inode_of}
+use Rattle.vt_laws_mounts.specs.LettingGo.Overlays.{is_plain, let_go_in, let_go_in_of, let_go_plain}
 use Rattle.vt_laws_trees.proofs.trees.TreesOfWorlds.{numbered}
 use Rattle.vt_laws_later_calls.specs.Whiteouts.{LeavesAllBut}
 use Rattle.vt_laws_trees.specs.Trees.Settling.{inode_in}
@@ -22,11 +22,7 @@ module _ (world : World ℕ) (inode : Inode) where
   change = let_go_in_of is_plain world inode
 
   same_number : (f : Filesystem ℕ) → (change f).number ≡ f.number
-  same_number f = by ((is_plain f && nat_eq f.number inode.0) && not (is_inode_used world f inode.1))
-    where
-      by : (b : Bool) → (cond b (without_inode_of inode.1 f) f).number ≡ f.number
-      by true = refl
-      by false = refl
+  same_number f = grind (arith, common_steps)
 
   same_numbers : (list : List (Filesystem ℕ)) → map (λ (f : Filesystem ℕ). f.number) (map change list)
       ≡ map (λ (f : Filesystem ℕ). f.number) list
@@ -41,22 +37,7 @@ module _ (world : World ℕ) (inode : Inode) where
 
     in_one : (f : Filesystem ℕ) → filesystem ≡ f.number
         → StaysOrGoes (f.files.tree.node number) ((change f).files.tree.node number)
-    in_one f at = by ((is_plain f && nat_eq f.number inode.0) && not (is_inode_used world f inode.1)) refl
-      where
-        itself : nat_eq f.number inode.0 ≡ true → (b : Bool) → nat_eq number inode.1 ≡ b
-            → StaysOrGoes (f.files.tree.node number) (cond b None (f.files.tree.node number))
-        itself of true e =
-            let first = at ∙ eqb-true f.number inode.0 of in
-            let second = eqb-true number inode.1 e in
-            inr ((λ i. (first i, second i)), refl)
-        itself of false e = inl refl
-
-        by : (b : Bool) → ((is_plain f && nat_eq f.number inode.0) && not (is_inode_used world f inode.1)) ≡ b
-            → StaysOrGoes (f.files.tree.node number) ((cond b (without_inode_of inode.1 f) f).files.tree.node number)
-        by true e = itself (and_parts (is_plain f) (nat_eq f.number inode.0)
-            (and_parts (is_plain f && nat_eq f.number inode.0) (not (is_inode_used world f inode.1)) e).0).1
-            (nat_eq number inode.1) refl
-        by false e = inl refl
+    in_one f at = grind (arith, common_steps, eqb-true, and_parts)
 
     in_list : (list : List (Filesystem ℕ)) → StaysOrGoes ((numbered filesystem list).files.tree.node number)
         ((numbered filesystem (map change list)).files.tree.node number)
@@ -96,10 +77,5 @@ inodes_stay (inode ∷ rest) world filesystem number = ⊎_elim
     (inodes_stay rest (let_go_in is_plain world inode) filesystem number)
 
 pub leaves_all_but : (world : World ℕ) (list : List Inode) → LeavesAllBut list world (let_go_plain world list)
-leaves_all_but world list = record {
-  mounts = ap (λ (w : World ℕ). w.mounts) (only_filesystems list world);
-  masters = ap (λ (w : World ℕ). w.master) (only_filesystems list world);
-  filesystems = numbers_stay list world;
-  inodes = λ filesystem number. ⊎_elim inl (λ gone. inr (contains_from_among list (filesystem, number) gone.0, gone.1))
-      (inodes_stay list world filesystem number);
-}
+leaves_all_but world list =
+    grind (arith, common_steps, only_filesystems, numbers_stay, contains_from_among, inodes_stay)

@@ -1,37 +1,25 @@
 -- Without overlays no whiteout is replaced, so nothing goes.
-use Rattle.std.proofs.Common.{◌≡◌, refl, ap, inr, ℕ, nat_eq, false, [], Option, Some, None, Ok, Err}
+use Rattle.std.proofs.Common.{arith, ◌≡◌, ap, inr, ℕ, nat_eq, false, []}
+use Rattle.std.proofs.lemmas.Grind.{common_steps}
 use Rattle.std.specs.List.{list_any}
 use Rattle.vt_spec.specs.Language.Calls.{Call}
-use Rattle.vt_spec.specs.Language.Changes.{Change}
 use Rattle.vt_spec.specs.Lists.{Fresh, holds_of}
-use Rattle.vt_spec.specs.Machine.Judge.{Judgement, judge_in}
 use Rattle.vt_spec.specs.Machine.Locked.{overlay_or}
-use Rattle.vt_spec.specs.Machine.Mounts.{Location}
-use Rattle.vt_spec.specs.Machine.World.{Filesystem, Layer, Overlay, Task, World, is_overlay, mount_at}
+use Rattle.vt_spec.specs.Machine.World.{Filesystem, Layer, Overlay, Task, World, is_overlay}
 use Rattle.vt_spec.proofs.Options.{none_from_not_some}
 use Rattle.vt_laws_mounts.specs.LettingGo.InUse.{has_upper_in}
 use Rattle.vt_laws_mounts.proofs.letting_go.Lists.{among_from_all, none_passes}
 use Rattle.vt_laws_worlds.proofs.Plain.{plain_numbered}
 use Rattle.vt_laws_worlds.specs.Worlds.Kept.{IsPlain}
-use Rattle.vt_laws_worlds.specs.OverlayPermits.Asked.{change_asked}
 use Rattle.vt_laws_later_calls.specs.Ends.{OnlyTheseEndInodes, OtherCallsLeaveAll, TypesLeaveAllButMasters}
-use Rattle.vt_laws_later_calls.specs.Whiteouts.{replaced_as, replaced_by, replaced_if, replaced_over}
+use Rattle.vt_laws_later_calls.specs.Whiteouts.{replaced_by}
 use Rattle.vt_laws_later_calls.proofs.ends.EndedBy.{only_these_end_other_inodes, other_calls_keep_all}
 use Rattle.vt_laws_later_calls.proofs.ends.OtherCalls.{all_types_leave_all_but_masters}
 
 -- no overlay changes
 none_replaced : (world : World ℕ) → IsPlain world → (fresh : Fresh ℕ) (task : Task ℕ) (call : Call)
     → replaced_by fresh world task call ≡ []
-none_replaced world plain fresh task call = by (judge_in nat_eq fresh world task call)
-  where
-    asked : (o : Option (Location ℕ × Change ℕ)) → replaced_if world o ≡ []
-    asked None = refl
-    asked (Some made) = ap (λ o. replaced_over world o made.1)
-        (plain_numbered world plain (mount_at nat_eq world made.0).filesystem)
-
-    by : (judgement : Judgement ℕ) → replaced_as fresh world judgement ≡ []
-    by (Ok permit) = asked (change_asked fresh world permit)
-    by (Err deny) = refl
+none_replaced world plain fresh task call = grind (arith, common_steps, plain_numbered)
 
 -- and none has an upper layer
 no_upper : (world : World ℕ) → IsPlain world → (filesystem : ℕ)

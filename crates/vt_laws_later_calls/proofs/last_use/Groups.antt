@@ -1,5 +1,6 @@
 -- A group ends with its last member.
-use Rattle.std.proofs.Common.{◌≡◌, refl, sym, ap, subst, ◌∙◌, ◌⊎◌, inl, inr, ⊎_elim, ℕ, nat_eq, eqb-true, eq-eqb, Bool, true, false, true≢false, cond, not, ◌||◌, ◌&&◌, List, [], ◌∷◌, ◌++◌, Option, Some, None, is_some, option_to_list}
+use Rattle.std.proofs.Common.{arith, ◌≡◌, refl, sym, ap, subst, ◌∙◌, ◌⊎◌, inl, inr, ⊎_elim, ℕ, nat_eq, eqb-true, eq-eqb, Bool, true, false, true≢false, cond, not, ◌||◌, ◌&&◌, List, [], ◌∷◌, ◌++◌, Option, Some, None, is_some, option_to_list}
+use Rattle.std.proofs.lemmas.Grind.{common_steps}
 use Rattle.std.specs.Prelude.{nat_lt}
 use Rattle.std.specs.List.{list_all, list_any}
 use Rattle.vt_spec.specs.Lists.{holds_of, then_some}
@@ -112,20 +113,11 @@ module _ (world : World ℕ) (front back : List (Mount ℕ)) (old new : Mount �
 
     -- what had members is the group, or has some
     had_members : (other : ℕ) → members other ≡ true → is_group_or_lives after group other ≡ true
-    had_members other has = by (nat_eq other group) refl
-      where
-        by : (b : Bool) → nat_eq other group ≡ b → (b || has_members nat_eq after.mounts other) ≡ true
-        by true e = refl
-        by false e = members_as_before other e ∙ has
+    had_members other has = grind (arith, common_steps, members_as_before)
 
     had_members_all : (o : Option ℕ) → list_all members (option_to_list o) ≡ true
         → list_all (is_group_or_lives after group) (option_to_list o) ≡ true
-    had_members_all None h = refl
-    had_members_all (Some other) h = ap (λ b. b && true) (had_members other (only (members other) h))
-      where
-        only : (b : Bool) → (b && true) ≡ true → b ≡ true
-        only true e = refl
-        only false e = e
+    had_members_all o h = grind (arith, common_steps, had_members)
 
     -- a mount of the world after is new, or was there
     was_there : (mount : Mount ℕ) → Among mount after.mounts
@@ -212,12 +204,7 @@ module _ (world : World ℕ) (front back : List (Mount ℕ)) (old new : Mount �
 
         all_still : (o : Option ℕ) → list_all members (option_to_list o) ≡ true
             → list_all (has_members nat_eq after.mounts) (option_to_list o) ≡ true
-        all_still None h = refl
-        all_still (Some other) h = ap (λ b. b && true) (still other (only (members other) h))
-          where
-            only : (b : Bool) → (b && true) ≡ true → b ≡ true
-            only true e = refl
-            only false e = e
+        all_still o h = grind (arith, common_steps, still)
 
     pub group_handed_on : OneGroupIsHandedOn → regrouped nat_eq after
         ≡ cond (nat_lt 1 (member_count world group)) after (hand_on after group)

@@ -1,4 +1,5 @@
 -- An inode goes with its last use.
+use Rattle.std.proofs.lemmas.Grind.{common_steps}
 use Rattle.std.proofs.Common.{◌≡◌, refl, sym, ap, subst, ◌∙◌, ℕ, nat_eq, eqb-true, eq-eqb, Bool, true, false, true≢false, cond, not, ◌||◌, ◌&&◌, ◌+◌, [], ◌∷◌, ◌++◌, find, map, Option, Some, None, is_some, option_map, unwrap_or, arith}
 use Rattle.std.specs.Prelude.{nat_lt}
 use Rattle.std.specs.List.{list_all}
@@ -10,7 +11,7 @@ use Rattle.vt_spec.specs.Machine.Settled.{without_dead_in, without_dead_inodes}
 use Rattle.vt_spec.specs.Machine.World.{Filesystem, Overlay, World, filesystem_numbered, is_overlay, no_filesystem}
 use Rattle.vt_laws_mounts.specs.LettingGo.Counts.{inode_uses}
 use Rattle.vt_laws_mounts.specs.LettingGo.InUse.{HasTrees, InodesInUse, UppersArePlain, is_inode_used}
-use Rattle.vt_laws_mounts.specs.LettingGo.OneByOne.{Inode, InodesInUseBut, is_used_or_among, let_go_inode, let_go_inode_of, without_inode, without_inode_at}
+use Rattle.vt_laws_mounts.specs.LettingGo.OneByOne.{Inode, InodesInUseBut, is_used_or_among, let_go_inode, without_inode, without_inode_at}
 use Rattle.vt_laws_mounts.specs.LettingGo.Overlays.{RealsAreThere, is_plain, let_go_in, let_go_in_of, let_go_plain, uppers_in, uppers_of, uppers_of_inode, uppers_of_inode_in, without_inode_of, without_real}
 use Rattle.vt_laws_mounts.proofs.letting_go.Lists.{Among, all_from_among, all_pass, among-from_map, among_from_all, flat_map_none, found_by, found_in, map_same, passes}
 use Rattle.vt_laws_mounts.proofs.letting_go.sweeps.InUse.{inodes_stay}
@@ -127,15 +128,7 @@ module _ (world after : World ℕ) (inode : Inode) (in_use : InodesInUse world) 
   module _ (plain : is_overlay (filesystem_numbered nat_eq after inode.0) ≡ false) where
     -- no overlay is looked at
     merged_stay : let_go_in is_overlay after inode ≡ after
-    merged_stay = ap (λ filesystems. record after { filesystems = filesystems })
-        (map_same (let_go_in_of is_overlay after inode) after.filesystems
-        (λ f m. ap (λ b. cond (b && not (is_inode_used after f inode.1)) (without_inode_of inode.1 f) f)
-        (by f m (nat_eq f.number inode.0) refl)))
-      where
-        by : (f : Filesystem ℕ) → Among f after.filesystems → (b : Bool) → nat_eq f.number inode.0 ≡ b
-            → (is_overlay f && nat_eq f.number inode.0) ≡ false
-        by f m true e = ap (λ b. b && nat_eq f.number inode.0) (its_kind false plain f m e)
-        by f m false e = ap (λ b. is_overlay f && b) e ∙ and-false (is_overlay f)
+    merged_stay = grind (arith, common_steps, map_same, its_kind, and-false)
 
     no_uppers : uppers_of_inode after inode ≡ []
     no_uppers =
@@ -152,25 +145,7 @@ module _ (world after : World ℕ) (inode : Inode) (in_use : InodesInUse world) 
 
     -- in a plain tree it has no real object
     plain_looked_at : let_go_in is_plain after inode ≡ let_go_inode after inode
-    plain_looked_at = ap (λ filesystems. record after { filesystems = filesystems })
-        (map_alike (let_go_in_of is_plain after inode) (let_go_inode_of after inode) after.filesystems
-        (λ f m. by f m (nat_eq f.number inode.0) refl (is_inode_used after f inode.1)))
-      where
-        no_real : (o : Option (Overlay ℕ)) → is_some o ≡ false → option_map (without_real inode.1) o ≡ o
-        no_real None e = refl
-        no_real (Some overlay) e = absurd (true≢false e)
-
-        by : (f : Filesystem ℕ) → Among f after.filesystems → (b : Bool) → nat_eq f.number inode.0 ≡ b → (used : Bool)
-            → cond ((is_plain f && nat_eq f.number inode.0) && not used) (without_inode_of inode.1 f) f
-            ≡ cond (nat_eq f.number inode.0 && not used) (record f { files = without_inode inode.1 f.files }) f
-        by f m true e used =
-            ap (λ b. cond ((not b && nat_eq f.number inode.0) && not used) (without_inode_of inode.1 f) f)
-            (its_kind false plain f m e) ∙ ap (λ o. cond (nat_eq f.number inode.0 && not used)
-            (record f { files = without_inode inode.1 f.files; overlay = o }) f)
-            (no_real f.overlay (its_kind false plain f m e))
-        by f m false e used = ap (λ b. cond ((is_plain f && b) && not used) (without_inode_of inode.1 f) f) e
-            ∙ ap (λ b. cond (b && not used) (without_inode_of inode.1 f) f) (and-false (is_plain f))
-            ∙ ap (λ b. cond (b && not used) (record f { files = without_inode inode.1 f.files }) f) (sym e)
+    plain_looked_at = grind (arith, common_steps, map_alike, true≢false, its_kind, and-false)
 
     beside_overlays : HasTrees after → UppersArePlain after → RealsAreThere after → without_dead_inodes nat_eq after
         ≡ cond (nat_lt 1 (inode_uses world (filesystem_numbered nat_eq world inode.0) inode.1)) after
@@ -191,17 +166,7 @@ module _ (world after : World ℕ) (inode : Inode) (in_use : InodesInUse world) 
     -- it goes
     merged_goes : nat_lt 1 (inode_uses world (filesystem_numbered nat_eq world inode.0) inode.1) ≡ false
         → let_go_in is_overlay after inode ≡ without_merged_inode after inode
-    merged_goes last = ap (λ filesystems. record after { filesystems = filesystems })
-        (map_alike (let_go_in_of is_overlay after inode) (without_inode_of_any inode) after.filesystems
-        (λ f m. ap (λ b. cond b (without_inode_of inode.1 f) f) (by f m (nat_eq f.number inode.0) refl)))
-      where
-        by : (f : Filesystem ℕ) → Among f after.filesystems → (b : Bool) → nat_eq f.number inode.0 ≡ b
-            → ((is_overlay f && nat_eq f.number inode.0) && not (is_inode_used after f inode.1))
-            ≡ nat_eq f.number inode.0
-        by f m true e = (λ i. (its_kind true merged f m e i && nat_eq f.number inode.0) && not (unused last f m e i))
-            ∙ and-true (nat_eq f.number inode.0)
-        by f m false e = ap (λ b. (is_overlay f && b) && not (is_inode_used after f inode.1)) e
-            ∙ ap (λ b. b && not (is_inode_used after f inode.1)) (and-false (is_overlay f)) ∙ sym e
+    merged_goes last = grind (arith, common_steps, map_alike, its_kind, unused, and-true, and-false)
 
     -- no plain tree has its number
     no_plain : let_go_in is_plain (without_merged_inode after inode) inode ≡ without_merged_inode after inode

@@ -1,4 +1,5 @@
 -- The whole sweep, where the last location on a mount is left, and its filesystem goes.
+use Rattle.std.proofs.lemmas.Grind.{common_steps}
 use Rattle.std.proofs.Common.{◌≡◌, refl, sym, ap, subst, ◌∙◌, inl, inr, ⊎_elim, ℕ, nat_eq, eqb-true, eq-eqb, Bool, true, false, true≢false, cond, not, ◌||◌, ◌&&◌, ◌+◌, List, [], ◌∷◌, ◌++◌, filter, find, map, Some, is_some, unwrap_or, arith}
 use Rattle.std.specs.Prelude.{nat_lt}
 use Rattle.std.specs.List.{list_all}
@@ -45,12 +46,7 @@ found_beside (first ∷ rest) k gone differs =
         → find (λ (f : Filesystem ℕ). nat_eq k f.number) others ≡ find (λ (f : Filesystem ℕ). nat_eq k f.number) rest
         → find (λ (f : Filesystem ℕ). nat_eq k f.number) (cond (not b) (first ∷ others) others)
         ≡ cond c (Some first) (find (λ (f : Filesystem ℕ). nat_eq k f.number) rest)
-    by true e true h later =
-        absurd (true≢false (sym (ap (λ n. nat_eq n gone) (eqb-true k first.number h) ∙ e) ∙ differs))
-    by true e false h later = later
-    by false e true h later = ap (λ b. cond b (Some first) (find (λ (f : Filesystem ℕ). nat_eq k f.number) others)) h
-    by false e false h later =
-        ap (λ b. cond b (Some first) (find (λ (f : Filesystem ℕ). nat_eq k f.number) others)) h ∙ later
+    by b e c h later = grind (arith, common_steps, true≢false, eqb-true)
 
 module _ (world : World ℕ) (tasks : List (Task ℕ)) (front back : List (Location ℕ)) (location : Location ℕ)
     (whole : IsWorld nat_eq world) (plain : IsPlain world) (before : all_locations world ≡ front ++ (location ∷ back))

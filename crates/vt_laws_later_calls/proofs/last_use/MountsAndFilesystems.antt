@@ -1,11 +1,11 @@
 -- A mount goes with its last location, and a filesystem with its last mount.
-use Rattle.std.proofs.Common.{◌≡◌, refl, sym, ap, ◌∙◌, ℕ, nat_eq, eq-eqb, Bool, true, false, cond, ◌||◌, List, [], ◌∷◌, ◌++◌, is_some}
+use Rattle.std.proofs.Common.{arith, ◌≡◌, refl, sym, ap, ◌∙◌, ℕ, nat_eq, eq-eqb, false, cond, ◌||◌, List, [], ◌∷◌, ◌++◌, is_some}
+use Rattle.std.proofs.lemmas.Grind.{common_steps}
 use Rattle.std.specs.Prelude.{nat_lt}
-use Rattle.std.specs.List.{list_all, list_any}
+use Rattle.std.specs.List.{list_any}
 use Rattle.std.proofs.Math.Bool.{or-false}
-use Rattle.vt_spec.specs.Lists.{is_among}
 use Rattle.vt_spec.specs.Machine.Mounts.{Location, Mount}
-use Rattle.vt_spec.specs.Machine.Settled.{filesystem_lives, is_located, is_mounted, mount_lives, without_dead_filesystems}
+use Rattle.vt_spec.specs.Machine.Settled.{filesystem_lives, is_located, is_mounted, without_dead_filesystems}
 use Rattle.vt_spec.specs.Machine.World.{Filesystem, Task, World, all_locations, is_overlay, mount_at}
 use Rattle.vt_laws_mounts.specs.LettingGo.Counts.{mount_uses, mounts_showing, times}
 use Rattle.vt_laws_mounts.specs.LettingGo.InUse.{FilesystemsInUse, MountsInUse}
@@ -39,16 +39,7 @@ module _ (world : World ℕ) (tasks : List (Task ℕ)) (front back : List (Locat
       ∙ ap (λ list. nat_lt 1 (times (λ (l : Location ℕ). nat_eq location.mount l.mount) list)) (sym before)
 
   other_mounts : MountsInUse world → MountsInUseBut (location.mount ∷ []) after
-  other_mounts in_use =
-      all_pass (λ mount. is_among nat_eq mount.number (location.mount ∷ []) || mount_lives nat_eq after mount)
-      world.mounts (λ mount m. by mount (nat_eq mount.number location.mount) refl
-      (passes (mount_lives nat_eq world) world.mounts in_use mount m))
-    where
-      by : (mount : Mount ℕ) (b : Bool) → nat_eq mount.number location.mount ≡ b
-          → mount_lives nat_eq world mount ≡ true → ((b || false) || mount_lives nat_eq after mount) ≡ true
-      by mount true same lives = refl
-      by mount false differs lives =
-          ap (λ b. is_some mount.namespace || b) (located_as_before mount.number differs) ∙ lives
+  other_mounts in_use = grind (arith, common_steps, all_pass, passes, located_as_before)
 
 pub mount_goes_with_its_last_use : MountGoesWithItsLastUse
 mount_goes_with_its_last_use world tasks front back location in_use one before left =
@@ -83,20 +74,7 @@ module _ (world after : World ℕ) (front back : List (Mount ℕ)) (mount : Moun
         ∙ or-false (is_mounted nat_eq other filesystem.number)
 
     other_filesystems : FilesystemsInUse world → FilesystemsInUseBut (mount.filesystem ∷ []) after
-    other_filesystems in_use = ap (list_all (λ filesystem. is_among nat_eq filesystem.number (mount.filesystem ∷ [])
-        || filesystem_lives nat_eq after filesystem)) same
-        ∙ all_pass (λ filesystem. is_among nat_eq filesystem.number (mount.filesystem ∷ [])
-        || filesystem_lives nat_eq after filesystem) world.filesystems
-        (λ filesystem m. by filesystem (nat_eq filesystem.number mount.filesystem) refl
-        (passes (filesystem_lives nat_eq world) world.filesystems in_use filesystem m))
-      where
-        by : (filesystem : Filesystem ℕ) (b : Bool) → nat_eq filesystem.number mount.filesystem ≡ b
-            → filesystem_lives nat_eq world filesystem ≡ true
-            → ((b || false) || filesystem_lives nat_eq after filesystem) ≡ true
-        by filesystem true is lives = refl
-        by filesystem false differs lives =
-            lives_mounted after same filesystem ∙ mounted_as_before filesystem.number differs
-            ∙ sym (lives_mounted world refl filesystem) ∙ lives
+    other_filesystems in_use = grind (arith, common_steps, all_pass, passes, lives_mounted, mounted_as_before)
 
     filesystem_left : FilesystemsInUse world → without_dead_filesystems nat_eq after
         ≡ cond (nat_lt 1 (mounts_showing world mount.filesystem)) after (without_filesystem after mount.filesystem)

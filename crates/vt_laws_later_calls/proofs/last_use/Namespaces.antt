@@ -1,5 +1,6 @@
 -- A namespace ends with its last task.
-use Rattle.std.proofs.Common.{◌≡◌, refl, sym, ap, ◌∙◌, ℕ, nat_eq, eqb-true, eq-eqb, Bool, true, false, cond, ◌||◌, List, ◌∷◌, ◌++◌}
+use Rattle.std.proofs.Common.{arith, ◌≡◌, refl, sym, ap, ◌∙◌, ℕ, nat_eq, eqb-true, eq-eqb, Bool, true, false, cond, ◌||◌, List, ◌∷◌, ◌++◌}
+use Rattle.std.proofs.lemmas.Grind.{common_steps}
 use Rattle.std.specs.Prelude.{nat_lt}
 use Rattle.std.specs.List.{list_any}
 use Rattle.vt_spec.specs.Machine.Invariants.{MountInvariants, NamespaceInvariants}
@@ -34,11 +35,7 @@ module _ (world : World ℕ) (front back : List (Task ℕ)) (task : Task ℕ) (m
   -- other namespaces have tasks as before
   entered_as_before : (namespace : Namespace ℕ) → Among namespace world.namespaces
       → nat_eq task.namespace namespace.number ≡ false → has_tasks nat_eq after namespace ≡ true
-  entered_as_before namespace m differs =
-      some_without_another (λ (other : Task ℕ). nat_eq namespace.number other.namespace) task
-      (nat_eq-swapped task.namespace namespace.number false differs) front back
-      ∙ ap (list_any (λ (other : Task ℕ). nat_eq namespace.number other.namespace)) (sym before)
-      ∙ passes (has_tasks nat_eq world) world.namespaces namespaces.namespaces_live namespace m
+  entered_as_before namespace m differs = grind (arith, common_steps, some_without_another, nat_eq-swapped, passes)
 
   namespace_left : (b : Bool) → is_entered task.namespace ≡ b
       → namespaces_ended nat_eq after ≡ cond b after (without_namespace after task.namespace)
@@ -62,7 +59,4 @@ module _ (world : World ℕ) (front back : List (Task ℕ)) (task : Task ℕ) (m
 
 pub namespace_ends_with_its_last_task : NamespaceEndsWithItsLastTask
 namespace_ends_with_its_last_task world front back task mounts namespaces before =
-    namespace_left world front back task mounts namespaces before
-    (list_any (λ (other : Task ℕ). nat_eq task.namespace other.namespace) (front ++ back)) refl
-    ∙ ap (λ b. cond b (with_tasks world (front ++ back)) (without_namespace (with_tasks world
-    (front ++ back)) task.namespace)) (entered_still world front back task mounts namespaces before)
+    grind (arith, common_steps, namespace_left, entered_still)

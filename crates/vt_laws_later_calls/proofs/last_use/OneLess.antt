@@ -1,4 +1,5 @@
 -- One less in a list: whether some of it pass a test, and how many did.
+use Rattle.std.proofs.lemmas.Grind.{common_steps}
 use Rattle.std.proofs.Common.{◌≡◌, sym, ap, ◌∙◌, ⊎_elim, ℕ, Bool, true, false, cond, not, ◌+◌, ◌++◌, ◌||◌, List, [], ◌∷◌, filter, map, arith}
 use Rattle.std.specs.Prelude.{nat_lt}
 use Rattle.std.specs.List.{list_any}
@@ -12,13 +13,7 @@ use Rattle.vt_spec.proofs.Truths.{same_truth}
 
 -- where one of them goes, some are left just where there was more than one
 pub some_left : (before after : ℕ) → before ≡ after + 1 → nat_lt 0 after ≡ nat_lt 1 before
-some_left before after e = same_truth (nat_lt 0 after) (nat_lt 1 before) (there before after e) (back before after e)
-  where
-    there : (before after : ℕ) → before ≡ after + 1 → nat_lt 0 after ≡ true → nat_lt 1 before ≡ true
-    there before after e h = grind (arith, nat_tests)
-
-    back : (before after : ℕ) → before ≡ after + 1 → nat_lt 1 before ≡ true → nat_lt 0 after ≡ true
-    back before after e h = grind (arith, nat_tests)
+some_left before after e = grind (arith, common_steps, same_truth, nat_tests)
 
 module _ {A : Type 0} (test : A → Bool) where
   -- without one that passes, some pass just where more than one did

@@ -1,5 +1,6 @@
 -- A filesystem goes with its last mount, in a world with overlays.
-use Rattle.std.proofs.Common.{◌≡◌, refl, sym, ap, ◌∙◌, ◌⊎◌, inl, inr, ⊎_elim, ℕ, nat_eq, eqb-true, Bool, true, false, true≢false, cond, ◌||◌, ◌&&◌, List, [], ◌∷◌, ◌++◌, map, Option, Some, None, is_some}
+use Rattle.std.proofs.Common.{arith, ◌≡◌, refl, sym, ap, ◌∙◌, ◌⊎◌, inl, inr, ⊎_elim, ℕ, nat_eq, eqb-true, Bool, true, false, true≢false, cond, ◌||◌, ◌&&◌, List, [], ◌∷◌, ◌++◌, map, Some}
+use Rattle.std.proofs.lemmas.Grind.{common_steps}
 use Rattle.std.specs.Prelude.{nat_lt}
 use Rattle.std.specs.List.{list_all, list_any}
 use Rattle.std.proofs.lemmas.Bool.{and_parts, or_cases}
@@ -27,12 +28,7 @@ any_alike one other (a ∷ rest) h = λ i. h a (inl refl) i || any_alike one oth
 -- a plain filesystem has no layer
 no_layer : (number : ℕ) (filesystem : Filesystem ℕ) → is_overlay filesystem ≡ false
     → has_layer_on nat_eq number filesystem ≡ false
-no_layer number filesystem = by filesystem.overlay
-  where
-    by : (o : Option (Overlay ℕ)) → is_some o ≡ false
-        → overlay_or false (λ overlay. list_any (λ layer. nat_eq number layer.filesystem) (layers_of overlay)) o ≡ false
-    by None e = refl
-    by (Some overlay) e = absurd (true≢false e)
+no_layer number filesystem = grind (arith, common_steps, true≢false)
 
 module _ (world after : World ℕ) (front back : List (Mount ℕ)) (mount : Mount ℕ) (in_use : FilesystemsInUse world)
     (one : any_pair (λ (a b : Filesystem ℕ). nat_eq a.number b.number) world.filesystems ≡ false)
@@ -57,12 +53,7 @@ module _ (world after : World ℕ) (front back : List (Mount ℕ)) (mount : Moun
             → nat_eq merged.number mount.filesystem ≡ b
             → (has_layer_on nat_eq number merged && is_mounted nat_eq after merged.number)
             ≡ (has_layer_on nat_eq number merged && is_mounted nat_eq world merged.number)
-        by merged m true e =
-            let none = no_layer number merged (ap is_overlay (sym (its_own merged m e)) ∙ plain) in
-            ap (λ b. b && is_mounted nat_eq after merged.number) none
-            ∙ ap (λ b. b && is_mounted nat_eq world merged.number) (sym none)
-        by merged m false e = ap (λ b. has_layer_on nat_eq number merged && b)
-            (mounted_as_before world after front back mount before left merged.number e)
+        by merged m b e = grind (arith, common_steps, no_layer, its_own, mounted_as_before)
 
     other_filesystems : FilesystemsInUseBut (mount.filesystem ∷ []) after
     other_filesystems = ap (list_all (λ filesystem. is_among nat_eq filesystem.number (mount.filesystem ∷ [])
@@ -105,12 +96,7 @@ module _ (world after : World ℕ) (front back : List (Mount ℕ)) (mount : Moun
     lived : (f : Filesystem ℕ) → Among f world.filesystems
         → (is_mounted nat_eq world f.number ≡ true) ⊎ ((merged : Filesystem ℕ) × Among merged world.filesystems
         × (has_layer_on nat_eq f.number merged ≡ true) × (is_mounted nat_eq world merged.number ≡ true))
-    lived f m = ⊎_elim inl
-        (λ layered. let t = one_passes (λ x. has_layer_on nat_eq f.number x && is_mounted nat_eq world x.number)
-        world.filesystems layered in
-        let both = and_parts (has_layer_on nat_eq f.number t.0) (is_mounted nat_eq world t.0.number) t.2 in
-        inr (t.0, t.1, both.0, both.1)) (or_cases (is_mounted nat_eq world f.number) (is_layered world f.number)
-        (passes (filesystem_lives nat_eq world) world.filesystems in_use f m))
+    lived f m = grind (arith, common_steps, one_passes, and_parts, or_cases, passes)
 
     all_but : FilesystemsInUseBut (mount.filesystem ∷ layers) after
     all_but = ap (list_all (λ filesystem. is_among nat_eq filesystem.number (mount.filesystem ∷ layers)
@@ -153,11 +139,7 @@ module _ (world after : World ℕ) (front back : List (Mount ℕ)) (mount : Moun
         (λ t. lives_layered f.number t.0 t.1 t.2 (as_before t.0.number t.3)) (lived f m))
       where
         as_before : (number : ℕ) → is_mounted nat_eq world number ≡ true → is_mounted nat_eq after number ≡ true
-        as_before number was = by (nat_eq number mount.filesystem) refl
-          where
-            by : (b : Bool) → nat_eq number mount.filesystem ≡ b → is_mounted nat_eq after number ≡ true
-            by true e = ap (is_mounted nat_eq after) (eqb-true number mount.filesystem e) ∙ still
-            by false e = mounted_as_before world after front back mount before left number e ∙ was
+        as_before number was = grind (arith, common_steps, eqb-true, mounted_as_before)
 
     -- no overlay has a layer in it
     not_layered : is_layered after mount.filesystem ≡ false

@@ -1,5 +1,6 @@
 -- The upper inode of an inode of an overlay goes with it, where that was its last use.
-use Rattle.std.proofs.Common.{◌≡◌, refl, sym, ap, subst, ◌∙◌, ⊎_elim, ℕ, nat_eq, eqb-true, eq-eqb, Bool, true, false, true≢false, cond, not, ◌&&◌, ◌+◌, List, [], ◌∷◌, ◌++◌, find, flat_map, map, Option, Some, None, is_some, option_map, option_to_list, unwrap_or, arith}
+use Rattle.std.proofs.lemmas.Grind.{common_steps}
+use Rattle.std.proofs.Common.{◌≡◌, refl, sym, ap, ◌∙◌, ⊎_elim, ℕ, nat_eq, eqb-true, eq-eqb, Bool, true, false, true≢false, cond, not, ◌&&◌, ◌+◌, List, [], ◌∷◌, ◌++◌, find, flat_map, map, Option, Some, None, is_some, option_map, option_to_list, unwrap_or, arith}
 use Rattle.std.specs.Prelude.{All, nat_lt}
 use Rattle.std.specs.List.{list_any}
 use Rattle.std.proofs.Math.Bool.{and-false, and-true}
@@ -12,7 +13,7 @@ use Rattle.vt_spec.specs.Machine.World.Real.{Upper}
 use Rattle.vt_laws_mounts.specs.LettingGo.Counts.{inode_uses, times}
 use Rattle.vt_laws_mounts.specs.LettingGo.InUse.{AllInUse, UppersArePlain, has_upper_in, is_inode_used}
 use Rattle.vt_laws_mounts.specs.LettingGo.OneByOne.{Inode, without_inode, without_inode_at, without_inode_in}
-use Rattle.vt_laws_mounts.specs.LettingGo.Overlays.{is_plain, let_go_in, let_go_in_of, let_go_plain, uppers_in, uppers_of, uppers_of_inode, uppers_of_inode_in, without_inode_of, without_real}
+use Rattle.vt_laws_mounts.specs.LettingGo.Overlays.{is_plain, let_go_in, let_go_in_of, let_go_plain, uppers_in, uppers_of, without_inode_of, without_real}
 use Rattle.vt_laws_mounts.proofs.letting_go.Lists.{Among, among-from_map, among_from_all, fails, flat_map_none, found_in, map_same}
 use Rattle.vt_laws_mounts.proofs.letting_go.sweeps.UpperUses.{one_upper_use_less}
 use Rattle.vt_laws_mounts.proofs.letting_go.sweeps.UsesCounted.{used_while_counted}
@@ -79,19 +80,10 @@ module _ (after : World ℕ) (inode : Inode) (overlay : Overlay ℕ)
   its_number k = ap (nat_eq k) (sym (eqb-true inode.0 merged.number there.1))
 
   uppers_are : uppers_of after (inode ∷ []) ≡ uppers_in inode.1 overlay
-  uppers_are = append-nil (uppers_of_inode after inode)
-      ∙ given_by_one (uppers_of_inode_in inode) after.filesystems one merged there.0
-      (λ f differs. ap (λ b. cond b (of_overlay [] (uppers_in inode.1) f) []) (sym (its_number f.number) ∙ differs))
-      ∙ ap (λ b. cond b (of_overlay [] (uppers_in inode.1) merged) [])
-      (sym (its_number merged.number) ∙ eq-eqb merged.number merged.number refl)
-      ∙ ap (overlay_or [] (uppers_in inode.1)) is
+  uppers_are = grind (arith, common_steps, append-nil, given_by_one, there, its_number, eq-eqb)
 
   no_upper : upper_object (overlay.real inode.1) ≡ None → uppers_in inode.1 overlay ≡ []
-  no_upper e = ap (in_layer overlay.upper) e ∙ by overlay.upper
-    where
-      by : (layer : Option (Layer ℕ)) → in_layer layer None ≡ []
-      by None = refl
-      by (Some layer) = refl
+  no_upper e = grind (arith, common_steps)
 
   module _ (layer : Layer ℕ) (object : ℕ) (upper : overlay.upper ≡ Some layer)
       (real : overlay.real inode.1 ≡ Some (Upper object)) where
@@ -121,13 +113,7 @@ module _ (after : World ℕ) (inode : Inode) (overlay : Overlay ℕ)
       -- so it is not that of the inode
       apart : (f : Filesystem ℕ) → Among f after.filesystems → nat_eq f.number layer.filesystem ≡ true
           → nat_eq f.number inode.0 ≡ false
-      apart f m e = by (nat_eq f.number inode.0) refl
-        where
-          by : (b : Bool) → nat_eq f.number inode.0 ≡ b → b ≡ false
-          by false h = refl
-          by true h =
-              absurd (true≢false (sym (its_kind world after inode in_use.inodes loses one true (ap is_some is) f m h)
-              ∙ upper_is_plain f m e))
+      apart f m e = grind (arith, common_steps, true≢false, its_kind, upper_is_plain)
 
       -- it has one use less than before
       upper_used : (f : Filesystem ℕ) → Among f after.filesystems → nat_eq f.number layer.filesystem ≡ true
@@ -171,16 +157,7 @@ module _ (after : World ℕ) (inode : Inode) (overlay : Overlay ℕ)
       -- a filesystem that is left and has the number of the upper layer is as it was
       upper_stays : (g : Filesystem ℕ) → Among g left.filesystems → nat_eq g.number layer.filesystem ≡ true
           → Among g after.filesystems
-      upper_stays g m e =
-          let from = among-from_map (without_inode_of_any inode) after.filesystems g m in
-          let number = same_number from.0 (nat_eq from.0.number inode.0) in
-          let at = ap (λ k. nat_eq k layer.filesystem) (sym (ap (λ x. x.number) from.2 ∙ number)) ∙ e in
-          subst (λ x. Among x after.filesystems)
-          (sym (from.2 ∙ ap (λ b. cond b (without_inode_of inode.1 from.0) from.0) (apart from.0 from.1 at))) from.1
-        where
-          same_number : (f : Filesystem ℕ) (b : Bool) → (cond b (without_inode_of inode.1 f) f).number ≡ f.number
-          same_number f true = refl
-          same_number f false = refl
+      upper_stays g m e = grind (arith, common_steps, among-from_map, apart)
 
       upper_goes : (more : Bool)
           → nat_lt 1 (inode_uses world (filesystem_numbered nat_eq world layer.filesystem) object) ≡ more
@@ -197,16 +174,7 @@ module _ (after : World ℕ) (inode : Inode) (overlay : Overlay ℕ)
               → (g : Filesystem ℕ) → Among g left.filesystems → (b : Bool) → nat_eq g.number layer.filesystem ≡ b
               → let_go_in_of is_plain left (layer.filesystem, object) g
               ≡ cond (b && not still) (record g { files = without_inode object g.files }) g
-          of still k g m false h =
-              ap (λ b. cond ((is_plain g && b) && not (is_inode_used left g object)) (without_inode_of object g) g) h
-              ∙ ap (λ b. cond (b && not (is_inode_used left g object)) (without_inode_of object g) g)
-              (and-false (is_plain g))
-          of still k g m true h =
-              let was = upper_stays g m h in
-              let plain = upper_is_plain g was h in
-              (λ i. cond ((not (plain i) && h i) && not ((upper_used g was h ∙ k) i)) (without_inode_of object g) g)
-              ∙ ap (λ o. cond (not still) (record g { files = without_inode object g.files; overlay = o }) g)
-              (no_real g.overlay plain)
+          of still k g m b h = grind (arith, common_steps, and-false, upper_stays, upper_is_plain, upper_used, no_real)
 
           by : (still : Bool)
               → nat_lt 1 (inode_uses world (filesystem_numbered nat_eq world layer.filesystem) object) ≡ still

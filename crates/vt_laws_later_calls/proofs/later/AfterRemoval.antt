@@ -1,6 +1,7 @@
 -- The world that a granted rmdir leaves: the task's own mounts are seen as they were, the directory has lost its name,
 -- and walks that do not go up from it lead where they led.
-use Rattle.std.proofs.Common.{◌≡◌, ◌≢◌, refl, sym, ap, subst, ◌∙◌, inl, inr, ◌⊎◌, ⊎_elim, ℕ, nat_eq, eqb-true, Bool, true, false, ◌||◌, List, filter, Some, None, Ok, is_some, find}
+use Rattle.std.proofs.Common.{arith, ◌≡◌, ◌≢◌, refl, sym, ap, subst, ◌∙◌, inl, inr, ◌⊎◌, ⊎_elim, ℕ, nat_eq, eqb-true, Bool, true, false, ◌||◌, List, filter, Some, None, Ok, is_some, find}
+use Rattle.std.proofs.lemmas.Grind.{common_steps}
 use Rattle.std.specs.Prelude.{unwrap_or}
 use Rattle.std.proofs.lemmas.Bool.{and_parts}
 use Rattle.vt_spec.specs.declared.errors.Deny.{Deny}
@@ -197,14 +198,7 @@ module _ (world : World ℕ) (fresh : Fresh ℕ) (name : TaskName) (call : Call)
       }
 
       same : IsLess number (tree_in world number) (tree_in world number)
-      same = record {
-        root = refl;
-        directory = λ n. refl;
-        link = λ n. refl;
-        rights = λ who wanted n there. refl;
-        parents = λ n differs. refl;
-        entry = λ at any next e. inl e;
-      }
+      same = grind (arith, common_steps)
 
       by : (b : Bool) → nat_eq shown number ≡ b → IsLess number (tree_in world number) (tree_in spent number)
       by true e = subst (λ n. IsLess n (tree_in world n) (tree_in spent n)) (eqb-true shown number e)

@@ -1,5 +1,6 @@
 -- The world that a granted rename leaves: the object has its new name and what it had, and no mount stands on it.
-use Rattle.std.proofs.Common.{◌≡◌, ◌≢◌, refl, sym, ap, subst, ◌∙◌, true≢false, ℕ, nat_eq, eq-eqb, ne_eqb, Bool, true, false, cond, ◌&&◌, ◌||◌, List, [], length, filter, find, Option, Some, None, is_some}
+use Rattle.std.proofs.Common.{arith, ◌≡◌, ◌≢◌, refl, sym, ap, subst, ◌∙◌, true≢false, ℕ, nat_eq, eq-eqb, ne_eqb, Bool, true, false, cond, ◌&&◌, ◌||◌, List, [], length, filter, find, Option, Some, None, is_some}
+use Rattle.std.proofs.lemmas.Grind.{common_steps}
 use Rattle.std.specs.List.{list_any}
 use Rattle.std.specs.Prelude.{option_map, unwrap_or}
 use Rattle.std.proofs.lemmas.Bool.{and_from}
@@ -10,12 +11,11 @@ use Rattle.vt_spec.specs.Language.Answers.{Answer}
 use Rattle.vt_spec.specs.Language.Calls.{Call, TaskName}
 use Rattle.vt_spec.specs.Language.Changes.{Change, changed}
 use Rattle.vt_spec.specs.Language.Changes.Change.{Move}
-use Rattle.vt_spec.specs.Lists.{Fresh, holds_of, is_among}
+use Rattle.vt_spec.specs.Lists.{Fresh, is_among}
 use Rattle.vt_spec.specs.Machine.Apply.{apply}
-use Rattle.vt_spec.specs.Machine.Detach.{is_point, mounts_on, points_of, upper_points, without_replaced}
+use Rattle.vt_spec.specs.Machine.Detach.{is_point, mounts_on, points_of, without_replaced}
 use Rattle.vt_spec.specs.Machine.Filesystems.{with_change}
 use Rattle.vt_spec.specs.Machine.Invariants.{IsWorld, is_nowhere_or_attached}
-use Rattle.vt_spec.specs.Machine.Locked.{of_overlay}
 use Rattle.vt_spec.specs.Machine.Looks.{looks_of}
 use Rattle.vt_spec.specs.Machine.Mounts.{Location, Mount, child_at, root_of, stands_at, topmost}
 use Rattle.vt_spec.specs.Machine.Permits.Permit.{ToRename}
@@ -77,12 +77,7 @@ module _ (world : World ℕ) (is : IsWorld nat_eq world) (object : Location ℕ)
       number_is = same ∙ sym (number_numbered (mount_at nat_eq world object).filesystem world.filesystems)
 
       on_it : list_any (λ point. is_point nat_eq world point.0 point.1 mount) (points_of nat_eq world object) ≡ true
-      on_it = ap (λ b. b || list_any (λ point. is_point nat_eq world point.0 point.1 mount)
-          (of_overlay [] (λ overlay. upper_points world (filesystem_at nat_eq world object) overlay object.node)
-          (filesystem_at nat_eq world object))) (ap (holds_of (λ at. nat_eq at.node object.node
-          && nat_eq (mount_at nat_eq world at).filesystem (filesystem_at nat_eq world object).number)) at
-          ∙ and_from _ _ (eq-eqb place.node object.node node)
-          (eq-eqb (mount_at nat_eq world place).filesystem (filesystem_at nat_eq world object).number number_is))
+      on_it = grind (arith, common_steps, and_from, eq-eqb, number_is)
 
       attached : (b : Bool) → is_some mount.namespace ≡ b → is_some mount.namespace ≡ true
       attached true e = e

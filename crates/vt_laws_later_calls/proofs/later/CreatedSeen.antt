@@ -1,8 +1,9 @@
 -- A name that open made exists.
-use Rattle.std.proofs.Common.{◌≡◌, refl, sym, ap, subst, ◌∙◌, inl, inr, ◌⊎◌, ℕ, nat_eq, nat_le, length, eqb-true, Bool, true, false, List, [], ◌∷◌, Option, Some, None, is_some, option_map, Result, Ok, Err, ok_or, find, reverse}
+use Rattle.std.proofs.Common.{arith, ◌≡◌, refl, sym, ap, subst, ◌∙◌, inl, inr, ◌⊎◌, ℕ, nat_eq, nat_le, length, eqb-true, true, false, List, [], ◌∷◌, Option, Some, None, is_some, option_map, Result, Ok, Err, find, reverse}
+use Rattle.std.proofs.lemmas.Grind.{common_steps}
 use Rattle.std.proofs.lemmas.Option.{same_Some}
 use Rattle.vt_spec.specs.declared.errors.Deny.{Deny}
-use Rattle.vt_spec.specs.declared.errors.Rule.TheVariants.{E1, E2, S2, S3, W4}
+use Rattle.vt_spec.specs.declared.errors.Rule.TheVariants.{E1, W4}
 use Rattle.vt_spec.specs.Errors.{NoneFails, Rules, and_then, denial, unless}
 use Rattle.vt_spec.specs.FileTree.{FileTree}
 use Rattle.vt_spec.specs.Language.Answers.Answer.{Opened}
@@ -14,19 +15,18 @@ use Rattle.vt_spec.specs.Language.Changes.Change.{Make}
 use Rattle.vt_spec.specs.Language.Limits.{most_descriptors}
 use Rattle.vt_spec.specs.Lists.{Fresh, odds}
 use Rattle.vt_spec.specs.Machine.Apply.{apply, with_new_inode}
-use Rattle.vt_spec.specs.Machine.Judge.{judge_in, open_new_permit, Judgement, create_file_permit, open_by_permit, open_permit}
+use Rattle.vt_spec.specs.Machine.Judge.{open_new_permit, Judgement, open_permit}
 use Rattle.vt_spec.specs.Machine.Looks.{Looks, looks_of}
 use Rattle.vt_spec.specs.Machine.Looks as Look
 use Rattle.vt_spec.specs.Machine.Mounts.{Location}
 use Rattle.vt_spec.specs.Machine.Descriptors.{with_descriptor}
 use Rattle.vt_spec.specs.Machine.Rows.{new_file}
 use Rattle.vt_spec.specs.Machine.Outcomes.{after}
-use Rattle.vt_spec.specs.Machine.Policy.{call_outcome, filesystems_changed_by, finished, policy, raised_task}
+use Rattle.vt_spec.specs.Machine.Policy.{finished, policy, raised_task}
 use Rattle.vt_spec.specs.Machine.Rightful.{node_allows}
-use Rattle.vt_spec.specs.Machine.Rules.Descriptors.{exclusive_word_rules}
 use Rattle.vt_spec.specs.Machine.Run.{Serves}
 use Rattle.vt_spec.specs.Machine.Settled.{settled}
-use Rattle.vt_spec.specs.Machine.Walking.{Place, Stop, entry_location, final_word, followed, prefix_walked, is_special, last_word, name_of, new_name_rules, new_walk, place_walk, placed, search_rules, steps_at, stopped_by, then_walk, walk_end, walk_start, walk_unless, words_walked}
+use Rattle.vt_spec.specs.Machine.Walking.{Place, Stop, entry_location, final_word, followed, prefix_walked, is_special, last_word, name_of, new_name_rules, new_walk, place_walk, placed, search_rules, steps_at, stopped_by, then_walk, walk_start, walk_unless, words_walked}
 use Rattle.vt_spec.specs.Machine.Walking.LastWord.{Named}
 use Rattle.vt_spec.specs.Machine.World.{Task, World, files_at, filesystem_numbered, is_directory_at, mount_at, node_at, task_called, with_task}
 use Rattle.vt_spec.specs.Machine.Invariants.{IsWorld}
@@ -76,12 +76,7 @@ module _ (world later : World ℕ) (shown : ℕ) (files : FileTree ℕ) (mounts 
   in_each : (P : ℕ → FileTree ℕ → Type 0) → P shown files
       → ((number : ℕ) → P number (filesystem_numbered nat_eq world number).files)
       → (number : ℕ) → P number (filesystem_numbered nat_eq later number).files
-  in_each P is others number = by (nat_eq shown number) refl
-    where
-      by : (b : Bool) → nat_eq shown number ≡ b → P number (filesystem_numbered nat_eq later number).files
-      by true e = subst (λ n. P n (filesystem_numbered nat_eq later n).files) (eqb-true shown number e)
-          (subst (P shown) (sym here) is)
-      by false e = subst (P number) (sym (elsewhere number e)) (others number)
+  in_each P is others number = grind (arith, common_steps, eqb-true)
 
   stays_by : (Refused : Deny → Type 0) → TreeStays (tree_in world shown) files.tree Refused
       → WorldStays world later Refused
@@ -95,13 +90,7 @@ module _ (world later : World ℕ) (shown : ℕ) (files : FileTree ℕ) (mounts 
   }
     where
       itself : (t : FileTree ℕ) → TreeStays t.tree t.tree Refused
-      itself t = record {
-        root = refl;
-        directory = λ n was. refl;
-        parent = λ n was. refl;
-        link = λ n was. refl;
-        entry = λ directory entry n e. inl e;
-      }
+      itself t = grind (arith, common_steps)
 
       each : (number : ℕ) → TreeStays (tree_in world number) (tree_in later number) Refused
       each = in_each (λ number t. TreeStays (tree_in world number) t.tree Refused) stay
@@ -228,17 +217,7 @@ exclusive_refused : (world : World ℕ) (fresh : Fresh ℕ) (name : TaskName) (t
     → (policy nat_eq fresh world name (OpenFile path access (Exclusive mode))).answer ≡ Err (denial E1)
 unfolding open_permit
 exclusive_refused world fresh name task path access mode place called room walk named no_slash there =
-    ap (λ o. (after world (ok_or o (denial S2)) (λ t.
-    finished nat_eq world name (OpenFile path access (Exclusive mode))
-    (filesystems_changed_by nat_eq world (judge_in nat_eq fresh world t (OpenFile path access (Exclusive mode))))
-    (call_outcome nat_eq fresh world t (OpenFile path access (Exclusive mode))))).answer) called
-    ∙ answer-finished_by _ world name _ (call_outcome nat_eq fresh world task (OpenFile path access (Exclusive mode)))
-    ∙ ap (λ b. answer_of fresh world task (unless ((b, S3) ∷ [])
-    (open_by_permit nat_eq (looks_of nat_eq world) task path access (Exclusive mode)))) room
-    ∙ ap (λ r. answer_of fresh world task (and_then (walk_end r) (λ (place : Place ℕ).
-    unless (exclusive_word_rules place) (create_file_permit nat_eq (looks_of nat_eq world) task place access mode)))) walk
-    ∙ (λ i. answer_of fresh world task (unless ((named i, E1) ∷ (no_slash i, E2) ∷ (there i, E1) ∷ [])
-    (create_file_permit nat_eq (looks_of nat_eq world) task place access mode)))
+    grind (arith, common_steps, there, answer-finished_by)
 
 module _ (path : List ℕ) (world : World ℕ) (fresh : Fresh ℕ) (name : TaskName) (task : Task ℕ) (access : Access)
     (mode number : ℕ) (is : IsWorld nat_eq world) (plain : IsPlain world) (serves : Serves nat_eq world fresh)

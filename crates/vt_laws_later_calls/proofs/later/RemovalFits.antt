@@ -1,7 +1,8 @@
 -- After a granted rmdir ways up stay, but from the directory that was removed: there is W8, or no walk comes there.
-use Rattle.std.proofs.Common.{◌≡◌, ◌≢◌, refl, sym, ap, subst, ◌∙◌, inl, inr, ◌⊎◌, ⊎_elim, true≢false, ℕ, nat_eq, eqb-true, eq-eqb, Bool, true, false, not, ◌&&◌, ◌||◌, List, [], length, Option, Some, None, is_some}
+use Rattle.std.proofs.Common.{arith, ◌≡◌, ◌≢◌, refl, sym, ap, subst, ◌∙◌, inl, inr, ◌⊎◌, ⊎_elim, true≢false, ℕ, nat_eq, eqb-true, eq-eqb, Bool, true, false, not, ◌&&◌, ◌||◌, List, [], length, Some, None, is_some}
+use Rattle.std.proofs.lemmas.Grind.{common_steps}
 use Rattle.std.specs.List.{list_all, list_any}
-use Rattle.std.specs.Prelude.{option_map, option_to_list}
+use Rattle.std.specs.Prelude.{option_map}
 use Rattle.std.proofs.lemmas.Bool.{and_from, and_parts, not-false, or_parts, or_right}
 use Rattle.std.proofs.lemmas.Option.{same_Some}
 use Rattle.vt_spec.specs.declared.errors.Deny.{Deny}
@@ -12,9 +13,9 @@ use Rattle.vt_spec.specs.Language.Answers.{Answer}
 use Rattle.vt_spec.specs.Language.Calls.{Call, TaskName}
 use Rattle.vt_spec.specs.Lists.{Fresh, holds_of}
 use Rattle.vt_spec.specs.Machine.Detach.{is_point, mounts_on, points_of, upper_points}
-use Rattle.vt_spec.specs.Machine.Invariants.{IsWorld, is_nowhere_or_attached}
+use Rattle.vt_spec.specs.Machine.Invariants.{IsWorld}
 use Rattle.vt_spec.specs.Machine.Locked.{of_overlay}
-use Rattle.vt_spec.specs.Machine.Mounts.{Location, Mount, child_at, root_of, same_location, stands_at, topmost}
+use Rattle.vt_spec.specs.Machine.Mounts.{Location, Mount, child_at, root_of, same_location, topmost}
 use Rattle.vt_spec.specs.Machine.Permits.Permit.{ToRemoveDirectory}
 use Rattle.vt_spec.specs.Machine.Run.{Serves}
 use Rattle.vt_spec.proofs.Walk.{hop, is_lost, parent_location}
@@ -248,18 +249,8 @@ module _ (world : World ℕ) (fresh : Fresh ℕ) (name : TaskName) (call : Call)
 
   -- Mounts
   root_outside : (a b : Location ℕ) → option_map root_of (child_at nat_eq world.mounts a) ≡ Some b → IsOutside b
-  root_outside a b e removed = by (child_at nat_eq world.mounts a) refl e
-    where
-      by : (o : Option (Mount ℕ)) → child_at nat_eq world.mounts a ≡ o → option_map root_of o ≡ Some b
-          → ends_at b ≡ true
-      by None f h = none_is_not None b refl h
-      by (Some mount) f h =
-          let found = found_in (stands_at nat_eq a) world.mounts mount f in
-          let itself = found_itself world.mounts is.mounts.one_number mount found.0 in
-          subst (λ (l : Location ℕ). ends_at l ≡ true) (same_Some (root_of mount) b h)
-          (or_right (same_location nat_eq (root_of mount) did.task.root) _
-          (eq-eqb mount.root (mount_numbered nat_eq world mount.number).root
-          (ap (λ (m : Mount ℕ). m.root) (sym itself))))
+  root_outside a b e removed =
+      grind (arith, common_steps, none_is_not, found_in, found_itself, same_Some, or_right, eq-eqb)
 
   over_outside : (place : Location ℕ) → IsOutside place → IsOutside (topmost nat_eq world.mounts place)
   over_outside place outside = chain_ends IsOutside (λ here. option_map root_of (child_at nat_eq world.mounts here))
@@ -301,18 +292,7 @@ module _ (world : World ℕ) (fresh : Fresh ℕ) (name : TaskName) (call : Call)
           (eq-eqb (mount_at nat_eq world b).filesystem (filesystem_at nat_eq world object).number number_is))
 
       own : holds_of (nat_eq did.task.namespace) (mount_at nat_eq world a).namespace ≡ true
-      own = by (mount_at nat_eq world a).namespace refl found.0.1
-        where
-          by : (o : Option ℕ) → (mount_at nat_eq world a).namespace ≡ o
-              → list_all (nat_eq did.task.namespace) (option_to_list o) ≡ true
-              → holds_of (nat_eq did.task.namespace) (mount_at nat_eq world a).namespace ≡ true
-          by None f g = absurd (nowhere_unplaced_here f)
-            where
-              nowhere_unplaced_here : (mount_at nat_eq world a).namespace ≡ None → ⊥
-              nowhere_unplaced_here none = true≢false (sym (ap is_some at) ∙ (nowhere_parts (mount_at nat_eq world a)
-                  (among_from_list_all is_nowhere_or_attached world.mounts is.mounts.nowhere
-                  (mount_at nat_eq world a) there) (ap is_some none)).0)
-          by (Some n) f g = ap (holds_of (nat_eq did.task.namespace)) f ∙ (and_parts _ _ g).0
+      own = grind (arith, common_steps, true≢false, at, nowhere_parts, among_from_list_all, there, and_parts)
 
   top_outside : (here : Location ℕ) → IsFoundDirectory world is did.task here → IsOutside here
       → IsOutside (top world later is plain is_later.0 is_later.1 did.task reader here)

@@ -1,5 +1,6 @@
 -- After a granted rename of a directory to a free name walks that begin outside of it lead where they led.
-use Rattle.std.proofs.Common.{◌≡◌, ◌≢◌, refl, sym, ap, subst, ◌∙◌, inl, inr, ◌⊎◌, true≢false, ℕ, nat_eq, eqb-true, eq-eqb, Bool, true, false, cond, List, [], ◌∷◌, ◌++◌, length, find, Option, Some, None, is_some}
+use Rattle.std.proofs.Common.{arith, ◌≡◌, ◌≢◌, refl, sym, ap, ◌∙◌, inl, inr, ◌⊎◌, true≢false, ℕ, nat_eq, eqb-true, eq-eqb, Bool, true, false, cond, List, [], ◌∷◌, ◌++◌, length, find, Option, Some, None, is_some}
+use Rattle.std.proofs.lemmas.Grind.{common_steps}
 use Rattle.std.specs.List.{list_all}
 use Rattle.std.specs.Prelude.{option_map, option_to_list}
 use Rattle.std.proofs.lemmas.Bool.{and_from, and_parts}
@@ -18,7 +19,7 @@ use Rattle.vt_spec.specs.Machine.Apply.{apply}
 use Rattle.vt_spec.specs.Machine.Filesystems.{with_change}
 use Rattle.vt_spec.specs.Machine.Invariants.{IsWorld, is_nowhere_or_attached}
 use Rattle.vt_spec.specs.Machine.Looks.{looks_of}
-use Rattle.vt_spec.specs.Machine.Mounts.{Location, Mount, child_at, root_of, stands_at, topmost}
+use Rattle.vt_spec.specs.Machine.Mounts.{Location, child_at, root_of, topmost}
 use Rattle.vt_spec.specs.Machine.Permits.Permit.{ToRename}
 use Rattle.vt_spec.specs.Machine.Policy.{raised_task}
 use Rattle.vt_spec.specs.Machine.Rightful.{node_allows}
@@ -326,17 +327,8 @@ module _ (world : World ℕ) (fresh : Fresh ℕ) (name : TaskName) (call : Call)
   directory_fits = outside_fits did.task.directory outside.directory
 
   root_of_child : (a b : Location ℕ) → option_map root_of (child_at nat_eq world.mounts a) ≡ Some b → Fits b
-  root_of_child a b e same directory way = by (child_at nat_eq world.mounts a) refl e
-    where
-      by : (o : Option (Mount ℕ)) → child_at nat_eq world.mounts a ≡ o → option_map root_of o ≡ Some b
-          → InIt (mount_at nat_eq world b).root
-      by None f h = none_is_not None b refl h
-      by (Some mount) f h =
-          let found = found_in (stands_at nat_eq a) world.mounts mount f in
-          let itself = found_itself world.mounts is.mounts.one_number mount found.0 in
-          let b_is : root_of mount ≡ b = same_Some (root_of mount) b h in
-          subst InIt (ap (λ (l : Location ℕ). l.node) (sym b_is) ∙ ap (λ (m : Mount ℕ). m.root) (sym itself)
-          ∙ ap (λ (l : Location ℕ). (mount_at nat_eq world l).root) b_is) way
+  root_of_child a b e same directory way =
+      grind (arith, common_steps, none_is_not, found, found_in, found_itself, same_Some)
 
   pub over_fits : (place : Location ℕ) → Fits place → Fits (topmost nat_eq world.mounts place)
   over_fits place fits = chain_ends Fits (λ here. option_map root_of (child_at nat_eq world.mounts here))

@@ -1,6 +1,7 @@
 -- After a granted rename of a directory to a free name ways up stay, from wherever a walk that begins outside of it
 -- comes.
-use Rattle.std.proofs.Common.{◌≡◌, ◌≢◌, refl, sym, ap, subst, ◌∙◌, inl, inr, ◌⊎◌, ⊎_elim, true≢false, ℕ, nat_eq, eqb-true, eq-eqb, Bool, true, false, cond, not, ◌||◌, List, [], ◌∷◌, ◌++◌, length, Option, Some, None, is_some, option_and_then}
+use Rattle.std.proofs.Common.{arith, ◌≡◌, ◌≢◌, refl, sym, ap, subst, ◌∙◌, inl, inr, ◌⊎◌, ⊎_elim, true≢false, ℕ, nat_eq, eqb-true, eq-eqb, Bool, true, false, cond, not, ◌||◌, List, [], ◌∷◌, ◌++◌, length, Option, Some, None, is_some, option_and_then}
+use Rattle.std.proofs.lemmas.Grind.{common_steps}
 use Rattle.std.proofs.lemmas.Bool.{or_parts, not-false}
 use Rattle.vt_spec.specs.declared.errors.Deny.{Deny}
 use Rattle.vt_spec.specs.declared.errors.Rule.TheVariants.{W8}
@@ -161,12 +162,7 @@ module _ (world : World ℕ) (fresh : Fresh ℕ) (name : TaskName) (call : Call)
       mount_same number = ap (λ mounts. mount_in nat_eq mounts number) same
 
       alike_by : (number : ℕ) → SeenAlike (mount_numbered nat_eq world number) (mount_numbered nat_eq left_world number)
-      alike_by number = record {
-        filesystem = ap (λ (m : Mount ℕ). m.filesystem) (mount_same number);
-        root = ap (λ (m : Mount ℕ). m.root) (mount_same number);
-        flags = ap (λ (m : Mount ℕ). m.flags) (mount_same number);
-        mount_point = ap (λ (m : Mount ℕ). m.mount_point) (mount_same number);
-      }
+      alike_by number = grind (arith, common_steps, mount_same)
 
   module _ (here : Location ℕ) (known : BothDirectories here) where
     abbrev number : ℕ

@@ -1,10 +1,10 @@
 -- A filesystem that something is in when what nothing uses is gone has the root that it had.
-use Rattle.std.proofs.Common.{◌≡◌, refl, sym, ap, ◌∙◌, inl, inr, true≢false, ℕ, nat_eq, eqb-true, Bool, true, false, cond, not, List, [], ◌∷◌, find, map, Option, Some, None, is_some}
+use Rattle.std.proofs.Common.{arith, ◌≡◌, refl, sym, ap, ◌∙◌, inl, inr, true≢false, ℕ, nat_eq, eqb-true, Bool, true, false, cond, not, List, [], ◌∷◌, find, map, Option, Some, None, is_some}
+use Rattle.std.proofs.lemmas.Grind.{common_steps}
 use Rattle.std.proofs.lemmas.Option.{same_Some}
-use Rattle.std.specs.List.{list_all}
 use Rattle.std.specs.Prelude.{option_map, unwrap_or}
-use Rattle.vt_spec.specs.Lists.{any_pair, is_among}
-use Rattle.vt_spec.specs.Machine.Settled.{filesystem_lives, only_used, only_used_by, settled, used_in, without_dead_filesystems, without_dead_in, without_dead_mounts}
+use Rattle.vt_spec.specs.Lists.{any_pair}
+use Rattle.vt_spec.specs.Machine.Settled.{filesystem_lives, only_used, settled, without_dead_filesystems, without_dead_in, without_dead_mounts}
 use Rattle.vt_spec.specs.Machine.World.{Filesystem, World, filesystem_numbered, is_overlay, no_filesystem}
 use Rattle.vt_spec.proofs.Lists.{Among, among-from_filter}
 use Rattle.vt_laws_mounts.proofs.letting_go.sweeps.OfWorlds.{found_filesystem}
@@ -51,13 +51,7 @@ module _ (world : World ℕ) (one : any_pair (λ (a b : Filesystem ℕ). nat_eq 
 
   swept : (w : World ℕ) (chosen : Bool) (f : Filesystem ℕ) → ((only_used nat_eq w chosen f).number ≡ f.number)
       × ((only_used nat_eq w chosen f).files.tree.root ≡ f.files.tree.root)
-  swept w false f = (refl, refl)
-  swept w true f = by (list_all (λ number. is_among nat_eq number (used_in nat_eq w f)) f.files.numbers)
-    where
-      by : (b : Bool) → ((only_used_by nat_eq b (used_in nat_eq w f) f).number ≡ f.number)
-          × ((only_used_by nat_eq b (used_in nat_eq w f) f).files.tree.root ≡ f.files.tree.root)
-      by true = (refl, refl)
-      by false = (refl, refl)
+  swept w chosen f = grind (arith, common_steps)
 
   abbrev once : Filesystem ℕ → Filesystem ℕ
   once f = only_used nat_eq living (is_overlay f) f

@@ -1,12 +1,13 @@
 -- Where mounts of other namespaces go, with all that stands on them, steps through a task's own find the mounts that
 -- they found.
+use Rattle.std.proofs.lemmas.Grind.{common_steps}
 use Rattle.std.proofs.Common.{◌≡◌, refl, sym, ap, subst, ◌∙◌, true≢false, ℕ, zero, suc, ◌≤◌, nat_eq, Bool, true, false, cond, List, filter, length, Option, Some, None, is_some, arith}
 use Rattle.std.specs.List.{list_all}
 use Rattle.std.specs.Prelude.{option_map, option_to_list}
 use Rattle.std.proofs.lemmas.Option.{same_Some}
 use Rattle.vt_spec.specs.Lists.{chain, is_among, last_or}
 use Rattle.vt_spec.specs.Machine.Detach.{is_going, taken_away}
-use Rattle.vt_spec.specs.Machine.Invariants.{IsWorld, Stands, is_nowhere_or_attached}
+use Rattle.vt_spec.specs.Machine.Invariants.{IsWorld, Stands}
 use Rattle.vt_spec.specs.Machine.Mounts.{Location, Mount, child_at, root_of, same_location, stands_at, topmost}
 use Rattle.vt_spec.proofs.Walk.{hop}
 use Rattle.vt_spec.specs.Machine.World.{Task, World, mount_at, mount_numbered}
@@ -59,13 +60,7 @@ module _ {A : Type 0} where
 -- Where `..` goes on from
 module _ (world : World ℕ) (is : IsWorld nat_eq world) (task : Task ℕ) where
   pub hop_place : (a b : Location ℕ) → hop nat_eq world task a ≡ Some b → (mount_at nat_eq world a).mount_point ≡ Some b
-  hop_place a b e = by (same_location nat_eq a task.root) (nat_eq a.node (mount_at nat_eq world a).root) e
-    where
-      by : (p q : Bool) → cond p None (cond q (mount_at nat_eq world a).mount_point None) ≡ Some b
-          → (mount_at nat_eq world a).mount_point ≡ Some b
-      by true q h = none_is_not None b refl h
-      by false true h = h
-      by false false h = none_is_not None b refl h
+  hop_place a b e = grind (arith, common_steps, none_is_not)
 
   pub hop_known : (a b : Location ℕ) → IsFoundDirectory world is task a → hop nat_eq world task a ≡ Some b
       → IsFoundDirectory world is task b
@@ -235,12 +230,7 @@ module _ (world later : World ℕ) (is : IsWorld nat_eq world) (is_later : IsWor
     where
       in_namespace : (mount : Mount ℕ) → Among mount world.mounts → mount.mount_point ≡ Some place
           → is_some mount.namespace ≡ true
-      in_namespace mount m e = by (is_some mount.namespace) refl
-        where
-          by : (b : Bool) → is_some mount.namespace ≡ b → is_some mount.namespace ≡ true
-          by true f = f
-          by false f = absurd (true≢false (sym (ap is_some e) ∙ (nowhere_parts mount
-              (among_from_list_all is_nowhere_or_attached world.mounts is.mounts.nowhere mount m) f).0))
+      in_namespace mount m e = grind (arith, common_steps, true≢false, nowhere_parts, among_from_list_all)
 
   none_there : (place : Location ℕ) → child_at nat_eq world.mounts place ≡ None → (new : Mount ℕ)
       → child_at nat_eq later.mounts place ≡ Some new → ⊥
@@ -276,13 +266,7 @@ module _ (world later : World ℕ) (is : IsWorld nat_eq world) (is_later : IsWor
     where
       own_on : (a b : Location ℕ) → IsOn world is task a.mount → child_root world a ≡ Some b
           → IsOn world is task b.mount
-      own_on a b on e = by (child_at nat_eq world.mounts a) refl e
-        where
-          by : (o : Option (Mount ℕ)) → child_at nat_eq world.mounts a ≡ o → option_map root_of o ≡ Some b
-              → IsOn world is task b.mount
-          by None f h = none_is_not None b refl h
-          by (Some child) f h = subst (λ (l : Location ℕ). IsOn world is task l.mount) (same_Some (root_of child) b h)
-              (child_own a on child f)
+      own_on a b on e = grind (arith, common_steps, on, none_is_not, same_Some, child_own)
 
   -- and `..` goes on from where it went on
   module _ (reader : Task ℕ) (roots : reader.root ≡ task.root) where

@@ -1,13 +1,13 @@
 -- What the removal of an empty directory leaves of the ways through its tree.
-use Rattle.std.proofs.Common.{◌≡◌, ◌≢◌, refl, sym, ap, ◌∙◌, inl, inr, ◌⊎◌, ⊎_elim, true≢false, ℕ, nat_eq, Bool, true, false, cond, not, ne_eqb, map, List, [], ◌||◌, Option, Some, None, is_some}
+use Rattle.std.proofs.Common.{arith, ◌≡◌, ◌≢◌, refl, sym, ap, ◌∙◌, inl, inr, ◌⊎◌, ⊎_elim, true≢false, ℕ, nat_eq, Bool, true, false, cond, not, ne_eqb, List, [], ◌||◌, Option, Some, None}
+use Rattle.std.proofs.lemmas.Grind.{common_steps}
 use Rattle.std.proofs.lemmas.Bool.Decides.{eqb_tells}
 use Rattle.std.proofs.lemmas.Option.{same_Some}
 use Rattle.std.specs.Cmp.Lexicographic.{bytes_decides}
 use Rattle.std.specs.Str.{bytes_eq}
-use Rattle.vt_spec.specs.FileTree.{FileTree, is_removed, symlink_text, targets_in}
+use Rattle.vt_spec.specs.FileTree.{FileTree, is_removed, symlink_text}
 use Rattle.vt_spec.specs.Language.Changes.{changed, content_with_parent, node_with_parent, node_without_entry, without_name}
 use Rattle.vt_spec.specs.Language.Changes.Change.{Remove}
-use Rattle.vt_spec.specs.Lists.{is_among, when}
 use Rattle.vt_spec.specs.Machine.Rightful.{node_allows}
 use Rattle.vt_spec.specs.Rights.{Credentials, allows}
 use Rattle.vt_spec.specs.Tree.{Content, Node, Tree, entries_in, entry_named, is_directory_node, kind_of, parent_in}
@@ -20,16 +20,7 @@ use Rattle.vt_laws_later_calls.proofs.WaysChanges.{RightsStay, allows_without, l
 use Rattle.vt_spec.proofs.NodeChanges.{entries-node_with_parent, entries-node_without_entry, is_directory-node_with_parent, is_directory-node_without_entry, parent-node_without_entry}
 
 link_with_parent : (parent : ℕ) (o : Option (Node ℕ)) → symlink_text (node_with_parent parent o) ≡ symlink_text o
-link_with_parent parent None = refl
-link_with_parent parent (Some node) = by node.content
-  where
-    by : (content : Content ℕ) → symlink_text
-        (Some (record { attr = node.attr; content = content_with_parent parent content }))
-        ≡ symlink_text (Some (record { attr = node.attr; content = content }))
-    by (Directory old entries opaque) = refl
-    by (Regular bytes) = refl
-    by (Symlink text) = refl
-    by Whiteout = refl
+link_with_parent parent o = grind (arith, common_steps)
 
 allows_with_parent : (parent : ℕ) (who : Credentials) (wanted : ℕ) (o : Option (Node ℕ))
     → node_allows who wanted (node_with_parent parent o) ≡ node_allows who wanted o
@@ -106,11 +97,7 @@ module _ (files : FileTree ℕ) (directory : ℕ) (name : List ℕ) (object : �
 
   -- the directory is empty, and stands alone
   pub nothing_in_it : (other : List ℕ) (next : ℕ) → entry_at files.tree object other ≡ Some next → ⊥
-  nothing_in_it other next e = none_at (entries_in (files.tree.node object)) may.empty e
-    where
-      none_at : (entries : List (List ℕ × ℕ)) → entries ≡ [] → entry_named other entries ≡ Some next → ⊥
-      none_at entries empty f = true≢false
-          (sym (sym (ap (λ list. is_some (entry_named {N = ℕ} other list)) empty) ∙ ap is_some f))
+  nothing_in_it other next e = grind (arith, common_steps, true≢false)
 
   removed_empty : entries_in (removed.tree.node object) ≡ []
   removed_empty = removed_entries object ∙ ⊎_elim
@@ -120,14 +107,4 @@ module _ (files : FileTree ℕ) (directory : ℕ) (name : List ℕ) (object : �
 
   pub removed_alone : (tree : Tree ℕ) → tree.node object ≡ removed.tree.node object → object ≢ tree.root
       → is_removed nat_eq tree object ≡ true
-  removed_alone tree same other = ap (λ b. not (b || is_some (cond b None
-      (when (is_among nat_eq object (targets_in (tree.node (parent_in object (tree.node object)))))
-      (parent_in object (tree.node object)))))) (ne_eqb object tree.root other)
-      ∙ ap (λ p. not (is_some (when (is_among nat_eq object (targets_in (tree.node p))) p))) own
-      ∙ ap (λ entries. not (is_some (when
-      (is_among nat_eq object (map (λ (entry : List ℕ × ℕ). entry.1) entries)) object)))
-      (ap entries_in same ∙ removed_empty)
-    where
-      own : parent_in object (tree.node object) ≡ object
-      own = ap (parent_in object) (same ∙ there unnamed object (node_with_parent object))
-          ∙ own_parent-node_with_parent object (unnamed.tree.node object)
+  removed_alone tree same other = grind (arith, common_steps, ne_eqb, removed_empty, there, own_parent-node_with_parent)

@@ -1,17 +1,16 @@
 -- What a new mount leaves at a destination that is not shared: one mount more, and the filesystem that it shows.
-use Rattle.std.proofs.Common.{◌≡◌, refl, ap, subst, ◌∙◌, ℕ, nat_eq, eq-eqb, Bool, true, false, not, List, [], ◌∷◌, ◌++◌, Option, None, Some, filter, flat_map, is_some, map}
+use Rattle.std.proofs.Common.{arith, ◌≡◌, refl, ap, subst, ◌∙◌, ℕ, nat_eq, eq-eqb, true, false, not, List, [], ◌∷◌, ◌++◌, None, Some, filter, flat_map, is_some, map}
+use Rattle.std.proofs.lemmas.Grind.{common_steps}
 use Rattle.std.proofs.lemmas.List.{append-nil}
-use Rattle.std.specs.List.{cons_option}
 use Rattle.std.specs.Prelude.{if◌then◌else◌}
 use Rattle.vt_spec.specs.Language.Calls.{MountFlags}
-use Rattle.vt_spec.specs.Lists.{Fresh, folded, odds, then_some, when}
+use Rattle.vt_spec.specs.Lists.{Fresh, odds}
 use Rattle.vt_spec.specs.Machine.Apply.{apply}
-use Rattle.vt_spec.specs.Machine.Attach.{Copies, Graft, all_groups_made, copies_at, copies_from, copy_mount_point, copy_type, graft_of, image, masters_with, nearest_image, pushed_up, receivers_of, takes_part, twig_master, twig_of, type_at, type_at_part}
+use Rattle.vt_spec.specs.Machine.Attach.{Copies, Graft, copies_at, copies_from, copy_mount_point, graft_of, pushed_up, receivers_of, takes_part, twig_of, type_at, type_at_part}
 use Rattle.vt_spec.specs.Machine.Mounts.{Location, Mount, group_of}
 use Rattle.vt_spec.specs.Machine.Mounts.Propagation.{Private}
 use Rattle.vt_spec.specs.Machine.NewMounts.{new_mount, plain_filesystem, with_new_filesystem}
 use Rattle.vt_spec.specs.Machine.Permits.Permit.{ToMountPlain}
-use Rattle.vt_spec.specs.Machine.Receives.{is_member_of}
 use Rattle.vt_spec.specs.Machine.World.{Filesystem, Task, World, mount_at, mount_numbered}
 use Rattle.vt_spec.specs.Machine.Run.{Serves}
 use Rattle.vt_spec.proofs.Lists.{among_numbers}
@@ -106,13 +105,7 @@ module _ (fresh : Fresh ℕ) (world : World ℕ) (place : Location ℕ) (flags :
   type_is_private : destination.propagation ≡ Private
       → type_at_part nat_eq larger alone_copies alone_graft (destination ∷ []) destination
       (twig_of alone_copies (group_of destination.propagation) origin) ≡ Private
-  type_is_private private = by (nat_eq destination.number place.mount)
-    where
-      by : (b : Bool) → (if b then type_at alone_copies (group_of destination.propagation) origin
-          else copy_type nat_eq larger alone_copies (destination ∷ []) destination
-          (twig_of alone_copies (group_of destination.propagation) origin) destination.propagation) ≡ Private
-      by true = ap (λ kind. type_at alone_copies (group_of kind) origin) private
-      by false = cc private
+  type_is_private private = grind (arith, common_steps)
 
   -- on a private mount one mount comes, the last one
   pub mounts-new_mount : destination.propagation ≡ Private → (task : Task ℕ)
@@ -127,26 +120,7 @@ module _ (fresh : Fresh ℕ) (world : World ℕ) (place : Location ℕ) (flags :
   -- no group is made
   pub master-new_mount : destination.propagation ≡ Private → (task : Task ℕ)
       → (apply nat_eq fresh world task (ToMountPlain place flags)).world.master ≡ world.master
-  master-new_mount private task = ap master_with (no_receivers (ap group_of private))
-      ∙ ap (λ made. folded (masters_with nat_eq) world.master (cons_option made [] ++ []))
-      (by (nat_eq destination.number place.mount))
-    where
-      by : (b : Bool) → (if b then twig_master (twig_of alone_copies (group_of destination.propagation) origin)
-          else then_some (group_of destination.propagation) (λ group.
-          when (not (is_member_of nat_eq group destination)) (
-            image nat_eq alone_copies destination
-                (twig_of alone_copies (group_of destination.propagation) origin) group,
-            nearest_image nat_eq larger alone_copies (destination ∷ []) destination
-                (twig_of alone_copies (group_of destination.propagation) origin) (world.master group),
-          ))) ≡ None
-      by true = ap (λ kind. twig_master (twig_of alone_copies (group_of kind) origin)) private
-      by false = cc private
-
-      master_with : List (Mount ℕ) → ℕ → Option ℕ
-      master_with others = folded (masters_with nat_eq) world.master (all_groups_made nat_eq larger
-          (copies_from nat_eq (odds fresh) (destination ∷ others) (origin ∷ []))
-          (graft_of nat_eq larger (copies_from nat_eq (odds fresh) (destination ∷ others) (origin ∷ [])) place false
-          (origin ∷ [])) (destination ∷ others))
+  master-new_mount private task = grind (arith, common_steps, no_receivers)
 
   -- the number of the new mount is that of no mount of the world
   pub other_number : Serves nat_eq world fresh → (number : ℕ) → is_mount world number ≡ true

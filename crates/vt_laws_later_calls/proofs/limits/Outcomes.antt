@@ -1,14 +1,13 @@
 -- How a call ends by its judgement.
-use Rattle.std.proofs.Common.{◌≡◌, refl, ap, ◌∙◌, ℕ, nat_eq, Bool, true, false, ◌||◌, [], Some, Err, ok_or}
+use Rattle.std.proofs.Common.{arith, ◌≡◌, ap, ◌∙◌, ℕ, nat_eq, ◌||◌, Some, Err}
+use Rattle.std.proofs.lemmas.Grind.{common_steps}
 use Rattle.vt_spec.specs.declared.errors.Deny.{Deny}
-use Rattle.vt_spec.specs.declared.errors.Rule.TheVariants.{S2}
-use Rattle.vt_spec.specs.Errors.{denial}
 use Rattle.vt_spec.specs.Language.Calls.{Call, TaskName}
 use Rattle.vt_spec.specs.Lists.{Fresh}
 use Rattle.vt_spec.specs.Machine.Apply.{apply}
 use Rattle.vt_spec.specs.Machine.Judge.{Judgement, judge_in}
 use Rattle.vt_spec.specs.Machine.Outcomes.{Outcome, after, denied}
-use Rattle.vt_spec.specs.Machine.Policy.{filesystems_changed_by, finished, finished_by, only_looks, policy}
+use Rattle.vt_spec.specs.Machine.Policy.{filesystems_changed_by, finished, policy}
 use Rattle.vt_spec.specs.Machine.World.{Task, World, task_called}
 use Rattle.vt_laws_rules.proofs.judged.CallsJudged.{policy_judges_then_applies}
 
@@ -22,17 +21,9 @@ module _ (world : World ℕ) (fresh : Fresh ℕ) (name : TaskName) (task : Task 
   -- the policy's outcome is that of the judgement
   pub policy_by_judgement : (judgement : Judgement ℕ) → judge_in nat_eq fresh world task call ≡ judgement
       → policy nat_eq fresh world name call ≡ outcome_by judgement
-  policy_by_judgement judgement judged = policy_judges_then_applies fresh world name call
-      ∙ ap (λ found. after world (ok_or found (denial S2)) (λ one.
-      finished nat_eq world name call (filesystems_changed_by nat_eq world (judge_in nat_eq fresh world one call))
-      (after world (judge_in nat_eq fresh world one call) (apply nat_eq fresh world one)))) called
-      ∙ ap outcome_by judged
+  policy_by_judgement judgement judged = grind (arith, common_steps, policy_judges_then_applies)
 
   -- a refused call changes nothing
   pub refused_call : (deny : Deny) → judge_in nat_eq fresh world task call ≡ Err deny
       → policy nat_eq fresh world name call ≡ denied world deny
-  refused_call deny judged = policy_by_judgement (Err deny) judged ∙ by (only_looks call)
-    where
-      by : (looks : Bool) → finished_by nat_eq (looks || true) world name [] (denied world deny) ≡ denied world deny
-      by true = refl
-      by false = refl
+  refused_call deny judged = grind (arith, common_steps, policy_by_judgement)

@@ -1,13 +1,13 @@
 -- Walks of paths of one word, and of two, from the task's root to a destination.
-use Rattle.std.proofs.Common.{◌≡◌, ap, ◌∙◌, ℕ, nat_eq, true, false, not, List, [], ◌∷◌, None, Some, Result, Ok, option_map, ok_or, reverse}
+use Rattle.std.proofs.Common.{arith, ◌≡◌, ap, ◌∙◌, ℕ, nat_eq, true, false, List, [], ◌∷◌, None, Some, Result, Ok, reverse}
+use Rattle.std.proofs.lemmas.Grind.{common_steps}
 use Rattle.std.specs.Prelude.{if◌then◌else◌}
 use Rattle.vt_spec.specs.declared.errors.Deny.{Deny}
-use Rattle.vt_spec.specs.declared.errors.Rule.TheVariants.{W6, W8}
-use Rattle.vt_spec.specs.Errors.{and_then, denial}
+use Rattle.vt_spec.specs.declared.errors.Rule.TheVariants.{W8}
 use Rattle.vt_spec.specs.Machine.Mounts.{Location, topmost}
-use Rattle.vt_spec.specs.Machine.Rightful.{mounter_allows, node_allows}
+use Rattle.vt_spec.specs.Machine.Rightful.{node_allows}
 use Rattle.vt_spec.proofs.Tables.{destination_walk, source_walk}
-use Rattle.vt_spec.specs.Machine.Walking.{Here, Stop, if_symlink, last_word, path_text, stopped_by, then_walk, walk_start, walk_unless}
+use Rattle.vt_spec.specs.Machine.Walking.{Here, Stop, if_symlink, last_word, path_text, then_walk, walk_unless}
 use Rattle.vt_spec.proofs.Walk.{directory_walk, followed, path_walked, search_rules, steps_with, stepped, word_walked, words_walked}
 use Rattle.vt_spec.specs.Machine.Walking.LastWord.{Named}
 use Rattle.vt_spec.specs.Machine.World.{Task, World, filesystem_at, is_directory_at, is_removed_at, node_at}
@@ -61,26 +61,13 @@ module _ (world : World ℕ) (task : Task ℕ) (from next : Location ℕ) (left 
 
   -- the word is walked
   word_is_walked : word_walked nat_eq world task here (Named word) ≡ Ok there
-  word_is_walked = ap (λ step. stopped_by (steps_with nat_eq world task here (Named word)) (and_then step moved_on))
-      (passed (search_rules nat_eq world task from) (stepped nat_eq world task from (Named word)) (
-        ap not way.searched,
-        (
-          ap not way.searches,
-          (ap (λ overlay. not (mounter_allows overlay execute_right (node_at nat_eq world from))) way.plain, tt),
-        ),
-      ) ∙ ap (λ found. ok_or (option_map (topmost nat_eq world.mounts)
-      (option_map (λ (number : ℕ). record { mount = from.mount; node = number }) found)) (denial W6)) way.entry
-      ∙ ap (λ place. Ok place) way.leads)
+  word_is_walked = grind (arith, common_steps, steps_with, passed, search_rules, stepped)
 
   -- the word walked, and no symlink followed
   pub word_goes_on : then_walk (word_walked nat_eq world task here (Named word)) (λ reached.
       if_symlink reached (symlink_text (node_at nat_eq world reached.location))
       (followed nat_eq world task from reached)) ≡ Ok there
-  word_goes_on = ap (λ walk. then_walk walk (λ reached.
-      if_symlink reached (symlink_text (node_at nat_eq world reached.location))
-      (followed nat_eq world task from reached))) word_is_walked
-      ∙ ap (λ text. if_symlink there text (followed nat_eq world task from there))
-      (directory_no_link (node_at nat_eq world next) way.directory)
+  word_goes_on = grind (arith, common_steps, followed, word_is_walked, directory_no_link)
 
 -- a place that no mount covers, and that is not removed, is a destination
 pub record IsDestination (world : World ℕ) (top : Location ℕ) : Type 0 where
@@ -124,13 +111,7 @@ module _ (world : World ℕ) (task : Task ℕ) where
   walked_from_root : (path : List ℕ) (list : List (List ℕ)) → path_text {N = ℕ} path ≡ Ok path
       → is_absolute path ≡ true → reverse (words path) ≡ list
       → path_walked nat_eq world task path ≡ words_from start list
-  walked_from_root path list parsed absolute words_are =
-      ap (λ text. then_walk text (λ bytes. words_from (walk_start task bytes) (reverse (words bytes)))) parsed
-      ∙ (λ i. words_from (record {
-        location = if absolute i then task.root else task.directory;
-        left = most_symlinks;
-        steps = [];
-      }) (words_are i))
+  walked_from_root path list parsed absolute words_are = grind (arith, common_steps)
 
   -- a path of one word
   module _ (path word : List ℕ) (one : HasOneWord path word) (object : ℕ) (top : Location ℕ)

@@ -1,4 +1,5 @@
 -- The text of a script by its lines, where no allocation fails.
+use Rattle.std.proofs.lemmas.Grind.{common_steps}
 use Rattle.std.proofs.Common.{◌≡◌, refl, sym, ap, subst, ◌∙◌, ℕ, zero, suc, nat_eq, nat_lt, ◌+◌, ◌<◌, ◌≤◌, false, List, [], ◌∷◌, ◌++◌, Some, Ok, Err, append_assoc, length, arith}
 use Rattle.std.specs.Fmt.{digits}
 use Rattle.std.specs.Prelude.{codes, decimal}
@@ -14,7 +15,7 @@ use Rattle.vt_spec.specs.Language.Script.Request.{Calling}
 use Rattle.vt_spec.specs.Lists.{Fresh}
 use Rattle.vt_spec.specs.Machine.Outcomes.{Outcome, denied, granted}
 use Rattle.vt_spec.specs.Machine.Policy.{policy}
-use Rattle.vt_spec.specs.Machine.Run.{Serves, line_step, line_step_by, numbers_for, requested, step_text, step_world, text_from}
+use Rattle.vt_spec.specs.Machine.Run.{Serves, line_step, line_step_by, numbers_for, requested, step_world, text_from}
 use Rattle.vt_spec.specs.Machine.Run.Step.{Answered}
 use Rattle.vt_spec.specs.Machine.World.{World}
 use Rattle.vt_laws_later_calls.specs.Limits.FullNamespaces.{numbered}
@@ -73,12 +74,7 @@ module _ (grammar : Grammar) (line : List ℕ) (name : TaskName) (call : Call)
       → policy nat_eq (numbers_for (suc last)) world name call ≡ outcome
       → text_from grammar world (suc last) (line ∷ lines) []
       ≡ reply_line (suc last) outcome.answer ++ text_from grammar outcome.world (suc (suc last)) lines []
-  text_goes_on world last outcome lines is =
-      let next : suc last + 1 ≡ suc (suc last) = omega arith in
-      (λ i. step_text (suc last) (step i) ++ text_from grammar (step_world world (step i)) (next i) lines [])
-    where
-      step : line_step nat_eq grammar world line (Some (numbers_for (suc last))) ≡ Answered outcome
-      step = step_is_outcome world (numbers_for (suc last)) ∙ ap (λ o. Answered o) is
+  text_goes_on world last outcome lines is = grind (arith, common_steps, step_is_outcome)
 
   -- after the line the world has its numbers too
   pub numbers_go_on : (world : World ℕ) (last : ℕ) (outcome : Outcome ℕ) → HasNumbersUntil last world

@@ -1,6 +1,6 @@
 -- A stack of mounts with one mount more.
+use Rattle.std.proofs.lemmas.Grind.{common_steps}
 use Rattle.std.proofs.Common.{◌≡◌, refl, sym, ap, subst, ◌∙◌, inl, true≢false, ℕ, suc, nat_eq, nat_lt, eq-eqb, Bool, true, false, cond, not, ◌||◌, ◌&&◌, ◌<◌, ◌≤◌, List, [], ◌∷◌, ◌++◌, Option, None, Some, Ok, find, is_some, map, arith}
-use Rattle.std.specs.Prelude.{unwrap_or}
 use Rattle.std.proofs.lemmas.Bool.Decides.{nat_tests}
 use Rattle.std.proofs.lemmas.List.Folds.{find-append}
 use Rattle.vt_spec.specs.declared.errors.Rule.TheVariants.{M9}
@@ -19,10 +19,10 @@ use Rattle.vt_spec.specs.Machine.Policy.{numbers_raised, policy, raised_namespac
 use Rattle.vt_spec.specs.Machine.Rightful.{node_allows}
 use Rattle.vt_spec.specs.Machine.Run.{Serves}
 use Rattle.vt_spec.specs.Machine.Settled.{settled}
-use Rattle.vt_spec.specs.Machine.World.{Filesystem, Namespace, Task, World, filesystem_numbered, is_directory_at, is_removed_at, mount_at, mount_numbered, no_filesystem, node_at, root_attr}
+use Rattle.vt_spec.specs.Machine.World.{Filesystem, Namespace, Task, World, filesystem_numbered, is_directory_at, is_removed_at, mount_at, mount_numbered, node_at, root_attr}
 use Rattle.vt_spec.specs.Rights.{execute_right}
 use Rattle.vt_spec.specs.Tree.{entries_in, entry_named, is_directory_node, new_directory}
-use Rattle.vt_spec.specs.FileTree.{is_removed, named_parent}
+use Rattle.vt_spec.specs.FileTree.{is_removed}
 use Rattle.vt_spec.proofs.Lists.{Among, among-append_right}
 use Rattle.vt_spec.proofs.Truths.{nat_eq_false_turned}
 use Rattle.vt_laws_mounts.proofs.mounts.MountsFound.{found_in}
@@ -49,17 +49,7 @@ pub filesystem_stays : (world : World ℕ) (added : Filesystem ℕ) (number node
     → is_directory_node ((filesystem_numbered nat_eq world number).files.tree.node node) ≡ true
     → filesystem_numbered nat_eq (record world { filesystems = world.filesystems ++ (added ∷ []) }) number
     ≡ filesystem_numbered nat_eq world number
-filesystem_stays world added number node directory = by (find has_number world.filesystems) refl
-  where
-    has_number : Filesystem ℕ → Bool
-    has_number filesystem = nat_eq number filesystem.number
-
-    by : (found : Option (Filesystem ℕ)) → find has_number world.filesystems ≡ found
-        → unwrap_or (find has_number (world.filesystems ++ (added ∷ []))) (no_filesystem number)
-        ≡ unwrap_or (find has_number world.filesystems) (no_filesystem number)
-    by None e = absurd (true≢false (sym directory
-        ∙ ap (λ found. is_directory_node ((unwrap_or found (no_filesystem number)).files.tree.node node)) e))
-    by (Some filesystem) e = cc (find-append has_number world.filesystems (added ∷ []))
+filesystem_stays world added number node directory = grind (arith, common_steps, true≢false, find-append)
 
 -- where no filesystem changed, all keep their change numbers
 pub filesystems_not_raised : (filesystems : List (Filesystem ℕ)) → map (raised_if_changed nat_eq []) filesystems
@@ -217,13 +207,7 @@ module _ (world : World ℕ) (name : TaskName) (path word : List ℕ) (one : Has
 
     -- the root directory of the task stays
     root_stays : node_at nat_eq stacked_world stack.task.root ≡ node_at nat_eq world stack.task.root
-    root_stays = ap (λ (mount : Mount ℕ).
-        (filesystem_numbered nat_eq stacked_world mount.filesystem).files.tree.node stack.task.root.node)
-        root_mount_stays ∙ ap (λ filesystems. (filesystem_numbered nat_eq (record world { filesystems = filesystems })
-        (mount_at nat_eq world stack.task.root).filesystem).files.tree.node stack.task.root.node) filesystems_are
-        ∙ ap (λ (filesystem : Filesystem ℕ). filesystem.files.tree.node stack.task.root.node)
-        (filesystem_stays world added (mount_at nat_eq world stack.task.root).filesystem stack.task.root.node
-        stack.way.searched)
+    root_stays = grind (arith, common_steps, root_mount_stays, filesystems_are, filesystem_stays)
 
     -- the stack has the new mount on its top
     pub grown_stack : IsStack stacked_world name word (suc count)
@@ -235,11 +219,7 @@ module _ (world : World ℕ) (name : TaskName) (path word : List ℕ) (one : Has
             (eq-eqb new.root new.root refl)
 
         is_not_removed : is_removed_at nat_eq stacked_world (root_of new) ≡ false
-        is_not_removed = ap (λ (mount : Mount ℕ). is_removed nat_eq
-            (filesystem_numbered nat_eq stacked_world mount.filesystem).files.tree new.root) new_is_found
-            ∙ ap (λ (filesystem : Filesystem ℕ). is_removed nat_eq filesystem.files.tree new.root) added_is_found
-            ∙ ap (λ b. not (b || is_some (named_parent nat_eq added.files.tree new.root)))
-            (eq-eqb new.root new.root refl)
+        is_not_removed = grind (arith, common_steps, new_is_found, added_is_found, eq-eqb)
 
         by : (change : ℕ) × (raised_task name stack.task ≡ record stack.task { change = change })
             → IsStack stacked_world name word (suc count)
@@ -283,8 +263,4 @@ module _ (world : World ℕ) (name : TaskName) (path word : List ℕ) (one : Has
       namespaces = stacked_world.namespaces;
       change = stacked_world.change;
     }
-    stacked_world_is = λ i. record stacked_world {
-      mounts = mounts_are i;
-      filesystems = filesystems_are i;
-      master = master-new_mount fresh world stack.top flags stack.private stack.task i;
-    }
+    stacked_world_is = grind (arith, common_steps, mounts_are, filesystems_are, master-new_mount)

@@ -1,4 +1,5 @@
 -- Mounts stacked on a place: each new mount comes onto the topmost one, while its namespace has room.
+use Rattle.std.proofs.lemmas.Grind.{common_steps}
 use Rattle.std.proofs.Common.{◌≡◌, refl, ap, ◌∙◌, ℕ, suc, nat_eq, nat_lt, eq-eqb, true, false, not, ◌≤◌, ◌&&◌, List, [], ◌∷◌, ◌++◌, Some, Ok, length, arith}
 use Rattle.std.specs.List.{list_all}
 use Rattle.vt_spec.specs.declared.errors.Rule.TheVariants.{K1, M2, M9}
@@ -85,10 +86,7 @@ module _ (world : World ℕ) (name : TaskName) (path word : List ℕ) (one : Has
   as_many_elsewhere : (other : ℕ) → nat_eq other stack.task.namespace ≡ false
       → length (mounts_of nat_eq mounted_world other) ≤ length (mounts_of nat_eq world other)
   as_many_elsewhere other differs =
-      let same : length (mounts_of nat_eq mounted_world other) ≡ length (mounts_of nat_eq world other) =
-      ap (λ mounts. length (mounts_of nat_eq (with_mounts world mounts) other)) mounts_after
-      ∙ added_mounts_count_in_no_other world (new ∷ []) stack.task.namespace other new_is_inside differs in
-      omega (arith, same)
+      grind (arith, common_steps, mounts_after, added_mounts_count_in_no_other, new_is_inside)
 
   -- the namespace of the task is there
   namespace_is_listed : is_listed nat_eq world stack.task.namespace ≡ true

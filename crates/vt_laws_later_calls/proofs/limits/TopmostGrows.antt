@@ -1,5 +1,6 @@
 -- The topmost mount over a place once one more mount is stacked there.
-use Rattle.std.proofs.Common.{◌≡◌, refl, sym, ap, ◌∙◌, ℕ, zero, suc, nat_eq, Bool, true, false, cond, List, [], ◌∷◌, ◌++◌, Option, None, Some, length, option_map, arith}
+use Rattle.std.proofs.lemmas.Grind.{common_steps}
+use Rattle.std.proofs.Common.{◌≡◌, refl, ap, ◌∙◌, ℕ, zero, suc, nat_eq, Bool, true, false, cond, List, [], ◌∷◌, ◌++◌, Option, None, Some, length, option_map, arith}
 use Rattle.std.proofs.lemmas.List.{length-append}
 use Rattle.std.proofs.lemmas.List.Folds.{find-append}
 use Rattle.vt_spec.specs.Lists.{chain, last_or}
@@ -24,11 +25,7 @@ module _ {A : Type 0} (step grown : A → Option A) (end next : A)
       by : (o : Option A) → step a ≡ o
           → ((b f g : A) → last_or f (chain n step b) ≡ end → last_or g (chain (suc n) grown b) ≡ next)
           → last_or e (chain (suc (suc n)) grown a) ≡ next
-      by None found later = one_more_step (suc n) a e (sym (ap (last_or d) (chain_ends step n a found)) ∙ is)
-      by (Some b) found later = cc (
-        chain_goes_on grown (suc n) a b (kept a b found),
-        later b a a (sym (ap (last_or d) (chain_goes_on step n a b found)) ∙ is),
-      )
+      by o found later = grind (arith, common_steps, one_more_step, chain_ends, chain_goes_on, kept)
 
 module _ (mounts : List (Mount ℕ)) (new : Mount ℕ) (top : Location ℕ) where
   abbrev step_up : List (Mount ℕ) → Location ℕ → Option (Location ℕ)
@@ -57,19 +54,9 @@ module _ (mounts : List (Mount ℕ)) (new : Mount ℕ) (top : Location ℕ) wher
       (ap (option_map root_of) (child_alone (root_of new) false nothing apart)) (length mounts) place place place is
     where
       kept : (a b : Location ℕ) → step_up mounts a ≡ Some b → step_up (mounts ++ (new ∷ [])) a ≡ Some b
-      kept a b e = by (child_at nat_eq mounts a) refl e
-        where
-          by : (o : Option (Mount ℕ)) → child_at nat_eq mounts a ≡ o → option_map root_of o ≡ Some b
-              → step_up (mounts ++ (new ∷ [])) a ≡ Some b
-          by None found is = none_is_some b is
-          by (Some child) found is = ap (option_map root_of) (child_stays a child found) ∙ is
+      kept a b e = grind (arith, common_steps, none_is_some, child_stays)
 
 -- the topmost mount over a free place is that place
 pub topmost_of_free : (mounts : List (Mount ℕ)) (place : Location ℕ) → child_at nat_eq mounts place ≡ None
     → topmost nat_eq mounts place ≡ place
-topmost_of_free mounts place free = by (length mounts)
-  where
-    by : (n : ℕ) → last_or place (chain n (λ here. option_map root_of (child_at nat_eq mounts here)) place) ≡ place
-    by zero = refl
-    by (suc n) = ap (last_or place)
-        (chain_ends (λ here. option_map root_of (child_at nat_eq mounts here)) n place (ap (option_map root_of) free))
+topmost_of_free mounts place free = grind (arith, common_steps, chain_ends)

@@ -1,7 +1,8 @@
 -- A new mount on a private mount, unmounted again: when what nothing uses is gone, the world is as it was before.
-use Rattle.std.proofs.Common.{◌≡◌, refl, sym, ap, ◌∙◌, inl, ⊎_elim, true≢false, ℕ, nat_eq, eq-eqb, eqb-true, Bool, true, false, cond, not, ◌||◌, ◌&&◌, List, [], ◌∷◌, ◌++◌, Option, None, Some, filter, find, flat_map, is_some, map}
-use Rattle.std.specs.Prelude.{option_to_list, unwrap_or}
-use Rattle.std.specs.List.{list_all, list_any}
+use Rattle.std.proofs.Common.{arith, ◌≡◌, refl, ap, ◌∙◌, inl, ⊎_elim, true≢false, ℕ, nat_eq, eq-eqb, eqb-true, Bool, true, false, cond, not, ◌||◌, ◌&&◌, List, [], ◌∷◌, ◌++◌, Option, None, Some, filter, find, flat_map, is_some, map}
+use Rattle.std.proofs.lemmas.Grind.{common_steps}
+use Rattle.std.specs.Prelude.{unwrap_or}
+use Rattle.std.specs.List.{list_any}
 use Rattle.std.proofs.Math.Bool.{or-false}
 use Rattle.std.proofs.lemmas.Bool.{and_parts}
 use Rattle.std.proofs.lemmas.List.{append-nil, map-append, map-id}
@@ -11,7 +12,7 @@ use Rattle.std.specs.Option.{option_or}
 use Rattle.vt_spec.specs.Language.Calls.{MountFlags}
 use Rattle.vt_spec.specs.Lists.{Fresh, holds_of, is_among}
 use Rattle.vt_spec.specs.Machine.Detach.{going, going_from, has_child, is_used, unmounted}
-use Rattle.vt_spec.specs.Machine.Invariants.{HasLivingGroups, IsWorld, Lives, has_its_root}
+use Rattle.vt_spec.specs.Machine.Invariants.{HasLivingGroups, IsWorld, Lives}
 use Rattle.vt_spec.specs.Machine.Invariants.Lives.{has_master, has_no_master}
 use Rattle.vt_spec.specs.Machine.Locked.{overlay_or}
 use Rattle.vt_spec.specs.Machine.Mounts.{Location, Mount, detached, is_shared, no_mount, source_of, stands_on}
@@ -19,8 +20,7 @@ use Rattle.vt_spec.specs.Machine.Mounts.Propagation.{Private}
 use Rattle.vt_spec.specs.Machine.Receives.{has_members, is_lost_group, is_member_of, lost_a_group, regrouped, regrouped_by}
 use Rattle.vt_spec.specs.Machine.Run.{Serves, numbers_in_use, used_by_filesystem, used_by_mount}
 use Rattle.vt_spec.specs.Machine.Settled.{filesystem_lives, has_layer_on, is_mounted, mount_lives, settled, without_dead_filesystems, without_dead_groups, without_dead_in, without_dead_inodes}
-use Rattle.vt_spec.specs.Machine.World.{Filesystem, Layer, Namespace, Task, World, all_locations, filesystem_numbered, is_overlay, layers_of, mount_at, mount_numbered, no_filesystem}
-use Rattle.vt_spec.specs.Tree.{is_directory_node}
+use Rattle.vt_spec.specs.Machine.World.{Filesystem, Layer, Namespace, Task, World, all_locations, is_overlay, layers_of, mount_at, mount_numbered}
 use Rattle.vt_spec.proofs.Found.{filter_all, found_among, found_passes}
 use Rattle.vt_spec.proofs.Lists.{Among, among-append, among-append_left, among-append_right, among-flat_map, among_from_all, map_alike, none_among, none_from_among}
 use Rattle.vt_spec.proofs.Truths.{nat_eq_false_turned}
@@ -72,22 +72,8 @@ module _ (world : World ℕ) (fresh : Fresh ℕ) (place : Location ℕ) (flags :
 
   -- no mount of the world shows that filesystem
   pub not_shown : (mount : Mount ℕ) → Among mount world.mounts → nat_eq added.number mount.filesystem ≡ false
-  not_shown mount m = by (find has_number world.filesystems) refl
-    where
-      has_number : Filesystem ℕ → Bool
-      has_number filesystem = nat_eq mount.filesystem filesystem.number
-
-      shows : is_directory_node ((filesystem_numbered nat_eq world mount.filesystem).files.tree.node mount.root) ≡ true
-      shows = (and_parts _ _ (passes (has_its_root nat_eq world) world.mounts is.roots mount m)).0
-
-      by : (found : Option (Filesystem ℕ)) → find has_number world.filesystems ≡ found
-          → nat_eq added.number mount.filesystem ≡ false
-      by None e = absurd (true≢false (sym shows ∙ ap (λ found. is_directory_node
-          ((unwrap_or found (no_filesystem mount.filesystem)).files.tree.node mount.root)) e))
-      by (Some filesystem) e = cc (
-        eqb-true mount.filesystem filesystem.number (found_passes has_number world.filesystems filesystem e),
-        other_filesystem filesystem (found_among has_number world.filesystems filesystem e),
-      )
+  not_shown mount m =
+      grind (arith, common_steps, and_parts, passes, true≢false, eqb-true, found_passes, other_filesystem, found_among)
 
   -- The world with the new mount, of tasks that use the same locations
   module _ (tasks : List (Task ℕ)) (namespaces : List (Namespace ℕ)) (change : ℕ)
@@ -131,12 +117,7 @@ module _ (world : World ℕ) (fresh : Fresh ℕ) (place : Location ℕ) (flags :
 
     -- it stands on a mount that is not shared
     stands_unshared : StandsUnshared (with_new new) new.number
-    stands_unshared =
-        ap (λ (mount : Mount ℕ). list_all (λ at. not (is_shared (mount_at nat_eq (with_new new) at).propagation))
-        (option_to_list mount.mount_point)) new_is_found
-        ∙ ap (λ (mount : Mount ℕ). not (is_shared mount.propagation) && true)
-        (found-append world.mounts (new ∷ []) place.mount (attached_is_mount world place.mount attached))
-        ∙ ap (λ kind. not (is_shared kind) && true) private
+    stands_unshared = grind (arith, common_steps, new_is_found, found-append, attached_is_mount)
 
     -- the mount alone is detached
     placed_nowhere : without_place (with_new new) new.number ≡ with_new (detached new)
@@ -222,13 +203,7 @@ module _ (world : World ℕ) (fresh : Fresh ℕ) (place : Location ℕ) (flags :
     -- each filesystem that was there stays
     filesystem_stays_alive : (filesystem : Filesystem ℕ) → Among filesystem world.filesystems
         → filesystem_lives nat_eq without_new filesystem ≡ true
-    filesystem_stays_alive filesystem m = alive (is_mounted nat_eq world filesystem.number) _ _ _
-        (passes (filesystem_lives nat_eq before) world.filesystems in_use.filesystems filesystem m)
-        (list_any-append (has_its_layer filesystem.number) world.filesystems (added ∷ []))
-      where
-        alive : (shown old all last : Bool) → (shown || old) ≡ true → all ≡ (old || last) → (shown || all) ≡ true
-        alive true old all last e f = refl
-        alive false old all last e f = f ∙ ap (λ b. b || last) e
+    filesystem_stays_alive filesystem m = grind (arith, common_steps, passes, list_any-append)
 
     -- the new one goes
     added_is_dead : filesystem_lives nat_eq without_new added ≡ false

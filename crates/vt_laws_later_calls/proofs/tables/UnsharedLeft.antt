@@ -1,5 +1,6 @@
 -- What is left of a world after an unshare: the mounts of a namespace that ends have copies, so that nothing else goes.
-use Rattle.std.proofs.Common.{◌≡◌, refl, sym, ap, subst, ◌∙◌, ◌⊎◌, inl, inr, ⊎_elim, ℕ, nat_eq, eqb-true, eq-eqb, Bool, true, false, cond, not, ◌||◌, ◌&&◌, List, [], ◌∷◌, ◌++◌, filter, map, flat_map, Option, Some, None, is_some, option_map, true≢false}
+use Rattle.std.proofs.Common.{arith, ◌≡◌, refl, sym, ap, subst, ◌∙◌, ◌⊎◌, inl, inr, ⊎_elim, ℕ, nat_eq, eqb-true, eq-eqb, Bool, true, false, cond, not, ◌||◌, ◌&&◌, List, [], ◌∷◌, ◌++◌, filter, map, flat_map, Option, Some, None, is_some, option_map, true≢false}
+use Rattle.std.proofs.lemmas.Grind.{common_steps}
 use Rattle.std.specs.List.{filter_map, list_all, list_any}
 use Rattle.std.specs.Cmp.Lexicographic.{bytes_decides}
 use Rattle.std.proofs.lemmas.Bool.{and_parts, false_from_ne_true, or_cases, or_parts, cases_Bool}
@@ -240,11 +241,7 @@ module _ (world : World ℕ) (fresh : Fresh ℕ) (task : Task ℕ) (is : IsWorld
 
       of_source : (o : Option ℕ) → source_of mount.propagation ≡ o
           → (is_lost_group nat_eq without o || is_lost_group nat_eq without (then_some o base.master)) ≡ false
-      of_source None e = refl
-      of_source (Some group) e =
-          let lives = living group e in
-          ap (λ b. b || is_lost_group nat_eq without (base.master group)) (group_kept group lives)
-          ∙ master_kept group lives
+      of_source o e = grind (arith, common_steps, living, group_kept, master_kept)
 
       by : (b : Bool) → is_going nat_eq ended mount.number ≡ b → lost_a_group nat_eq without (change mount) ≡ false
       by true e = ap (lost_a_group nat_eq without) (goes mount e)
@@ -316,15 +313,7 @@ module _ (world : World ℕ) (fresh : Fresh ℕ) (task : Task ℕ) (is : IsWorld
           ⊎ ((is_copied nat_eq copied at ≡ true) × Among (location_on_copy new_number at) (all_locations base))
 
       moves : (at : Location ℕ) → Among (moved_location nat_eq copied new_number at) (all_locations base) → Still at
-      moves at n = by (is_copied nat_eq copied at) refl
-        where
-          by : (b : Bool) → is_copied nat_eq copied at ≡ b → Still at
-          by true e = inr (
-            e,
-            subst (λ l. Among l (all_locations base)) (ap (λ b. cond b (location_on_copy new_number at) at) e) n,
-          )
-          by false e =
-              inl (subst (λ l. Among l (all_locations base)) (ap (λ b. cond b (location_on_copy new_number at) at) e) n)
+      moves at n = grind (arith, common_steps)
 
       here : (at : Location ℕ) → Among at (locations_of moved) → Among at (all_locations base)
       here at n = among-flat_map locations_of base.tasks moved at moved_there n

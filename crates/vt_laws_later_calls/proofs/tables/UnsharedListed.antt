@@ -1,5 +1,6 @@
 -- What the list of mounts tells after an unshare.
-use Rattle.std.proofs.Common.{◌≡◌, refl, sym, ap, subst, ◌∙◌, inl, inr, ⊎_elim, ℕ, nat_eq, eq-eqb, eqb-true, Bool, true, false, cond, List, [], ◌∷◌, ◌++◌, Option, Some, None, Ok, Err, Result, filter, find, flat_map, is_some, map, ok_or, option_map, option_to_list, true≢false, unwrap_or}
+use Rattle.std.proofs.Common.{arith, ◌≡◌, refl, sym, ap, subst, ◌∙◌, inr, ⊎_elim, ℕ, nat_eq, eq-eqb, eqb-true, Bool, true, false, cond, List, [], ◌∷◌, ◌++◌, Option, Some, None, Ok, Err, Result, filter, find, flat_map, is_some, map, option_map, option_to_list, true≢false, unwrap_or}
+use Rattle.std.proofs.lemmas.Grind.{common_steps}
 use Rattle.std.proofs.lemmas.Bool.{false_from_ne_true, cases_Bool}
 use Rattle.std.proofs.lemmas.Option.{same_Some}
 use Rattle.std.specs.Cmp.Lexicographic.{bytes_decides}
@@ -12,7 +13,7 @@ use Rattle.vt_spec.specs.Language.Answers.TypeLine.{SharedLine}
 use Rattle.vt_spec.specs.FileTree.{path_down}
 use Rattle.vt_spec.specs.Language.Calls.{TaskName, same_name}
 use Rattle.vt_spec.specs.Language.Calls.Call.{ListMounts, Unshare}
-use Rattle.vt_spec.specs.Lists.{Fresh, each_once, evens, holds_of}
+use Rattle.vt_spec.specs.Lists.{Fresh, each_once, evens}
 use Rattle.vt_spec.specs.Machine.Detach.{is_going, mount_point_left}
 use Rattle.vt_spec.specs.Machine.Filesystems.{raised, raised_if_changed}
 use Rattle.vt_spec.specs.Machine.Apply.{apply, filesystems_changed}
@@ -23,8 +24,7 @@ use Rattle.vt_spec.specs.Machine.Mounts.Propagation.{Private, Shared, Slave, Unb
 use Rattle.vt_spec.specs.Machine.Outcomes.{after}
 use Rattle.vt_spec.specs.Machine.Permits.{Permit}
 use Rattle.vt_spec.specs.Machine.Permits.Permit.{ToUnshare}
-use Rattle.vt_spec.specs.Machine.Judge.{judge_in}
-use Rattle.vt_spec.specs.Machine.Policy.{call_outcome, filesystems_changed_by, finished, numbers_raised, policy, raised_task}
+use Rattle.vt_spec.specs.Machine.Policy.{numbers_raised, policy, raised_task}
 use Rattle.vt_spec.specs.Machine.Receives.{is_member_of}
 use Rattle.vt_spec.specs.Machine.Run.{Serves, numbers_in_use, used_by_filesystem, used_by_mount}
 use Rattle.vt_spec.specs.Machine.Settled.{mount_lives, settled, without_dead_groups}
@@ -64,11 +64,7 @@ filter_left p q f (y ∷ ys) same out =
 
     by : (b : Bool) → p y ≡ b → filter p (filter q (map f ys)) ≡ filter p ys
         → filter p (filter q (f y ∷ map f ys)) ≡ filter p (y ∷ ys)
-    by true e rest =
-        let it = same y (inl refl) e in
-        ap (filter p) (filter_here q (f y) (map f ys) it.1) ∙ filter_here p (f y) (filter q (map f ys)) (ap p it.0 ∙ e)
-        ∙ ap (λ x. x ∷ filter p (filter q (map f ys))) it.0 ∙ ap (λ l. y ∷ l) rest ∙ sym (filter_here p y ys e)
-    by false e rest = skipped (q (f y)) refl (out y (inl refl) e) ∙ rest ∙ sym (filter_skip p y ys e)
+    by b e rest = grind (arith, common_steps, filter_here, skipped, filter_skip)
 
 -- A list of mounts reads the same where its mounts, what they stand on, filesystems and masters are the same.
 module _ (before later : World ℕ) (namespace : ℕ) (filesystems : later.filesystems ≡ before.filesystems)
@@ -170,17 +166,7 @@ answer_by world (Some task) = Ok (MountList (mount_lines nat_eq world task.names
 
 told : (world : World ℕ) (fresh : Fresh ℕ) (name : TaskName) (o : Option (Task ℕ)) → task_called world name ≡ o
     → (policy nat_eq fresh world name ListMounts).answer ≡ answer_by world o
-told world fresh name o e = ap answer_of e ∙ by o
-  where
-    answer_of : Option (Task ℕ) → Result Answer Deny
-    answer_of found = (after world (ok_or found (denial S2)) (λ task.
-        finished nat_eq world name ListMounts
-        (filesystems_changed_by nat_eq world (judge_in nat_eq fresh world task ListMounts))
-        (call_outcome nat_eq fresh world task ListMounts))).answer
-
-    by : (found : Option (Task ℕ)) → answer_of found ≡ answer_by world found
-    by None = refl
-    by (Some task) = refl
+told world fresh name o e = grind (arith, common_steps)
 
 -- an unshare is permitted as it is
 permit_is : (looks : Looks ℕ) (too_many : Permit ℕ → Bool) (task : Task ℕ) (permit : Permit ℕ)
@@ -223,12 +209,7 @@ module _ (world : World ℕ) (fresh : Fresh ℕ) (task : Task ℕ) (is : IsWorld
     IsInside mount = mount.namespace ≡ Some namespace.number
 
     inside : (mount : Mount ℕ) → is_in namespace.number mount ≡ true → IsInside mount
-    inside mount e = by mount.namespace refl
-      where
-        by : (o : Option ℕ) → mount.namespace ≡ o → IsInside mount
-        by None f = absurd (true≢false (sym e ∙ ap (holds_of (nat_eq namespace.number)) f))
-        by (Some number) f = f ∙ ap Some (sym (eqb-true namespace.number number
-            (sym (ap (holds_of (nat_eq namespace.number)) f) ∙ e)))
+    inside mount e = grind (arith, common_steps, true≢false, eqb-true)
 
     stays : (mount : Mount ℕ) → Among mount base.mounts → IsInside mount → is_going nat_eq ended mount.number ≡ false
     stays mount m e = UnsharedLeft.stays_if world fresh task is serves called mount m
@@ -330,11 +311,7 @@ module _ (world : World ℕ) (fresh : Fresh ℕ) (task : Task ℕ) (is : IsWorld
       twice (Some t) = refl
 
   raised_namespace : (t : Task ℕ) → (raised_task name t).namespace ≡ t.namespace
-  raised_namespace t = by (same_name name t.name)
-    where
-      by : (b : Bool) → (cond b (record t { change = raised t.change }) t).namespace ≡ t.namespace
-      by true = refl
-      by false = refl
+  raised_namespace t = grind (arith, common_steps)
 
   -- the caller is in the new namespace, and each other task where it was
   namespace_of_caller : (t : Task ℕ) → same_name task.name t.name ≡ true → (after_it t).namespace ≡ evens fresh 0
@@ -363,15 +340,7 @@ module _ (world : World ℕ) (fresh : Fresh ℕ) (task : Task ℕ) (is : IsWorld
 
     told_alike : (later : Fresh ℕ) (other : TaskName)
         → (policy nat_eq later last other ListMounts).answer ≡ (policy nat_eq later world other ListMounts).answer
-    told_alike later other = by (task_called world other) refl
-      where
-        by : (o : Option (Task ℕ)) → task_called world other ≡ o
-            → (policy nat_eq later last other ListMounts).answer ≡ (policy nat_eq later world other ListMounts).answer
-        by None e = told last later other None (called_last other ∙ ap (option_map after_it) e)
-            ∙ sym (told world later other None e)
-        by (Some t) e = told last later other (Some (after_it t)) (called_last other ∙ ap (option_map after_it) e)
-            ∙ ap (λ l. Ok (MountList l)) (lines_stay t (called_there world.tasks other t e))
-            ∙ sym (told world later other (Some t) e)
+    told_alike later other = grind (arith, common_steps, told, called_last, lines_stay, called_there)
 
 -- What a granted unshare left
 module _ (world : World ℕ) (fresh : Fresh ℕ) (name : TaskName) (is : IsWorld nat_eq world)

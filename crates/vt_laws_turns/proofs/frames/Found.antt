@@ -1,5 +1,6 @@
 -- What is found by its number, in lists in which each number is there once.
-use Rattle.std.proofs.Common.{◌≡◌, refl, sym, ap, ◌∙◌, ⊎_elim, ℕ, nat_eq, Bool, true, false, true≢false, cond, List, [], ◌∷◌, Option, Some, find, map, eqb-true, eq-eqb}
+use Rattle.std.proofs.Common.{arith, ◌≡◌, refl, sym, ap, ◌∙◌, ⊎_elim, ℕ, nat_eq, Bool, true, false, true≢false, cond, List, [], ◌∷◌, Option, Some, find, map, eqb-true, eq-eqb}
+use Rattle.std.proofs.lemmas.Grind.{common_steps}
 use Rattle.std.specs.Prelude.{option_map}
 use Rattle.std.specs.List.{list_any}
 use Rattle.std.proofs.lemmas.Bool.{or_parts}
@@ -40,11 +41,4 @@ module _ {A : Type 0} (number_of : A → ℕ) where
   pub found_map : (change : A → A) (number : ℕ) (list : List A) → ((a : A) → number_of (change a) ≡ number_of a)
       → numbered number (map change list) ≡ option_map change (numbered number list)
   found_map change number [] same = refl
-  found_map change number (first ∷ rest) same =
-      cc (same first, by (nat_eq number (number_of first)) (found_map change number rest same))
-    where
-      by : (b : Bool) → numbered number (map change rest) ≡ option_map change (numbered number rest)
-          → cond b (Some (change first)) (numbered number (map change rest))
-          ≡ option_map change (cond b (Some first) (numbered number rest))
-      by true h = refl
-      by false h = h
+  found_map change number (first ∷ rest) same = grind (arith, common_steps, found_map change number rest same)

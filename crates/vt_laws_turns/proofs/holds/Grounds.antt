@@ -1,21 +1,20 @@
 -- Where a task gets: to mounts of its namespace, or where it stands. These show what it sees.
-use Rattle.std.proofs.Common.{◌≡◌, refl, sym, ap, subst, ◌∙◌, ◌⊎◌, inl, inr, ⊎_elim, ℕ, zero, suc, nat_eq, Bool, true, false, cond, List, [], ◌∷◌, ◌++◌, ◌||◌, Option, Some, None, Ok, Err, Result, flat_map, length, eqb-true}
+use Rattle.std.proofs.Common.{arith, ◌≡◌, refl, sym, ap, subst, ◌∙◌, ◌⊎◌, inl, inr, ⊎_elim, ℕ, nat_eq, Bool, true, false, List, [], ◌∷◌, ◌++◌, ◌||◌, Option, Some, None, Ok, Err, Result, flat_map, length, eqb-true}
+use Rattle.std.proofs.lemmas.Grind.{common_steps}
 use Rattle.std.specs.Prelude.{ok_or, option_map, option_to_list}
 use Rattle.std.specs.List.{list_all, list_any}
 use Rattle.std.proofs.lemmas.Bool.{and_parts}
 use Rattle.std.proofs.lemmas.Option.{same_Some}
 use Rattle.vt_spec.specs.declared.errors.Deny.{Deny}
-use Rattle.vt_spec.specs.declared.errors.Rule.TheVariants.{W6, W8}
-use Rattle.vt_spec.specs.Errors.{and_then, denial, unless}
+use Rattle.vt_spec.specs.declared.errors.Rule.TheVariants.{W6}
+use Rattle.vt_spec.specs.Errors.{and_then, denial}
 use Rattle.vt_spec.specs.Lists.{chain, holds_of, last_or}
 use Rattle.vt_spec.specs.Machine.Invariants.{IsWorld, Stands, is_directory_seen_in, stands_on_directories}
 use Rattle.vt_spec.specs.Machine.Looks.{Looks, looks_of, topmost}
-use Rattle.vt_spec.specs.Machine.Mounts.{Location, Mount, child_at, root_of, same_location, stands_at}
-use Rattle.vt_spec.specs.Machine.Walking.{LastWord, entered_upward, entry_location, filesystems_of, hop, hops, is_lost, is_top, met_at, met_by, object_named, parent_location, start_of, stepped, up_from}
+use Rattle.vt_spec.specs.Machine.Mounts.{Location, Mount, child_at, root_of, stands_at}
+use Rattle.vt_spec.specs.Machine.Walking.{LastWord, entered_upward, entry_location, filesystems_of, hop, hops, met_at, met_by, object_named, start_of, stepped, up_from}
 use Rattle.vt_spec.specs.Machine.Walking.LastWord.{Dot, DotDot, Named, NoWord}
-use Rattle.vt_spec.specs.Machine.World.{Task, World, is_directory_at, mount_at, mount_numbered, mounts_of, task_called}
-use Rattle.vt_spec.specs.PathText.{is_absolute}
-use Rattle.vt_spec.specs.Tree.{entries_in, entry_named}
+use Rattle.vt_spec.specs.Machine.World.{Task, World, mount_at, mount_numbered, mounts_of, task_called}
 use Rattle.vt_spec.proofs.Found.{found_among, found_passes}
 use Rattle.vt_spec.proofs.Lists.{Among, among-append, among-filter, among-from_map, among_from_all, among_from_list_all, any_from_among}
 use Rattle.vt_spec.proofs.Options.{none_is_some}
@@ -37,12 +36,7 @@ last_among {A} (b ∷ list) a m = by list b
     by (c ∷ rest) b = inr (by rest c)
 
 chain_start : {A : Type 0} (next : A → Option A) (n : ℕ) (a : A) → Among a (chain n next a)
-chain_start next zero a = inl refl
-chain_start {A} next (suc n) a = by (next a)
-  where
-    by : (o : Option A) → Among a (elim o [ None ↦ a ∷ [] | Some b ↦ a ∷ chain n next b ])
-    by None = inl refl
-    by (Some b) = inl refl
+chain_start next n a = grind (arith, common_steps)
 
 module _ (world : World ℕ) (is : IsWorld nat_eq world) (task : Task ℕ)
     (called : task_called world task.name ≡ Some task) where
@@ -106,17 +100,7 @@ module _ (world : World ℕ) (is : IsWorld nat_eq world) (task : Task ℕ)
   seen_in : (location : Location ℕ) → is_directory_seen_in nat_eq world task.namespace location ≡ true
       → ((mount_at nat_eq world location).namespace ≡ Some task.namespace)
       ⊎ ((mount_at nat_eq world location).namespace ≡ None)
-  seen_in location h = by (mount_at nat_eq world location).namespace refl
-      (and_parts (is_directory_at nat_eq world location)
-      (list_all (nat_eq task.namespace) (option_to_list (mount_at nat_eq world location).namespace)) h).1
-    where
-      by : (o : Option ℕ) → (mount_at nat_eq world location).namespace ≡ o
-          → list_all (nat_eq task.namespace) (option_to_list o) ≡ true
-          → ((mount_at nat_eq world location).namespace ≡ Some task.namespace)
-          ⊎ ((mount_at nat_eq world location).namespace ≡ None)
-      by None e h = inr e
-      by (Some n) e h =
-          inl (e ∙ ap Some (sym (eqb-true task.namespace n (and_parts (nat_eq task.namespace n) true h).0)))
+  seen_in location h = grind (arith, common_steps, and_parts, eqb-true)
 
   stood : (is_directory_seen_in nat_eq world task.namespace task.root ≡ true)
       × (is_directory_seen_in nat_eq world task.namespace task.directory ≡ true)
@@ -133,11 +117,7 @@ module _ (world : World ℕ) (is : IsWorld nat_eq world) (task : Task ℕ)
 
   pub start_ground : (directory : Location ℕ) (text : List ℕ) → OnGround directory
       → OnGround (start_of task directory text)
-  start_ground directory text ground = by (is_absolute text)
-    where
-      by : (b : Bool) → OnGround (cond b task.root directory)
-      by true = root_ground
-      by false = ground
+  start_ground directory text ground = grind (arith, common_steps, root_ground)
 
   standing : (mount : Mount ℕ) → Among mount world.mounts → Stands nat_eq world mount.number
   standing mount m =
@@ -182,12 +162,7 @@ module _ (world : World ℕ) (is : IsWorld nat_eq world) (task : Task ℕ)
       (found_or_none world.mounts number)) ground
 
   hop_ground : (a b : Location ℕ) → OnGround a → hop nat_eq looks task a ≡ Some b → OnGround b
-  hop_ground a b ground e = by (same_location nat_eq a task.root) (nat_eq a.node (mount_at nat_eq world a).root) e
-    where
-      by : (p q : Bool) → cond p None (cond q (mount_at nat_eq world a).mount_point None) ≡ Some b → OnGround b
-      by true q h = none_is_some b h
-      by false true h = parent_ground a.mount b ground h
-      by false false h = none_is_some b h
+  hop_ground a b ground e = grind (arith, common_steps, none_is_some, parent_ground)
 
   hops_ground : (here : Location ℕ) → OnGround here → (l : Location ℕ) → Among l (hops nat_eq looks task here)
       → OnGround l
@@ -202,30 +177,12 @@ module _ (world : World ℕ) (is : IsWorld nat_eq world) (task : Task ℕ)
       (last_among (hops nat_eq looks task here) here (chain_start _ (length world.mounts) here))
 
   up_ground : (top next : Location ℕ) → OnGround top → up_from nat_eq looks task top ≡ Ok next → OnGround next
-  up_ground top next ground e = by (is_top nat_eq looks task top) (is_lost nat_eq looks top) e
-    where
-      same : (a b : Location ℕ) → OnGround a → Path (Result (Location ℕ) Deny) (Ok a) (Ok b) → OnGround b
-      same a b on h = let e : a ≡ b = cc in subst OnGround e on
-
-      by : (p q : Bool)
-          → cond p (Ok top) (unless ((q, W8) ∷ []) (Ok (topmost looks (parent_location nat_eq looks top)))) ≡ Ok next
-          → OnGround next
-      by true q h = same top next ground h
-      by false true h = refused h
-        where
-          refused : Path (Result (Location ℕ) Deny) (Err (denial W8)) (Ok next) → OnGround next
-          refused k = absurd cc
-      by false false h = same (topmost looks (parent_location nat_eq looks top)) next
-          (topmost_ground (parent_location nat_eq looks top) ground) h
+  up_ground top next ground e = search (arith, common_steps, topmost_ground)
 
   -- an entry is on the mount of its directory
   pub entry_ground : (here : Location ℕ) (name : List ℕ) → OnGround here → (l : Location ℕ)
       → entry_location nat_eq looks here name ≡ Some l → OnGround l
-  entry_ground here name ground l e = by (entry_named name (entries_in (looks.node here))) e
-    where
-      by : (o : Option ℕ) → option_map (λ object. record { mount = here.mount; node = object }) o ≡ Some l → OnGround l
-      by None h = none_is_some l h
-      by (Some object) h = subst OnGround (same_Some (record { mount = here.mount; node = object }) l h) ground
+  entry_ground here name ground l e = search (arith, common_steps, none_is_some, same_Some)
 
   pub step_ground : (here : Location ℕ) (word : LastWord) → OnGround here → (next : Location ℕ)
       → stepped nat_eq looks task here word ≡ Ok next → OnGround next
@@ -267,11 +224,7 @@ module _ (world : World ℕ) (is : IsWorld nat_eq world) (task : Task ℕ)
 
   upward_ground : (top : Location ℕ) → OnGround top → (l : Location ℕ)
       → Among l (entered_upward nat_eq looks task top) → OnGround l
-  upward_ground top ground l m = by (is_top nat_eq looks task top) m
-    where
-      by : (b : Bool) → Among l (cond b [] (looks.mounts_over (parent_location nat_eq looks top))) → OnGround l
-      by true n = absurd n
-      by false n = over_ground (parent_location nat_eq looks top) ground l n
+  upward_ground top ground l m = search (arith, common_steps, over_ground)
 
   -- each filesystem that a step meets is seen
   pub met_seen : (here : Location ℕ) (word : LastWord) → OnGround here → (f : ℕ)

@@ -1,8 +1,8 @@
 -- Turns keep it that calls under way hold what their tasks see.
+use Rattle.std.proofs.lemmas.Grind.{common_steps, reverse_onto}
 use Rattle.std.proofs.Common.{◌≡◌, ◌≢◌, refl, sym, ap, subst, ◌∙◌, ◌⊎◌, inl, inr, ⊎_elim, ℕ, nat_eq, Bool, true, false, true≢false, cond, not, List, [], ◌∷◌, ◌++◌, ◌+◌, ◌*◌, ◌||◌, Some, map, reverse, is_some, eq-eqb, eqb-true, arith}
 use Rattle.std.specs.Prelude.{Contains, slice_get, ◌==◌}
 use Rattle.std.specs.List.{list_any}
-use Rattle.std.proofs.lemmas.Grind.{reverse_onto}
 use Rattle.std.proofs.lemmas.Option.{get_or_from_slice_get, slice_get_within}
 use Rattle.vt_spec.specs.Language.Calls.{Call, TaskName, same_name}
 use Rattle.vt_spec.specs.Lists.{Fresh, folded, is_among}
@@ -13,8 +13,8 @@ use Rattle.vt_spec.specs.Machine.Mounts.{Location, Mount}
 use Rattle.vt_spec.specs.Machine.Outcomes.{Outcome, after}
 use Rattle.vt_spec.specs.Machine.Policy.{call_outcome, finished_by, policy}
 use Rattle.vt_spec.specs.Machine.Run.{Serves}
-use Rattle.vt_spec.specs.Machine.Turns.{Progress, Route, Sched, Turned, filesystem_change_of, first_progress, hold_one, is_stale, last_number, namespace_change_of, one_further, routes, turn, without_progress, words_of}
-use Rattle.vt_spec.specs.Machine.World.{Namespace, Task, World, mount_at, mount_numbered, mounts_of, task_called}
+use Rattle.vt_spec.specs.Machine.Turns.{Progress, Route, Sched, Turned, filesystem_change_of, hold_one, is_stale, namespace_change_of, one_further, routes, turn, without_progress, words_of}
+use Rattle.vt_spec.specs.Machine.World.{Namespace, Task, World, mount_at, mount_numbered, task_called}
 use Rattle.vt_spec.proofs.Found.{found_among}
 use Rattle.vt_spec.proofs.Lists.{Among, among-append, among-append_right, among-flat_map, among-from_filter, among-from_map, among-map, among_from_contains, among_from_list_all, among_numbers, contains_from_among}
 use Rattle.vt_spec.proofs.Options.{some_from_is_some}
@@ -33,7 +33,6 @@ use Rattle.vt_laws_trees.specs.Trees.Limits.{names_few_groups}
 use Rattle.vt_laws_turns.specs.Commits.{Turn}
 use Rattle.vt_laws_turns.specs.Restarts.{under_way_of}
 use Rattle.vt_laws_turns.proofs.TurnShapes.{Before, Shape, turn_shape}
-use Rattle.vt_laws_turns.proofs.TurnShapes.Before.{Again, AtStart, OnWay}
 use Rattle.vt_laws_turns.proofs.TurnShapes.Shape.{CallDone, Further, Idle, OtherDone}
 use Rattle.vt_laws_turns.proofs.TurnKinds.{GoesFurther}
 use Rattle.vt_laws_turns.proofs.played.Leaving.{Commits, Leaves, turn_leaves}
@@ -110,35 +109,12 @@ newly_held world (f ∷ met) list held m =
 no_more_later : (held was now : ℕ) → IsNoMore held was → Rises was now → IsNoMore held now
 no_more_later held was now bound (inl same) = subst (IsNoMore held) (sym same) bound
 no_more_later held was now bound (inr (inr last)) = inr last
-no_more_later held was now bound (inr (inl more)) = by (was == last_number) refl bound
-  where
-    by : (b : Bool) → (was == last_number) ≡ b → IsNoMore held was → IsNoMore held now
-    by true e bound = inr (more ∙ ap (λ b. cond b was (was + 1)) e ∙ eqb-true was last_number e)
-    by false e (inl less) =
-        let next : now ≡ was + 1 = more ∙ ap (λ b. cond b was (was + 1)) e in
-        inl (omega (arith, less, next))
-    by false e (inr last) = absurd (true≢false (sym (eq-eqb was last_number last) ∙ e))
+no_more_later held was now bound (inr (inl more)) = grind (arith, common_steps, was, eqb-true, true≢false, eq-eqb)
 
 -- one that is current after it rose was current before
 current_before : (held was now : ℕ) → IsNoMore held was → Rises was now → is_stale held now ≡ false
     → is_stale held was ≡ false
-current_before held was now bound rises fresh = subst (λ n. is_stale held n ≡ false) (same rises bound) fresh
-  where
-    is : (held ≡ now) × (now ≢ last_number)
-    is = not_stale held now fresh
-
-    same : Rises was now → IsNoMore held was → now ≡ was
-    same (inl e) bound = e
-    same (inr (inr last)) bound = absurd (is.1 last)
-    same (inr (inl more)) bound = by (was == last_number) refl bound
-      where
-        by : (b : Bool) → (was == last_number) ≡ b → IsNoMore held was → now ≡ was
-        by true e bound = more ∙ ap (λ b. cond b was (was + 1)) e
-        by false e (inl less) =
-            let next : now ≡ was + 1 = more ∙ ap (λ b. cond b was (was + 1)) e in
-            let at : held ≡ now = is.0 in
-            absurd (omega (arith, less, next, at))
-        by false e (inr last) = absurd (true≢false (sym (eq-eqb was last_number last) ∙ e))
+current_before held was now bound rises fresh = grind (arith, common_steps, was, rises, not_stale, true≢false, eq-eqb)
 
 -- A call of another task
 module _ (world : World ℕ) (is : IsWorld nat_eq world) (fresh : Fresh ℕ) (serves : Serves nat_eq world fresh)
@@ -218,15 +194,7 @@ module _ (world : World ℕ) (is : IsWorld nat_eq world) (fresh : Fresh ℕ) (se
           let now = root_found later later_is old (itself later stays) in
           let before = own_directory_found world is old (itself world called) in
           let after = own_directory_found later later_is old (itself later stays) in
-          ap (λ list. list_any (λ (m : Mount ℕ). nat_eq f m.filesystem) list
-          || nat_eq f (mount_at nat_eq later old.root).filesystem
-          || nat_eq f (mount_at nat_eq later old.directory).filesystem)
-          (unraised_namespaces_keep_mounts world fresh name call old.namespace given unraised)
-          ∙ ap (λ n. list_any (λ (m : Mount ℕ). nat_eq f m.filesystem) (mounts_of nat_eq world old.namespace)
-          || nat_eq f n || nat_eq f (mount_at nat_eq later old.directory).filesystem) (shows old.root was.0.0 now.0.0)
-          ∙ ap (λ n. list_any (λ (m : Mount ℕ). nat_eq f m.filesystem) (mounts_of nat_eq world old.namespace)
-          || nat_eq f (mount_at nat_eq world old.root).filesystem || nat_eq f n)
-          (shows old.directory before.0.0 after.0.0)
+          grind (arith, common_steps, unraised_namespaces_keep_mounts, given, shows, was, before)
 
 -- Turns
 module _ (sched : Sched ℕ) (is : IsWorld nat_eq sched.world) (holds : HoldsWhatIsSeen sched) where
@@ -247,10 +215,7 @@ module _ (sched : Sched ℕ) (is : IsWorld nat_eq sched.world) (holds : HoldsWha
     where
       before : (task : Task ℕ) (progress : Progress ℕ) → IsUnderWayOf later task progress
           → IsUnderWayOf sched task progress
-      before task progress under = record {
-        under_way = left progress under.under_way;
-        called = ap (λ w. task_called w progress.task) (sym same) ∙ under.called;
-      }
+      before task progress under = grind (arith, common_steps, same)
 
   -- after the call of a task, whose own call is no longer under way
   module _ (given : Turn) (fit : IsFitTurn sched given) (name : TaskName) (call : Call) (fresh : Fresh ℕ)
@@ -359,41 +324,15 @@ module _ (sched : Sched ℕ) (is : IsWorld nat_eq sched.world) (holds : HoldsWha
     of_task = named sched task before at
 
     found_before : under_way_of sched.under_way task.name ≡ Some before → IsUnderWayOf sched task before
-    found_before found = record {
-      under_way = contains_from_among sched.under_way before (found_among _ sched.under_way before found);
-      called = ap (task_called sched.world) of_task ∙ called;
-    }
+    found_before found = grind (arith, common_steps, contains_from_among, before, found_among, of_task)
 
     no_more_before : IsNoMore before.task_change task.change
         × IsNoMore before.namespace_change (namespace_change_of nat_eq sched.world task.namespace)
-    no_more_before = by at
-      where
-        first : (restarts : ℕ) → before ≡ first_progress nat_eq sched.world task restarts
-            → IsNoMore before.task_change task.change
-            × IsNoMore before.namespace_change (namespace_change_of nat_eq sched.world task.namespace)
-        first restarts e = subst (λ (p : Progress ℕ). IsNoMore p.task_change task.change
-            × IsNoMore p.namespace_change (namespace_change_of nat_eq sched.world task.namespace)) (sym e)
-            (inl (omega arith), inl (omega arith))
-
-        by : Before sched task before → IsNoMore before.task_change task.change
-            × IsNoMore before.namespace_change (namespace_change_of nat_eq sched.world task.namespace)
-        by (AtStart none e) = first 0 e
-        by (OnWay found current) = holds.no_more task before (found_before found)
-        by (Again progress found stale some e) = first (progress.restarts + 1) e
+    no_more_before = grind (arith, common_steps, before, found_before)
 
     seen_before : HoldsItsTask sched.world task before → (held : ℕ × ℕ) → Among held before.filesystems
         → is_seen_by sched.world task held.0 ≡ true
-    seen_before current held m = by at
-      where
-        first : (restarts : ℕ) → before ≡ first_progress nat_eq sched.world task restarts
-            → is_seen_by sched.world task held.0 ≡ true
-        first restarts e = absurd (subst (λ (p : Progress ℕ). Among held p.filesystems) e m)
-
-        by : Before sched task before → is_seen_by sched.world task held.0 ≡ true
-        by (AtStart none e) = first 0 e
-        by (OnWay found now) =
-            holds.seen task before (found_before found) current held (contains_from_among before.filesystems held m)
-        by (Again progress found stale some e) = first (progress.restarts + 1) e
+    seen_before current held m = search (arith, common_steps, before, found_before, contains_from_among)
 
     seen_next : HoldsItsTask sched.world task next → (held : ℕ × ℕ) → Contains next.filesystems held
         → is_seen_by sched.world task held.0 ≡ true
@@ -483,8 +422,4 @@ schedules_hold_what_is_seen sched (given ∷ rest) is holds fit =
     schedules_hold_what_is_seen (turn nat_eq sched given.0 given.1).sched rest now.0 now.1 fit.1
 
 pub schedulers_begin_so : SchedulersBeginSo
-schedulers_begin_so world queues = record {
-  there = λ progress c. absurd (among_from_contains [] progress c);
-  no_more = λ task progress under. absurd (among_from_contains [] progress under.under_way);
-  seen = λ task progress under current held c. absurd (among_from_contains [] progress under.under_way);
-}
+schedulers_begin_so world queues = grind (arith, common_steps, among_from_contains)

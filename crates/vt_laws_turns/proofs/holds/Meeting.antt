@@ -1,21 +1,22 @@
 -- What a walk meets is seen by its task.
+use Rattle.std.proofs.lemmas.Grind.{common_steps}
 use Rattle.std.proofs.Common.{◌≡◌, refl, sym, subst, ⊎_elim, ℕ, zero, suc, nat_eq, Bool, true, false, cond, List, [], ◌∷◌, ◌++◌, ◌||◌, Option, Some, None, Ok, Err, Result, flat_map, length, arith}
 use Rattle.std.specs.Prelude.{option_to_list}
 use Rattle.vt_spec.specs.declared.errors.Deny.{Deny}
 use Rattle.vt_spec.specs.Errors.{Rules, and_then, unless}
 use Rattle.vt_spec.specs.FileTree.{symlink_text}
 use Rattle.vt_spec.specs.Machine.Invariants.{IsWorld}
-use Rattle.vt_spec.specs.Machine.Looks.{Looks, mount_at}
+use Rattle.vt_spec.specs.Machine.Looks.{Looks}
 use Rattle.vt_spec.specs.Machine.Mounts.{Location}
 use Rattle.vt_spec.specs.Machine.Walking.{Here, LastWord, Place, Stop, all_met, also_met, entered, entered_mounts, filesystems_of, follow_rules, is_special, last_word, object_named, placed, search_rules, stepped, steps_at, steps_with, stopped_by, symlink_of, symlink_start, symlink_there, then_walk, walk_start, walk_unless, word_walked}
 use Rattle.vt_spec.specs.Machine.Walking.LastWord.{Dot, DotDot, Named, NoWord}
 use Rattle.vt_spec.specs.Machine.World.{Task, World, task_called}
-use Rattle.vt_spec.specs.PathText.{ends_in_slash, is_absolute, parsed_path}
+use Rattle.vt_spec.specs.PathText.{ends_in_slash, parsed_path}
 use Rattle.vt_spec.proofs.Lists.{Among, among-append, among-append_left, among-append_right, among_from_contains}
 use Rattle.vt_laws_worlds.proofs.worlds.ReachedWalks.{own_directory_found, root_found}
 use Rattle.vt_laws_turns.specs.Walks.ByWords.{Aim, StandsOnDirectories, begun, last_for, pending_for, steps_of, whole_walk}
 use Rattle.vt_laws_turns.specs.Walks.HalfWalks.{met_in, words_walked_in}
-use Rattle.vt_laws_turns.specs.Walks.Walkers.{Last, Pending, Walk, all_words, arrived, end_rules, ended, first_words, gone_on, has_no_word, last_of, last_step, one_word, opened, text_word, walked_on}
+use Rattle.vt_laws_turns.specs.Walks.Walkers.{Last, Pending, Walk, all_words, arrived, ended, first_words, gone_on, last_of, last_step, one_word, opened, text_word, walked_on}
 use Rattle.vt_laws_turns.specs.Walks.Walkers.Last.{AsFile, AsName, AsOthers, NotFollowed}
 use Rattle.vt_laws_turns.specs.Walks.Walkers.Walk.{Goes, Names, Reaches}
 use Rattle.vt_laws_turns.proofs.walks.alike.Seeing.{Met}
@@ -141,8 +142,7 @@ module _ (world : World ℕ) (is : IsWorld nat_eq world) (task : Task ℕ)
   placed_fine : (here : Here ℕ) (word : LastWord) (slash : Bool) → Ground here.location → AllSeen here.steps
       → FinePlace (placed nat_eq sees task here word slash)
   unfolding place_at
-  placed_fine here NoWord slash ground seen =
-      (named_ground world is task called here.location NoWord ground (Some here.location) refl, seen)
+  placed_fine here NoWord slash ground seen = grind (arith, common_steps, named_ground)
   placed_fine here Dot slash ground seen = at_fine here Dot slash ground seen
   placed_fine here DotDot slash ground seen = at_fine here DotDot slash ground seen
   placed_fine here (Named name) slash ground seen = at_fine here (Named name) slash ground seen
@@ -172,29 +172,14 @@ module _ (world : World ℕ) (is : IsWorld nat_eq world) (task : Task ℕ)
 
   gone_on_fine : (pending : List Pending) (here : Here ℕ) (last : Last) → Ground here.location → AllSeen here.steps
       → Fine (gone_on nat_eq sees task here pending last)
-  gone_on_fine [] here last ground seen = by (has_no_word last)
-    where
-      by : (b : Bool) → Fine (cond b (ended nat_eq sees task here last)
-          (Ok (Goes (record { here = here; pending = []; last = last }))))
-      by true = ended_fine here last ground seen
-      by false = (ground, seen)
-  gone_on_fine (text ∷ others) here last ground seen = by text.words (gone_on_fine others here last ground seen)
-    where
-      by : (list : List (List ℕ)) → Fine (gone_on nat_eq sees task here others last)
-          → Fine (gone_on nat_eq sees task here (record { words = list; slash = text.slash } ∷ others) last)
-      by [] later = unless_then here.steps (end_rules nat_eq sees text.slash here.location) here
-          (λ reached. gone_on nat_eq sees task reached others last) seen later
-      by (word ∷ list) later = (ground, seen)
+  gone_on_fine [] here last ground seen = grind (arith, common_steps, ended_fine)
+  gone_on_fine (text ∷ others) here last ground seen =
+      grind (arith, common_steps, unless_then, gone_on_fine others here last ground seen)
 
   start_fine : (directory : Location ℕ) (symlink : Here ℕ) (text : List ℕ) → Ground directory
       → AllSeen symlink.steps → FineHere (Ok (symlink_start nat_eq sees task directory symlink text))
   start_fine directory symlink text ground seen =
-      (start_ground world is task called directory text ground, by (is_absolute text))
-    where
-      by : (b : Bool) → AllSeen (cond b (also_met (mount_at sees task.root).filesystem symlink.steps) symlink.steps)
-      by true = also_seen (mount_at sees task.root).filesystem symlink.steps
-          (shown_seen world is task called task.root.mount (root_ground world is task called)) seen
-      by false = seen
+      search (arith, common_steps, start_ground, also_seen, shown_seen, root_ground)
 
   followed_fine : (directory : Location ℕ) (symlink : Here ℕ) (text : List ℕ) (pending : List Pending) (last : Last)
       → Ground directory → AllSeen symlink.steps
@@ -282,10 +267,7 @@ module _ (world : World ℕ) (is : IsWorld nat_eq world) (task : Task ℕ)
   words_fine aim path count = walked_on_fine count (begun nat_eq aim sees task path) (begun_fine aim path)
 
   pub met_of : (a : Result (Walk ℕ) (Stop ℕ)) → Fine a → AllSeen (steps_of a)
-  met_of (Ok (Goes walker)) fine = fine.1
-  met_of (Ok (Reaches here)) fine = fine
-  met_of (Ok (Names place)) fine = fine
-  met_of (Err stop) fine = fine
+  met_of a fine = grind (arith, common_steps)
 
   on_directories : StandsOnDirectories sees task
   on_directories = record {

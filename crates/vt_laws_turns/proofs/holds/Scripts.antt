@@ -1,18 +1,16 @@
 -- In the schedules of a script the numbers handed in are unused, and forks name few groups.
+use Rattle.std.proofs.lemmas.Grind.{common_steps}
 use Rattle.std.proofs.Common.{◌≡◌, refl, sym, ap, subst, ◌∙◌, inl, inr, ⊎_elim, ℕ, suc, nat_eq, Bool, true, false, true≢false, cond, List, [], ◌∷◌, ◌++◌, ◌+◌, ◌||◌, Option, Some, None, find, map, eqb-true, add-one, arith, ◌<◌}
-use Rattle.std.specs.Prelude.{length, nat_le, nat_lt, option_map, unwrap_or}
+use Rattle.std.specs.Prelude.{nat_le, option_map, unwrap_or}
 use Rattle.std.specs.List.{cons_option, filter_map}
 use Rattle.std.proofs.lemmas.Bool.{false_from_ne_true}
-use Rattle.vt_spec.specs.declared.errors.Rule.TheVariants.{S1}
-use Rattle.vt_spec.specs.Errors.{denial}
 use Rattle.vt_spec.specs.Language.Calls.{Call}
-use Rattle.vt_spec.specs.Language.Limits.{longest_line}
-use Rattle.vt_spec.specs.Language.Script.{Grammar, Request, Who, each_of, is_silent, lines_of, request_of, token_text, whole}
+use Rattle.vt_spec.specs.Language.Script.{Grammar, Request, Who, lines_of, whole}
 use Rattle.vt_spec.specs.Language.Script.Request.{Asking, Calling}
 use Rattle.vt_spec.specs.Lists.{Fresh, counted_from, first_of_list, folded, is_among, rest_of}
 use Rattle.vt_spec.specs.Machine.Invariants.{IsWorld}
 use Rattle.vt_spec.specs.Machine.Run.{Serves, first_world, handed, later, numbers_for, numbers_in_use}
-use Rattle.vt_spec.specs.Machine.Turns.{Item, Queue, Queued, Sched, Turned, first_sched, first_token, first_who, queue_of, queued, queued_line, queued_request, queues_of, refused_line, same_who, schedule_who, shortened, turn, with_item_last}
+use Rattle.vt_spec.specs.Machine.Turns.{Item, Queue, Queued, Sched, Turned, first_sched, queue_of, queued, queued_line, queued_request, queues_of, refused_line, same_who, schedule_who, shortened, turn, with_item_last}
 use Rattle.vt_spec.specs.Machine.Turns.Item.{Asks, Calls, Refused}
 use Rattle.vt_spec.specs.Machine.World.{World}
 use Rattle.vt_spec.proofs.Found.{found_among}
@@ -39,22 +37,13 @@ row_of : (n k : ℕ) → row (numbers_for (suc n) k) ≡ suc n
 row_of n k = ap row (spread_for n k) ∙ row-spread (suc n) k
 
 not_early : (n number : ℕ) → row number ≡ suc n → is_early n number ≡ false
-not_early n number e = ap (λ r. nat_le r n) e ∙ above n
-  where
-    above : (m : ℕ) → nat_le (suc m) m ≡ false
-    above m = grind arith
+not_early n number e = grind (arith, common_steps)
 
 is_early_too : (n number : ℕ) → row number ≡ suc n → is_early (suc n) number ≡ true
-is_early_too n number e = ap (λ r. nat_le r (suc n)) e ∙ itself (suc n)
-  where
-    itself : (m : ℕ) → nat_le m m ≡ true
-    itself m = grind arith
+is_early_too n number e = grind (arith, common_steps)
 
 still_early : (n number : ℕ) → is_early n number ≡ true → is_early (suc n) number ≡ true
-still_early n number = by (row number)
-  where
-    by : (r : ℕ) → nat_le r n ≡ true → nat_le r (suc n) ≡ true
-    by r h = grind (arith, h)
+still_early n number = grind (arith, common_steps, row)
 
 serves_next : (n : ℕ) (world : World ℕ) → KeepsTo (is_early n) world → Serves nat_eq world (numbers_for (suc n))
 serves_next n world keeps = record {
@@ -101,13 +90,7 @@ rest_few [] few one m = absurd m
 rest_few (first ∷ rest) few one m = few one (inr m)
 
 shortened_few : (who : Who) (queues : List Queue) → QueuesFew queues → QueuesFew (map (shortened who) queues)
-shortened_few who queues few queue m =
-    let from = among-from_map (shortened who) queues queue m in
-    subst (λ (q : Queue). AreFew q.items) (sym from.2) (by from.0 (same_who who from.0.who) (few from.0 from.1))
-  where
-    by : (q : Queue) (b : Bool) → AreFew q.items → AreFew (cond b (record q { items = rest_of q.items }) q).items
-    by q true all = rest_few q.items all
-    by q false all = all
+shortened_few who queues few queue m = grind (arith, common_steps, among-from_map, rest_few)
 
 first_few : (queues : List Queue) (who : Who) → QueuesFew queues → (line : ℕ) (call : Call)
     → first_of_list (queue_of queues who) ≡ Some (record { line = line; item = Calls call })
@@ -153,11 +136,7 @@ EntryFew None = Unit {0}
 EntryFew (Some entry) = item_few entry.1.item ≡ true
 
 refused_few : (number : ℕ) (line : List ℕ) → EntryFew (refused_line number line)
-refused_few number line = by (first_who (each_of token_text (first_token line)))
-  where
-    by : (o : Option Who) → EntryFew (option_map (λ who. queued number who (Refused (denial S1))) o)
-    by None = tt
-    by (Some who) = refl
+refused_few number line = grind (arith, common_steps)
 
 request_few : (number : ℕ) (line : List ℕ) (request : Option Request) → request_names_few request ≡ true
     → EntryFew (queued_request number line request)
@@ -166,11 +145,7 @@ request_few number line (Some (Calling task call)) few = few
 request_few number line (Some (Asking directive)) few = refl
 
 line_few : (grammar : Grammar) (line : ℕ × List ℕ) → EntryFew (queued_line grammar line)
-line_few grammar line = by (nat_lt longest_line (length line.1) || is_silent line.1)
-  where
-    by : (b : Bool) → EntryFew (cond b None (queued_request line.0 line.1 (request_of grammar line.1)))
-    by true = tt
-    by false = request_few line.0 line.1 (request_of grammar line.1) (lines_name_few grammar line.1)
+line_few grammar line = grind (arith, common_steps, request_few, lines_name_few)
 
 lines_few : (grammar : Grammar) (lines : List (ℕ × List ℕ)) (queues : List Queue) → QueuesFew queues
     → QueuesFew (folded with_item_last queues (filter_map (queued_line grammar) lines))

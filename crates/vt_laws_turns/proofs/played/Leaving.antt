@@ -1,5 +1,6 @@
 -- What a turn leaves: the world and the calls under way that it began with, or those after the call of a task.
-use Rattle.std.proofs.Common.{◌≡◌, refl, sym, ap, ◌∙◌, ⊎_elim, ℕ, nat_eq, true≢false, List, [], ◌∷◌, Option, Some, None}
+use Rattle.std.proofs.Common.{arith, ◌≡◌, refl, ap, ◌∙◌, ⊎_elim, ℕ, nat_eq, true≢false, List, [], ◌∷◌, Option, Some, None}
+use Rattle.std.proofs.lemmas.Grind.{common_steps}
 use Rattle.vt_spec.specs.Language.Calls.{Call, TaskName}
 use Rattle.vt_spec.specs.Language.Script.{Who}
 use Rattle.vt_spec.specs.Language.Script.Who.{Nobody, Someone}
@@ -11,7 +12,6 @@ use Rattle.vt_spec.proofs.Options.{none_is_some}
 use Rattle.vt_laws_rules.proofs.denials.Unchanged.{directive_changes_nothing}
 use Rattle.vt_laws_turns.specs.Commits.{Turn}
 use Rattle.vt_laws_turns.proofs.TurnShapes.{Shape, is_task_call, turn_shape}
-use Rattle.vt_laws_turns.proofs.TurnShapes.Shape.{CallDone, Further, Idle, OtherDone}
 use Rattle.vt_laws_turns.proofs.played.Turning.{Answers, Turns, turn_is}
 
 module _ (sched : Sched ℕ) (given : Turn) where
@@ -33,17 +33,8 @@ module _ (sched : Sched ℕ) (given : Turn) where
       → first_of_list (queue_of sched.queues given.0) ≡ Some (record { line = line; item = Calls call })
       → Answers sched (Someone name) (record { line = line; item = Calls call }) (Some fresh) turned
       → Shape sched given.0 given.1 turned → turned.sched.under_way ≡ without_progress name sched.under_way
-  called name line call fresh turned who first done (Idle none is) =
-      none_is_some _ (sym (ap first_of_list none) ∙ first)
-  called name line call fresh turned who first done (OtherDone other found no_call outcome is) =
-      let same : record { line = line; item = Calls call } ≡ other = cc in
-      absurd (true≢false (sym (ap (λ w. is_task_call w (Calls call)) who)
-      ∙ ap (λ (q : Queued). is_task_call given.0 q.item) same ∙ no_call))
-  called name line call fresh turned who first done (CallDone other w l c found outcome is) =
-      let same : other ≡ name = cc in
-      ap (λ (t : Turned ℕ). t.sched.under_way) is ∙ ap (λ n. without_progress n sched.under_way) same
-  called name line call fresh turned who first done (Further task w l c new g next before at further) =
-      none_is_some _ (sym (ap (λ (t : Turned ℕ). t.reply) further.is) ∙ done.reply)
+  called name line call fresh turned who first done known =
+      grind (arith, common_steps, none_is_some, true≢false, is_task_call)
 
   module _ (turned : Turned ℕ) (shape : Shape sched given.0 given.1 turned) where
     run : (who : Who) (line : ℕ) (item : Item) (new : Option (Fresh ℕ)) → given.0 ≡ who → given.1 ≡ new

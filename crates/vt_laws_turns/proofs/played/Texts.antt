@@ -1,23 +1,19 @@
 -- The text of a schedule is that of its commits.
 use Rattle.std.proofs.lemmas.Grind.{common_steps}
-use Rattle.std.proofs.Common.{◌≡◌, refl, ℕ, nat_eq, Bool, List, [], ◌∷◌, ◌++◌, Option, Some, None, ◌+◌, arith}
+use Rattle.std.proofs.Common.{◌≡◌, refl, ℕ, Bool, List, [], ◌∷◌, ◌++◌, Option, Some, None, ◌+◌, arith}
 use Rattle.std.proofs.lemmas.List.{append_assoc}
 use Rattle.std.specs.Prelude.{option_to_list}
-use Rattle.vt_spec.specs.Language.Printed.{reply_line}
-use Rattle.vt_spec.specs.Language.Script.{Who, lines_of, whole}
+use Rattle.vt_spec.specs.Language.Script.{Who}
 use Rattle.vt_spec.specs.Lists.{Fresh}
 use Rattle.vt_spec.specs.Machine.Run.{handed, later}
-use Rattle.vt_spec.specs.Machine.Turns.{Reply, Sched, first_sched, played, reply_text, schedule_who, turn, turn_of_line, turns_text}
+use Rattle.vt_spec.specs.Machine.Turns.{Reply, Sched, played, reply_text, schedule_who, turn, turn_of_line, turns_text}
 use Rattle.vt_laws_turns.specs.Commits.{TextsAreOfCommits, replies, text_of_replies, turn_given, turns_given}
 use Rattle.vt_laws_turns.proofs.played.Turning.{replies_are_of_commits}
 
 more_texts : (ones others : List Reply)
     → text_of_replies (ones ++ others) ≡ text_of_replies ones ++ text_of_replies others
 more_texts [] others = refl
-more_texts (reply ∷ ones) others = cc (
-  more_texts ones others,
-  append_assoc (reply_line reply.line reply.answer) (text_of_replies ones) (text_of_replies others),
-)
+more_texts (reply ∷ ones) others = grind (arith, common_steps, append_assoc, more_texts ones others)
 
 text_of_one : (reply : Option Reply) → reply_text reply ≡ text_of_replies (option_to_list reply)
 text_of_one None = refl
@@ -36,17 +32,8 @@ plays number sched (line ∷ lines) refused =
         → reply_text (turn_of_line sched who fresh).reply
         ++ played (number + 1) (turn_of_line sched who fresh).sched lines (later refused)
         ≡ text_of_replies (replies sched (turn_given who fresh ++ turns_given (number + 1) lines (later refused)))
-    by None fresh rest = rest sched
-    by (Some who) fresh rest = cc (
-      text_of_one (turn nat_eq sched who fresh).reply,
-      rest (turn nat_eq sched who fresh).sched,
-      more_texts (option_to_list (turn nat_eq sched who fresh).reply) (replies (turn nat_eq sched who
-          fresh).sched (turns_given (number + 1) lines (later refused))),
-    )
+    by who fresh rest = grind (arith, common_steps, text_of_one, more_texts)
 
 pub texts_are_of_commits : TextsAreOfCommits
 unfolding turns_text
-texts_are_of_commits version refused script schedule = cc (
-  plays 1 (first_sched (whole version) script) (lines_of schedule) refused,
-  (replies_are_of_commits (first_sched (whole version) script) (turns_given 1 (lines_of schedule) refused)).0,
-)
+texts_are_of_commits version refused script schedule = grind (arith, common_steps, plays, replies_are_of_commits)

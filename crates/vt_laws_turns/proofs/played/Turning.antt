@@ -1,22 +1,23 @@
 -- What one turn does.
-use Rattle.std.proofs.Common.{◌≡◌, refl, sym, ap, subst, ◌∙◌, ◌⊎◌, inl, inr, ⊎_elim, ℕ, nat_eq, Bool, true, false, true≢false, List, [], ◌∷◌, ◌++◌, Option, Some, None, Ok, Err, Result, map, find, ◌+◌}
-use Rattle.std.specs.Prelude.{nat_le, option_to_list, slice_get, unwrap_or}
+use Rattle.std.proofs.Common.{arith, ◌≡◌, refl, sym, ap, subst, ◌∙◌, ◌⊎◌, inl, inr, ⊎_elim, ℕ, nat_eq, Bool, true, false, true≢false, List, [], ◌∷◌, ◌++◌, Option, Some, None, Ok, Result, map, find, ◌+◌}
+use Rattle.std.proofs.lemmas.Grind.{common_steps}
+use Rattle.std.specs.Prelude.{nat_le, option_to_list, slice_get}
 use Rattle.vt_spec.specs.declared.errors.Deny.{Deny}
 use Rattle.vt_spec.specs.declared.errors.Rule.TheVariants.{S5}
-use Rattle.vt_spec.specs.Errors.{denial, unless}
+use Rattle.vt_spec.specs.Errors.{unless}
 use Rattle.vt_spec.specs.Language.Calls.{Call, TaskName, same_name}
 use Rattle.vt_spec.specs.Language.Limits.{most_restarts}
 use Rattle.vt_spec.specs.Language.Script.{Who}
-use Rattle.vt_spec.specs.Language.Script.Who.{Nobody, Someone}
+use Rattle.vt_spec.specs.Language.Script.Who.{Someone}
 use Rattle.vt_spec.specs.Lists.{Fresh, first_of_list}
 use Rattle.vt_spec.specs.Machine.Looks.{looks_of}
-use Rattle.vt_spec.specs.Machine.Turns.{Item, Progress, Queued, Route, Sched, Turned, call_turn, call_turn_of, entry_rules, first_progress, first_turn, first_turn_by, is_failing, is_overtaken, item_turn, later_turn, next_word, queue_of, queue_turn, restarted, routes, run_whole, shortened, turn, turn_under_way, word_walked_by, words_of}
-use Rattle.vt_spec.specs.Machine.Turns.Item.{Asks, Calls, Refused}
+use Rattle.vt_spec.specs.Machine.Turns.{Item, Progress, Queued, Route, Sched, Turned, call_turn, call_turn_of, entry_rules, first_turn, first_turn_by, is_failing, is_overtaken, item_turn, later_turn, next_word, queue_of, queue_turn, restarted, routes, run_whole, shortened, turn, turn_under_way, word_walked_by, words_of}
+use Rattle.vt_spec.specs.Machine.Turns.Item.{Calls}
 use Rattle.vt_spec.specs.Machine.World.{Task, World, task_called}
 use Rattle.vt_spec.proofs.Found.{found_passes}
 use Rattle.vt_spec.proofs.Options.{none_is_some}
 use Rattle.vt_spec.proofs.Worlds.{same_task_name}
-use Rattle.vt_laws_turns.specs.Commits.{Commit, FailedAllocationsAnswerS5, RepliesAreOfCommits, Turn, UnansweredTurnsChangeNothing, commit_by, commit_of, commits, committed, is_run, replies, replies_of, run_item, world_after}
+use Rattle.vt_laws_turns.specs.Commits.{Commit, FailedAllocationsAnswerS5, RepliesAreOfCommits, Turn, UnansweredTurnsChangeNothing, commit_by, commit_of, commits, committed, replies, replies_of, run_item, world_after}
 
 -- a turn goes on: no reply, and the world and the queues as they were
 pub record GoesOn (sched : Sched ℕ) (turned : Turned ℕ) : Type 0 where
@@ -52,10 +53,7 @@ module _ (sched : Sched ℕ) (name : TaskName) (line : ℕ) (call : Call) (given
 
   first_by : (rules : Result Call Deny) (task : Task ℕ) (restarts : ℕ) → task.name ≡ name
       → Done (first_turn_by nat_eq rules sched task line call given restarts)
-  first_by (Err deny) task restarts e = subst (λ n. Done (run_whole nat_eq sched n line call given)) (sym e) whole
-  first_by (Ok same) task restarts e =
-      next (first_progress nat_eq sched.world task restarts) (routes nat_eq (looks_of nat_eq sched.world) task call)
-      (slice_get (words_of (routes nat_eq (looks_of nat_eq sched.world) task call)) 0) e
+  first_by rules task restarts e = grind (arith, common_steps, whole, next)
 
   first : (task : Task ℕ) (restarts : ℕ) → task.name ≡ name
       → Done (first_turn nat_eq sched task line call given restarts)
@@ -103,14 +101,7 @@ module _ (sched : Sched ℕ) where
   by_item : (who : Who) (line : ℕ) (item : Item) (fresh : Option (Fresh ℕ))
       → GoesOn sched (item_turn nat_eq sched who line item fresh)
       ⊎ Answers sched who (record { line = line; item = item }) fresh (item_turn nat_eq sched who line item fresh)
-  by_item (Someone name) line (Calls call) fresh = task_of_call name line call fresh
-  by_item Nobody line (Calls call) fresh = inr (record { reply = refl; world = refl; queues = refl })
-  by_item (Someone name) line (Asks directive) None = inr (record { reply = refl; world = refl; queues = refl })
-  by_item (Someone name) line (Asks directive) (Some given) = inr (record { reply = refl; world = refl; queues = refl })
-  by_item Nobody line (Asks directive) None = inr (record { reply = refl; world = refl; queues = refl })
-  by_item Nobody line (Asks directive) (Some given) = inr (record { reply = refl; world = refl; queues = refl })
-  by_item (Someone name) line (Refused deny) fresh = inr (record { reply = refl; world = refl; queues = refl })
-  by_item Nobody line (Refused deny) fresh = inr (record { reply = refl; world = refl; queues = refl })
+  by_item who line item fresh = grind (arith, common_steps, task_of_call)
 
   by_queue : (who : Who) (items : List Queued) (fresh : Option (Fresh ℕ))
       → Turns sched who fresh items (queue_turn nat_eq sched who items fresh)
@@ -127,27 +118,14 @@ step : (sched : Sched ℕ) (given : Turn) (items : List Queued) (turned : Turned
     → Turns sched given.0 given.1 items turned
     → let made : List Commit = option_to_list (commit_by given.0 given.1 (first_of_list items) turned.reply) in
     (option_to_list turned.reply ≡ replies_of sched.world made) × (turned.sched.world ≡ world_after sched.world made)
-step sched given [] turned goes = (ap option_to_list goes.reply, goes.world)
-step sched given (first ∷ rest) turned is = ⊎_elim (λ goes.
-    let none : commit_by given.0 given.1 (Some first) turned.reply ≡ None =
-    ap (commit_by given.0 given.1 (Some first)) goes.reply in (
-      ap option_to_list goes.reply ∙ sym (ap (λ c. replies_of sched.world (option_to_list c)) none),
-      goes.world ∙ sym (ap (λ c. world_after sched.world (option_to_list c)) none),
-    )) (λ done.
-    let one : commit_by given.0 given.1 (Some first) turned.reply
-    ≡ Some (record { who = given.0; queued = first; fresh = given.1 }) =
-    ap (commit_by given.0 given.1 (Some first)) done.reply in (
-      ap option_to_list done.reply ∙ sym (ap (λ c. replies_of sched.world (option_to_list c)) one),
-      done.world ∙ sym (ap (λ c. world_after sched.world (option_to_list c)) one),
-    )) is
+step sched given items turned goes = grind (arith, common_steps, first)
 
 -- commits one after the other
 more_replies : (world : World ℕ) (ones others : List Commit)
     → replies_of world (ones ++ others) ≡ replies_of world ones ++ replies_of (world_after world ones) others
 more_replies world [] others = refl
 more_replies world (commit ∷ ones) others =
-    ap (λ l. record { line = commit.queued.line; answer = (committed world commit).answer } ∷ l)
-    (more_replies (committed world commit).world ones others)
+    grind (arith, common_steps, more_replies (committed world commit).world ones others)
 
 more_world : (world : World ℕ) (ones others : List Commit)
     → world_after world (ones ++ others) ≡ world_after (world_after world ones) others
@@ -182,25 +160,4 @@ unanswered_turns_change_nothing sched given none =
 -- a turn in which an allocation fails
 pub failed_allocations_answer_s5 : FailedAllocationsAnswerS5
 unfolding turn
-failed_allocations_answer_s5 sched who first e run = by (queue_of sched.queues who) e
-  where
-    item : (w : Who) (line : ℕ) (i : Item) → is_run w i ≡ true
-        → ((item_turn nat_eq sched w line i None).reply ≡ Some (record { line = line; answer = Err (denial S5) }))
-        × ((item_turn nat_eq sched w line i None).sched.world ≡ sched.world)
-    item (Someone name) line (Calls call) r = (refl, refl)
-    item Nobody line (Calls call) r = absurd (true≢false (sym r))
-    item (Someone name) line (Asks directive) r = (refl, refl)
-    item Nobody line (Asks directive) r = (refl, refl)
-    item (Someone name) line (Refused deny) r = absurd (true≢false (sym r))
-    item Nobody line (Refused deny) r = absurd (true≢false (sym r))
-
-    by : (items : List Queued) → first_of_list items ≡ Some first → ((queue_turn nat_eq sched who items None).reply
-        ≡ Some (record { line = first.line; answer = Err (denial S5) }))
-        × ((queue_turn nat_eq sched who items None).sched.world ≡ sched.world)
-    by [] f = none_is_some first f
-    by (one ∷ rest) f =
-        let same : one ≡ first = ap (λ o. unwrap_or o one) f in (
-          (item who one.line one.item (ap (λ (q : Queued). is_run who q.item) same ∙ run)).0
-              ∙ ap (λ (q : Queued). Some (record { line = q.line; answer = Err (denial S5) })) same,
-          (item who one.line one.item (ap (λ (q : Queued). is_run who q.item) same ∙ run)).1,
-        )
+failed_allocations_answer_s5 sched who first e run = grind (arith, common_steps, first, true≢false, none_is_some)

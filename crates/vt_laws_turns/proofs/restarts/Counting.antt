@@ -18,7 +18,6 @@ use Rattle.vt_laws_turns.specs.Restarts.{AtMostThreeRestarts, CallsBegin, CallsG
 use Rattle.vt_laws_turns.proofs.TurnKinds.{IsWalked, TurnKind, turn_of_call}
 use Rattle.vt_laws_turns.proofs.TurnKinds.TurnKind.{Begins, GoesOn, Restarts, Whole}
 use Rattle.vt_laws_turns.proofs.TurnShapes.{Before, Shape, turn_shape}
-use Rattle.vt_laws_turns.proofs.TurnShapes.Before.{Again, AtStart, OnWay}
 use Rattle.vt_laws_turns.proofs.TurnShapes.Shape.{CallDone, Further, Idle, OtherDone}
 use Rattle.vt_laws_turns.proofs.played.Fronts.{more_items, itself, same_whos}
 use Rattle.vt_laws_turns.proofs.restarts.Keeping.{named, turns_keep_schedulers}
@@ -83,11 +82,7 @@ module _ (sched : Sched ℕ) (task : Task ℕ) (line : ℕ) (call : Call) (fresh
 
   run_whole_then : (p : Progress ℕ) → IsUnderWay sched task p true → most_restarts ≤ p.restarts
       → TurnKind sched task line call fresh turned → is_some turned.reply ≡ true
-  run_whole_then p at many (Begins e walked) = none_is_some p (sym e ∙ at.under_way)
-  run_whole_then p at many (GoesOn q found current walked) = absurd (true≢false (sym at.numbers
-      ∙ ap (is_overtaken nat_eq sched.world task) (one_found p q at.under_way found) ∙ current))
-  run_whole_then p at many (Restarts q found stale fewer walked) = grind (arith, common_steps, one_found)
-  run_whole_then p at many (Whole q found stale more is) = ap (λ (t : Turned ℕ). is_some t.reply) is
+  run_whole_then p at many known = grind (arith, common_steps, none_is_some, true≢false, one_found)
 
 pub calls_begin : CallsBegin
 calls_begin sched task line call fresh next none =
@@ -184,32 +179,12 @@ module _ (sched : Sched ℕ) (is : IsSched sched) (name : TaskName) where
 
       by : name ≡ task.name → task_called sched.world name ≡ Some task → Before sched task before
           → restarts_of (under_way_of sched.under_way name) + cond finds 1 0 ≤ before.restarts
-      by same called (AtStart nothing e) =
-          let here : under_way_of sched.under_way name ≡ None = ap (under_way_of sched.under_way) same ∙ nothing in
-          subst (λ n. n + cond finds 1 0 ≤ before.restarts) (sym (ap restarts_of here))
-          (subst (λ b. 0 + cond b 1 0 ≤ before.restarts) (sym (none_found here)) (omega arith))
-      by same called (OnWay found current) =
-          let here : under_way_of sched.under_way name ≡ Some before = ap (under_way_of sched.under_way) same ∙ found in
-          subst (λ n. n + cond finds 1 0 ≤ before.restarts) (sym (ap restarts_of here))
-          (subst (λ b. before.restarts + cond b 1 0 ≤ before.restarts)
-          (sym (some_found task before false called here current)) (omega arith))
-      by same called (Again p found stale few e) =
-          let here : under_way_of sched.under_way name ≡ Some p = ap (under_way_of sched.under_way) same ∙ found in
-          subst (λ n. n + cond finds 1 0 ≤ before.restarts) (sym (ap restarts_of here))
-          (subst (λ b. p.restarts + cond b 1 0 ≤ before.restarts) (sym (some_found task p true called here stale))
-          (subst (λ (q : Progress ℕ). p.restarts + 1 ≤ q.restarts) (sym e) (omega arith)))
+      by same called known = grind (arith, common_steps, none_found, some_found)
 
   -- the turn of another
   other_turn : (who : Who) (fresh : Option (Fresh ℕ)) (turned : Turned ℕ) → same_who (Someone name) who ≡ false
       → Shape sched who fresh turned → under_way_of turned.sched.under_way name ≡ under_way_of sched.under_way name
-  other_turn who fresh turned apart (Idle e idle) = ap (λ (t : Turned ℕ). under_way_of t.sched.under_way name) idle
-  other_turn who fresh turned apart (OtherDone first f plain outcome e) =
-      ap (λ (t : Turned ℕ). under_way_of t.sched.under_way name) e
-  other_turn who fresh turned apart (CallDone other w line call f outcome e) =
-      ap (λ (t : Turned ℕ). under_way_of t.sched.under_way name) e
-      ∙ found_without name other sched.under_way (ap (same_who (Someone name)) (sym w) ∙ apart)
-  other_turn who fresh turned apart (Further task w line call given g next before at further) =
-      grind (arith, common_steps, named, found_without)
+  other_turn who fresh turned apart known = grind (arith, common_steps, found_without, named)
 
   one_turn : (who : Who) (fresh : Option (Fresh ℕ)) (turned : Turned ℕ) → Shape sched who fresh turned
       → items_of (Someone name) (option_to_list (commit_by who fresh (first_of_list (queue_of sched.queues who))
@@ -248,11 +223,7 @@ module _ (sched : Sched ℕ) (is : IsSched sched) (name : TaskName) where
 -- nothing was committed of either part
 both_none : (xs ys : List Queued) → xs ++ ys ≡ [] → (xs ≡ []) × (ys ≡ [])
 both_none [] ys e = (refl, e)
-both_none (x ∷ xs) ys e = absurd (true≢false (ap filled e))
-  where
-    filled : List Queued → Bool
-    filled [] = false
-    filled (q ∷ rest) = true
+both_none (x ∷ xs) ys e = grind (arith, common_steps, true≢false)
 
 bounded : (schedule : List Turn) (sched : Sched ℕ) (name : TaskName) → IsSched sched
     → items_of (Someone name) (commits sched schedule) ≡ []
@@ -280,9 +251,4 @@ bounded (given ∷ rest) sched name is none =
     sum a b c d h k = omega (arith, h, k)
 
 pub at_most_three_restarts : AtMostThreeRestarts
-at_most_three_restarts sched schedule name is none =
-    sum (restarts_of (under_way_of sched.under_way name)) (restarts_in name sched schedule)
-    (bounded schedule sched name is none)
-  where
-    sum : (a b : ℕ) → a + b ≤ most_restarts → b ≤ most_restarts
-    sum a b h = omega (arith, h)
+at_most_three_restarts sched schedule name is none = grind (arith, common_steps, bounded)

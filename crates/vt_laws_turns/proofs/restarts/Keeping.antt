@@ -44,13 +44,7 @@ module _ (sched : Sched ℕ) (is : IsSched sched) where
   -- what is under way but for a task's
   kept_among : (name : TaskName) (progress : Progress ℕ) → Among progress (without_progress name sched.under_way)
       → Contains sched.under_way progress × (same_name name progress.task ≡ false)
-  kept_among name progress m =
-      let both = among-from_filter (λ (p : Progress ℕ). not (same_name name p.task)) sched.under_way progress m in
-      (contains_from_among sched.under_way progress both.0, turned (same_name name progress.task) both.1)
-    where
-      turned : (b : Bool) → not b ≡ true → b ≡ false
-      turned true e = absurd (true≢false (sym e))
-      turned false e = refl
+  kept_among name progress m = search (arith, common_steps, among-from_filter, contains_from_among, true≢false)
 
   -- a call is answered
   call_done : (name : TaskName) (world : World ℕ) → IsSched (record {
@@ -143,11 +137,7 @@ turns_keep_schedulers sched given is =
     by_shape sched is given.0 given.1 (turn nat_eq sched given.0 given.1) (turn_shape sched given.0 given.1)
 
 pub schedulers_begin : SchedulersBegin
-schedulers_begin world queues = record {
-  one = λ name. omega arith;
-  first = λ progress c. absurd (among_from_contains [] progress c);
-  restarts = λ progress c. absurd (among_from_contains [] progress c);
-}
+schedulers_begin world queues = grind (arith, common_steps, among_from_contains)
 
 pub scripts_begin : ScriptsBegin
 scripts_begin version script = schedulers_begin _ _

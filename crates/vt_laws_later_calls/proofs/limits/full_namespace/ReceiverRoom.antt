@@ -1,8 +1,9 @@
 -- Whether a mount in the first namespace has room: it comes to the shared mount, and to its peer in the other
 -- namespace.
-use Rattle.std.proofs.Common.{◌≡◌, refl, sym, ap, subst, ◌∙◌, true≢false, ℕ, suc, nat_eq, nat_lt, eqb-true, Bool, true, false, cond, not, ◌&&◌, ◌||◌, ◌+◌, ◌*◌, List, [], ◌∷◌, ◌++◌, Option, None, Some, Ok, filter, find, is_some, length, map, option_map}
+use Rattle.std.proofs.Common.{arith, ◌≡◌, refl, sym, ap, subst, ◌∙◌, true≢false, ℕ, suc, nat_eq, nat_lt, eqb-true, Bool, true, false, cond, not, ◌&&◌, ◌||◌, ◌+◌, ◌*◌, List, [], ◌∷◌, ◌++◌, Option, None, Some, Ok, filter, find, is_some, length, map}
+use Rattle.std.proofs.lemmas.Grind.{common_steps}
 use Rattle.std.proofs.Math.Bool.{or-false}
-use Rattle.std.specs.Prelude.{codes, option_to_list, unwrap_or}
+use Rattle.std.specs.Prelude.{codes, option_to_list}
 use Rattle.std.specs.List.{list_all, list_any}
 use Rattle.std.proofs.lemmas.Bool.{and_parts}
 use Rattle.vt_laws_mounts.specs.LettingGo.Ends.{is_in, mount_count}
@@ -11,15 +12,15 @@ use Rattle.vt_laws_mounts.proofs.mounts.MountsPlaces.{stands_there}
 use Rattle.vt_laws_mounts.proofs.mounts.Receivers.{start_among}
 use Rattle.vt_spec.specs.FileTree.{is_directory_under, is_removed}
 use Rattle.vt_spec.specs.Language.Limits.{most_mounts, most_symlinks}
-use Rattle.vt_spec.specs.Lists.{chain, holds_of, is_among, last_or}
-use Rattle.vt_spec.specs.Machine.Attach.{parts_of, reaches, receivers_of, takes_part}
+use Rattle.vt_spec.specs.Lists.{chain, holds_of, is_among}
+use Rattle.vt_spec.specs.Machine.Attach.{parts_of, receivers_of, takes_part}
 use Rattle.vt_spec.specs.Machine.Invariants.{IsWorld}
 use Rattle.vt_spec.specs.Machine.Looks.{looks_of}
 use Rattle.vt_spec.specs.Machine.Mounts.{Location, Mount, child_at, mount_in, root_of, source_of, stands_at, topmost}
 use Rattle.vt_spec.proofs.Tables.{destination_walk}
 use Rattle.vt_spec.specs.Machine.Receives.{groups_up, receives}
 use Rattle.vt_spec.specs.Machine.Rules.Mounting.{new_mount_rules}
-use Rattle.vt_spec.specs.Machine.World.{Filesystem, Namespace, Task, World, filesystem_numbered, is_removed_at, mount_numbered, no_filesystem, node_at, root_attr, task_called}
+use Rattle.vt_spec.specs.Machine.World.{Filesystem, Namespace, Task, World, filesystem_numbered, is_removed_at, mount_numbered, node_at, root_attr, task_called}
 use Rattle.vt_spec.specs.Machine.Rightful.{node_allows}
 use Rattle.vt_spec.specs.Rights.{execute_right}
 use Rattle.vt_spec.specs.Tree.{entries_in, entry_named, is_directory_node}
@@ -72,15 +73,7 @@ place = record { mount = 17; node = 24 }
 topmost_of_one : (mounts : List (Mount ℕ)) (at : Location ℕ) (child : Mount ℕ) → child_at nat_eq mounts at ≡ Some child
     → child_at nat_eq mounts (root_of child) ≡ None → (some : ℕ) → length mounts ≡ suc some
     → topmost nat_eq mounts at ≡ root_of child
-topmost_of_one mounts at child stands free some long =
-    cc (chain_goes_on up some at (root_of child) (ap (option_map root_of) stands), by some)
-  where
-    up : Location ℕ → Option (Location ℕ)
-    up here = option_map root_of (child_at nat_eq mounts here)
-
-    by : (n : ℕ) → last_or at (at ∷ chain n up (root_of child)) ≡ root_of child
-    by Rattle.std.proofs.Common.zero = refl
-    by (suc n) = ap (λ rest. last_or at (at ∷ rest)) (chain_ends up n (root_of child) (ap (option_map root_of) free))
+topmost_of_one mounts at child stands free some long = grind (arith, common_steps, chain_goes_on, chain_ends)
 
 module _ (first second : Filesystem ℕ) (trees : TwoTrees first second) (world : World ℕ) (is : IsWorld nat_eq world)
     (plain : IsPlain world) (has : HasReceiver first second world) where
@@ -132,11 +125,7 @@ module _ (first second : Filesystem ℕ) (trees : TwoTrees first second) (world 
 
   -- the filesystem of the shared mount
   second_is_found : filesystem_numbered nat_eq world 13 ≡ second
-  second_is_found =
-      ap (λ list. unwrap_or (find (λ (filesystem : Filesystem ℕ). nat_eq 13 filesystem.number) list) (no_filesystem 13))
-      has.filesystems ∙ (λ i. unwrap_or (cond (nat_eq 13 (trees.first_number i)) (Some first)
-      (cond (nat_eq 13 (trees.second_number i)) (Some second)
-      (find (λ (filesystem : Filesystem ℕ). nat_eq 13 filesystem.number) has.more))) (no_filesystem 13))
+  second_is_found = grind (arith, common_steps)
 
   -- the first task's root directory
   root_is : node_at nat_eq world (record { mount = 0; node = 3 }) ≡ Some (record {
@@ -183,14 +172,8 @@ module _ (first second : Filesystem ℕ) (trees : TwoTrees first second) (world 
 
   -- `d` leads from there to the place
   second_word_leads : WordLeads world task (record { mount = 17; node = 22 }) (codes "d") 24 place
-  second_word_leads = record {
-    searched = ap is_directory_node middle_is;
-    plain = plain_numbered world plain _;
-    searches = ap (node_allows task.credentials execute_right) middle_is;
-    entry = ap (λ node. entry_named (codes "d") (entries_in node)) middle_is;
-    leads = topmost_of_free world.mounts place nothing_on_place;
-    directory = ap is_directory_node place_is ∙ trees.place;
-  }
+  second_word_leads =
+      grind (arith, common_steps, middle_is, plain_numbered, topmost_of_free, nothing_on_place, place_is)
 
   -- which is not removed
   place_stays : is_removed_at nat_eq world place ≡ false
@@ -246,11 +229,7 @@ module _ (first second : Filesystem ℕ) (trees : TwoTrees first second) (world 
 
   -- the peer takes part
   peer_takes_part : takes_part nat_eq world place (shared_mount 66 39 47) ≡ true
-  peer_takes_part =
-      ap (λ (mount : Mount ℕ). nat_eq mount.filesystem 13 && reaches nat_eq world 24 (shared_mount 66 39 47))
-      shared_mount_is
-      ∙ ap (λ (filesystem : Filesystem ℕ). is_directory_under nat_eq filesystem.files 22 24) second_is_found
-      ∙ trees.reached
+  peer_takes_part = grind (arith, common_steps, shared_mount, shared_mount_is, second_is_found)
 
   -- so they are the parts
   parts_are : parts_of nat_eq world place ≡ two_shared

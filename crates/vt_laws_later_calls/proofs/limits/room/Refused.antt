@@ -1,5 +1,6 @@
 -- An attachment without room is refused by M9, and one with room is granted, where no other rule refuses it.
-use Rattle.std.proofs.Common.{◌≡◌, refl, sym, ap, subst, ◌∙◌, true≢false, ℕ, nat_eq, Bool, true, false, [], ◌∷◌, ◌++◌, Some, Result, Ok, Err, length}
+use Rattle.std.proofs.Common.{arith, ◌≡◌, refl, sym, ap, subst, ◌∙◌, true≢false, ℕ, nat_eq, Bool, true, false, [], ◌∷◌, ◌++◌, Some, Result, Ok, Err, length}
+use Rattle.std.proofs.lemmas.Grind.{common_steps}
 use Rattle.std.specs.Prelude.{drop, take}
 use Rattle.vt_spec.specs.declared.errors.Deny.{Deny}
 use Rattle.vt_spec.specs.declared.errors.Rule.TheVariants.{K1, M9}
@@ -50,15 +51,8 @@ module _ (world : World ℕ) (fresh : Fresh ℕ) (name : TaskName) (task : Task 
       → judge_in nat_eq fresh world task call ≡ unless (before ++ (lacking, M9) ∷ behind) (Ok permit)
       → none_fails (before ++ (false, M9) ∷ behind) ≡ true → (apply nat_eq fresh world task permit).answer ≡ Ok Done
       → NeedsRoom world (policy nat_eq fresh world name call) lacking
-  answered_by_table permit before behind lacking judged none done = (
-    λ lacks. refused_call world fresh name task call called (denial M9)
-        (judged ∙ ap (λ b. unless (before ++ (b, M9) ∷ behind) (Ok permit)) lacks
-        ∙ m9_refuses (Ok permit) behind before none),
-    λ has. ap (λ outcome. outcome.answer) (policy_by_judgement world fresh name task call called (Ok permit)
-        (judged ∙ ap (λ b. unless (before ++ (b, M9) ∷ behind) (Ok permit)) has
-        ∙ none_refuses (Ok permit) behind (before ++ (false, M9) ∷ behind) none))
-        ∙ answer-finished_by _ world name _ (apply nat_eq fresh world task permit) ∙ done,
-  )
+  answered_by_table permit before behind lacking judged none done =
+      grind (arith, common_steps, refused_call, m9_refuses, policy_by_judgement, none_refuses, answer-finished_by)
 
 -- a new mount
 pub new_mount_needs_room : NewMountNeedsRoom

@@ -1,6 +1,6 @@
 -- No call gives a detached mount other flags, a mount point or a namespace.
 use Rattle.std.proofs.lemmas.Grind.{common_steps}
-use Rattle.std.proofs.Common.{◌≡◌, refl, sym, ap, subst, ◌∙◌, ⊎_elim, ℕ, suc, nat_eq, Bool, true, false, true≢false, not, List, [], ◌∷◌, ◌||◌, ◌&&◌, Option, Some, None, Ok, filter, map, is_some, eqb-true, arith}
+use Rattle.std.proofs.Common.{◌≡◌, refl, sym, ap, subst, ◌∙◌, ⊎_elim, ℕ, suc, nat_eq, Bool, true, false, true≢false, List, [], ◌∷◌, ◌||◌, ◌&&◌, Option, Some, None, Ok, filter, map, is_some, eqb-true, arith}
 use Rattle.std.specs.Prelude.{option_to_list}
 use Rattle.std.specs.List.{list_all}
 use Rattle.std.proofs.lemmas.Bool.{and_parts}
@@ -12,11 +12,11 @@ use Rattle.vt_spec.specs.Machine.Apply.{apply, overfills}
 use Rattle.vt_spec.specs.Machine.Attach.{bind_tree}
 use Rattle.vt_spec.specs.Machine.Descriptors.{is_copied_up}
 use Rattle.vt_spec.specs.Machine.Detach.{going, taken_away, without_mounts_on, without_replaced}
-use Rattle.vt_spec.specs.Machine.Invariants.{IsWorld, MountInvariants, is_nowhere_or_attached, is_private}
+use Rattle.vt_spec.specs.Machine.Invariants.{IsWorld, MountInvariants}
 use Rattle.vt_spec.specs.Machine.Judge.{judge_in}
 use Rattle.vt_spec.specs.Machine.Looks.{looks_of}
-use Rattle.vt_spec.specs.Machine.Mounts.{Location, Mount, Propagation, mount_in, numbers_by}
-use Rattle.vt_spec.specs.Machine.Mounts.Propagation.{Private, Shared, Slave, Unbindable}
+use Rattle.vt_spec.specs.Machine.Mounts.{Location, Mount, mount_in, numbers_by}
+use Rattle.vt_spec.specs.Machine.Mounts.Propagation.{Private}
 use Rattle.vt_spec.specs.Machine.Namespaces.{copied_mount, is_in_ended, namespace_entered, pivoted_mount, unshared}
 use Rattle.vt_spec.specs.Machine.NewMounts.{mounted, new_mount, overlay_filesystem, plain_filesystem, with_new_filesystem}
 use Rattle.vt_spec.specs.Machine.Outcomes.{Outcome, after}
@@ -170,21 +170,7 @@ none_later before later view none = by later.namespace refl
 -- a mount in no namespace has no mount point, and is private
 nowhere_is : (world : World ℕ) → MountInvariants nat_eq world → (mount : Mount ℕ) → Among mount world.mounts
     → mount.namespace ≡ None → (mount.mount_point ≡ None) × (mount.propagation ≡ Private)
-nowhere_is world is mount m none =
-    let both = and_parts (not (is_some mount.mount_point)) (is_private mount.propagation)
-    (sym (ap (λ o. is_some o || (not (is_some mount.mount_point) && is_private mount.propagation)) none)
-    ∙ among_from_list_all is_nowhere_or_attached world.mounts is.nowhere mount m) in
-    (point mount.mount_point both.0, kind mount.propagation both.1)
-  where
-    point : (o : Option (Location ℕ)) → not (is_some o) ≡ true → o ≡ None
-    point None h = refl
-    point (Some at) h = absurd (true≢false (sym h))
-
-    kind : (p : Propagation ℕ) → is_private p ≡ true → p ≡ Private
-    kind Private h = refl
-    kind (Shared g) h = absurd (true≢false (sym h))
-    kind (Slave g) h = absurd (true≢false (sym h))
-    kind Unbindable h = absurd (true≢false (sym h))
+nowhere_is world is mount m none = grind (arith, common_steps, and_parts, among_from_list_all, true≢false)
 
 module _ (world : World ℕ) (fresh : Fresh ℕ) (task : Task ℕ) (call : Call) (permit : Permit ℕ)
     (is : IsWorld nat_eq world) (serves : Serves nat_eq world fresh) (called : task_called world task.name ≡ Some task)
@@ -253,9 +239,7 @@ module _ (world : World ℕ) (fresh : Fresh ℕ) (task : Task ℕ) (call : Call)
       let was = nowhere_is world is.mounts (mount_numbered nat_eq world number)
       (found_there world.mounts number there) none in
       let be = nowhere_is applied its.mounts now m nowhere in
-      one_record now (mount_numbered nat_eq world number) (numbered ∙ sym (number-mount_in world.mounts number))
-      (nowhere ∙ sym none) (be.0 ∙ sym was.0) view.filesystem view.root
-      (ap (λ (x : Mount ℕ). x.flags) (sym same) ∙ its.flags number there none) (be.1 ∙ sym was.1)
+      grind (arith, common_steps, one_record, number-mount_in)
 
 pub detached_mounts_stay : DetachedMountsStay
 detached_mounts_stay world fresh name call number given there none = policy_leads (λ later. is_mount later number ≡ true

@@ -1,5 +1,6 @@
 -- The filesystems after a permit are those before it, but for those that it changes, or new.
-use Rattle.std.proofs.Common.{◌≡◌, refl, sym, ap, subst, ◌∙◌, ◌⊎◌, inl, inr, ⊎_elim, ℕ, nat_eq, Bool, true, false, cond, List, [], ◌∷◌, ◌++◌, ◌*◌, ◌||◌, Option, Some, None, map, not, eqb-true}
+use Rattle.std.proofs.Common.{arith, ◌≡◌, refl, sym, ap, subst, ◌∙◌, ◌⊎◌, ⊎_elim, ℕ, nat_eq, Bool, true, false, cond, List, [], ◌∷◌, ◌++◌, ◌*◌, ◌||◌, map, not, eqb-true}
+use Rattle.std.proofs.lemmas.Grind.{common_steps}
 use Rattle.std.specs.List.{list_any}
 use Rattle.vt_spec.specs.PathText.{is_empty}
 use Rattle.vt_spec.specs.Language.Changes.{Change}
@@ -8,13 +9,13 @@ use Rattle.vt_spec.specs.Lists.{Fresh, evens, odds}
 use Rattle.vt_spec.specs.Machine.Apply.{apply, changed_if, filesystems_changed}
 use Rattle.vt_spec.specs.Machine.Descriptors.{is_copied_up, pwritten, with_copy}
 use Rattle.vt_spec.specs.Machine.Detach.{going, without_mounts_on, without_replaced}
-use Rattle.vt_spec.specs.Machine.Filesystems.{changed_at, filesystem_changed, numbers_of_change, numbers_over, overlay_changed, with_change}
+use Rattle.vt_spec.specs.Machine.Filesystems.{changed_at, with_change}
 use Rattle.vt_spec.specs.Machine.Mounts.{Location}
 use Rattle.vt_spec.specs.Machine.Namespaces.{namespace_entered, unshared}
 use Rattle.vt_spec.specs.Machine.NewMounts.{overlay_filesystem, plain_filesystem}
 use Rattle.vt_spec.specs.Machine.Permits.{Permit}
 use Rattle.vt_spec.specs.Machine.Permits.Permit.{ToChange, ToEnterNamespace, ToExit, ToMake, ToMountOverlay, ToMountPlain, ToOpen, ToOpenNew, ToRemoveDirectory, ToRename, ToSetType, ToUnmount, ToUnmountLazily, ToUnshare, ToWritePart}
-use Rattle.vt_spec.specs.Machine.World.{Filesystem, Layer, Overlay, Task, World, filesystem_at, filesystem_numbered, mount_at, mount_numbered, replaced_if_numbered, without_task}
+use Rattle.vt_spec.specs.Machine.World.{Filesystem, Overlay, Task, World, filesystem_numbered, mount_numbered, replaced_if_numbered, without_task}
 use Rattle.vt_spec.proofs.Lists.{Among, among-append, among-from_map}
 use Rattle.vt_spec.proofs.Truths.{nat_eq_itself}
 use Rattle.vt_spec.proofs.Worlds.{filesystems-taken_away, filesystems-without_replaced}
@@ -40,16 +41,7 @@ pub data GoesOn (world : World ℕ) (changed : List ℕ) (new : ℕ) (filesystem
 in_replaced : (new : Filesystem ℕ) (list : List (Filesystem ℕ)) (f : Filesystem ℕ)
     → Among f (map (replaced_if_numbered nat_eq new) list) → ((f ≡ new) × Has list f.number) ⊎ Among f list
 in_replaced new [] f m = absurd m
-in_replaced new (first ∷ rest) f m = ⊎_elim (λ e. by (nat_eq new.number first.number) refl e)
-    (λ later. ⊎_elim (λ r. inl (r.0, (r.1.0, inr r.1.1, r.1.2))) (λ n. inr (inr n)) (in_replaced new rest f later)) m
-  where
-    by : (b : Bool) → nat_eq new.number first.number ≡ b → f ≡ cond b new first
-        → ((f ≡ new) × Has (first ∷ rest) f.number) ⊎ Among f (first ∷ rest)
-    by true same e = inl (
-      e,
-      (first, inl refl, sym (eqb-true new.number first.number same) ∙ ap (λ (g : Filesystem ℕ). g.number) (sym e)),
-    )
-    by false same e = inr (inl e)
+in_replaced new (first ∷ rest) f m = grind (arith, common_steps, first, eqb-true, in_replaced new rest f)
 
 -- a number that is there is there before one is in the place of another
 has_before : (new : Filesystem ℕ) (list : List (Filesystem ℕ)) (number : ℕ)
@@ -81,45 +73,7 @@ module _ (world middle : World ℕ) (same : middle.filesystems ≡ world.filesys
   pub change_goes_on : (fresh : Fresh ℕ) (location : Location ℕ) (change : Change ℕ) (f : Filesystem ℕ)
       → Among f (with_change nat_eq fresh middle location change).filesystems
       → GoesOn world (changed_at nat_eq middle location) new f
-  change_goes_on fresh location change f m = by (filesystem_at nat_eq middle location).overlay m
-    where
-      here : ℕ
-      here = (mount_at nat_eq middle location).filesystem
-
-      old : (changed : List ℕ) → Among f middle.filesystems → GoesOn world changed new f
-      old changed n = Old (subst (Among f) same n)
-
-      over : (overlay : Overlay ℕ) (upper : Option (Layer ℕ))
-          → Among f (overlay_changed nat_eq fresh middle (filesystem_at nat_eq middle location) overlay upper
-          change).filesystems
-          → GoesOn world (numbers_over nat_eq middle (filesystem_at nat_eq middle location) upper) new f
-      over overlay None n = old [] n
-      over overlay (Some upper) n =
-          let changed : List ℕ = (filesystem_at nat_eq middle location).number
-          ∷ (filesystem_numbered nat_eq middle upper.filesystem).number ∷ [] in
-          ⊎_elim (λ r. like upper.filesystem changed f (has_before _ middle.filesystems f.number r.1)
-          (ap (λ (g : Filesystem ℕ). g.number) r.0) (ap (λ (g : Filesystem ℕ). g.change) r.0)
-          (second _ _ (nat_eq_itself (filesystem_numbered nat_eq middle upper.filesystem).number))) (λ rest. ⊎_elim
-          (λ r. like here changed f r.1 (ap (λ (g : Filesystem ℕ). g.number) r.0)
-          (ap (λ (g : Filesystem ℕ). g.change) r.0)
-          (first _ _ (nat_eq_itself (filesystem_at nat_eq middle location).number)))
-          (λ l. old changed l) (in_replaced _ middle.filesystems f rest)) (in_replaced _ _ f n)
-        where
-          first : (b c : Bool) → b ≡ true → (b || c) ≡ true
-          first b c e = ap (λ a. a || c) e
-
-          second : (a b : Bool) → b ≡ true → (a || (b || false)) ≡ true
-          second true b e = refl
-          second false b e = ap (λ a. a || false) e
-
-      by : (o : Option (Overlay ℕ))
-          → Among f (filesystem_changed nat_eq fresh middle (filesystem_at nat_eq middle location) o change).filesystems
-          → GoesOn world (numbers_of_change nat_eq middle (filesystem_at nat_eq middle location) o) new f
-      by None n = ⊎_elim (λ r. like here ((filesystem_at nat_eq middle location).number ∷ []) f r.1
-          (ap (λ (g : Filesystem ℕ). g.number) r.0) (ap (λ (g : Filesystem ℕ). g.change) r.0)
-          (ap (λ b. b || false) (nat_eq_itself (filesystem_at nat_eq middle location).number)))
-          (λ l. old _ l) (in_replaced _ middle.filesystems f n)
-      by (Some overlay) n = over overlay overlay.upper n
+  change_goes_on fresh location change f m = search (arith, common_steps, like, has_before, nat_eq_itself, in_replaced)
 
 module _ (world : World ℕ) (fresh : Fresh ℕ) (task : Task ℕ) where
   abbrev after : Permit ℕ → World ℕ

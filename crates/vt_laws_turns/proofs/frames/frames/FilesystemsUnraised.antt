@@ -1,6 +1,6 @@
 -- A filesystem whose change number is what it was is what it was, but for what nothing uses.
 use Rattle.std.proofs.lemmas.Grind.{common_steps}
-use Rattle.std.proofs.Common.{◌≡◌, ◌≢◌, refl, sym, ap, subst, ◌∙◌, inl, ℕ, nat_eq, Bool, true, false, true≢false, cond, List, ◌*◌, Option, Some, None, find, eqb-true, eq-eqb, arith}
+use Rattle.std.proofs.Common.{◌≡◌, ◌≢◌, refl, sym, ap, subst, ◌∙◌, inl, ℕ, nat_eq, true, false, true≢false, cond, List, ◌*◌, Option, Some, None, find, eqb-true, eq-eqb, arith}
 use Rattle.std.specs.Prelude.{option_map, unwrap_or}
 use Rattle.std.specs.List.{list_any}
 use Rattle.vt_spec.specs.Lists.{Fresh}
@@ -50,11 +50,7 @@ module _ (world : World ℕ) (fresh : Fresh ℕ) (given : IsCallIn world fresh) 
   raise_number f = grind (arith, common_steps)
 
   raise_keeps : (f : Filesystem ℕ) → KeepsFilesystem f (raise f)
-  raise_keeps f = by (list_any (λ n. nat_eq n f.number) changed)
-    where
-      by : (b : Bool) → KeepsFilesystem f (cond b (record f { change = raised f.change }) f)
-      by true = record { root = (same_kept f).root; overlay = (same_kept f).overlay; inodes = (same_kept f).inodes }
-      by false = same_kept f
+  raise_keeps f = grind (arith, common_steps, same_kept)
 
   module _ (unraised : IsFilesystemUnraised world later number) where
     abbrev held : ℕ

@@ -24,7 +24,7 @@ use Rattle.vt_laws_worlds.specs.Worlds.Permits.{MayPivot}
 use Rattle.vt_laws_worlds.proofs.kept.MountsKeptAttaching.{own_there}
 use Rattle.vt_laws_worlds.proofs.worlds.CallsKept.{name_found}
 use Rattle.vt_laws_worlds.proofs.worlds.FitPermitsNamed.{all_permits_fit}
-use Rattle.vt_laws_turns.specs.Frames.Unraised.{IsCallIn, IsNamespaceUnraised, OtherTasksOfUnraisedNamespacesStay}
+use Rattle.vt_laws_turns.specs.Frames.Unraised.{IsCallIn, OtherTasksOfUnraisedNamespacesStay}
 use Rattle.vt_laws_turns.proofs.frames.frames.Unraised.{unraised_namespaces_keep_mounts}
 use Rattle.vt_laws_mounts.proofs.mounts.MountsPlaces.{stands_at_its_place}
 
@@ -76,20 +76,7 @@ module _ (world : World ℕ) (fresh : Fresh ℕ) (given : IsCallIn world fresh) 
 
   -- the old root mount goes under the new one
   moved_is : moved ≡ record root_mount { mount_point = Some put }
-  moved_is = ap (λ b. cond b (record root_mount { mount_point = root_mount.mount_point })
-      (cond (nat_eq root_mount.number root_mount.number) (record root_mount { mount_point = Some put }) root_mount))
-      another
-      ∙ ap (λ b. cond b (record root_mount { mount_point = Some put }) root_mount) (nat_eq_itself root_mount.number)
-    where
-      another : nat_eq root_mount.number new_mount.number ≡ false
-      another = by (nat_eq root_mount.number new_mount.number) refl
-        where
-          by : (b : Bool) → nat_eq root_mount.number new_mount.number ≡ b → b ≡ false
-          by false e = refl
-          by true e =
-              let same : mount ≡ caller.root.mount = sym (number-mount_in world.mounts mount)
-              ∙ sym (eqb-true root_mount.number new_mount.number e) ∙ number_is in
-              absurd (true≢false (sym (eq-eqb mount caller.root.mount same) ∙ may.another))
+  moved_is = grind (arith, common_steps, nat_eq_itself, number-mount_in, eqb-true, number_is, true≢false, eq-eqb, may)
 
   in_namespace : (m : Mount ℕ) → m ≡ record root_mount { mount_point = Some put } → m.namespace ≡ Some caller.namespace
   in_namespace m e = ap (λ (x : Mount ℕ). x.namespace) e ∙ may.own_root
@@ -120,9 +107,4 @@ other_tasks_of_unraised_namespaces_stay world fresh name call other task given a
     (λ pivot. absurd (pivoting pivot.0 pivot.1)) (other_tasks_stay fresh world name call other task apart is)
   where
     pivoting : (goes : Location ℕ → Location ℕ) → Pivots fresh world name call task.namespace goes → ⊥
-    pivoting goes (new, old, caller, mount, put, is_pivot, found, judged, same, e) =
-        pivots_raise world fresh given name caller new old mount put found
-        (ap (λ c. judge_in nat_eq fresh world caller c) (sym is_pivot) ∙ judged)
-        (ap (λ c. mounts_of nat_eq (policy nat_eq fresh world name c).world caller.namespace) (sym is_pivot)
-        ∙ unraised_namespaces_keep_mounts world fresh name call caller.namespace given
-        (subst (λ n. IsNamespaceUnraised world (policy nat_eq fresh world name call).world n) (sym same) unraised))
+    pivoting goes known = search (arith, common_steps, pivots_raise, unraised_namespaces_keep_mounts)

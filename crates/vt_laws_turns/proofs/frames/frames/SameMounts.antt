@@ -1,6 +1,6 @@
 -- Mounts that are the same by the tests of the policy, and show what they showed, are the same records.
 use Rattle.std.proofs.lemmas.Grind.{common_steps}
-use Rattle.std.proofs.Common.{◌≡◌, ◌≢◌, refl, sym, ap, ◌∙◌, inl, inr, ℕ, nat_eq, Bool, true, false, cond, true≢false, List, [], ◌∷◌, Option, Some, None, ◌+◌, ◌&&◌, eqb-true, arith}
+use Rattle.std.proofs.Common.{◌≡◌, ◌≢◌, refl, sym, ◌∙◌, inl, inr, ℕ, nat_eq, Bool, true, false, true≢false, List, [], ◌∷◌, Option, Some, ◌+◌, ◌&&◌, eqb-true, arith}
 use Rattle.std.specs.Prelude.{Contains, ◌==◌}
 use Rattle.std.proofs.lemmas.Bool.{and_parts}
 use Rattle.vt_spec.specs.Language.Calls.{MountFlags}
@@ -8,17 +8,12 @@ use Rattle.vt_spec.specs.Language.Limits.{largest_change}
 use Rattle.vt_spec.specs.Lists.{holds_of, same_list, same_option}
 use Rattle.vt_spec.specs.Machine.Filesystems.{raised}
 use Rattle.vt_spec.specs.Machine.Mounts.{Location, Mount, Propagation, same_location}
-use Rattle.vt_spec.specs.Machine.Mounts.Propagation.{Private, Shared, Slave, Unbindable}
 use Rattle.vt_spec.specs.Machine.Policy.{master_above, same_bool, same_flags, same_mount, same_propagation}
 use Rattle.vt_spec.specs.Machine.World.{World}
 use Rattle.vt_spec.proofs.Lists.{Among, contains_from_among}
 
 pub rises : (n : ℕ) → n ≢ largest_change → raised n ≡ n → ⊥
-rises n h e = by (n == largest_change) refl e
-  where
-    by : (b : Bool) → (n == largest_change) ≡ b → cond b n (n + 1) ≡ n → ⊥
-    by true f e = h (eqb-true n largest_change f)
-    by false f e = omega (arith, e)
+rises n h e = grind (arith, common_steps, eqb-true)
 
 same_truths : (a b : Bool) → same_bool a b ≡ true → a ≡ b
 same_truths true b e = sym e
@@ -29,28 +24,10 @@ flags_same : (a b : MountFlags) → same_flags a b ≡ true → a ≡ b
 flags_same a b e = grind (arith, common_steps, same_truths)
 
 points_same : (a b : Option (Location ℕ)) → same_option (same_location nat_eq) a b ≡ true → a ≡ b
-points_same None None e = refl
-points_same None (Some b) e = absurd (true≢false (sym e))
-points_same (Some a) None e = absurd (true≢false (sym e))
-points_same (Some a) (Some b) e = grind (arith, common_steps)
+points_same a b e = grind (arith, common_steps, true≢false)
 
 kinds_same : (a b : Propagation ℕ) → same_propagation nat_eq a b ≡ true → a ≡ b
-kinds_same (Shared a) (Shared b) e = ap Shared (eqb-true a b e)
-kinds_same (Slave a) (Slave b) e = ap Slave (eqb-true a b e)
-kinds_same Private Private e = refl
-kinds_same Unbindable Unbindable e = refl
-kinds_same (Shared a) (Slave b) e = absurd (true≢false (sym e))
-kinds_same (Shared a) Private e = absurd (true≢false (sym e))
-kinds_same (Shared a) Unbindable e = absurd (true≢false (sym e))
-kinds_same (Slave a) (Shared b) e = absurd (true≢false (sym e))
-kinds_same (Slave a) Private e = absurd (true≢false (sym e))
-kinds_same (Slave a) Unbindable e = absurd (true≢false (sym e))
-kinds_same Private (Shared b) e = absurd (true≢false (sym e))
-kinds_same Private (Slave b) e = absurd (true≢false (sym e))
-kinds_same Private Unbindable e = absurd (true≢false (sym e))
-kinds_same Unbindable (Shared b) e = absurd (true≢false (sym e))
-kinds_same Unbindable (Slave b) e = absurd (true≢false (sym e))
-kinds_same Unbindable Private e = absurd (true≢false (sym e))
+kinds_same a b e = grind (arith, common_steps, eqb-true, true≢false)
 
 pub one_record : (a b : Mount ℕ) → a.number ≡ b.number → a.namespace ≡ b.namespace → a.mount_point ≡ b.mount_point
     → a.filesystem ≡ b.filesystem → a.root ≡ b.root → a.flags ≡ b.flags → a.propagation ≡ b.propagation → a ≡ b

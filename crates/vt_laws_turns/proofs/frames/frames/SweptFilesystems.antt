@@ -1,9 +1,9 @@
 -- The sweep leaves a filesystem what it was, but for inodes that nothing uses.
-use Rattle.std.proofs.Common.{◌≡◌, refl, sym, ap, subst, ◌∙◌, inl, inr, ⊎_elim, ℕ, nat_eq, Bool, true, false, cond, List, Option, Some, None, not}
+use Rattle.std.proofs.Common.{arith, ◌≡◌, refl, ap, ◌∙◌, inl, inr, ⊎_elim, ℕ, nat_eq, Bool, true, false, cond, List, Option, Some, None, sym, subst, not}
+use Rattle.std.proofs.lemmas.Grind.{common_steps}
 use Rattle.std.specs.Prelude.{option_map}
-use Rattle.std.specs.List.{list_all}
 use Rattle.vt_spec.specs.Lists.{is_among}
-use Rattle.vt_spec.specs.Machine.Settled.{filesystem_lives, only_used, only_used_by, real_among, settled, used_in, without_dead_filesystems, without_dead_in, without_dead_mounts}
+use Rattle.vt_spec.specs.Machine.Settled.{only_used, only_used_by, real_among, settled, filesystem_lives, without_dead_filesystems, without_dead_in, without_dead_mounts}
 use Rattle.vt_spec.specs.Machine.World.{Filesystem, Overlay, World, is_overlay}
 use Rattle.vt_spec.proofs.Lists.{Among, among-from_filter, among-from_map}
 use Rattle.vt_laws_turns.specs.Frames.Unraised.{IsLeftOrGone, KeepsFilesystem, KeepsOverlay}
@@ -25,31 +25,13 @@ left_on : {A : Type 0} (a b c : Option A) → IsLeftOrGone a b → IsLeftOrGone 
 left_on a b c r s = ⊎_elim inl (λ same. ⊎_elim (λ gone. inl (same ∙ gone)) (λ e. inr (same ∙ e)) r) s
 
 overlay_on : (a b c : Option (Overlay ℕ)) → KeepsOverlay a b → KeepsOverlay b c → KeepsOverlay a c
-overlay_on None None None r s = tt
-overlay_on None None (Some z) r s = s
-overlay_on None (Some y) c r s = absurd r
-overlay_on (Some x) None c r s = absurd r
-overlay_on (Some x) (Some y) None r s = s
-overlay_on (Some x) (Some y) (Some z) r s = (
-  s.0 ∙ ap (λ (o : Overlay ℕ). record o { real = z.real }) r.0,
-  λ inode. left_on (x.real inode) (y.real inode) (z.real inode) (r.1 inode) (s.1 inode),
-)
+overlay_on a b c r s = grind (arith, common_steps, left_on)
 
 pub kept_on : (a b c : Filesystem ℕ) → KeepsFilesystem a b → KeepsFilesystem b c → KeepsFilesystem a c
-kept_on a b c r s = record {
-  root = s.root ∙ r.root;
-  overlay = overlay_on a.overlay b.overlay c.overlay r.overlay s.overlay;
-  inodes = λ inode.
-      left_on (a.files.tree.node inode) (b.files.tree.node inode) (c.files.tree.node inode) (r.inodes inode)
-      (s.inodes inode);
-}
+kept_on a b c r s = grind (arith, common_steps, overlay_on, left_on)
 
 stays_on : (a b c : Filesystem ℕ) → Stays a b → Stays b c → Stays a c
-stays_on a b c r s = record {
-  number = s.number ∙ r.number;
-  change = s.change ∙ r.change;
-  kept = kept_on a b c r.kept s.kept;
-}
+stays_on a b c r s = grind (arith, common_steps, kept_on)
 
 same_stays : (f : Filesystem ℕ) → Stays f f
 same_stays f = record { number = refl; change = refl; kept = same_kept f }
@@ -64,22 +46,10 @@ among_overlay used None = tt
 among_overlay used (Some overlay) = (refl, λ inode. chosen (is_among nat_eq inode used) (overlay.real inode))
 
 used_stays : (all : Bool) (used : List ℕ) (f : Filesystem ℕ) → Stays f (only_used_by nat_eq all used f)
-used_stays true used f = same_stays f
-used_stays false used f = record {
-  number = refl;
-  change = refl;
-  kept = record {
-    root = refl;
-    overlay = among_overlay used f.overlay;
-    inodes = λ inode. chosen (is_among nat_eq inode used) (f.files.tree.node inode);
-  };
-}
+used_stays all used f = grind (arith, common_steps, same_stays, among_overlay, chosen)
 
 only_used_stays : (world : World ℕ) (b : Bool) (f : Filesystem ℕ) → Stays f (only_used nat_eq world b f)
-only_used_stays world true f =
-    used_stays (list_all (λ number. is_among nat_eq number (used_in nat_eq world f)) f.files.numbers)
-    (used_in nat_eq world f) f
-only_used_stays world false f = same_stays f
+only_used_stays world b f = grind (arith, common_steps, used_stays, same_stays)
 
 -- each filesystem that is left was there, and stays
 pub swept_stays : (world : World ℕ) (f : Filesystem ℕ) → Among f (settled nat_eq world).filesystems

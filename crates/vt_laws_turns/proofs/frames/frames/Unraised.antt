@@ -28,15 +28,7 @@ use Rattle.vt_laws_turns.proofs.frames.Found.{found_map}
 
 -- numbers that are not stale are the same, and not the largest
 pub not_stale : (held now : ℕ) → is_stale held now ≡ false → (held ≡ now) × (now ≢ last_number)
-not_stale held now e =
-    let parts = or_parts (not (held == now)) (now == last_number) e in (
-      eqb-true held now (turned (held == now) parts.0),
-      λ same. true≢false (sym (eq-eqb now last_number same) ∙ parts.1),
-    )
-  where
-    turned : (b : Bool) → not b ≡ false → b ≡ true
-    turned true h = refl
-    turned false h = absurd (true≢false h)
+not_stale held now e = grind (arith, common_steps, or_parts, eqb-true, true≢false, eq-eqb)
 
 -- the change number of a namespace that was found, or of none
 abbrev pub change_in : Option (Namespace ℕ) → ℕ
@@ -118,12 +110,7 @@ module _ (world : World ℕ) (fresh : Fresh ℕ) (given : IsCallIn world fresh) 
 
         by : (o : Option (Namespace ℕ)) → found_in applied.namespaces ≡ o
             → mounts_of nat_eq later number ≡ mounts_of nat_eq world number
-        by None e = absurd (same_now.1 (now_is ∙ ap (λ o. change_in (option_map raise o)) e))
-        by (Some n) e = ⊎_elim
-            (λ old. kept n (found_passes (λ (m : Namespace ℕ). nat_eq number m.number) applied.namespaces n e) old
-            (same_mounts_in nat_eq world (settled nat_eq applied) n.number) refl
-            (now_is ∙ ap (λ o. change_in (option_map raise o)) e)) (λ last. absurd (same_now.1 (sym same_now.0 ∙ last)))
-            (was_there n e)
+        by o e = grind (arith, common_steps, same_now, now_is, kept, found_passes, was_there)
 
     -- so it is where the call is judged
     pub call_keeps : IsNamespaceUnraised world

@@ -1,6 +1,6 @@
 -- A change number stays, rises by one, or is the largest one for good.
 use Rattle.std.proofs.lemmas.Grind.{common_steps}
-use Rattle.std.proofs.Common.{◌≡◌, ◌≢◌, refl, sym, ap, subst, ◌∙◌, ◌⊎◌, inl, inr, ⊎_elim, ℕ, nat_eq, Bool, true, false, true≢false, cond, List, [], ◌∷◌, ◌+◌, ◌*◌, ◌≤◌, Option, Some, None, find, eqb-true, eq-eqb, ne_eqb, arith}
+use Rattle.std.proofs.Common.{◌≡◌, ◌≢◌, refl, sym, ap, subst, ◌∙◌, ◌⊎◌, inl, inr, ⊎_elim, ℕ, nat_eq, Bool, true, false, true≢false, cond, List, [], ◌∷◌, ◌+◌, ◌*◌, ◌≤◌, Option, Some, find, eqb-true, eq-eqb, ne_eqb, arith}
 use Rattle.std.specs.Prelude.{option_map, ◌==◌}
 use Rattle.vt_spec.specs.Language.Calls.{Call, TaskName}
 use Rattle.vt_spec.specs.Lists.{Fresh}
@@ -8,7 +8,7 @@ use Rattle.vt_spec.specs.Machine.Apply.{apply, filesystems_changed}
 use Rattle.vt_spec.specs.Machine.Filesystems.{raised}
 use Rattle.vt_spec.specs.Machine.Invariants.{IsWorld}
 use Rattle.vt_spec.specs.Machine.Permits.{Permit}
-use Rattle.vt_spec.specs.Machine.Policy.{numbers_raised, policy, raised_namespace, same_mounts_in}
+use Rattle.vt_spec.specs.Machine.Policy.{numbers_raised, policy, raised_namespace}
 use Rattle.vt_spec.specs.Machine.Settled.{settled}
 use Rattle.vt_spec.specs.Machine.Turns.{is_stale, last_number, namespace_change_of}
 use Rattle.vt_spec.specs.Machine.World.{Namespace, Task, World, mounts_of, task_called}
@@ -48,11 +48,7 @@ rises_first was next now (inr (inl more)) (inr on) = by (was == last_number) ref
         inr (omega (arith, above), λ same. true≢false (sym (eq-eqb was last_number same) ∙ e))
 
 rises_none : (was : ℕ) → RisesOn was was
-rises_none was = by (was == last_number) refl
-  where
-    by : (b : Bool) → (was == last_number) ≡ b → RisesOn was was
-    by true e = inl (eqb-true was last_number e)
-    by false e = inr (omega arith, λ same. true≢false (sym (eq-eqb was last_number same) ∙ e))
+rises_none was = grind (arith, common_steps, eqb-true, true≢false, eq-eqb)
 
 -- where the number is in the end what it was, it was so after the first call
 between : (was next now : ℕ) → Rises was next → RisesOn next now → is_stale was now ≡ false
@@ -109,15 +105,7 @@ module _ (world : World ℕ) (fresh : Fresh ℕ) (given : IsCallIn world fresh) 
       (found_among (λ (m : Namespace ℕ). nat_eq number m.number) applied.namespaces n e))
 
   granted_rises : Rises (namespace_change_of nat_eq world number) (namespace_change_of nat_eq later number)
-  granted_rises = by (found_in applied.namespaces) refl
-    where
-      by : (o : Option (Namespace ℕ)) → found_in applied.namespaces ≡ o
-          → Rises (namespace_change_of nat_eq world number) (namespace_change_of nat_eq later number)
-      by None e = inr (inr (now_is ∙ ap (λ o. change_in (option_map raise o)) e))
-      by (Some n) e =
-          raised_or_same n (namespace_change_of nat_eq world number) (namespace_change_of nat_eq later number)
-          (was_there n e) (same_mounts_in nat_eq world (settled nat_eq applied) n.number)
-          (now_is ∙ ap (λ o. change_in (option_map raise o)) e)
+  granted_rises = grind (arith, common_steps, now_is, change_in, raised_or_same, was_there)
 
 pub namespace_rises : (world : World ℕ) (fresh : Fresh ℕ) (name : TaskName) (call : Call) (number : ℕ)
     → IsCallIn world fresh → fresh (2 * 0) ≢ number → Rises (namespace_change_of nat_eq world number)

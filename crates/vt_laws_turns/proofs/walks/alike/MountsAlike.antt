@@ -1,12 +1,12 @@
 -- Where a namespace has the mounts that it had, its mounts lead up and down as they did.
 use Rattle.std.proofs.lemmas.Grind.{common_steps}
-use Rattle.std.proofs.Common.{◌≡◌, refl, sym, ap, subst, ◌∙◌, ◌⊎◌, inl, inr, ⊎_elim, ℕ, zero, suc, pred, nat_eq, Bool, true, cond, true≢false, List, [], ◌∷◌, Option, Some, None, map, find, filter, length, not, ◌||◌, ◌&&◌, ◌≤◌, arith, is_some}
+use Rattle.std.proofs.Common.{◌≡◌, refl, sym, ap, subst, ◌∙◌, ◌⊎◌, inl, inr, ⊎_elim, ℕ, zero, suc, pred, nat_eq, Bool, true, cond, true≢false, List, [], ◌∷◌, Option, Some, None, map, find, filter, length, ◌||◌, ◌&&◌, ◌≤◌, arith, is_some}
 use Rattle.std.specs.Prelude.{option_map}
 use Rattle.std.proofs.lemmas.Bool.{and_parts, false_from_ne_true}
 use Rattle.std.proofs.lemmas.List.{length-map}
 use Rattle.std.proofs.lemmas.Option.{same_Some}
 use Rattle.vt_spec.specs.Lists.{chain, holds_of, last_or}
-use Rattle.vt_spec.specs.Machine.Invariants.{MountInvariants, Stands, is_nowhere_or_attached, is_private}
+use Rattle.vt_spec.specs.Machine.Invariants.{MountInvariants, Stands}
 use Rattle.vt_spec.specs.Machine.Invariants.Stands.{at_root, on_parent}
 use Rattle.vt_spec.specs.Machine.Looks.{looks_of}
 use Rattle.vt_spec.specs.Machine.Mounts.{Location, Mount, child_at, mounts_over, root_of, same_location, stands_at}
@@ -55,12 +55,7 @@ module _ (world : World ℕ) (is : MountInvariants nat_eq world) where
   -- a mount in no namespace stands nowhere
   pub nowhere_unplaced : (mount : Mount ℕ) (at : Location ℕ) → Among mount world.mounts → mount.namespace ≡ None
       → mount.mount_point ≡ Some at → ⊥
-  nowhere_unplaced mount at m n p =
-      let test = among_from_list_all is_nowhere_or_attached world.mounts is.nowhere mount m in
-      let none : (not (is_some mount.mount_point) && is_private mount.propagation) ≡ true =
-      sym (ap (λ x. is_some x || (not (is_some mount.mount_point) && is_private mount.propagation)) n) ∙ test in
-      true≢false (sym (and_parts (not (is_some mount.mount_point)) (is_private mount.propagation) none).0
-      ∙ ap (λ x. not (is_some x)) p)
+  nowhere_unplaced mount at m n p = grind (arith, common_steps, among_from_list_all, true≢false, and_parts)
 
   stands : (mount : Mount ℕ) → Among mount world.mounts → Stands nat_eq world mount.number
   stands mount m = among_from_all (λ (x : Mount ℕ). Stands nat_eq world x.number) world.mounts is.standing mount m
@@ -68,11 +63,8 @@ module _ (world : World ℕ) (is : MountInvariants nat_eq world) where
   -- a child is in the namespace of its parent
   child_namespace : (mount child : Mount ℕ) (here : Location ℕ) → Among mount world.mounts → mount.number ≡ here.mount
       → Among child world.mounts → stands_at nat_eq here child ≡ true → child.namespace ≡ mount.namespace
-  child_namespace mount child here m number there at = sym (ap (λ (x : Mount ℕ). x.namespace) (numbered child there))
-      ∙ namespace_below world child.number here (stands child there)
-      (ap (λ (x : Mount ℕ). x.mount_point) (numbered child there) ∙ stands_there here child at)
-      ∙ ap (λ n. (mount_numbered nat_eq world n).namespace) (sym number)
-      ∙ ap (λ (x : Mount ℕ). x.namespace) (numbered mount m)
+  child_namespace mount child here m number there at =
+      grind (arith, common_steps, numbered, namespace_below, stands, stands_there)
 
 module _ (world later : World ℕ) (is : MountInvariants nat_eq world) (are : MountInvariants nat_eq later)
     (namespace : ℕ) (same : mounts_of nat_eq later namespace ≡ mounts_of nat_eq world namespace) where

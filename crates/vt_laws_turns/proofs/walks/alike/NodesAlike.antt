@@ -1,4 +1,5 @@
 -- Where a filesystem is what it was, but for what is gone, what is there lies where it lay.
+use Rattle.std.proofs.lemmas.Grind.{common_steps}
 use Rattle.std.proofs.Common.{◌≡◌, refl, sym, ap, subst, ◌∙◌, ⊎_elim, ℕ, nat_eq, true, false, cond, true≢false, List, [], ◌∷◌, Option, Some, None, length, ◌+◌, arith, is_some}
 use Rattle.vt_spec.specs.FileTree.{FileTree, is_directory_under, is_removed, named_parent, targets_in}
 use Rattle.vt_spec.specs.Lists.{is_among, when}
@@ -36,12 +37,7 @@ module _ (files : FileTree ℕ) (is : IsTree files.tree) (other : ℕ → Option
       (goes_on step.0 from above (agrees step.0 next_is ∙ above) (listed step.0 next_is) way)
 
   root_up : Up files.tree.root
-  root_up =
-      let none : named_parent nat_eq files.tree files.tree.root ≡ None = ap (λ b. cond b None (when
-      (is_among nat_eq files.tree.root
-      (targets_in (files.tree.node (parent_in files.tree.root (files.tree.node files.tree.root)))))
-      (parent_in files.tree.root (files.tree.node files.tree.root)))) (nat_eq_itself files.tree.root) in
-      ends files.tree.root none (agrees files.tree.root is.root_directory ∙ none)
+  root_up = grind (arith, common_steps, nat_eq_itself, ends)
 
   pub way_up : (to : ℕ) → IsDirectory files.tree to → IsReached files.tree to → Up to
   way_up to directory (names, e) = way_down names files.tree.root to e directory root_up
@@ -74,12 +70,7 @@ module _ (world later : World ℕ) (trees : TreeInvariants nat_eq world) (later_
   -- the parent that a directory has by its name
   pub parent_same : (d : ℕ) → IsDirectory after.tree d → named_parent nat_eq after.tree d
       ≡ named_parent nat_eq before.tree d
-  parent_same d is =
-      let above : IsDirectory after.tree (parent_in d (after.tree.node d)) = (after_tree d is).parent_directory d is in
-      ap (λ r. parent_by d r (after.tree.node d) (after.tree.node (parent_in d (after.tree.node d)))) kept.root
-      ∙ ap (parent_by d before.tree.root (after.tree.node d))
-      (node_same (parent_in d (after.tree.node d)) (there_by (parent_in d (after.tree.node d)) above))
-      ∙ ap (λ n. parent_by d before.tree.root n (before.tree.node (parent_in d n))) (node_same d (there_by d is))
+  parent_same d is = grind (arith, common_steps, after_tree, node_same, there_by)
 
   pub removed_same : (d : ℕ) → IsDirectory after.tree d → is_removed nat_eq after.tree d
       ≡ is_removed nat_eq before.tree d

@@ -1,17 +1,17 @@
 -- What a walk met it has met after each further word.
-use Rattle.std.proofs.Common.{inr, ⊎_elim, ℕ, zero, suc, nat_eq, Bool, true, false, cond, List, [], ◌∷◌, ◌++◌, ◌||◌, Option, Some, None, Ok, Err, Result, flat_map}
+use Rattle.std.proofs.Common.{arith, inr, ℕ, zero, suc, nat_eq, Bool, true, false, cond, List, [], ◌∷◌, ◌++◌, ◌||◌, Option, Some, None, Ok, Err, Result, flat_map}
+use Rattle.std.proofs.lemmas.Grind.{common_steps}
 use Rattle.vt_spec.specs.declared.errors.Deny.{Deny}
 use Rattle.vt_spec.specs.Errors.{Rules, and_then, unless}
-use Rattle.vt_spec.specs.FileTree.{symlink_text}
-use Rattle.vt_spec.specs.Machine.Looks.{Looks, mount_at}
+use Rattle.vt_spec.specs.Machine.Looks.{Looks}
 use Rattle.vt_spec.specs.Machine.Mounts.{Location}
 use Rattle.vt_spec.specs.Machine.Walking.{Here, LastWord, Place, Stop, all_met, also_met, entered, entered_mounts, filesystems_of, follow_rules, is_no_word, last_word, met_at, met_by, object_named, placed, search_rules, stepped, steps_at, steps_with, stopped_by, symlink_of, symlink_start, symlink_there, then_walk, walk_unless, word_walked}
 use Rattle.vt_spec.specs.Machine.Walking.LastWord.{Dot, DotDot, Named, NoWord}
 use Rattle.vt_spec.specs.Machine.World.{Task}
-use Rattle.vt_spec.specs.PathText.{ends_in_slash, is_absolute}
+use Rattle.vt_spec.specs.PathText.{ends_in_slash}
 use Rattle.vt_spec.proofs.Lists.{Among, among-append, among-append_left, among-append_right}
 use Rattle.vt_laws_turns.specs.Walks.ByWords.{steps_of}
-use Rattle.vt_laws_turns.specs.Walks.Walkers.{Last, Pending, Walk, all_words, arrived, end_rules, ended, first_words, gone_on, has_no_word, last_of, last_step, one_word, opened, text_word, walked_on}
+use Rattle.vt_laws_turns.specs.Walks.Walkers.{Last, Pending, Walk, arrived, ended, first_words, gone_on, last_of, last_step, one_word, opened, text_word, walked_on}
 use Rattle.vt_laws_turns.specs.Walks.Walkers.Last.{AsFile, AsName, AsOthers, NotFollowed}
 use Rattle.vt_laws_turns.specs.Walks.Walkers.Walk.{Goes, Names, Reaches}
 
@@ -71,11 +71,8 @@ module _ (f : ℕ) where
 
   all_sees : (filesystems : List ℕ) (steps : List (List ℕ)) → Met f steps → Met f (all_met filesystems steps)
   all_sees filesystems [] met = met
-  all_sees filesystems (first ∷ steps) met = ⊎_elim
-      (λ m. among-append_left (filesystems ++ first) (flat_map (λ met. met) steps) f
-      (among-append_right filesystems first f m))
-      (λ m. among-append_right (filesystems ++ first) (flat_map (λ met. met) steps) f m)
-      (among-append first (flat_map (λ met. met) steps) f met)
+  all_sees filesystems (first ∷ steps) met =
+      grind (arith, common_steps, among-append_left, among-append_right, among-append)
 
   module _ (looks : Looks ℕ) (task : Task ℕ) where
     walked_sees : (left : ℕ) (steps : List (List ℕ)) (rules : Rules) (found : Result (Location ℕ) Deny) → Met f steps
@@ -127,59 +124,28 @@ module _ (f : ℕ) where
     -- one word more was met, if it is one
     more_met : (here : Here ℕ) (word : LastWord) → Met f here.steps
         → Met f (cond (is_no_word word) here.steps (steps_at nat_eq looks task here word))
-    more_met here word met = by (is_no_word word)
-      where
-        by : (b : Bool) → Met f (cond b here.steps (steps_at nat_eq looks task here word))
-        by true = met
-        by false =
-            among-append_right (met_at nat_eq looks task here.location word) (flat_map (λ met. met) here.steps) f met
+    more_met here word met = grind (arith, common_steps, among-append_right)
 
     entered_sees : (place : Place ℕ) → Met f place.steps → Met f (entered nat_eq looks place).steps
     entered_sees place met = all_sees (filesystems_of nat_eq looks (entered_mounts nat_eq looks place)) place.steps met
 
     ended_sees : (here : Here ℕ) (last : Last) → Met f here.steps → Sees f (ended nat_eq looks task here last)
-    ended_sees here AsOthers met = met
-    ended_sees here (NotFollowed word) met = met
-    ended_sees here (AsName word slash) met =
-        place_then (placed nat_eq looks task here word slash) (λ place. Ok (Names place))
-        (placed_sees here word slash (more_met here word met)) (λ place m. m)
-    ended_sees here (AsFile word slash) met =
-        place_then (placed nat_eq looks task here word slash) (λ place. Ok (Names (entered nat_eq looks place)))
-        (placed_sees here word slash (more_met here word met)) (λ place m. entered_sees place m)
+    ended_sees here last met = grind (arith, common_steps, place_then, placed_sees, more_met, entered_sees)
 
     gone_on_sees : (pending : List Pending) (here : Here ℕ) (last : Last) → Met f here.steps
         → Sees f (gone_on nat_eq looks task here pending last)
-    gone_on_sees [] here last met = by (has_no_word last)
-      where
-        by : (b : Bool) → Sees f (cond b (ended nat_eq looks task here last)
-            (Ok (Goes (record { here = here; pending = []; last = last }))))
-        by true = ended_sees here last met
-        by false = met
-    gone_on_sees (text ∷ others) here last met = by text.words (gone_on_sees others here last met)
-      where
-        by : (list : List (List ℕ)) → Sees f (gone_on nat_eq looks task here others last)
-            → Sees f (gone_on nat_eq looks task here (record { words = list; slash = text.slash } ∷ others) last)
-        by [] later = unless_then here.steps (end_rules nat_eq looks text.slash here.location) here
-            (λ reached. gone_on nat_eq looks task reached others last) met later
-        by (word ∷ list) later = met
+    gone_on_sees [] here last met = grind (arith, common_steps, ended_sees)
+    gone_on_sees (text ∷ others) here last met =
+        grind (arith, common_steps, unless_then, gone_on_sees others here last met)
 
     start_sees : (directory : Location ℕ) (symlink : Here ℕ) (text : List ℕ) → Met f symlink.steps
         → Met f (symlink_start nat_eq looks task directory symlink text).steps
-    start_sees directory symlink text met = by (is_absolute text)
-      where
-        by : (b : Bool) → Met f (cond b (also_met (mount_at looks task.root).filesystem symlink.steps) symlink.steps)
-        by true = also_sees (mount_at looks task.root).filesystem symlink.steps met
-        by false = met
+    start_sees directory symlink text met = grind (arith, common_steps, also_sees)
 
     arrived_sees : (directory : Location ℕ) (next : Here ℕ) (pending : List Pending) (last : Last) → Met f next.steps
         → (text : Option (List ℕ)) → Sees f (arrived nat_eq looks task directory next pending last text)
-    arrived_sees directory next pending last met None = gone_on_sees pending next last met
-    arrived_sees directory next pending last met (Some text) =
-        unless_then next.steps (follow_rules nat_eq looks next text)
-        (symlink_start nat_eq looks task directory next text)
-        (λ start. gone_on nat_eq looks task start (all_words text ∷ pending) last) met
-        (gone_on_sees (all_words text ∷ pending) (symlink_start nat_eq looks task directory next text) last
-        (start_sees directory next text met))
+    arrived_sees directory next pending last met text =
+        search (arith, common_steps, gone_on_sees, unless_then, start_sees)
 
     opened_sees : (here : Here ℕ) (place : Place ℕ) (slash : Bool) → Met f place.steps → (text : Option (List ℕ))
         → Sees f (opened nat_eq looks task here place slash text)
@@ -239,13 +205,8 @@ module _ (f : ℕ) where
     text_sees : (here : Here ℕ) (list : List (List ℕ)) (slash : Bool) (others : List Pending) (last : Last)
         → Met f (text_met looks task here.location list ∷ here.steps)
         → Sees f (text_word nat_eq looks task here list slash others last)
-    text_sees here [] slash others last met = gone_on_sees (record { words = []; slash = slash } ∷ others) here last met
-    text_sees here (word ∷ list) slash others last met =
-        here_then (word_walked nat_eq looks task here (last_word word)) (λ next.
-        arrived nat_eq looks task here.location next (record { words = list; slash = slash } ∷ others) last
-        (symlink_text (looks.node next.location))) (word_sees here (last_word word) met)
-        (λ next m. arrived_sees here.location next (record { words = list; slash = slash } ∷ others) last m
-        (symlink_text (looks.node next.location)))
+    text_sees here list slash others last met =
+        grind (arith, common_steps, gone_on_sees, here_then, word_sees, arrived_sees)
 
     -- one word
     pub word_by_sees : (here : Here ℕ) (pending : List Pending) (last : Last) → AfterNext here pending last

@@ -1,6 +1,6 @@
 -- One step of a walk leads where it led, if the filesystems that it meets are what they were.
 use Rattle.std.proofs.lemmas.Grind.{common_steps}
-use Rattle.std.proofs.Common.{append-nil, ◌≡◌, refl, sym, ap, subst, ◌∙◌, inl, inr, ⊎_elim, ℕ, zero, suc, nat_eq, Bool, true, false, cond, List, [], ◌∷◌, ◌++◌, Option, Some, None, Ok, Err, Result, flat_map, length, not, ◌||◌, is_some, arith}
+use Rattle.std.proofs.Common.{append-nil, ◌≡◌, refl, sym, ap, subst, ◌∙◌, inl, inr, ⊎_elim, ℕ, nat_eq, Bool, true, false, cond, List, [], ◌∷◌, ◌++◌, Option, Some, None, Ok, Err, Result, flat_map, length, not, ◌||◌, is_some, arith}
 use Rattle.std.specs.Prelude.{IfOk, ok_or, option_map, option_to_list}
 use Rattle.std.proofs.lemmas.List.{map-append}
 use Rattle.vt_spec.specs.declared.errors.Deny.{Deny}
@@ -26,12 +26,7 @@ use Rattle.vt_laws_turns.proofs.walks.alike.NodesAlike.{node_same, removed_same,
 -- a chain begins with its start, and ends with one of its own
 module _ {A : Type 0} where
   chain_start : (next : A → Option A) (n : ℕ) (a : A) → Among a (chain n next a)
-  chain_start next zero a = inl refl
-  chain_start next (suc n) a = by (next a)
-    where
-      by : (o : Option A) → Among a (elim o [ None ↦ a ∷ [] | Some b ↦ a ∷ chain n next b ])
-      by None = inl refl
-      by (Some b) = inl refl
+  chain_start next n a = grind (arith, common_steps)
 
   last_among : (list : List A) (a : A) → Among a list → Among (last_or a list) list
   last_among [] a m = absurd m
@@ -44,11 +39,7 @@ module _ {A : Type 0} where
 -- the mounter of an overlay is who it was
 mounter_by : (before after : Option (Overlay ℕ)) → KeepsOverlay before after → (wanted : ℕ) (node : Option (Node ℕ))
     → mounter_allows after wanted node ≡ mounter_allows before wanted node
-mounter_by None None kept wanted object = refl
-mounter_by None (Some after) kept wanted object = absurd kept
-mounter_by (Some before) None kept wanted object = absurd kept
-mounter_by (Some before) (Some after) kept wanted node =
-    ap (λ (o : Overlay ℕ). node_allows o.mounter wanted node) kept.0
+mounter_by before after kept wanted object = grind (arith, common_steps)
 
 -- what a word that is walked leads to
 abbrev pub walked_to : ℕ → List (List ℕ) → Rules → Result (Location ℕ) Deny → Result (Here ℕ) (Stop ℕ)
@@ -139,11 +130,7 @@ module _ (world later : World ℕ) (isw : IsWorld nat_eq world) (isl : IsWorld n
 
       by : (b : Bool) → is_removed nat_eq (filesystem_numbered nat_eq later (shown_at l)).files.tree l.node ≡ b
           → lost_by later (mount_at one l) l.node ≡ lost_by world (mount_at one l) l.node
-      by true e = grind (arith, common_steps, removed)
-      by false e = cc (
-        removed,
-        under_same world later isw.files isl.files (shown_at l) kept (mount_at one l).root l.node there e,
-      )
+      by b e = grind (arith, common_steps, removed, under_same, there)
 
   -- Where `..` goes on from
 
@@ -218,10 +205,7 @@ module _ (world later : World ℕ) (isw : IsWorld nat_eq world) (isl : IsWorld n
       (node_is here is kept)
 
   top_kept : (here : Location ℕ) → EachKept (met_by nat_eq one task here DotDot) → Kept (shown_at (top_of here))
-  top_kept here kept =
-      kept (shown_at (top_of here)) (among-map shown_at (way here ++ entered_upward nat_eq one task (top_of here))
-      (top_of here) (among-append_left (way here) (entered_upward nat_eq one task (top_of here)) (top_of here)
-      (top_among here)))
+  top_kept here kept = grind (arith, common_steps, among-map, among-append_left, top_among)
 
   one_own : (here : Location ℕ) → Own here.mount → (l : Location ℕ) → Among l (here ∷ []) → Own l.mount
   one_own here own l m = ⊎_elim (λ e. subst (λ (x : Location ℕ). Own x.mount) (sym e) own) (λ none. absurd none) m
@@ -345,14 +329,7 @@ module _ (world later : World ℕ) (isw : IsWorld nat_eq world) (isl : IsWorld n
   -- each step meets where it begins
   pub kept_here : (here : Location ℕ) (word : LastWord) → EachKept (met_by nat_eq one task here word)
       → Kept (shown_at here)
-  kept_here here NoWord kept = kept (shown_at here) (inl refl)
-  kept_here here Dot kept = kept (shown_at here) (inl refl)
-  kept_here here (Named name) kept = kept (shown_at here) (inl refl)
-  kept_here here DotDot kept =
-      kept (shown_at here) (among-map shown_at (way here ++ entered_upward nat_eq one task (top_of here)) here
-      (among-append_left (way here) (entered_upward nat_eq one task (top_of here)) here
-      (chain_start (hop_in world later isw.mounts isl.mounts task.namespace same task world)
-      (length world.mounts) here)))
+  kept_here here word kept = grind (arith, common_steps, among-map, among-append_left, chain_start, hop_in)
 
   -- and leads to what is there in both worlds
   pub reached_there : (here : Location ℕ) (word : LastWord) → IsThere here → is_directory_at one here ≡ true

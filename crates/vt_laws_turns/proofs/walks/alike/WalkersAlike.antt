@@ -1,12 +1,11 @@
 -- Words walked lead where they led, if what they meet is what it was.
 use Rattle.std.proofs.lemmas.Grind.{common_steps}
-use Rattle.std.proofs.Common.{◌≡◌, refl, sym, ap, subst, ◌∙◌, inl, inr, ⊎_elim, ℕ, zero, suc, nat_eq, Bool, true, false, cond, true≢false, not, List, [], ◌∷◌, ◌++◌, ◌||◌, ◌&&◌, ◌⊎◌, Option, Some, None, Ok, Err, Result, map, flat_map, length, eqb-true, arith}
+use Rattle.std.proofs.Common.{◌≡◌, refl, sym, ap, subst, ◌∙◌, inl, ⊎_elim, ℕ, zero, suc, nat_eq, Bool, true, false, cond, true≢false, not, List, [], ◌∷◌, ◌++◌, ◌||◌, ◌&&◌, ◌⊎◌, Option, Some, None, Ok, Err, Result, map, flat_map, length, eqb-true, arith}
 use Rattle.std.specs.Prelude.{IfOk, option_map, option_to_list, unwrap_or}
 use Rattle.std.specs.List.{list_all}
 use Rattle.std.proofs.lemmas.Bool.{and_parts}
 use Rattle.std.proofs.lemmas.Option.{same_Some}
 use Rattle.vt_spec.specs.declared.errors.Deny.{Deny}
-use Rattle.vt_spec.specs.declared.errors.Rule.TheVariants.{W3}
 use Rattle.vt_spec.specs.Errors.{Rules, and_then, unless}
 use Rattle.vt_spec.specs.FileTree.{symlink_text}
 use Rattle.vt_spec.specs.Lists.{is_empty_list, then_some}
@@ -75,15 +74,7 @@ module _ (world later : World ℕ) (isw : IsWorld nat_eq world) (isl : IsWorld n
 
   listed : (w : World ℕ) (is : IsWorld nat_eq w) (number : ℕ) → IsOn w is task number
       → (mount : Mount ℕ) × Among mount w.mounts × (mount.number ≡ number) × (mount_numbered nat_eq w number ≡ mount)
-  listed w is number on =
-      let found = any_among (nat_eq number) (map (λ (x : Mount ℕ). x.number) w.mounts) on.0 in
-      let from = among-from_map (λ (x : Mount ℕ). x.number) w.mounts found.0 found.1 in
-      let same : from.0.number ≡ number = sym (eqb-true number found.0 found.2 ∙ from.2) in (
-        from.0,
-        from.1,
-        same,
-        ap (mount_numbered nat_eq w) (sym same) ∙ found_itself w.mounts is.mounts.one_number from.0 from.1,
-      )
+  listed w is number on = search (arith, common_steps, any_among, among-from_map, eqb-true, found_itself)
 
   own_of : (number : ℕ) → IsOn world isw task number → IsOn later isl task number
       → mount_numbered nat_eq later number ≡ mount_numbered nat_eq world number → Owned number
@@ -100,11 +91,7 @@ module _ (world later : World ℕ) (isw : IsWorld nat_eq world) (isl : IsWorld n
     where
       by : {n : Option ℕ} (o : Option ℕ) → n ≡ o → list_all (nat_eq task.namespace) (option_to_list n) ≡ true
           → (n ≡ Some task.namespace) ⊎ (n ≡ None)
-      by None e h = inr e
-      by (Some k) e h =
-          let in_it : (nat_eq task.namespace k && true) ≡ true =
-          sym (ap (λ o. list_all (nat_eq task.namespace) (option_to_list o)) e) ∙ h in
-          inl (e ∙ ap Some (sym (eqb-true task.namespace k (and_parts (nat_eq task.namespace k) true in_it).0)))
+      by o e h = grind (arith, common_steps, eqb-true, and_parts)
 
   -- there in both worlds, and a directory in both or in neither
   abbrev Standing : Location ℕ → Type 0
@@ -189,39 +176,14 @@ module _ (world later : World ℕ) (isw : IsWorld nat_eq world) (isl : IsWorld n
   end_fine : (here : Here ℕ) (last : Last) → There here.location → (b : Bool)
       → Fine (cond b (ended nat_eq before task here last)
       (Ok (Goes (record { here = here; pending = []; last = last }))))
-  end_fine here last there false = there
-  end_fine here AsOthers there true = tt
-  end_fine here (NotFollowed word) there true = tt
-  end_fine here (AsName word slash) there true = ok_named (placed nat_eq before task here word slash) (λ place. place)
-  end_fine here (AsFile word slash) there true =
-      ok_named (placed nat_eq before task here word slash) (entered nat_eq before)
+  end_fine here last there b = grind (arith, common_steps, ok_named)
 
   gone_on_is : (pending : List Pending) (here : Here ℕ) (last : Last) → Standing here.location
       → (gone_on nat_eq after task here pending last ≡ gone_on nat_eq before task here pending last)
       × Fine (gone_on nat_eq before task here pending last)
-  gone_on_is [] here last is =
-      (end_is here last is.0 (has_no_word last) refl, end_fine here last is.0 (has_no_word last))
-  gone_on_is (text ∷ others) here last is = by text.words (gone_on_is others here last is)
-    where
-      rules_of : Bool → Rules
-      rules_of directory = (cond text.slash (not directory) false, W3) ∷ []
-
-      by : (list : List (List ℕ))
-          → (gone_on nat_eq after task here others last ≡ gone_on nat_eq before task here others last)
-          × Fine (gone_on nat_eq before task here others last)
-          → (gone_on nat_eq after task here (record { words = list; slash = text.slash } ∷ others) last
-          ≡ gone_on nat_eq before task here (record { words = list; slash = text.slash } ∷ others) last)
-          × Fine (gone_on nat_eq before task here (record { words = list; slash = text.slash } ∷ others) last)
-      by [] rest = (
-        ap (λ d. then_walk (walk_unless here.steps (rules_of d) here)
-            (λ reached. gone_on nat_eq after task reached others last)) is.1
-            ∙ unless_at here.steps (rules_of (is_directory_at before here.location)) here
-            (λ reached. gone_on nat_eq after task reached others last)
-            (λ reached. gone_on nat_eq before task reached others last) rest.0,
-        fine_unless here.steps (rules_of (is_directory_at before here.location)) here
-            (λ reached. gone_on nat_eq before task reached others last) rest.1,
-      )
-      by (word ∷ list) rest = (refl, is.0)
+  gone_on_is [] here last is = grind (arith, common_steps, end_is, end_fine)
+  gone_on_is (text ∷ others) here last is =
+      grind (arith, common_steps, unless_at, fine_unless, gone_on_is others here last is)
 
   -- a symlink's text
   start_is : (directory : Location ℕ) (symlink : Here ℕ) (text : List ℕ)
@@ -511,10 +473,7 @@ module _ (world later : World ℕ) (isw : IsWorld nat_eq world) (isl : IsWorld n
       → KeptAll (met_at nat_eq before task here.location word)
       → (last_step nat_eq after task here (AsName word slash) ≡ last_step nat_eq before task here (AsName word slash))
       × Fine (last_step nat_eq before task here (AsName word slash))
-  name_is here word slash there some kept = (
-    ap (λ r. then_walk r (λ place. Ok (Names place))) (placed_is here word slash there some kept).0,
-    ok_named (placed nat_eq before task here word slash) (λ place. place),
-  )
+  name_is here word slash there some kept = grind (arith, common_steps, placed_is, ok_named)
 
   last_is : (here : Here ℕ) (last : Last) → There here.location → HasItsWord last
       → KeptAll (met_next before task here.location [] last)

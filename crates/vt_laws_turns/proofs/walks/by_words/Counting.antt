@@ -1,18 +1,17 @@
 -- One word is one step, so after as many words as a walk has steps nothing is left of it.
 use Rattle.std.proofs.lemmas.Grind.{common_steps}
-use Rattle.std.proofs.Common.{◌≡◌, refl, sym, ap, ◌∙◌, cond, ℕ, suc, nat_eq, Bool, true, false, true≢false, not, List, [], ◌∷◌, ◌-◌, ◌≤◌, ◌||◌, length, reverse, Option, Some, None, Ok, Err, Result, arith}
+use Rattle.std.proofs.Common.{◌≡◌, refl, sym, ap, ◌∙◌, cond, ℕ, suc, nat_eq, Bool, true, false, true≢false, not, List, [], ◌∷◌, ◌-◌, ◌≤◌, ◌||◌, length, Option, Some, None, Ok, Err, Result, arith}
 use Rattle.vt_spec.specs.declared.errors.Deny.{Deny}
 use Rattle.vt_spec.specs.Errors.{Rules, and_then, unless}
-use Rattle.vt_spec.specs.FileTree.{symlink_text}
 use Rattle.vt_spec.specs.Language.Limits.{most_symlinks}
-use Rattle.vt_spec.specs.Lists.{is_empty_list, rest_of}
+use Rattle.vt_spec.specs.Lists.{is_empty_list}
 use Rattle.vt_spec.specs.Machine.Looks.{Looks}
 use Rattle.vt_spec.specs.Machine.Mounts.{Location}
-use Rattle.vt_spec.specs.Machine.Walking.{Here, LastWord, Place, Stop, entered, entered_mounts, filesystems_of, final_word, follow_rules, is_no_word, last_word, object_named, placed, search_rules, stepped, steps_at, steps_with, stopped_by, symlink_of, symlink_start, symlink_there, then_walk, walk_unless, word_walked}
+use Rattle.vt_spec.specs.Machine.Walking.{Here, LastWord, Place, Stop, entered, entered_mounts, filesystems_of, follow_rules, is_no_word, last_word, object_named, placed, search_rules, stepped, steps_at, steps_with, stopped_by, symlink_start, symlink_there, then_walk, walk_unless, word_walked}
 use Rattle.vt_spec.specs.Machine.Walking.LastWord.{Dot, DotDot, Named, NoWord}
 use Rattle.vt_spec.specs.Machine.World.{Task}
-use Rattle.vt_spec.specs.PathText.{ends_in_slash, words}
-use Rattle.vt_laws_turns.specs.Walks.Walkers.{Last, Pending, Walk, Walker, all_words, arrived, end_rules, ended, first_words, gone_on, has_no_word, last_of, last_step, one_word, opened, text_word}
+use Rattle.vt_spec.specs.PathText.{words}
+use Rattle.vt_laws_turns.specs.Walks.Walkers.{Last, Pending, Walk, Walker, all_words, arrived, ended, first_words, gone_on, has_no_word, last_of, last_step, one_word, opened}
 use Rattle.vt_laws_turns.specs.Walks.Walkers.Last.{AsFile, AsName, AsOthers, NotFollowed}
 use Rattle.vt_laws_turns.specs.Walks.Walkers.Walk.{Goes, Names, Reaches}
 use Rattle.vt_laws_turns.proofs.walks.by_words.Depths.{length-also_met}
@@ -72,13 +71,7 @@ unless_then count steps ((false, rule) ∷ rules) here f same next = unless_then
 
 module _ (looks : Looks ℕ) (task : Task ℕ) where
   pub is_quiet : (last : Last) → HasItsWord last → (here : Here ℕ) → IsQuiet looks task here last
-  is_quiet AsOthers has here = tt
-  is_quiet (NotFollowed word) has here = tt
-  is_quiet (AsName word slash) has here = tt
-  is_quiet (AsFile NoWord slash) has here = absurd (true≢false has)
-  is_quiet (AsFile Dot slash) has here = tt
-  is_quiet (AsFile DotDot slash) has here = tt
-  is_quiet (AsFile (Named name) slash) has here = tt
+  is_quiet last has here = grind (arith, common_steps, here, true≢false)
 
   -- a word is one step
   walked_steps : (left count : ℕ) (steps : List (List ℕ)) (rules : Rules) (found : Result (Location ℕ) Deny)
@@ -146,24 +139,13 @@ module _ (looks : Looks ℕ) (task : Task ℕ) where
   end_steps : (here : Here ℕ) (last : Last) (count : ℕ) → length here.steps ≡ count → here.left ≤ most_symlinks
       → HasItsWord last → (b : Bool) → has_no_word last ≡ b → HasSteps count (cond b (ended nat_eq looks task here last)
       (Ok (Goes (record { here = here; pending = []; last = last }))))
-  end_steps here last count same few has false e = (record { left = few; last = has; word = ap not e }, same)
-  end_steps here AsOthers count same few has true e = same
-  end_steps here (NotFollowed word) count same few has true e = same
-  end_steps here (AsName NoWord slash) count same few has true e = same
-  end_steps here (AsFile NoWord slash) count same few has true e = absurd (true≢false has)
-  end_steps here last count same few has true e = absurd (true≢false (sym e))
+  end_steps here last count same few has b e = grind (arith, common_steps, here, true≢false)
 
   pub gone_on_steps : (pending : List Pending) (here : Here ℕ) (last : Last) (count : ℕ) → length here.steps ≡ count
       → here.left ≤ most_symlinks → HasItsWord last → HasSteps count (gone_on nat_eq looks task here pending last)
   gone_on_steps [] here last count same few has = end_steps here last count same few has (has_no_word last) refl
   gone_on_steps (text ∷ others) here last count same few has =
-      by text.words (gone_on_steps others here last count same few has)
-    where
-      by : (list : List (List ℕ)) → HasSteps count (gone_on nat_eq looks task here others last) → HasSteps count
-          (gone_on nat_eq looks task here (record { words = list; slash = text.slash } ∷ others) last)
-      by [] later = unless_then count here.steps (end_rules nat_eq looks text.slash here.location) here
-          (λ reached. gone_on nat_eq looks task reached others last) same later
-      by (word ∷ list) later = (record { left = few; last = has; word = refl }, same)
+      grind (arith, common_steps, here, unless_then, gone_on_steps others here last count same few has)
 
   start_steps : (directory : Location ℕ) (symlink : Here ℕ) (text : List ℕ) (count : ℕ) → length symlink.steps ≡ count
       → length (symlink_start nat_eq looks task directory symlink text).steps ≡ count
@@ -190,31 +172,14 @@ module _ (looks : Looks ℕ) (task : Task ℕ) where
   pub first_words_steps : (text : List ℕ) (slash : Bool) (start : Here ℕ) (count : ℕ) → length start.steps ≡ count
       → start.left ≤ most_symlinks
       → HasSteps count (gone_on nat_eq looks task start (first_words text ∷ []) (AsFile (last_of text) slash))
-  first_words_steps text slash start count same few = by (reverse (words text))
-    where
-      by : (list : List (List ℕ)) → HasSteps count (gone_on nat_eq looks task start
-          (record { words = reverse (rest_of list); slash = false } ∷ []) (AsFile (final_word list) slash))
-      by [] = entered_steps (record {
-        parent = start.location;
-        last = NoWord;
-        object = Some start.location;
-        slash = false;
-        steps = start.steps;
-      }) count same
-      by (word ∷ list) = gone_on_steps (record { words = reverse list; slash = false } ∷ []) start (AsFile
-          (last_word word) slash) count same few (word_is_one word)
+  first_words_steps text slash start count same few =
+      grind (arith, common_steps, entered_steps, gone_on_steps, word_is_one)
 
   opened_steps : (here : Here ℕ) (place : Place ℕ) (slash : Bool) (count : ℕ) → length place.steps ≡ count
       → here.left ≤ most_symlinks → (text : Option (List ℕ))
       → HasSteps count (opened nat_eq looks task here place slash text)
-  opened_steps here place slash count same few None = entered_steps place count same
-  opened_steps here place slash count same few (Some text) =
-      unless_then count place.steps (follow_rules nat_eq looks (symlink_of here place) text)
-      (symlink_start nat_eq looks task here.location (symlink_of here place) text)
-      (λ start. gone_on nat_eq looks task start (first_words text ∷ [])
-      (AsFile (last_of text) (slash || ends_in_slash text))) same (first_words_steps text (slash || ends_in_slash text)
-      (symlink_start nat_eq looks task here.location (symlink_of here place) text) count
-      (start_steps here.location (symlink_of here place) text count same) (one_less here.left few))
+  opened_steps here place slash count same few text =
+      search (arith, common_steps, here, entered_steps, unless_then, first_words_steps, start_steps, one_less)
 
   turned : (b : Bool) → not b ≡ true → b ≡ false
   turned true e = absurd (true≢false (sym e))
@@ -244,24 +209,5 @@ module _ (looks : Looks ℕ) (task : Task ℕ) where
 
   pub one_word_steps : (walker : Walker ℕ) → IsHalfDone walker
       → HasSteps (suc (length walker.here.steps)) (one_word nat_eq looks task walker)
-  one_word_steps walker half = by walker.pending half.word
-    where
-      here : Here ℕ
-      here = walker.here
-
-      text_by : (list : List (List ℕ)) (slash : Bool) (others : List Pending) → not (is_empty_list list) ≡ true
-          → HasSteps (suc (length here.steps)) (text_word nat_eq looks task here list slash others walker.last)
-      text_by [] slash others some = absurd (true≢false (sym some))
-      text_by (word ∷ list) slash others some =
-          here_then (suc (length here.steps)) (word_walked nat_eq looks task here (last_word word)) (λ next.
-          arrived nat_eq looks task here.location next (record { words = list; slash = slash } ∷ others) walker.last
-          (symlink_text (looks.node next.location)))
-          (word_steps here (last_word word) (length here.steps) half.left refl)
-          (λ next fewer is. arrived_steps here.location next (record { words = list; slash = slash } ∷ others)
-          walker.last (suc (length here.steps)) is fewer half.last (symlink_text (looks.node next.location)))
-
-      by : (pending : List Pending) → has_word pending walker.last ≡ true → HasSteps (suc (length here.steps))
-          (one_word nat_eq looks task (record { here = here; pending = pending; last = walker.last }))
-      by [] some =
-          last_steps here walker.last (length here.steps) refl half.left (turned (has_no_word walker.last) some)
-      by (text ∷ others) some = text_by text.words text.slash others some
+  one_word_steps walker half =
+      grind (arith, common_steps, true≢false, here_then, word_steps, arrived_steps, last_steps, turned)

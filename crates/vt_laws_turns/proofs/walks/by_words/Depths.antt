@@ -72,26 +72,17 @@ unless_same most least steps ((false, rule) ∷ rules) here few long longer =
 pub followed_same : {A B : Type 0} (steps : List (List ℕ)) (start : A) (f g : A → Result B (Stop ℕ)) (a b c : Bool)
     → (b ≡ false → f start ≡ g start) → then_walk (walk_unless steps ((a, W9) ∷ (b, W7) ∷ (c, W2) ∷ []) start) f
     ≡ then_walk (walk_unless steps ((a, W9) ∷ (b, W7) ∷ (c, W2) ∷ []) start) g
-followed_same steps start f g true b c same = refl
-followed_same steps start f g false true c same = refl
-followed_same steps start f g false false true same = refl
-followed_same steps start f g false false false same = same refl
+followed_same steps start f g a b c same = grind (arith, common_steps, start)
 
 followed_within : (most least : ℕ) (steps : List (List ℕ)) (start : Here ℕ)
     (f : Here ℕ → Result (Here ℕ) (Stop ℕ)) (a b c : Bool) → least ≤ length steps
     → (b ≡ false → Within most least (f start))
     → Within most least (then_walk (walk_unless steps ((a, W9) ∷ (b, W7) ∷ (c, W2) ∷ []) start) f)
-followed_within most least steps start f true b c long next = long
-followed_within most least steps start f false true c long next = long
-followed_within most least steps start f false false true long next = long
-followed_within most least steps start f false false false long next = next refl
+followed_within most least steps start f a b c long next = grind (arith, common_steps, start)
 
 -- a symlink is left to follow
 pub one_left : (left most : ℕ) → left ≤ most → (left == 0) ≡ false → (less : ℕ) × (most ≡ suc less) × (left - 1 ≤ less)
-one_left zero most few e = absurd (true≢false e)
-  where
-    true≢false : true ≡ false → ⊥
-    true≢false e = cc
+one_left zero most few e = grind (arith, common_steps)
 one_left (suc left) zero few e = absurd (omega (arith, few))
 one_left (suc left) (suc most) few e = (most, refl, omega (arith, few))
 

@@ -1,4 +1,5 @@
 -- The walk to a file: how deep symlinks may stand in one another's texts does not matter, and each step is kept.
+use Rattle.std.proofs.lemmas.Grind.{common_steps}
 use Rattle.std.proofs.Common.{◌≡◌, refl, sym, subst, ℕ, zero, suc, nat_eq, Bool, true, false, List, [], ◌∷◌, ◌-◌, ◌≤◌, ◌||◌, length, reverse, Option, Some, None, Ok, Err, Result, arith}
 use Rattle.std.specs.Prelude.{nat_lt, ◌==◌}
 use Rattle.std.specs.List.{list_any}
@@ -7,7 +8,7 @@ use Rattle.vt_spec.specs.declared.errors.Rule.TheVariants.{W2, W7, W9}
 use Rattle.vt_spec.specs.Errors.{Rules, and_then, unless}
 use Rattle.vt_spec.specs.Language.Limits.{longest_name, most_symlinks}
 use Rattle.vt_spec.specs.Machine.Looks.{Looks, mount_at}
-use Rattle.vt_spec.specs.Machine.Walking.{Follow, Here, LastWord, Place, Stop, all_met, entered_mounts, file_or_symlink, file_walked, filesystems_of, final_word, follow_rules, followed, object_named, placed, prefix_walked, search_rules, steps_at, stopped_by, symlink_of, symlink_start, symlink_there, then_walk, walk_unless}
+use Rattle.vt_spec.specs.Machine.Walking.{Follow, Here, LastWord, Place, Stop, all_met, file_or_symlink, file_walked, final_word, follow_rules, followed, object_named, placed, prefix_walked, search_rules, steps_at, stopped_by, symlink_of, symlink_start, symlink_there, then_walk, walk_unless}
 use Rattle.vt_spec.specs.Machine.Walking.LastWord.{Dot, DotDot, Named, NoWord}
 use Rattle.vt_spec.specs.Machine.World.{Task}
 use Rattle.vt_spec.specs.PathText.{ends_in_slash, words}
@@ -37,10 +38,7 @@ longer_place least (Err stop) f long next = long
 longer_followed : (least : ℕ) (steps : List (List ℕ)) (start : Here ℕ) (f : Here ℕ → Result (Place ℕ) (Stop ℕ))
     (a b c : Bool) → least ≤ length steps → Longer least (f start)
     → Longer least (then_walk (walk_unless steps ((a, W9) ∷ (b, W7) ∷ (c, W2) ∷ []) start) f)
-longer_followed least steps start f true b c long next = long
-longer_followed least steps start f false true c long next = long
-longer_followed least steps start f false false true long next = long
-longer_followed least steps start f false false false long next = next
+longer_followed least steps start f a b c long next = grind (arith, common_steps)
 
 module _ (looks : Looks ℕ) (task : Task ℕ) where
   -- where a parent walk ends
@@ -150,19 +148,8 @@ module _ (looks : Looks ℕ) (task : Task ℕ) where
       → Longer least (file_walked nat_eq depth looks task next inside slash))
       → (here : Here ℕ) → here.left ≤ most_symlinks → (place : Place ℕ) → least ≤ length place.steps
       → (inner : Option (List ℕ)) → Longer least (file_from depth here place slash inner)
-  from_long depth slash least later here few place long None =
-      subst (λ n. least ≤ n) (sym (length-all_met (filesystems_of nat_eq looks (entered_mounts nat_eq looks place))
-      place.steps)) long
-  from_long depth slash least later here few place long (Some inside) = longer_followed least place.steps
-      (symlink_start nat_eq looks task here.location (symlink_of here place) inside)
-      (λ next. file_walked nat_eq depth looks task next inside slash)
-      (mount_at looks (symlink_of here place).location).flags.nosymfollow (here.left == 0)
-      (list_any (λ word. nat_lt longest_name (length word)) (words inside)) long
-      (later (symlink_start nat_eq looks task here.location (symlink_of here place) inside) inside (less here.left few)
-      (start_long looks task here.location (symlink_of here place) inside least long))
-    where
-      less : (n : ℕ) → n ≤ most_symlinks → n - 1 ≤ most_symlinks
-      less n h = omega (arith, h)
+  from_long depth slash least later here few place long inner =
+      search (arith, common_steps, length-all_met, longer_followed, start_long)
 
   pub file_long : (depth : ℕ) (start : Here ℕ) (text : List ℕ) (slash : Bool) (least : ℕ) → start.left ≤ most_symlinks
       → least ≤ length start.steps → Longer least (file_walked nat_eq depth looks task start text slash)

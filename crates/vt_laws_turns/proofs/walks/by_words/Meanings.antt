@@ -12,7 +12,7 @@ use Rattle.vt_spec.specs.Language.Limits.{longest_name, most_symlinks}
 use Rattle.vt_spec.specs.Machine.Looks.{Looks, is_directory_at, mount_at}
 use Rattle.vt_spec.specs.Machine.Mounts.{Location}
 use Rattle.vt_spec.specs.Machine.Walking.{Follow, Here, LastWord, Place, Stop, file_walked, follow_rules, followed, if_symlink, is_no_word, last_walked, last_word, placed, prefix_walked, slash_rules, start_of, stopped_by, symlink_of, symlink_start, symlink_there, symlink_walked, then_walk, walk_unless, word_walked, words_walked}
-use Rattle.vt_spec.specs.Machine.Walking.LastWord.{Dot, DotDot, Named, NoWord}
+use Rattle.vt_spec.specs.Machine.Walking.LastWord.{NoWord}
 use Rattle.vt_spec.specs.Machine.World.{Task}
 use Rattle.vt_spec.specs.PathText.{ends_in_slash, words}
 use Rattle.vt_laws_worlds.proofs.worlds.Reached.{directory_no_link}
@@ -50,12 +50,7 @@ module _ (looks : Looks ℕ) (task : Task ℕ) where
   end_means : (here : Here ℕ) (last : Last) → IsQuiet here last → (b : Bool) → has_no_word last ≡ b
       → then_walk (cond b (ended nat_eq looks task here last)
       (Ok (Goes (record { here = here; pending = []; last = last })))) rest ≡ taken here last
-  end_means here last quiet false e = refl
-  end_means here AsOthers quiet true e = refl
-  end_means here (NotFollowed NoWord) quiet true e = refl
-  end_means here (AsName NoWord slash) quiet true e = refl
-  end_means here (AsFile NoWord slash) quiet true e = grind (arith, common_steps)
-  end_means here last quiet true e = absurd (true≢false (sym e))
+  end_means here last quiet b e = grind (arith, common_steps, true≢false)
 
   -- texts that are ended, and what is then left
   pub gone_on_means : (pending : List Pending) (here : Here ℕ) (last : Last) → IsQuiet here last
@@ -209,17 +204,11 @@ module _ (looks : Looks ℕ) (task : Task ℕ) where
 
   searched : (here : Here ℕ) (word : LastWord) (slash : Bool) (place : Place ℕ) → is_no_word word ≡ false
       → placed nat_eq looks task here word slash ≡ Ok place → is_directory_at looks here.location ≡ true
-  searched here NoWord slash place some e = absurd (true≢false some)
-  searched here Dot slash place some e = named_found _ _ _ _ place (is_directory_at looks here.location) e
-  searched here DotDot slash place some e = named_found _ _ _ _ place (is_directory_at looks here.location) e
-  searched here (Named name) slash place some e = named_found _ _ _ _ place (is_directory_at looks here.location) e
+  searched here word slash place some e = search (arith, common_steps, true≢false, named_found)
 
   pub quiet_at : (here : Here ℕ) (word : LastWord) (slash : Bool) → is_directory_at looks here.location ≡ true
       → IsQuiet here (AsFile word slash)
-  quiet_at here NoWord slash is = directory_no_link (looks.node here.location) is
-  quiet_at here Dot slash is = tt
-  quiet_at here DotDot slash is = tt
-  quiet_at here (Named name) slash is = tt
+  quiet_at here word slash is = grind (arith, common_steps, directory_no_link)
 
   pub directory_at : is_directory_at looks task.root ≡ true → (directory : Location ℕ)
       → is_directory_at looks directory ≡ true → (text : List ℕ)

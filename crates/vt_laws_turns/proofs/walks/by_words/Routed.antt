@@ -10,7 +10,7 @@ use Rattle.vt_spec.specs.Language.Calls.Creation.{Exclusive, NoCreation, OrCreat
 use Rattle.vt_spec.specs.Machine.Looks.{Looks, is_directory_at}
 use Rattle.vt_spec.specs.Machine.Rules.Mounting.{destination_walk, source_walk, work_walked}
 use Rattle.vt_spec.specs.Machine.Rules.Removing.{rename_new_walk}
-use Rattle.vt_spec.specs.Machine.Turns.{Route, here_route, layer_routes, open_route, place_route, rename_from_directory}
+use Rattle.vt_spec.specs.Machine.Turns.{Route, here_route, layer_routes, open_route, place_route}
 use Rattle.vt_spec.specs.Machine.Walking.{Here, Place, Stop, directory_walk, file_walk, is_directory_there, new_leaf_walk, new_name_rules, new_walk, object_walk, old_leaf_walk, old_walk, path_walked, place_walk, symlink_walk, then_walk, walk_unless}
 use Rattle.vt_spec.specs.Machine.World.{Task}
 use Rattle.vt_laws_turns.specs.Walks.ByWords.{Aim, names, reaches, steps_of, whole_walk}
@@ -148,12 +148,10 @@ routes_are_walks looks task (Exec path) = single looks task (object_met looks ta
 routes_are_walks looks task (Mkdir path mode) = single looks task (new_met looks task path)
 routes_are_walks looks task (SymlinkAt text path) = single looks task (new_leaf_met looks task path)
 routes_are_walks looks task (MakeWhiteout path) = single looks task (new_leaf_met looks task path)
-routes_are_walks looks task (LinkTo old new) =
-    both looks task (symlink_met looks task old) (new_leaf_met looks task new)
+routes_are_walks looks task (LinkTo old new) = grind (arith, common_steps, both, symlink_met, new_leaf_met)
 routes_are_walks looks task (Unlink path) = single looks task (old_leaf_met looks task path)
 routes_are_walks looks task (Rmdir path) = single looks task (old_met looks task path)
-routes_are_walks looks task (Rename old new) = both looks task (old_leaf_met looks task old)
-    (rename_new_met looks task new (rename_from_directory nat_eq looks (old_leaf_walk nat_eq looks task old)))
+routes_are_walks looks task (Rename old new) = grind (arith, common_steps, both, old_leaf_met, rename_new_met)
 routes_are_walks looks task (Chmod path mode) = single looks task (object_met looks task path)
 routes_are_walks looks task (Chown path uid gid) = single looks task (object_met looks task path)
 routes_are_walks looks task (Opaque path mark) = single looks task (directory_met looks task path)
@@ -162,17 +160,13 @@ routes_are_walks looks task (Chdir path) = single looks task (directory_met look
 routes_are_walks looks task (Chroot path) = single looks task (directory_met looks task path)
 routes_are_walks looks task (MountPlain path given) = single looks task (destination_met looks task path)
 routes_are_walks looks task (MountOverlay path options given) =
-    ap (λ s. s ∷ map (λ (route : Route ℕ). route.steps) (layer_routes nat_eq looks task options))
-    (destination_met looks task path)
-    ∙ ap (λ rest. met_for looks task Words path ∷ rest) (options_met looks task options)
+    grind (arith, common_steps, destination_met, options_met)
 routes_are_walks looks task (Bind source path recursive) =
-    both looks task (source_met looks task source) (destination_met looks task path)
-routes_are_walks looks task (MoveMount source path) =
-    both looks task (source_met looks task source) (destination_met looks task path)
+    grind (arith, common_steps, both, source_met, destination_met)
+routes_are_walks looks task (MoveMount source path) = grind (arith, common_steps, both, source_met, destination_met)
 routes_are_walks looks task (Umount path) = single looks task (directory_met looks task path)
 routes_are_walks looks task (Lazy path) = single looks task (directory_met looks task path)
 routes_are_walks looks task (Remount path given) = single looks task (directory_met looks task path)
 routes_are_walks looks task (SetType path word recursive) = single looks task (directory_met looks task path)
-routes_are_walks looks task (PivotRoot new put) =
-    both looks task (source_met looks task new) (destination_met looks task put)
+routes_are_walks looks task (PivotRoot new put) = grind (arith, common_steps, both, source_met, destination_met)
 routes_are_walks looks task call = refl

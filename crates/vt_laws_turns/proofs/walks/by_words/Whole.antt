@@ -1,13 +1,13 @@
 -- Word by word each walk leads where it leads as a whole.
 use Rattle.std.proofs.lemmas.Grind.{common_steps}
 use Rattle.std.proofs.Common.{◌≡◌, refl, sym, ap, subst, ◌∙◌, cond, ℕ, zero, suc, nat_eq, Bool, true, false, true≢false, List, [], ◌∷◌, ◌+◌, ◌≤◌, length, reverse, Ok, Err, Result, arith}
-use Rattle.vt_spec.specs.Errors.{Rules, unless}
+use Rattle.vt_spec.specs.Errors.{unless}
 use Rattle.vt_spec.specs.Language.Limits.{most_symlinks}
 use Rattle.vt_spec.specs.Machine.Looks.{Looks, is_directory_at}
-use Rattle.vt_spec.specs.Machine.Walking.{Here, LastWord, Place, Stop, file_walked, last_walked, path_text, placed, prefix_walked, slash_rules, stopped_by, symlink_there, symlink_walk_by, then_walk, walk_start, walk_unless, words_walked}
+use Rattle.vt_spec.specs.Machine.Walking.{Here, LastWord, Place, Stop, file_walked, last_walked, path_text, placed, prefix_walked, slash_rules, symlink_there, symlink_walk_by, then_walk, walk_start, walk_unless, words_walked}
 use Rattle.vt_spec.specs.Machine.Walking.LastWord.{Dot, DotDot, Named, NoWord}
 use Rattle.vt_spec.specs.Machine.World.{Task}
-use Rattle.vt_spec.specs.PathText.{ends_in_slash, path_rules, words}
+use Rattle.vt_spec.specs.PathText.{ends_in_slash, words}
 use Rattle.vt_laws_turns.specs.Walks.ByWords.{Aim, AllWordsAreTheWalk, FirstWordsAreOfTheWalk, StandsOnDirectories, begun, last_for, names, pending_for, reaches, steps_of, whole_walk}
 use Rattle.vt_laws_turns.specs.Walks.ByWords.Aim.{File, InDirectory, Object, Symlink, Words}
 use Rattle.vt_laws_turns.specs.Walks.Walkers.{Last, Pending, Walk, Walker, all_words, end_rules, first_words, gone_on, last_of, one_word, walked_on}
@@ -25,12 +25,7 @@ text_then path f g same = grind (arith, common_steps)
 
 text_steps : (path : List ℕ) (f : List ℕ → Result (Walk ℕ) (Stop ℕ)) → HasSteps 0 (f path)
     → HasSteps 0 (then_walk (path_text path) f)
-text_steps path f has = by (path_rules path)
-  where
-    by : (rules : Rules) → HasSteps 0 (then_walk (stopped_by [] (unless rules (Ok path))) f)
-    by [] = has
-    by ((true, rule) ∷ rules) = refl
-    by ((false, rule) ∷ rules) = by rules
+text_steps path f has = grind (arith, common_steps)
 
 -- steps are kept by what comes after
 long_then : (most least : ℕ) (a : Result (Here ℕ) (Stop ℕ)) (f : Here ℕ → Result (Walk ℕ) (Stop ℕ))
@@ -98,10 +93,7 @@ module _ (looks : Looks ℕ) (task : Task ℕ) where
 
   after_long : (count : ℕ) (a : Result (Walk ℕ) (Stop ℕ)) → HasSteps count a
       → count ≤ length (steps_of (then_walk a (rest looks task)))
-  after_long count (Ok (Goes walker)) has = rest_long walker count has.0.left (omega (arith, has.1))
-  after_long count (Ok (Reaches here)) has = omega (arith, has)
-  after_long count (Ok (Names place)) has = omega (arith, has)
-  after_long count (Err stop) has = omega (arith, has)
+  after_long count a has = grind (arith, common_steps, rest_long)
 
   module _ (root : is_directory_at looks task.root ≡ true) where
     word_means : (walker : Walker ℕ) → IsHalfDone walker
@@ -180,17 +172,7 @@ module _ (looks : Looks ℕ) (task : Task ℕ) where
     object_means : then_walk (path_text path) (λ text.
         then_walk (gone_on nat_eq looks task start (all_words path ∷ []) AsOthers) (rest looks task))
         ≡ whole_walk nat_eq Object looks task path
-    object_means = then_same (path_text path) _ _ (λ text.
-        gone_on_means looks task (all_words path ∷ []) start AsOthers tt
-        ∙ ap (reaches nat_eq) (then_same all _ _ (λ reached. then_ok (slash_checked reached))))
-        ∙ text_then path (λ text. reaches nat_eq (then_walk all slash_checked))
-        (λ text. reaches nat_eq (then_walk (words_walked nat_eq looks task (follow looks task) (walk_start task text)
-        (reverse (words text))) slash_checked)) refl
-        ∙ sym (then_then (path_text path) (λ text. then_walk (words_walked nat_eq looks task (follow looks task)
-        (walk_start task text) (reverse (words text))) slash_checked) (λ here. Ok (Reaches here)))
-        ∙ ap (reaches nat_eq) (sym (then_then (path_text path) (λ text.
-        words_walked nat_eq looks task (follow looks task) (walk_start task text) (reverse
-        (words text))) slash_checked))
+    object_means = search (arith, common_steps, then_same, gone_on_means, then_ok, text_then, follow, then_then)
 
     symlink_means : (slash : Bool) → then_walk (path_text path) (λ text.
         then_walk (gone_on nat_eq looks task start (cond slash (all_words path) (first_words path) ∷ [])
@@ -237,14 +219,7 @@ module _ (looks : Looks ℕ) (task : Task ℕ) where
 
         by : (aim : Aim)
             → HasSteps 0 (gone_on nat_eq looks task start (pending_for nat_eq aim path ∷ []) (last_for nat_eq aim path))
-        by Words = gone_on_steps looks task (record { words = words path; slash = false } ∷ []) start AsOthers 0 refl
-            (omega arith) tt
-        by Object = gone_on_steps looks task (all_words path ∷ []) start AsOthers 0 refl (omega arith) tt
-        by Symlink = symlink_by (ends_in_slash path)
-        by InDirectory =
-            gone_on_steps looks task (first_words path ∷ []) start (AsName (last_of path) (ends_in_slash path)) 0 refl
-            (omega arith) tt
-        by File = first_words_steps looks task path (ends_in_slash path) start 0 refl (omega arith)
+        by aim = search (arith, common_steps, gone_on_steps, symlink_by, first_words_steps)
 
 pub first_words_are_of_the_walk : FirstWordsAreOfTheWalk
 first_words_are_of_the_walk looks task aim path count stands =

@@ -1,5 +1,6 @@
 -- Descriptors are closed one after the other, with a sweep after each, and then the task ends.
-use Rattle.std.proofs.Common.{◌≡◌, refl, sym, ap, subst, ◌∙◌, inl, inr, ℕ, nat_eq, Bool, true, false, cond, not, List, [], ◌∷◌, Option, Some, None, filter, flat_map, map}
+use Rattle.std.proofs.Common.{arith, ◌≡◌, refl, sym, ap, subst, ◌∙◌, ℕ, nat_eq, Bool, true, false, cond, not, List, [], ◌∷◌, Option, Some, None, filter, flat_map, map}
+use Rattle.std.proofs.lemmas.Grind.{common_steps}
 use Rattle.vt_laws_mounts.proofs.letting_go.ends.EndsInTurn.{one_sweep_for_exits_with_overlays}
 use Rattle.vt_laws_mounts.proofs.letting_go.leaving.LeftOneByOne.{one_sweep_with_overlays}
 use Rattle.vt_laws_mounts.proofs.letting_go.leaving.PlacesLeft.{comes_nowhere_itself, location_among}
@@ -20,7 +21,7 @@ use Rattle.vt_spec.specs.Machine.Namespaces.{namespaces_ended}
 use Rattle.vt_spec.specs.Machine.Descriptors.{without_descriptor}
 use Rattle.vt_spec.specs.Machine.Permits.Permit.{ToExit}
 use Rattle.vt_spec.specs.Machine.Settled.{settled}
-use Rattle.vt_spec.specs.Machine.World.{Descriptor, Task, World, all_locations, locations_of, replaced_if_called, task_called, with_task}
+use Rattle.vt_spec.specs.Machine.World.{Task, World, all_locations, locations_of, replaced_if_called, task_called, with_task}
 use Rattle.vt_laws_worlds.proofs.kept.MountsAlike.{same_mounts}
 use Rattle.vt_laws_worlds.proofs.worlds.CallsKept.{name_found}
 use Rattle.vt_laws_later_calls.specs.Exits.{ExitLeavesOneByOne, closed_by, closed_in}
@@ -29,13 +30,7 @@ use Rattle.vt_laws_trees.proofs.trees.TreesTasks.{called_there}
 -- the locations of a task with a descriptor less are locations of the task
 still_located : (task : Task ℕ) (number : ℕ) (location : Location ℕ)
     → Among location (locations_of (without_descriptor task number)) → Among location (locations_of task)
-still_located task number location (inl e) = inl e
-still_located task number location (inr (inl e)) = inr (inl e)
-still_located task number location (inr (inr m)) =
-    let from = among-from_map (λ (d : Descriptor ℕ). d.location) (without_descriptor task number).descriptors location m
-    in inr (inr (subst (λ l. Among l (map (λ (d : Descriptor ℕ). d.location) task.descriptors)) (sym from.2)
-    (among-map (λ (d : Descriptor ℕ). d.location) task.descriptors from.0
-    (among-from_filter _ task.descriptors from.0 from.1).0)))
+still_located task number location known = grind (arith, common_steps, among-from_map, among-map, among-from_filter)
 
 -- a task of the world that closes a descriptor comes to no new location
 closing_comes_nowhere : (world : World ℕ) (task : Task ℕ) (number : ℕ) → Among task world.tasks
@@ -70,11 +65,7 @@ gone_alike name new called (old ∷ tasks) = by (same_name new.name old.name) re
     by : (b : Bool) → same_name new.name old.name ≡ b
         → filter stays (map (replaced_if_called new) tasks) ≡ filter stays tasks
         → filter stays (cond b new old ∷ map (replaced_if_called new) tasks) ≡ filter stays (old ∷ tasks)
-    by true e rest = ap (λ b. cond (not b) (new ∷ filter stays (map (replaced_if_called new) tasks))
-        (filter stays (map (replaced_if_called new) tasks))) (ap (same_name name) (sym called) ∙ same_name_itself name)
-        ∙ rest ∙ ap (λ b. cond (not b) (old ∷ filter stays tasks) (filter stays tasks))
-        (sym (ap (λ n. same_name n old.name) called ∙ e))
-    by false e rest = ap (λ left. cond (stays old) (old ∷ left) left) rest
+    by b e rest = grind (arith, common_steps, same_name_itself)
 
 module _ (fresh : Fresh ℕ) (task : Task ℕ) where
   abbrev ended : World ℕ → World ℕ

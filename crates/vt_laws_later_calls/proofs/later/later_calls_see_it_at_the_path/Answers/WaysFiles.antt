@@ -1,11 +1,11 @@
 -- A file that write found or made is found again, by the symlinks that led to its place.
-use Rattle.std.proofs.Common.{◌≡◌, refl, sym, ap, subst, ◌∙◌, inl, inr, true≢false, ℕ, zero, suc, ◌-◌, ◌≤◌, nat_eq, Bool, true, false, cond, not, ◌||◌, List, [], ◌∷◌, reverse, Option, Some, None, option_map, Result, Ok, arith, ok_or}
+use Rattle.std.proofs.lemmas.Grind.{common_steps}
+use Rattle.std.proofs.Common.{◌≡◌, refl, sym, ap, subst, ◌∙◌, inl, inr, true≢false, ℕ, zero, suc, ◌-◌, ◌≤◌, nat_eq, Bool, true, false, not, ◌||◌, List, [], ◌∷◌, reverse, Option, Some, None, option_map, Result, Ok, arith}
 use Rattle.std.specs.Prelude.{unwrap_or}
 use Rattle.std.proofs.lemmas.Option.{same_Some}
 use Rattle.std.proofs.lemmas.Bool.{not-false, or_parts}
 use Rattle.vt_spec.specs.declared.errors.Deny.{Deny}
-use Rattle.vt_spec.specs.Errors.{NoneFails, and_then, denial, unless}
-use Rattle.vt_spec.specs.declared.errors.Rule.TheVariants.{W6}
+use Rattle.vt_spec.specs.Errors.{NoneFails, and_then, unless}
 use Rattle.vt_spec.specs.FileTree.{symlink_text}
 use Rattle.vt_spec.specs.Lists.{then_some}
 use Rattle.vt_spec.specs.Machine.Looks.{Looks, is_directory_at, topmost}
@@ -13,7 +13,7 @@ use Rattle.vt_spec.specs.Machine.Mounts.{Location}
 use Rattle.vt_spec.specs.Machine.Walking.{Here, LastWord, Place, Stop, entered, entry_location, file_or_symlink, file_walked, final_word, follow_rules, followed, prefix_walked, if_symlink, is_special, last_word, name_of, object_named, placed, search_rules, slash_rules, start_of, stepped, steps_at, stopped_by, symlink_of, symlink_start, symlink_there, symlink_walked, then_walk, walk_unless, word_walked, words_walked}
 use Rattle.vt_spec.specs.Machine.Walking.LastWord.{Dot, DotDot, Named, NoWord}
 use Rattle.vt_spec.specs.Machine.World.{Task}
-use Rattle.vt_spec.specs.PathText.{ends_in_slash, is_absolute, words}
+use Rattle.vt_spec.specs.PathText.{ends_in_slash, words}
 use Rattle.vt_laws_worlds.proofs.worlds.Reached.{directory_no_link}
 use Rattle.vt_spec.proofs.Refusals.{passing, same_ok}
 use Rattle.vt_laws_later_calls.proofs.Ways.{LeadsToo, at, both_walked, not_stopped, positive, same_end, start_known, start_same, walk_passed, walk_passing, word_too, words_lead}
@@ -35,13 +35,7 @@ linked_there looks (Some link) text e = (link, refl, e)
 named_step : (looks : Looks ℕ) (task : Task ℕ) (here : Location ℕ) (last : LastWord) (object : Location ℕ)
     → object_named nat_eq looks task here last ≡ Ok (Some object) → topmost looks object ≡ object
     → stepped nat_eq looks task here last ≡ Ok object
-named_step looks task here NoWord object e bare = ap Ok (same_Some here object (same_ok (Some here) (Some object) e))
-named_step looks task here Dot object e bare = ap Ok (same_Some here object (same_ok (Some here) (Some object) e))
-named_step looks task here DotDot object e bare =
-    let both = and_then-Ok (stepped nat_eq looks task here DotDot) _ (Some object) e in
-    both.1 ∙ ap Ok (same_Some both.0 object (same_ok (Some both.0) (Some object) both.2))
-named_step looks task here (Named name) object e bare = ap (λ o. ok_or (option_map (topmost looks) o) (denial W6))
-    (same_ok (entry_location nat_eq looks here name) (Some object) e) ∙ ap Ok bare
+named_step looks task here last object e bare = grind (arith, common_steps, same_Some, same_ok, and_then-Ok)
 
 placed_parts : (looks : Looks ℕ) (task : Task ℕ) (here : Here ℕ) (last : LastWord) (slash : Bool) (place : Place ℕ)
     → stopped_by (steps_at nat_eq looks task here last) (and_then (unless (search_rules nat_eq looks task here.location)
@@ -63,12 +57,7 @@ placed_parts looks task here last slash place e =
 
 -- no word is none
 some_word : (word : List ℕ) → last_word word ≡ NoWord → ⊥
-some_word word e = by _ _ e
-  where
-    by : (a b : Bool) → cond a Dot (cond b DotDot (Named word)) ≡ NoWord → ⊥
-    by true b e = cc
-    by false true e = cc
-    by false false e = cc
+some_word word e = grind (arith, common_steps)
 
 -- what a word was placed at
 placed_any : (looks : Looks ℕ) (task : Task ℕ) (here : Here ℕ) (last : LastWord) (slash : Bool) (place : Place ℕ)
@@ -216,20 +205,7 @@ module _ (looks later : Looks ℕ) (task reader : Task ℕ) (Refused : Deny → 
       finish : (r : Result (Here ℕ) (Stop ℕ)) → EndsThere Refused r next left
           → EndsThere Refused (then_walk r (λ reached. walk_unless reached.steps
           (slash_rules nat_eq later inner reached.location) reached)) next left
-      finish r (inl e) = inl (
-        e.0,
-        ap (λ r. then_walk r (λ reached.
-            walk_unless reached.steps (slash_rules nat_eq later inner reached.location) reached)) e.1
-            ∙ walk_passed e.0 (slash_rules nat_eq later inner next)
-            (record { location = next; left = left; steps = e.0 })
-            (ap (λ b. cond b (not (is_directory_at later next)) false) no_slash, tt),
-      )
-      finish r (inr stop) = inr (
-        stop.0,
-        stop.1,
-        ap (λ r. then_walk r (λ reached.
-            walk_unless reached.steps (slash_rules nat_eq later inner reached.location) reached)) stop.2,
-      )
+      finish r known = grind (arith, common_steps, walk_passed)
 
       by : (steps_link : List (List ℕ)) → walk_unless steps_link (follow_rules nat_eq later (at link steps_link) inner)
           (symlink_start nat_eq later reader here.location (at link steps_link) inner)
@@ -257,11 +233,7 @@ module _ (looks later : Looks ℕ) (task reader : Task ℕ) (Refused : Deny → 
 
   start_directory : (directory : Location ℕ) (text : List ℕ) → is_directory_at looks directory ≡ true
       → is_directory_at looks (start_of task directory text) ≡ true
-  start_directory directory text is = by (is_absolute text)
-    where
-      by : (b : Bool) → is_directory_at looks (cond b task.root directory) ≡ true
-      by true = root_directory
-      by false = is
+  start_directory directory text is = grind (arith, common_steps)
 
   front_left : (start here : Here ℕ) (list : List (List ℕ)) → suc start.left ≤ 41
       → prefix_walked nat_eq looks task (followed nat_eq looks task) start list ≡ Ok here → here.left ≤ start.left

@@ -1,5 +1,6 @@
 -- Bytes that were written at a path are read there.
-use Rattle.std.proofs.Common.{◌≡◌, refl, sym, ap, subst, ◌∙◌, inl, inr, ◌⊎◌, ℕ, nat_eq, Bool, true, false, cond, not, ◌||◌, List, [], ◌∷◌, length, reverse, Option, Some, None, is_some, ok_or, Ok, Err, nat_lt, arith}
+use Rattle.std.proofs.lemmas.Grind.{common_steps}
+use Rattle.std.proofs.Common.{◌≡◌, refl, sym, ap, subst, ◌∙◌, inl, inr, ◌⊎◌, ℕ, nat_eq, Bool, true, false, cond, ◌||◌, List, [], ◌∷◌, length, reverse, Option, Some, None, is_some, ok_or, Ok, Err, nat_lt, arith}
 use Rattle.std.proofs.lemmas.Option.{same_Some}
 use Rattle.std.proofs.lemmas.Bool.{or_parts}
 use Rattle.vt_spec.specs.declared.attributes.Attr.{Attr}
@@ -27,7 +28,7 @@ use Rattle.vt_spec.specs.Machine.Permits.Permit.{ToChange}
 use Rattle.vt_spec.specs.Machine.Policy.{policy, raised_task}
 use Rattle.vt_spec.specs.Machine.Rules.Making.{file_word_rules, make_rules, rewrite_rules}
 use Rattle.vt_spec.specs.Machine.Run.{Serves}
-use Rattle.vt_spec.specs.Machine.Walking.{Place, file_walk, file_walked, is_special, name_of, new_name_rules, object_walk, path_text, slash_rules, stepped, then_walk, walk_end, walk_start, walk_unless, words_walked}
+use Rattle.vt_spec.specs.Machine.Walking.{Place, file_walk, file_walked, is_special, name_of, new_name_rules, object_walk, path_text, stepped, walk_end, walk_start, words_walked}
 use Rattle.vt_spec.specs.Machine.World.{Task, World, files_at, is_directory_at, node_at, task_called}
 use Rattle.vt_spec.specs.Machine.Invariants.{IsWorld}
 use Rattle.vt_spec.specs.PathText.{ends_in_slash, is_absolute, words}
@@ -80,15 +81,7 @@ file_parts looks task path place e =
 
 -- a symlink is no mount point
 link_no_directory : (o : Option (Node ℕ)) (text : List ℕ) → symlink_text o ≡ Some text → is_directory_node o ≡ false
-link_no_directory None text e = refl
-link_no_directory (Some node) text e = by node.content e
-  where
-    by : (content : Content ℕ) → symlink_text (Some (record { attr = node.attr; content = content })) ≡ Some text
-        → is_directory_node (Some (record { attr = node.attr; content = content })) ≡ false
-    by (Directory parent entries opaque) e = cc
-    by (Regular bytes) e = refl
-    by (Symlink inner) e = refl
-    by Whiteout e = refl
+link_no_directory o text e = grind (arith, common_steps)
 
 -- what is a file is a regular one
 file_of : (o : Option (Node ℕ)) → is_kind_in File o ≡ true
@@ -108,16 +101,8 @@ object_by_words : (later : Looks ℕ) (reader : Task ℕ) (path : List ℕ) (nex
     → path_text {N = ℕ} path ≡ Ok path → ends_in_slash path ≡ false
     → EndsAt (words_walked nat_eq later reader (followed_to 41 later reader) (walk_start reader path)
     (reverse (words path))) next left → EndsAt (object_walk nat_eq later reader path) next left
-object_by_words later reader path next left parsed no_slash ends = (
-  ends.0,
-  ap (λ r. then_walk (then_walk r (λ text.
-      words_walked nat_eq later reader (followed_to 41 later reader) (walk_start reader text) (reverse (words text))))
-      (λ here. walk_unless here.steps (slash_rules nat_eq later path here.location) here)) parsed
-      ∙ ap (λ r. then_walk r (λ here. walk_unless here.steps (slash_rules nat_eq later path here.location) here)) ends.1
-      ∙ walk_passed ends.0 (slash_rules nat_eq later path next)
-      (record { location = next; left = left; steps = ends.0 })
-      (ap (λ b. cond b (not (Look.is_directory_at later next)) false) no_slash, tt),
-)
+object_by_words later reader path next left parsed no_slash ends =
+    grind (arith, common_steps, ends, followed_to, walk_passed)
 
 -- A call that found the place of a file, or made it
 module _ (world later : World ℕ) (is : IsWorld nat_eq world) (task : Task ℕ)
