@@ -1,5 +1,6 @@
-use Rattle.std.proofs.Common.{ap, refl}
-use Rattle.vt_permits.specs.GrantValue.{remove_permit}
+use Rattle.std.proofs.Common.{OnOk, ap, refl, subst}
+use Rattle.vt_mounting.specs.Detach.Events.{Becomes}
+use Rattle.vt_permits.specs.GrantValue.{remove_permit, rename_permit}
 use Rattle.vt_permits.specs.declared.grant.Grant.TheVariants.{Remove}
 use Rattle.vt_permits.specs.declared.grant.RemoveGrant.TheVariants as granted
 use Rattle.vt_calls.proofs.Endings.{changed, made, permitted}
@@ -36,4 +37,6 @@ returns-in-Rename c =
     changed c.args.world.now c.args.name.now (Remove c.args.grant) (remove_permit (granted.Rename c.in-Rename.renamed))
     (λ task called. ap remove_permit c.in-Rename.is) _ c.rename.result c.done-in-Rename.result c.done-in-Rename.ensures tt
     (λ task called. refl) refl
-    (rw c.into_inner.ensures at c.rename.ensures.ok) c.rename.ensures.err
+    (subst (λ renamed. OnOk c.rename.result
+    (Becomes c.args.world.now c.args.name.now (rename_permit renamed) c.rename.new.self))
+    c.into_inner.ensures c.rename.ensures.ok) c.rename.ensures.err
