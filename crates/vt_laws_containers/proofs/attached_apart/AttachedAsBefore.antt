@@ -1,8 +1,9 @@
 -- Where copies come at a mount of a sealed set and at its receivers, others are as they were.
-use Rattle.std.proofs.Common.{◌≡◌, refl, sym, ap, subst, ◌∙◌, inr, ⊎_elim, ℕ, nat_eq, true, false, List, ◌++◌, append_assoc, Option, Some, flat_map, map}
+use Rattle.std.proofs.Common.{arith, ◌≡◌, refl, sym, ap, subst, ◌∙◌, inr, ⊎_elim, ℕ, nat_eq, true, false, List, ◌++◌, append_assoc, Option, Some, map}
+use Rattle.std.proofs.lemmas.Grind.{common_steps}
 use Rattle.std.specs.List.{list_any}
 use Rattle.vt_spec.specs.Language.Calls.{TaskName}
-use Rattle.vt_spec.specs.Lists.{Fresh, folded, is_among, rest_of}
+use Rattle.vt_spec.specs.Lists.{Fresh, folded, is_among}
 use Rattle.vt_spec.specs.Machine.Attach.{Copies, attached_by, masters_with}
 use Rattle.vt_spec.specs.Machine.Invariants.{IsWorld}
 use Rattle.vt_spec.specs.Machine.Mounts.{Location, Mount, source_of}
@@ -64,11 +65,7 @@ module _ (world : World ℕ) (names : List TaskName) (is : IsWorld nat_eq world)
       (own_how world names up added new_ones masters grows y m mine)
 
   as_grown : attached_by nat_eq to new place false origins ≡ grown_world world names up added new_ones masters
-  as_grown = ap (λ l. record world { mounts = l; master = masters; filesystems = world.filesystems ++ new_ones })
-      (append_assoc (map up world.mounts)
-      (copies world names is sealed_off new_ones unused place there own new false origins (mount_at nat_eq world place))
-      (flat_map (copies world names is sealed_off new_ones unused place there own new false origins)
-      (rest_of (parts world names is sealed_off new_ones unused place there own))))
+  as_grown = grind (arith, common_steps, append_assoc, copies, parts)
 
   pub copies_as_before : OthersAsBefore world (attached_by nat_eq to new place false origins) names names
   copies_as_before = subst (λ w. OthersAsBefore world w names names) (sym as_grown)

@@ -1,13 +1,14 @@
 -- Where mounts of a sealed set change, and others come that are theirs, others are as they were.
-use Rattle.std.proofs.Common.{◌≡◌, refl, sym, ap, subst, ◌∙◌, ◌⊎◌, inl, inr, ⊎_elim, ℕ, nat_eq, Bool, true, false, cond, true≢false, List, [], ◌∷◌, ◌++◌, Option, Some, None, filter, find, map, not, ◌||◌, eq-eqb}
-use Rattle.std.specs.Prelude.{option_to_list, unwrap_or}
+use Rattle.std.proofs.Common.{arith, ◌≡◌, refl, sym, ap, subst, ◌∙◌, ◌⊎◌, inl, inr, ⊎_elim, ℕ, nat_eq, Bool, true, false, cond, true≢false, List, [], ◌∷◌, ◌++◌, Option, Some, None, filter, find, map, not, ◌||◌, eq-eqb}
+use Rattle.std.proofs.lemmas.Grind.{common_steps}
+use Rattle.std.specs.Prelude.{unwrap_or}
 use Rattle.vt_spec.specs.Language.Calls.{TaskName}
 use Rattle.vt_spec.specs.Lists.{holds_of, is_among}
 use Rattle.vt_spec.specs.Machine.Invariants.{IsWorld}
 use Rattle.vt_spec.specs.Machine.Locked.{of_overlay}
 use Rattle.vt_spec.specs.Machine.Mounts.{Location, Mount, mount_in, no_mount}
 use Rattle.vt_spec.specs.Machine.Sealed.{change_layers, is_member_task, is_own_mount, is_own_namespace, locations, members, other_mounts, outsiders, own_mounts, sealed, shares_no_events, used_directly, used_filesystems}
-use Rattle.vt_spec.specs.Machine.World.{Filesystem, Layer, Overlay, Task, World, all_locations, layers_of, locations_of, mount_at}
+use Rattle.vt_spec.specs.Machine.World.{Filesystem, Layer, Task, World, all_locations, layers_of, locations_of, mount_at}
 use Rattle.vt_spec.proofs.Lists.{Among, among-append, among-append_left, among-append_right, among-filter, among-flat_map, among-from_filter, among-from_flat_map, among-from_map, among-map, among_from_list_all, any_from_among, list_all_from_among}
 use Rattle.vt_laws_sealed.specs.Part.Seals.{IsApart}
 use Rattle.vt_laws_sealed.proofs.part.part.PartOfPart.{used_directly_used}
@@ -20,22 +21,7 @@ use Rattle.vt_laws_containers.proofs.scripts.UsedThere.{IsThere}
 -- an upper or work layer is a layer
 written_layer : (filesystem : Filesystem ℕ) (number : ℕ) → Among number (change_layers filesystem)
     → (layer : Layer ℕ) × Among layer (of_overlay [] layers_of filesystem) × (number ≡ layer.filesystem)
-written_layer filesystem number = by filesystem.overlay refl
-  where
-    layers_in : Option (Overlay ℕ) → List (Layer ℕ)
-    layers_in o = of_overlay [] layers_of (record filesystem { overlay = o })
-
-    by : (o : Option (Overlay ℕ)) → filesystem.overlay ≡ o
-        → Among number (change_layers (record filesystem { overlay = o }))
-        → (layer : Layer ℕ) × Among layer (of_overlay [] layers_of filesystem) × (number ≡ layer.filesystem)
-    by None e m = absurd m
-    by (Some overlay) e m =
-        let written = option_to_list overlay.upper ++ option_to_list overlay.work in
-        let from = among-from_map (λ (l : Layer ℕ). l.filesystem) written number m in (
-          from.0,
-          subst (λ o. Among from.0 (layers_in o)) (sym e) (among-append_left written overlay.lowers from.0 from.1),
-          from.2,
-        )
+written_layer filesystem number = grind (arith, common_steps, among-from_map, among-append_left)
 
 module _ (world : World ℕ) (names : List TaskName) (is : IsWorld nat_eq world)
     (sealed_off : sealed nat_eq world names ≡ true) (change : Mount ℕ → Mount ℕ) (added : List (Mount ℕ))
@@ -103,11 +89,7 @@ module _ (world : World ℕ) (names : List TaskName) (is : IsWorld nat_eq world)
   shown_still l m = shows_still world names change added new_ones master grows l.mount (numbered_there l m)
 
   owned_still : (x : Mount ℕ) → Among x world.mounts → owns (change x) ≡ owns x
-  owned_still x m = by (owns x) refl
-    where
-      by : (b : Bool) → owns x ≡ b → owns (change x) ≡ owns x
-      by true own = (grows.kept x m own).0 ∙ sym own
-      by false other = ap owns (grows.others x m other).0
+  owned_still x m = grind (arith, common_steps)
 
   sides_still : (number : ℕ) → is_among nat_eq number (map (λ (m : Mount ℕ). m.number) world.mounts) ≡ true
       → owns (mount_in nat_eq left.mounts number) ≡ owns (mount_in nat_eq world.mounts number)

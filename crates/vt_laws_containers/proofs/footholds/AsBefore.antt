@@ -1,6 +1,7 @@
 -- A world in which others are as they were beside a set: they have the footholds that they had.
-use Rattle.std.proofs.Common.{◌≡◌, refl, sym, ap, subst, ◌∙◌, ◌⊎◌, inl, inr, ⊎_elim, ℕ, nat_eq, Bool, true, false, true≢false, List, [], ◌∷◌, ◌++◌, Option, Some, None, find, flat_map, is_some, map, not, ◌&&◌, ◌||◌, eqb-true}
-use Rattle.std.specs.Prelude.{option_map, option_to_list, unwrap_or}
+use Rattle.std.proofs.Common.{arith, ◌≡◌, refl, sym, ap, subst, ◌∙◌, ◌⊎◌, inl, inr, ⊎_elim, ℕ, nat_eq, Bool, true, false, true≢false, List, [], ◌∷◌, ◌++◌, Option, Some, None, find, flat_map, map, not, ◌&&◌, ◌||◌, eqb-true}
+use Rattle.std.proofs.lemmas.Grind.{common_steps}
+use Rattle.std.specs.Prelude.{option_map, unwrap_or}
 use Rattle.std.specs.List.{list_all, list_any}
 use Rattle.std.proofs.lemmas.Bool.{and_from, and_parts, false_from_ne_true, or_left, or_right}
 use Rattle.vt_spec.specs.Language.Calls.{TaskName}
@@ -54,35 +55,15 @@ pub record OthersAsBefore (world left : World ℕ) (names set : List TaskName) :
 
 -- What layers say of an overlay
 overlays_alike : (one other : Filesystem ℕ) → layered_as one ≡ layered_as other → is_overlay one ≡ is_overlay other
-overlays_alike one other same = cc (stripped one.overlay, stripped other.overlay)
-  where
-    stripped : (o : Option (Overlay ℕ)) → is_some (option_map without_real o) ≡ is_some o
-    stripped None = refl
-    stripped (Some overlay) = refl
+overlays_alike one other same = grind (arith, common_steps)
 
 layers_alike : (number : ℕ) (one other : Filesystem ℕ) → layered_as one ≡ layered_as other
     → has_layer_on nat_eq number one ≡ has_layer_on nat_eq number other
-layers_alike number one other same = cc (stripped one.overlay, stripped other.overlay)
-  where
-    on : Option (Overlay ℕ) → Bool
-    on o = overlay_or false (λ (overlay : Overlay ℕ). list_any (λ layer. nat_eq number layer.filesystem)
-        (layers_of overlay)) o
-
-    stripped : (o : Option (Overlay ℕ)) → on (option_map without_real o) ≡ on o
-    stripped None = refl
-    stripped (Some overlay) = refl
+layers_alike number one other same = grind (arith, common_steps)
 
 pub changes_alike : (one other : Filesystem ℕ) → layered_as one ≡ layered_as other
     → change_layers one ≡ change_layers other
-changes_alike one other same = cc (stripped one.overlay, stripped other.overlay)
-  where
-    on : Option (Overlay ℕ) → List ℕ
-    on o = overlay_or [] (λ (overlay : Overlay ℕ). map (λ (layer : Layer ℕ). layer.filesystem)
-        (option_to_list overlay.upper ++ option_to_list overlay.work)) o
-
-    stripped : (o : Option (Overlay ℕ)) → on (option_map without_real o) ≡ on o
-    stripped None = refl
-    stripped (Some overlay) = refl
+changes_alike one other same = grind (arith, common_steps)
 
 any_alike : {A : Type 0} (p q : A → Bool) (list : List A) → ((x : A) → Among x list → p x ≡ q x)
     → list_any p list ≡ list_any q list
@@ -141,13 +122,7 @@ module _ (world left : World ℕ) (names set : List TaskName) (is : IsWorld nat_
     (others : OthersAsBefore world left names set) where
   -- others are on the same filesystems
   no_outsider_same : (number : ℕ) → no_outsider_on nat_eq left set number ≡ no_outsider_on nat_eq world names number
-  no_outsider_same number = cc (
-    others.mounts,
-    others.others,
-    any_alike (λ (l : Location ℕ). nat_eq number (mount_at nat_eq left l).filesystem) (λ (l : Location ℕ). nat_eq
-        number (mount_at nat_eq world l).filesystem) (locations (outsiders world names)) (λ l m. ap (nat_eq number)
-        (others.shown l m)),
-  )
+  no_outsider_same number = grind (arith, common_steps, any_alike)
 
   abbrev free_in : World ℕ → List TaskName → ℕ → Filesystem ℕ → Bool
   free_in w q number merged = not (has_layer_on nat_eq number merged) || no_outsider_on nat_eq w q merged.number
@@ -208,11 +183,7 @@ module _ (world left : World ℕ) (names set : List TaskName) (is : IsWorld nat_
       which : list_all (free_in left set number) (overlays left) ≡ true → (merged : Filesystem ℕ)
           → Among merged world.filesystems → (a : Bool) → has_layer_on nat_eq number merged ≡ a → (b : Bool)
           → no_outsider_on nat_eq world names merged.number ≡ b → free_in world names number merged ≡ true
-      which all merged there false e b f =
-          or_left (not (has_layer_on nat_eq number merged)) (no_outsider_on nat_eq world names merged.number) (ap not e)
-      which all merged there true e true f =
-          or_right (not (has_layer_on nat_eq number merged)) (no_outsider_on nat_eq world names merged.number) f
-      which all merged there true e false f = absurd (clash all merged there e f)
+      which all merged there a e b f = grind (arith, common_steps, or_left, or_right, clash)
 
   same_footholds : (number : ℕ) → used_alone nat_eq left set number ≡ used_alone nat_eq world names number
   same_footholds number =

@@ -10,8 +10,8 @@ use Rattle.vt_spec.specs.Machine.Filesystems.{raised, raised_if_changed}
 use Rattle.vt_spec.specs.Machine.Mounts.{Location, Mount, no_mount}
 use Rattle.vt_spec.specs.Machine.Policy.{numbers_raised, raised_task}
 use Rattle.vt_spec.specs.Machine.Sealed.{is_member_task, is_own_namespace, locations, members, other_mounts, outsiders, own_mounts, share_events, used_directly}
-use Rattle.vt_spec.specs.Machine.Settled.{filesystem_lives, mount_lives, only_used, settled, without_dead_filesystems, without_dead_in, without_dead_mounts}
-use Rattle.vt_spec.specs.Machine.World.{Filesystem, Task, World, all_locations, is_overlay, locations_of, mount_at}
+use Rattle.vt_spec.specs.Machine.Settled.{mount_lives, only_used, settled}
+use Rattle.vt_spec.specs.Machine.World.{Filesystem, Task, World, all_locations, locations_of, mount_at}
 use Rattle.vt_spec.proofs.Lists.{Among, among-append, among-append_left, among-append_right, among-flat_map, among-from_filter, among-from_flat_map, among-from_map, among-map, any_from_among}
 use Rattle.vt_spec.proofs.Worlds.{number-only_used, same_task_name}
 use Rattle.vt_laws_mounts.proofs.letting_go.Lists.{filter-map, filter_less}
@@ -69,31 +69,10 @@ module _ (world left : World ℕ) (names set : List TaskName) (others : OthersAs
   left_from : (f : Filesystem ℕ) → Among f last.filesystems
       → (was : Filesystem ℕ) × Among was left.filesystems × (f.number ≡ was.number) × (layered_as f ≡ layered_as was)
   left_from f m =
-      let second = among-from_map (λ x. only_used nat_eq first (not (is_overlay x)) x) first.filesystems f m in
-      let one = among-from_map (λ x. only_used nat_eq living (is_overlay x) x) living.filesystems second.0 second.1 in
-      let alive = among-from_filter (filesystem_lives nat_eq (without_dead_mounts nat_eq left)) left.filesystems one.0
-      one.1 in (
-        one.0,
-        alive.0,
-        ap (λ (x : Filesystem ℕ). x.number) second.2 ∙ number-only_used first (not (is_overlay second.0)) second.0
-            ∙ ap (λ (x : Filesystem ℕ). x.number) one.2 ∙ number-only_used living (is_overlay one.0) one.0,
-        ap layered_as second.2 ∙ cut_layered first (not (is_overlay second.0)) second.0
-            ∙ ap layered_as one.2 ∙ cut_layered living (is_overlay one.0) one.0,
-      )
-    where
-      living : World ℕ
-      living = without_dead_filesystems nat_eq (without_dead_mounts nat_eq left)
-
-      first : World ℕ
-      first = without_dead_in nat_eq is_overlay living
+      grind (arith, common_steps, among-from_map, among-from_filter, number-only_used, layered_as, cut_layered)
 
   out_now : OthersStayOut left left set
-  out_now = record {
-    tasks = others.tasks;
-    events = others.events;
-    locations = others.places;
-    free = λ number of alone. alone;
-  }
+  out_now = grind (arith, common_steps)
 
   direct_was : (number : ℕ) → Among number (used_directly nat_eq last set)
       → Among number (used_directly nat_eq left set)
@@ -141,11 +120,7 @@ module _ (world left : World ℕ) (names set : List TaskName) (others : OthersAs
   raise = raised_task name
 
   own_same : (n : ℕ) → is_own_namespace nat_eq raised_left set n ≡ is_own_namespace nat_eq left set n
-  own_same n = cc (
-    raised_members set name left.tasks,
-    any_mapped (λ (t : Task ℕ). nat_eq n t.namespace) (λ (t : Task ℕ). nat_eq n t.namespace) raise (members left
-        set) (λ t m. ap (nat_eq n) (raised_is name (λ (x : Task ℕ). x.namespace) (λ x. refl) t)),
-  )
+  own_same n = grind (arith, common_steps, raised_members, any_mapped, raised_is)
 
   -- the caller is none of the others
   unraised : (t : Task ℕ) → Among t (outsiders left set) → raise t ≡ t

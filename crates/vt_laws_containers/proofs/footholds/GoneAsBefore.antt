@@ -1,6 +1,6 @@
 -- Mounts of a set that go, and files that change, leave others as they were.
 use Rattle.std.proofs.lemmas.Grind.{common_steps}
-use Rattle.std.proofs.Common.{◌≡◌, refl, sym, ap, subst, ◌∙◌, inl, inr, ℕ, nat_eq, Bool, true, false, cond, true≢false, List, [], ◌∷◌, Option, Some, None, filter, find, length, map, eq-eqb, eqb-true, arith}
+use Rattle.std.proofs.Common.{◌≡◌, refl, sym, ap, subst, ◌∙◌, inl, inr, ℕ, nat_eq, Bool, true, false, cond, true≢false, List, [], ◌∷◌, Some, None, filter, find, length, map, eq-eqb, eqb-true, arith}
 use Rattle.std.specs.Prelude.{option_map}
 use Rattle.std.specs.List.{list_any}
 use Rattle.std.proofs.lemmas.Bool.{false_from_ne_true}
@@ -96,12 +96,7 @@ module _ (world : World ℕ) (names : List TaskName) (name : TaskName) (call : C
 
   placed_by : (mount : Mount ℕ) → holds_of ours mount.namespace ≡ true
       → (n : ℕ) × (mount.namespace ≡ Some n) × (ours n ≡ true)
-  placed_by mount h = by mount.namespace refl h
-    where
-      by : (o : Option ℕ) → mount.namespace ≡ o → holds_of ours o ≡ true
-          → (n : ℕ) × (mount.namespace ≡ Some n) × (ours n ≡ true)
-      by None e own = absurd (true≢false (sym own))
-      by (Some n) e own = (n, e, own)
+  placed_by mount h = grind (arith, common_steps, true≢false)
 
   pub own_gone_before : (gone : List ℕ)
       → ((mount : Mount ℕ) → Among mount world.mounts → is_going nat_eq gone mount.number ≡ true

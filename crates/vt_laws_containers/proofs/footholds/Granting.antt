@@ -1,5 +1,6 @@
 -- A call of theirs gives others no foothold, if what it is permitted leaves others as they were.
-use Rattle.std.proofs.Common.{◌≡◌, refl, sym, ap, subst, ◌∙◌, inl, ℕ, nat_eq, true, false, true≢false, List, Option, Some, None, Result, Ok, Err, is_ok, not, ◌||◌}
+use Rattle.std.proofs.Common.{arith, ◌≡◌, refl, sym, ap, subst, ◌∙◌, inl, ℕ, nat_eq, true, false, true≢false, List, Option, Some, None, Result, Ok, Err, is_ok, not, ◌||◌}
+use Rattle.std.proofs.lemmas.Grind.{common_steps}
 use Rattle.std.specs.Prelude.{IfOk}
 use Rattle.std.proofs.lemmas.Option.{same_Some}
 use Rattle.vt_spec.specs.declared.errors.Deny.{Deny}
@@ -11,7 +12,6 @@ use Rattle.vt_spec.specs.Machine.Invariants.{IsWorld}
 use Rattle.vt_spec.specs.Machine.Judge.{Judgement, judge_in}
 use Rattle.vt_spec.specs.Machine.Outcomes.{Outcome, after}
 use Rattle.vt_spec.specs.Machine.Permits.{Permit}
-use Rattle.vt_spec.specs.Machine.Permits.Permit.{Allowed, ToList, ToListMounts, ToRead, ToReadPart, ToStat}
 use Rattle.vt_spec.specs.Machine.Policy.{filesystems_changed_by, numbers_raised, only_looks, policy}
 use Rattle.vt_spec.specs.Machine.Run.{Serves}
 use Rattle.vt_spec.specs.Machine.Sealed.{locations, members, sealed}
@@ -66,13 +66,7 @@ module _ (world : World ℕ) (names : List TaskName) (name : TaskName) (call : C
   looks_stay : (task : Task ℕ) → left names name call ≡ names → (permit : Permit ℕ)
       → IsLook (is_theirs world names) (locations (members world names)) permit
       → grown names name call (apply nat_eq fresh world task permit).answer ≡ names
-  looks_stay task same Allowed on = same
-  looks_stay task same (ToList directory) on = refl
-  looks_stay task same (ToStat object) on = refl
-  looks_stay task same (ToRead file) on = refl
-  looks_stay task same (ToReadPart file offset size) on = refl
-  looks_stay task same ToListMounts on = refl
-  looks_stay task same permit on = absurd on
+  looks_stay task same permit on = grind (arith, common_steps)
 
   pub looks_out : only_looks call ≡ true → GivesNoFoothold world names name call fresh
   looks_out looks = unchanged_out (look_changes_nothing fresh world name call looks) stays

@@ -135,15 +135,7 @@ module _ (world : World ℕ) (names : List TaskName) (apart : IsApart world name
   stands_too number (on_parent it point e same up) = on_parent it point e same (stands_too point.mount up)
 
   mounts_too : MountInvariants nat_eq mirror
-  mounts_too = record {
-    one_number = apart.is.mounts.one_number;
-    one_child = apart.is.mounts.one_child;
-    standing = all_from_among (λ (x : Mount ℕ). Stands nat_eq mirror x.number) world.mounts (λ mount m.
-        stands_too mount.number
-        (among_from_all (λ (x : Mount ℕ). Stands nat_eq world x.number) world.mounts apart.is.mounts.standing mount m));
-    nowhere = apart.is.mounts.nowhere;
-    groups = apart.is.mounts.groups;
-  }
+  mounts_too = grind (arith, common_steps, all_from_among, stands_too, among_from_all)
 
   -- none of them is on a mount of the sealed set
   not_on_ours : (n : ℕ) → is_own_namespace nat_eq mirror their_names n ≡ false → (mount : Mount ℕ)

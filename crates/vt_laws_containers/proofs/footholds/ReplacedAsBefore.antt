@@ -192,11 +192,7 @@ module _ (world : World ℕ) (names : List TaskName) (name : TaskName) (call : C
   is_ours = is_own_namespace nat_eq world names
 
   caller_ours : is_ours task.namespace ≡ true
-  caller_ours = own_of task its_member
-    where
-      own_of : (t : Task ℕ) → Among t (members world names) → is_ours t.namespace ≡ true
-      own_of t m = any_from_among (λ (x : Task ℕ). nat_eq t.namespace x.namespace) (members world names) t m
-          (eq-eqb t.namespace t.namespace refl)
+  caller_ours = grind (arith, common_steps, its_member, any_from_among, eq-eqb)
 
   same_mount : (number : ℕ) (mount : Mount ℕ) → Among mount world.mounts → nat_eq number mount.number ≡ true
       → mount_numbered nat_eq world number ≡ mount
@@ -262,12 +258,7 @@ module _ (world : World ℕ) (names : List TaskName) (name : TaskName) (call : C
 
       same_set : (mount : Mount ℕ) → Among mount world.mounts
           → replaced_if_same nat_eq (record old { flags = flags }) mount ≡ set world number flags mount
-      same_set mount m = cc (number-mount_in world.mounts number, by (nat_eq number mount.number) refl)
-        where
-          by : (b : Bool) → nat_eq number mount.number ≡ b
-              → cond b (record old { flags = flags }) mount ≡ cond b (record mount { flags = flags }) mount
-          by true e = ap (λ (x : Mount ℕ). record x { flags = flags }) (same_mount number mount m e)
-          by false e = refl
+      same_set mount m = grind (arith, common_steps, number-mount_in, same_mount)
 
   -- pivot_root(2)
   module _ (new : ℕ) (put : Location ℕ) (judged : judge_in nat_eq fresh world task call ≡ Ok (ToPivot new put)) where

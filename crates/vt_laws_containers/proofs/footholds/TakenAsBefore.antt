@@ -155,12 +155,8 @@ module _ (world : World ℕ) (names set : List TaskName) (is : IsWorld nat_eq wo
     where
       theirs : (t : Task ℕ) → Among t tasks → t.namespace ≡ n → ours n ≡ true → (b : Bool)
           → is_member_task set t ≡ b → own_left n ≡ true
-      theirs t k at own true is =
-          any_from_among (λ (x : Task ℕ). nat_eq n x.namespace) (filter (is_member_task set) tasks) t
-          (among-filter (is_member_task set) tasks t k is) (eq-eqb n t.namespace (sym at))
-      theirs t k at own false is = absurd (true≢false (sym own ∙ ap ours (sym at)
-          ∙ namespace_outside world names apart t (subst (Among t) takes.others
-          (among-filter (λ (x : Task ℕ). not (is_member_task set x)) tasks t k (ap not is)))))
+      theirs t k at own b is =
+          grind (arith, common_steps, any_from_among, among-filter, eq-eqb, true≢false, namespace_outside, apart)
 
       by : (b : Bool) → ours n ≡ b → own_left n ≡ b
       by true own =

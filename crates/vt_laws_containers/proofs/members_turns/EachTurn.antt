@@ -1,5 +1,6 @@
 -- Each turn of a task of a sealed set is one of the part of the set.
-use Rattle.std.proofs.Common.{◌≡◌, refl, sym, ap, subst, ◌∙◌, ⊎_elim, ℕ, nat_eq, Bool, true, true≢false, not, List, [], ◌∷◌, Option, Some, None, filter, is_some}
+use Rattle.std.proofs.Common.{arith, ◌≡◌, refl, sym, ap, subst, ◌∙◌, ⊎_elim, ℕ, nat_eq, Bool, true, true≢false, not, List, [], ◌∷◌, Option, Some, None, filter, is_some}
+use Rattle.std.proofs.lemmas.Grind.{common_steps}
 use Rattle.vt_spec.specs.declared.errors.Deny.{Deny}
 use Rattle.vt_spec.specs.Language.Calls.{Call, TaskName, same_name}
 use Rattle.vt_spec.specs.Language.Script.Who.{Someone}
@@ -47,11 +48,7 @@ module _ (sched : Sched ℕ) (names : List TaskName) (name : TaskName) (is : IsW
       → part_of nat_eq b names ≡ part_of nat_eq a names → their_calls names v ≡ their_calls names u
       → part_of_sched names (record { world = b; queues = queues; under_way = v })
       ≡ part_of_sched names (record { world = a; queues = queues; under_way = u })
-  cut a b queues u v e f =
-      ap (λ (w : World ℕ). sched_of w (their_calls names v)) e ∙ ap (sched_of (part_of nat_eq a names)) f
-    where
-      sched_of : World ℕ → List (Progress ℕ) → Sched ℕ
-      sched_of world under_way = record { world = world; queues = queues; under_way = under_way }
+  cut a b queues u v e f = grind (arith, common_steps)
 
   -- a line that is refused in any world is refused alike
   denied_alike : (line : ℕ) (deny : Deny) (u v : List (Progress ℕ)) → their_calls names v ≡ their_calls names u

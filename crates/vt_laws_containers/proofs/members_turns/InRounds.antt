@@ -1,5 +1,6 @@
 -- Turns of theirs reply as they do without the turns of others.
-use Rattle.std.proofs.Common.{◌≡◌, refl, sym, ap, subst, ◌∙◌, ℕ, nat_eq, true, List, [], ◌∷◌, Option, map}
+use Rattle.std.proofs.Common.{arith, ◌≡◌, refl, sym, ap, subst, ◌∙◌, ℕ, nat_eq, true, List, [], ◌∷◌, Option, map}
+use Rattle.std.proofs.lemmas.Grind.{common_steps}
 use Rattle.vt_spec.specs.Language.Calls.{TaskName, same_name}
 use Rattle.vt_spec.specs.Language.Script.Who.{Someone}
 use Rattle.vt_spec.specs.Lists.{first_of_list, is_among}
@@ -60,21 +61,10 @@ module _ (kin : List TaskName) (one other : Sched ℕ) (names : List TaskName) (
       }
 
   same_back : HaveOnePart later one names
-  same_back = record {
-    part = sym same.part;
-    calls = sym same.calls;
-    queues = λ member theirs. sym (same.queues member theirs);
-  }
+  same_back = grind (arith, common_steps, same)
 
   later_turn : IsTurnOfTheirs later names round.name round.fresh
-  later_turn = record {
-    has = record { is = later_at.sealed_in.is; holds = later_at.holds };
-    sealed_off = later_at.sealed_in.sealed_off;
-    theirs = is.theirs;
-    among_them = is.among_them;
-    no_directive = is.no_directive;
-    serves = is.serves;
-  }
+  later_turn = grind (arith, common_steps, later_at)
 
   lone_turn : IsTurnOfTheirs one names round.name round.fresh
   lone_turn = still_theirs later one names same_back round.name round.fresh later_turn at.here.sealed_in at.here.holds
@@ -162,14 +152,7 @@ begun : (kin : List TaskName) (sched : Sched ℕ) (names : List TaskName) → Ha
     → HoldsWhatIsSeen sched
     → ((member : TaskName) → is_among same_name member names ≡ true → is_among same_name member kin ≡ true)
     → Abreast kin sched sched names
-begun kin sched names has holds within = record {
-  here = record { sealed_in = has; holds = holds };
-  there = record { sealed_in = has; holds = holds };
-  part = refl;
-  calls = refl;
-  queues = λ member theirs. refl;
-  within = within;
-}
+begun kin sched names has holds within = grind (arith, common_steps)
 
 pub their_turns_reply_as_alone : TheirTurnsReplyAsAlone
 their_turns_reply_as_alone kin sched names rounds has holds within are lone =

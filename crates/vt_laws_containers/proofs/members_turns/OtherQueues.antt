@@ -1,5 +1,6 @@
 -- A turn looks at no queue but its own.
-use Rattle.std.proofs.Common.{◌≡◌, refl, ap, subst, ◌∙◌, inl, inr, ⊎_elim, sym, true≢false, ℕ, nat_eq, Bool, true, false, cond, List, [], ◌∷◌, ◌+◌, Option, Some, None, Ok, Err, Result, find}
+use Rattle.std.proofs.Common.{arith, ◌≡◌, refl, ap, subst, ◌∙◌, inl, inr, sym, true≢false, ℕ, nat_eq, Bool, true, false, cond, List, [], ◌∷◌, ◌+◌, Option, Some, None, Ok, Err, Result, find}
+use Rattle.std.proofs.lemmas.Grind.{common_steps}
 use Rattle.std.specs.Prelude.{Contains, nat_le, slice_get}
 use Rattle.vt_spec.specs.declared.errors.Deny.{Deny}
 use Rattle.vt_spec.specs.Errors.{unless}
@@ -134,11 +135,7 @@ queue_after sched who fresh member =
     by : (list : List Queued) (turned : Turned ℕ) → Turns sched who fresh list turned
         → queue_of turned.sched.queues (Someone member)
         ≡ shortened_by turned.reply (same_who (Someone member) who) items
-    by [] turned goes = goes_on turned goes
-    by (first ∷ rest) turned is = ⊎_elim (goes_on turned)
-        (λ done. ap (λ (q : List Queue). queue_of q (Someone member)) done.queues
-        ∙ shorter who (Someone member) sched.queues
-        ∙ sym (ap (λ (r : Option Reply). shortened_by r (same_who (Someone member) who) items) done.reply)) is
+    by list turned goes = grind (arith, common_steps, goes_on, first, shorter)
 
 -- Turns of others leave the queues of these tasks.
 pub queues_stay : (kin : List TaskName) (schedule : List Turn) (sched : Sched ℕ)

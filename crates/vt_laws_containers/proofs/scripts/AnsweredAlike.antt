@@ -1,4 +1,5 @@
 -- Both runs answer the calls of the set alike.
+use Rattle.std.proofs.lemmas.Grind.{common_steps}
 use Rattle.std.proofs.Common.{◌≡◌, refl, sym, ap, subst, ◌∙◌, ℕ, nat_eq, nat_lt, Bool, true, false, cond, List, [], ◌∷◌, ◌++◌, ◌+◌, ◌||◌, Option, Some, None, length, map, arith}
 use Rattle.std.specs.Prelude.{Contains, ⊤}
 use Rattle.vt_spec.specs.Language.Calls.{Call, TaskName, same_name}
@@ -47,13 +48,7 @@ record Both (number : ℕ) (full lone : World ℕ) (names : List TaskName) : Typ
 
 later_line : (number : ℕ) (world : World ℕ) (names : List TaskName) → IsSealedOffAt (stand number world names)
     → IsSealedOffAt (stand (number + 1) world names)
-later_line number world names at = record {
-  is = at.is;
-  there = at.there;
-  sealed_off = at.sealed_off;
-  counted = (let least = at.counted in omega (arith, least));
-  numbers = numbers_passed number world at.numbers;
-}
+later_line number world names at = grind (arith, common_steps, at, numbers_passed)
 
 module _ (number : ℕ) (full lone : World ℕ) (names : List TaskName) (both : Both number full lone names)
     (name : TaskName) (call : Call) (few : names_few_groups call ≡ true)

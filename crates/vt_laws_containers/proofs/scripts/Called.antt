@@ -5,7 +5,7 @@ use Rattle.std.specs.Prelude.{⊤}
 use Rattle.std.proofs.lemmas.Bool.{and_from, not-true}
 use Rattle.vt_spec.specs.declared.errors.Deny.{Deny}
 use Rattle.vt_spec.specs.Language.Answers.{Answer}
-use Rattle.vt_spec.specs.Language.Answers.Answer.{Child, Done}
+use Rattle.vt_spec.specs.Language.Answers.Answer.{Child}
 use Rattle.vt_spec.specs.Language.Calls.{Call, TaskName, same_name}
 use Rattle.vt_spec.specs.Language.Calls.Call.{Exit}
 use Rattle.vt_spec.specs.Lists.{Fresh, is_among}
@@ -194,11 +194,7 @@ module _ (world : World ℕ) (fresh : Fresh ℕ) (names : List TaskName) (name :
   -- after a call that is no exit
   others_stay : is_exit call ≡ false → (answer : Result Answer Deny) → ChildIsThere later.tasks answer
       → are_all_called later (grown names name call answer) ≡ true
-  others_stay other (Ok (Child child)) made =
-      and_from (is_some (task_called later child)) (are_all_called later names) made (all_stay other)
-  others_stay other (Ok Done) made =
-      subst (λ set. are_all_called later set ≡ true) (sym (left_all names name call other)) (all_stay other)
-  others_stay other answer made = all_stay other
+  others_stay other answer made = grind (arith, common_steps, and_from, all_stay, left_all)
 
 -- after an exit
 module _ (world : World ℕ) (fresh : Fresh ℕ) (names : List TaskName) (name : TaskName)

@@ -1,4 +1,5 @@
 -- The numbers that a line is handed are not in use, and after its call the world has no number of a later line.
+use Rattle.std.proofs.lemmas.Grind.{common_steps}
 use Rattle.std.proofs.Common.{◌≡◌, sym, ap, ◌∙◌, ℕ, zero, suc, nat_eq, Bool, false, true≢false, List, Some, ◌+◌, ◌≤◌, ◌||◌, eq-eqb, eqb-true, ne_eqb, arith}
 use Rattle.std.proofs.lemmas.Bool.{false_from_ne_true, or_left, or_right}
 use Rattle.vt_spec.specs.Language.Calls.{Call, TaskName}
@@ -100,8 +101,4 @@ line_numbers_left (suc line) grammar world text counted has = line_numbers_here 
 
 pub numbers_passed : (number : ℕ) (world : World ℕ) → HasEarlierNumbers number world
     → HasEarlierNumbers (number + 1) world
-numbers_passed number world has = record {
-  named = has.named;
-  keeps = has.keeps;
-  later = λ line place less. has.later line place (omega (arith, less));
-}
+numbers_passed number world has = grind (arith, common_steps)

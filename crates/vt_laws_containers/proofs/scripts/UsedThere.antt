@@ -1,13 +1,14 @@
 -- A filesystem that a set uses is there.
-use Rattle.std.proofs.Common.{◌≡◌, refl, sym, ap, subst, ◌∙◌, ⊎_elim, ℕ, nat_eq, true, true≢false, List, ◌++◌, Option, Some, None, find, flat_map, is_some, map, eqb-true}
-use Rattle.std.specs.Prelude.{Contains, unwrap_or}
+use Rattle.std.proofs.Common.{arith, ◌≡◌, sym, ap, subst, ◌∙◌, ⊎_elim, ℕ, nat_eq, true, true≢false, List, ◌++◌, flat_map, is_some, map, eqb-true}
+use Rattle.std.proofs.lemmas.Grind.{common_steps}
+use Rattle.std.specs.Prelude.{Contains}
 use Rattle.std.proofs.lemmas.Bool.{and_parts}
 use Rattle.vt_spec.specs.Language.Calls.{TaskName}
 use Rattle.vt_spec.specs.Lists.{is_among}
 use Rattle.vt_spec.specs.Machine.Invariants.{IsWorld, has_its_root, is_located_well, is_there}
 use Rattle.vt_spec.specs.Machine.Mounts.{Location, Mount}
 use Rattle.vt_spec.specs.Machine.Sealed.{change_layers, is_member_task, is_own_mount, locations, members, own_mounts, used_directly, used_filesystems}
-use Rattle.vt_spec.specs.Machine.World.{Filesystem, World, all_locations, filesystem_numbered, locations_of, mount_at, no_filesystem}
+use Rattle.vt_spec.specs.Machine.World.{Filesystem, World, all_locations, filesystem_numbered, locations_of, mount_at}
 use Rattle.vt_spec.specs.Tree.{is_directory_node}
 use Rattle.vt_spec.proofs.Found.{found_among, found_passes}
 use Rattle.vt_spec.proofs.Lists.{Among, among-append, among-flat_map, among-from_filter, among-from_flat_map, among-from_map, among_from_contains, among_from_list_all, contains_from_among}
@@ -23,18 +24,7 @@ IsThere world number = (filesystem : Filesystem ℕ) × Among filesystem world.f
 -- where an inode is found, the filesystem is there
 pub there_with_inode : (world : World ℕ) (number inode : ℕ)
     → is_some ((filesystem_numbered nat_eq world number).files.tree.node inode) ≡ true → IsThere world number
-there_with_inode world number inode h = by (find (λ (f : Filesystem ℕ). nat_eq number f.number) world.filesystems) refl
-  where
-    by : (o : Option (Filesystem ℕ)) → find (λ (f : Filesystem ℕ). nat_eq number f.number) world.filesystems ≡ o
-        → IsThere world number
-    by None e = absurd (true≢false (sym h
-        ∙ ap (λ o. is_some ((unwrap_or o (no_filesystem number)).files.tree.node inode)) e))
-    by (Some filesystem) e = (
-      filesystem,
-      found_among (λ (f : Filesystem ℕ). nat_eq number f.number) world.filesystems filesystem e,
-      sym (eqb-true number filesystem.number
-          (found_passes (λ (f : Filesystem ℕ). nat_eq number f.number) world.filesystems filesystem e)),
-    )
+there_with_inode world number inode h = grind (arith, common_steps, true≢false, found_among, eqb-true, found_passes)
 
 module _ (world : World ℕ) (names : List TaskName) (is : IsWorld nat_eq world) where
   -- the filesystem of a mount

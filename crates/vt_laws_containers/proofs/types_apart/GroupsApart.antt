@@ -1,11 +1,11 @@
 -- Where mounts of a sealed set change their types, they are in groups that the set heard or in new ones, and others
 -- keep theirs: so mounts share no events with others.
-use Rattle.std.proofs.Common.{◌≡◌, refl, sym, ap, subst, ◌∙◌, ◌⊎◌, inl, inr, ⊎_elim, ℕ, nat_eq, Bool, true, false, cond, true≢false, List, [], ◌∷◌, Option, Some, None, length, map, not, eq-eqb, eqb-true}
+use Rattle.std.proofs.Common.{arith, ◌≡◌, refl, sym, ap, subst, ◌∙◌, ◌⊎◌, inl, inr, ⊎_elim, ℕ, nat_eq, Bool, true, false, cond, true≢false, List, [], ◌∷◌, Option, Some, None, length, map, not, eq-eqb, eqb-true}
+use Rattle.std.proofs.lemmas.Grind.{common_steps}
 use Rattle.std.specs.List.{list_all}
 use Rattle.std.proofs.lemmas.Bool.{false_from_ne_true, not-true, or_cases}
 use Rattle.std.proofs.lemmas.Option.{same_Some}
 use Rattle.vt_spec.specs.Language.Calls.{TaskName, TypeWord}
-use Rattle.vt_spec.specs.Language.Calls.TypeWord.{ToPrivate, ToShared, ToSlave, ToUnbindable}
 use Rattle.vt_spec.specs.Lists.{Fresh, holds_of}
 use Rattle.vt_spec.specs.Machine.Invariants.{IsWorld}
 use Rattle.vt_spec.specs.Machine.Mounts.{Mount, Propagation, group_of, index_of, numbers_by, source_of}
@@ -35,16 +35,7 @@ use Rattle.vt_laws_members.proofs.types.Retyped.{is_named, kind_by, new_kind, ne
 -- what a mount receives from after a change of type: what it received from, or its new group
 source_after : (new : ℕ) (word : TypeWord) (kind : Propagation ℕ) (g : ℕ)
     → source_of (type_after new word kind) ≡ Some g → (source_of kind ≡ Some g) ⊎ (new ≡ g)
-source_after new ToShared (Shared h) g e = inl e
-source_after new ToShared (Slave h) g e = inr (same_Some new g e)
-source_after new ToShared Private g e = inr (same_Some new g e)
-source_after new ToShared Unbindable g e = inr (same_Some new g e)
-source_after new ToSlave (Shared h) g e = inl e
-source_after new ToSlave (Slave h) g e = inl e
-source_after new ToSlave Private g e = none_is_some g e
-source_after new ToSlave Unbindable g e = none_is_some g e
-source_after new ToPrivate kind g e = none_is_some g e
-source_after new ToUnbindable kind g e = none_is_some g e
+source_after new word kind g e = grind (arith, common_steps, same_Some, none_is_some)
 
 -- a slave's master is what it receives from
 slave_source : (kind : Propagation ℕ) (g : ℕ) → master_after kind ≡ Some g → source_of kind ≡ Some g
@@ -56,14 +47,7 @@ slave_source Unbindable g e = none_is_some g e
 -- a mount that is shared was so before groups inherit
 shared_before : (t : World ℕ) (kind : Propagation ℕ) (g : ℕ) → group_of (inherited nat_eq t kind) ≡ Some g
     → group_of kind ≡ Some g
-shared_before t (Shared h) g e = e
-shared_before t (Slave h) g e = by (heir nat_eq t (Some h)) e
-  where
-    by : (o : Option ℕ) → group_of (slave_of_heir o) ≡ Some g → group_of (Slave h) ≡ Some g
-    by None f = none_is_some g f
-    by (Some above) f = none_is_some g f
-shared_before t Private g e = none_is_some g e
-shared_before t Unbindable g e = none_is_some g e
+shared_before t kind g e = grind (arith, common_steps, none_is_some)
 
 -- the group of which a mount is a member
 in_group : (o : Option ℕ) (mount : Mount ℕ) → holds_of (λ group. is_member_of nat_eq group mount) o ≡ true

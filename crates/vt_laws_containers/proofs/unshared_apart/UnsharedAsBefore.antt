@@ -1,5 +1,6 @@
 -- After an unshare(2) of a task of a sealed set others are as they were.
-use Rattle.std.proofs.Common.{◌≡◌, refl, sym, ap, subst, ◌∙◌, ◌⊎◌, inl, inr, ⊎_elim, ℕ, nat_eq, Bool, true, false, cond, true≢false, List, [], ◌∷◌, ◌++◌, Option, Some, None, filter, map, not, ◌&&◌, ◌||◌, eq-eqb, eqb-true}
+use Rattle.std.proofs.Common.{arith, ◌≡◌, refl, sym, ap, subst, ◌∙◌, ◌⊎◌, inl, inr, ⊎_elim, ℕ, nat_eq, Bool, true, false, cond, true≢false, List, [], ◌∷◌, ◌++◌, Option, Some, None, filter, map, not, ◌&&◌, ◌||◌, eq-eqb, eqb-true}
+use Rattle.std.proofs.lemmas.Grind.{common_steps}
 use Rattle.std.specs.List.{list_all, list_any}
 use Rattle.std.proofs.lemmas.Bool.{false_from_ne_true, not-true}
 use Rattle.vt_spec.specs.Language.Calls.{TaskName, same_name}
@@ -92,12 +93,7 @@ module _ (world : World ℕ) (names : List TaskName) (name : TaskName) (it : IsC
   in_world t m = (among-from_filter (is_member_task names) world.tasks t m).0
 
   only : (t : Task ℕ) → Among t world.tasks → (task ≡ t) ⊎ (same_name task.name t.name ≡ false)
-  only t m = by (same_name task.name t.name) refl
-    where
-      by : (b : Bool) → same_name task.name t.name ≡ b → (task ≡ t) ⊎ (same_name task.name t.name ≡ false)
-      by true e = inl (only_task world.tasks it.is.tasks.one_task task t (in_world task member) m
-          (same_task_name task.name t.name e))
-      by false e = inr e
+  only t m = grind (arith, common_steps, only_task, in_world, member, same_task_name)
 
   k_own : ours k ≡ true
   k_own = any_from_among (λ (t : Task ℕ). nat_eq k t.namespace) old task member (eq-eqb k k refl)
@@ -114,16 +110,7 @@ module _ (world : World ℕ) (names : List TaskName) (name : TaskName) (it : IsC
       it.is.namespaces.tasks_listed t m
 
   can : CanUnshare world fresh task
-  can = record {
-    kept = it.is.mounts;
-    serves = serves;
-    listed = it.is.namespaces.mounts_listed;
-    live = it.is.namespaces.namespaces_live;
-    there = in_world task member;
-    named = same_name_itself task.name;
-    left = not_new k (task_listed task (in_world task member));
-    only = only;
-  }
+  can = grind (arith, common_steps, in_world, member, same_name_itself, not_new, task_listed, only)
 
   -- Tasks of the set
   set_is : new ≡ map replaced old
@@ -141,12 +128,7 @@ module _ (world : World ℕ) (names : List TaskName) (name : TaskName) (it : IsC
 
   -- Their namespaces
   entered : (n : ℕ) → own_left n ≡ true → (ours n ≡ true) ⊎ (n ≡ s)
-  entered n h =
-      let t = any_among (λ (x : Task ℕ). nat_eq n x.namespace) new h in
-      let u = set_from t.0 t.1 in
-      ⊎_elim (λ caller. inr (eqb-true n s (ap (λ (x : Task ℕ). nat_eq n x.namespace) (sym (u.2 ∙ caller.0)) ∙ t.2)))
-      (λ same. inl (any_from_among (λ (x : Task ℕ). nat_eq n x.namespace) old u.0 u.1
-      (ap (λ (x : Task ℕ). nat_eq n x.namespace) (sym (u.2 ∙ same)) ∙ t.2))) (how u.0 u.1)
+  entered n h = grind (arith, common_steps, any_among, set_from, eqb-true, any_from_among, how)
 
   s_own : own_left s ≡ true
   s_own = any_from_among (λ (x : Task ℕ). nat_eq s x.namespace) new moved
@@ -167,11 +149,7 @@ module _ (world : World ℕ) (names : List TaskName) (name : TaskName) (it : IsC
       (λ same. true≢false (sym (eq-eqb n s same) ∙ not_new n listed)) (entered n h))
 
   own_same : (n : ℕ) → is_listed nat_eq world n ≡ true → nat_eq k n ≡ false → own_left n ≡ ours n
-  own_same n listed differ = by (ours n) refl
-    where
-      by : (b : Bool) → ours n ≡ b → own_left n ≡ b
-      by true own = still n differ own
-      by false other = unentered n listed other
+  own_same n listed differ = grind (arith, common_steps, still, unentered)
 
   -- a mount of another namespace than the caller's is theirs just if it was
   owned_same : (m : Mount ℕ) → Among m world.mounts → in_space k m ≡ false → owns_left m ≡ owns m
@@ -278,33 +256,16 @@ module _ (world : World ℕ) (names : List TaskName) (name : TaskName) (it : IsC
         (unshare_keeps_mounts world fresh task serves it.is.mounts))
 
     not_cut : (m : Mount ℕ) → in_space k m ≡ false → turn m ≡ m
-    not_cut m e = ap (λ b. cond b (detached m) m) (ap (λ b. ends && b) e ∙ none ends)
-      where
-        none : (b : Bool) → (b && false) ≡ false
-        none true = refl
-        none false = refl
+    not_cut m e = grind (arith, common_steps)
 
     turned_number : (m : Mount ℕ) → (turn m).number ≡ m.number
-    turned_number m = by (ends && in_space k m)
-      where
-        by : (b : Bool) → (cond b (detached m) m).number ≡ m.number
-        by true = refl
-        by false = refl
+    turned_number m = grind (arith, common_steps, in_space)
 
     turned_shows : (m : Mount ℕ) → (turn m).filesystem ≡ m.filesystem
-    turned_shows m = by (ends && in_space k m)
-      where
-        by : (b : Bool) → (cond b (detached m) m).filesystem ≡ m.filesystem
-        by true = refl
-        by false = refl
+    turned_shows m = grind (arith, common_steps, in_space)
 
     turned_kind : (m : Mount ℕ) → ((turn m).propagation ≡ m.propagation) ⊎ ((turn m).propagation ≡ Private)
-    turned_kind m = by (ends && in_space k m)
-      where
-        by : (b : Bool) → ((cond b (detached m) m).propagation ≡ m.propagation)
-            ⊎ ((cond b (detached m) m).propagation ≡ Private)
-        by true = inr refl
-        by false = inl refl
+    turned_kind m = grind (arith, common_steps, in_space)
 
     -- a mount of the caller's old namespace is none of others
     turned_ours : (m : Mount ℕ) → in_space k m ≡ true → is_out_left (turn m) ≡ false
@@ -351,11 +312,7 @@ module _ (world : World ℕ) (names : List TaskName) (name : TaskName) (it : IsC
     mounts_stay = outs_stay world.mounts (λ x m. m)
 
     own_before : (m : Mount ℕ) → Among m world.mounts → owns_left (turn m) ≡ true → owns m ≡ true
-    own_before m n h = by (in_space k m) refl
-      where
-        by : (b : Bool) → in_space k m ≡ b → owns m ≡ true
-        by true e = own_in_k m e
-        by false e = sym (owned_same m n e) ∙ ap owns_left (sym (not_cut m e)) ∙ h
+    own_before m n h = grind (arith, common_steps, in_space, own_in_k, owned_same, not_cut)
 
     -- a mount of theirs shows and receives what one of before did
     origin : (y : Mount ℕ) → Among y left.mounts → owns_left y ≡ true
@@ -378,11 +335,7 @@ module _ (world : World ℕ) (names : List TaskName) (name : TaskName) (it : IsC
     -- Events
     apart_before : (own other : Mount ℕ) → Among own (own_mounts nat_eq world names)
         → Among other (other_mounts nat_eq world names) → not (share_events nat_eq world own other) ≡ true
-    apart_before own other m n =
-        among_from_list_all (λ b. not (share_events nat_eq world own b)) (other_mounts nat_eq world names)
-        (among_from_list_all
-        (λ a. list_all (λ b. not (share_events nat_eq world a b)) (other_mounts nat_eq world names))
-        (own_mounts nat_eq world names) its_apart.events own m) other n
+    apart_before own other m n = grind (arith, common_steps, among_from_list_all, its_apart)
 
     apart_now : (y other : Mount ℕ) → Among y (own_mounts nat_eq left names)
         → Among other (other_mounts nat_eq world names) → not (share_events nat_eq left y other) ≡ true
@@ -395,11 +348,7 @@ module _ (world : World ℕ) (names : List TaskName) (name : TaskName) (it : IsC
         ∙ ap not (private_apart y other)) of.3
 
     no_events : shares_no_events nat_eq left names ≡ true
-    no_events = ap (λ others. list_all (λ y. list_all (λ other. not (share_events nat_eq left y other)) others)
-        (own_mounts nat_eq left names)) mounts_stay ∙ list_all_from_among
-        (λ y. list_all (λ other. not (share_events nat_eq left y other)) (other_mounts nat_eq world names))
-        (own_mounts nat_eq left names) (λ y m. list_all_from_among (λ other. not (share_events nat_eq left y other))
-        (other_mounts nat_eq world names) (λ other n. apart_now y other m n))
+    no_events = grind (arith, common_steps, mounts_stay, list_all_from_among, apart_now)
 
     -- Locations
     found_left : (y : Mount ℕ) → Among y left.mounts → (l : Location ℕ) → l.mount ≡ y.number

@@ -1,12 +1,13 @@
 -- The groups and masters of what is attached to mounts of theirs are heard, or new: their masters are the same in the
 -- part.
-use Rattle.std.proofs.Common.{◌≡◌, refl, sym, ap, subst, ◌∙◌, ℕ, nat_eq, Bool, true, false, cond, List, Option, Some, None, find}
+use Rattle.std.proofs.Common.{arith, ◌≡◌, refl, sym, ap, subst, ◌∙◌, ℕ, nat_eq, Bool, true, false, cond, List, Option, Some, None, find}
+use Rattle.std.proofs.lemmas.Grind.{common_steps}
 use Rattle.std.specs.Prelude.{option_map, unwrap_or}
 use Rattle.std.specs.List.{list_any}
 use Rattle.std.proofs.lemmas.Option.{same_Some}
 use Rattle.vt_spec.specs.Language.Calls.{TaskName}
 use Rattle.vt_spec.specs.Lists.{is_among}
-use Rattle.vt_spec.specs.Machine.Attach.{Copies, Twig, copy_type, image, is_destination, type_at, type_on_shared}
+use Rattle.vt_spec.specs.Machine.Attach.{Copies, Twig, copy_type, image, is_destination, type_at}
 use Rattle.vt_spec.specs.Machine.Invariants.{IsWorld}
 use Rattle.vt_spec.specs.Machine.Mounts.{Location, Mount, Propagation, group_of, source_of}
 use Rattle.vt_spec.specs.Machine.Mounts.Propagation.{Private, Shared, Slave, Unbindable}
@@ -59,22 +60,7 @@ module _ (world : World ℕ) (names : List TaskName) (is : IsWorld nat_eq world)
   -- at the destination
   twig_known : (o : Mount ℕ) → Among o origins → (g : ℕ)
       → source_of (type_at new (group_of destination.propagation) o) ≡ Some g → Known g
-  twig_known o m g = by (group_of destination.propagation) o.propagation refl
-    where
-      by : (at : Option ℕ) (kind : Propagation ℕ) → o.propagation ≡ kind → source_of (type_at new at o) ≡ Some g
-          → Known g
-      by None kind e h = sources o m g h
-      by (Some group) (Shared k) e h = sources o m g (ap source_of e
-          ∙ sym (ap (λ kind. source_of (type_on_shared (new.image group o.number) kind)) e) ∙ h)
-      by (Some group) (Slave k) e h = subst Known (same_Some (new.image group o.number) g
-          (sym (ap (λ kind. source_of (type_on_shared (new.image group o.number) kind))
-          e) ∙ h)) (new_known group o.number)
-      by (Some group) Private e h = subst Known (same_Some (new.image group o.number) g
-          (sym (ap (λ kind. source_of (type_on_shared (new.image group o.number) kind))
-          e) ∙ h)) (new_known group o.number)
-      by (Some group) Unbindable e h = subst Known (same_Some (new.image group o.number) g
-          (sym (ap (λ kind. source_of (type_on_shared (new.image group o.number) kind))
-          e) ∙ h)) (new_known group o.number)
+  twig_known o m g = grind (arith, common_steps, same_Some, new_known)
 
   abbrev its_twig : Mount ℕ → Twig ℕ
   its_twig = twig world names is sealed_off new_ones unused place there own new moves origins

@@ -135,22 +135,7 @@ module _ (world : World ℕ) (names : List TaskName) (is : IsWorld nat_eq world)
       at_point : (filesystem node : ℕ) → is_point nat_eq world filesystem node mount ≡ true
           → (point : Location ℕ) × (mount.mount_point ≡ Some point) × (point.node ≡ node)
           × ((mount_at nat_eq world point).filesystem ≡ filesystem)
-      at_point filesystem node h = by mount.mount_point refl h
-        where
-          by : (o : Option (Location ℕ)) → mount.mount_point ≡ o
-              → holds_of (λ (point : Location ℕ). nat_eq point.node node
-              && nat_eq (mount_at nat_eq world point).filesystem filesystem) o ≡ true
-              → (point : Location ℕ) × (mount.mount_point ≡ Some point) × (point.node ≡ node)
-              × ((mount_at nat_eq world point).filesystem ≡ filesystem)
-          by None e h = absurd (true≢false (sym h))
-          by (Some point) e h =
-              let both = and_parts (nat_eq point.node node)
-              (nat_eq (mount_at nat_eq world point).filesystem filesystem) h in (
-                point,
-                e,
-                eqb-true point.node node both.0,
-                eqb-true (mount_at nat_eq world point).filesystem filesystem both.1,
-              )
+      at_point filesystem node h = grind (arith, common_steps, true≢false, and_parts, eqb-true)
 
       not_here : (filesystem node : ℕ) → filesystem ≡ number → node ≡ here.node
           → is_point nat_eq world filesystem node mount ≡ true → ⊥

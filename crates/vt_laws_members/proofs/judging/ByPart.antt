@@ -1,11 +1,12 @@
 -- Calls of theirs are judged by the part alone, with the limit of mounts.
-use Rattle.std.proofs.Common.{◌≡◌, refl, sym, ap, subst, ◌∙◌, ℕ, nat_eq, Bool, true, false, not, List, [], ◌∷◌, Option, Some, None, Ok, ◌&&◌, ◌||◌, is_some}
+use Rattle.std.proofs.Common.{arith, ◌≡◌, refl, sym, ap, subst, ◌∙◌, ℕ, nat_eq, Bool, true, false, not, List, [], ◌∷◌, Option, Some, None, Ok, ◌&&◌, ◌||◌, is_some}
+use Rattle.std.proofs.lemmas.Grind.{common_steps}
 use Rattle.std.specs.List.{list_any}
 use Rattle.std.proofs.lemmas.Bool.{or_parts}
 use Rattle.vt_spec.specs.declared.errors.Rule.TheVariants.{M2, M3, M4, M5, M6, M7, M9, M10}
 use Rattle.vt_spec.specs.Errors.{Rules, and_then, unless}
 use Rattle.vt_spec.specs.Language.Calls.{Call, MountFlags, OverlayWords, TaskName}
-use Rattle.vt_spec.specs.Language.Calls.Call.{Bind, Chdir, Chmod, Chown, Chroot, Close, Drop, Exec, Exit, Fork, Lazy, LinkTo, ListMounts, Ls, Lstat, MakeWhiteout, Mkdir, MountOverlay, MountPlain, MoveMount, Opaque, OpenFile, PivotRoot, Pread, Pwrite, Read, Readlink, Remount, Rename, Rmdir, SetType, Setns, Stat, SymlinkAt, Umask, Umount, Unlink, Unshare, Write}
+use Rattle.vt_spec.specs.Language.Calls.Call.{Bind, MountOverlay, MountPlain}
 use Rattle.vt_spec.specs.Lists.{Fresh, is_among}
 use Rattle.vt_spec.specs.Machine.Apply.{overfills}
 use Rattle.vt_spec.specs.Machine.Invariants.{IsWorld}
@@ -183,45 +184,7 @@ module _ (world : World ℕ) (names : List TaskName) (is : IsWorld nat_eq world)
 
   -- the limit of mounts is the same, and no other call asks for it
   limited : (call : Call) → judge nat_eq one full task call ≡ judge nat_eq one full_too task call
-  limited (Ls path) = refl
-  limited (Stat path) = refl
-  limited (Lstat path) = refl
-  limited (Readlink path) = refl
-  limited (Read path) = refl
-  limited (Write path bytes) = refl
-  limited (Exec path) = refl
-  limited (Mkdir path mode) = refl
-  limited (SymlinkAt text path) = refl
-  limited (MakeWhiteout path) = refl
-  limited (LinkTo old new) = refl
-  limited (Unlink path) = refl
-  limited (Rmdir path) = refl
-  limited (Rename old new) = refl
-  limited (Chmod path mode) = refl
-  limited (Chown path uid gid) = refl
-  limited (Opaque path mark) = refl
-  limited (OpenFile path access how) = refl
-  limited (Pread descriptor offset size) = refl
-  limited (Pwrite descriptor offset bytes) = refl
-  limited (Close descriptor) = refl
-  limited (Chdir path) = refl
-  limited (Chroot path) = refl
-  limited (Umask mode) = refl
-  limited (Drop which) = refl
-  limited (Fork words) = refl
-  limited Exit = refl
-  limited Unshare = refl
-  limited (Setns name) = refl
-  limited (MountPlain path flags) = plain_limited path flags
-  limited (MountOverlay path options flags) = overlay_limited path options flags
-  limited (Bind source path recursive) = bind_limited source path recursive
-  limited (MoveMount source path) = move_limited source path
-  limited (Umount path) = refl
-  limited (Lazy path) = refl
-  limited (Remount path flags) = refl
-  limited (SetType path word recursive) = refl
-  limited (PivotRoot new put) = refl
-  limited ListMounts = refl
+  limited call = grind (arith, common_steps, plain_limited, overlay_limited, bind_limited, move_limited)
 
 pub members_are_judged_by_their_part : MembersAreJudgedByTheirPart
 members_are_judged_by_their_part world names task call is fresh other = limited world names is.is is.sealed_off task

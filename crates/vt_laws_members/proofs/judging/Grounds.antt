@@ -26,7 +26,7 @@ use Rattle.vt_laws_sealed.proofs.part.Kept.{length-filter_map}
 use Rattle.vt_laws_sealed.proofs.part.part.MountsOver.{IsWhole, same_over}
 use Rattle.vt_laws_sealed.proofs.part.part.PartOfPart.{is_own, keep, kept_how, kept_whole}
 use Rattle.vt_laws_sealed.proofs.part.walks.WalksAgree.{Each}
-use Rattle.vt_laws_members.specs.Judging.{is_stood_on, is_theirs}
+use Rattle.vt_laws_members.specs.Judging.{is_theirs}
 
 -- each step of a chain is so
 pub chain_each : {A : Type 0} (Q : A → Type 0) (next : A → Option A) → ((a b : A) → Q a → next a ≡ Some b → Q b)
@@ -63,22 +63,7 @@ module _ (world : World ℕ) (names : List TaskName) (is : MountInvariants nat_e
 
   -- as a test
   pub theirs_from : (number : ℕ) → is_theirs world names number ≡ true → IsTheirs number
-  theirs_from number e =
-      let at = any_among (λ (m : Mount ℕ). nat_eq number m.number && is_stood_on world names m) world.mounts e in
-      let both = and_parts (nat_eq number at.0.number) (is_stood_on world names at.0) at.2 in (
-        at.0,
-        at.1,
-        sym (eqb-true number at.0.number both.0),
-        ⊎_elim inl (λ stood.
-            let two = and_parts (not (is_some at.0.namespace))
-            (is_at nat_eq (roots_and_directories theirs) at.0) stood in
-            inr (nowhere at.0.namespace two.0, two.1)) (or_cases (is_own world names theirs at.0)
-            (not (is_some at.0.namespace) && is_at nat_eq (roots_and_directories theirs) at.0) both.1),
-      )
-    where
-      nowhere : (o : Option ℕ) → not (is_some o) ≡ true → o ≡ None
-      nowhere None e = refl
-      nowhere (Some n) e = absurd (true≢false (sym e))
+  theirs_from number e = grind (arith, common_steps, any_among, and_parts, eqb-true, or_cases, is_own, true≢false)
 
   pub theirs_test : (number : ℕ) → IsTheirs number → is_theirs world names number ≡ true
   theirs_test number (mount, m, same, ground) =

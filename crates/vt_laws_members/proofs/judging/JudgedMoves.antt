@@ -73,8 +73,7 @@ module _ (one other : Looks ℕ) (task : Task ℕ) (own uses : ℕ → Bool) (al
   move_same overfull from here there on = cc (
     parents.parent from there,
     trees.tree from there,
-    same_asked (move_of overfull from here other)
-        (λ looks. rw (is_elsewhere, is_no_root, mount_at, there, on) refl),
+    same_asked (move_of overfull from here other) (λ looks. rw (is_elsewhere, is_no_root, mount_at, there, on) refl),
   )
 
   pub move_alike : (overfills : Permit ℕ → Bool) (source path : List ℕ)

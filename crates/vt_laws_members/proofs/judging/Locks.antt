@@ -1,14 +1,14 @@
 -- What is locked in the world is locked in the part, and the other way round.
 use Rattle.std.proofs.lemmas.Grind.{common_steps}
-use Rattle.std.proofs.Common.{◌≡◌, refl, sym, ap, subst, ◌∙◌, inl, ⊎_elim, ℕ, nat_eq, true, false, cond, true≢false, List, [], ◌++◌, Option, Some, None, find, is_some, ◌||◌, ◌&&◌, eq-eqb, eqb-true, arith}
-use Rattle.std.specs.Prelude.{option_to_list, unwrap_or}
+use Rattle.std.proofs.Common.{◌≡◌, refl, sym, ap, subst, ◌∙◌, ⊎_elim, ℕ, nat_eq, true, false, cond, true≢false, List, [], ◌++◌, Option, Some, None, find, is_some, ◌||◌, ◌&&◌, eq-eqb, eqb-true, arith}
+use Rattle.std.specs.Prelude.{unwrap_or}
 use Rattle.std.specs.List.{list_all, list_any}
 use Rattle.std.proofs.lemmas.Bool.{and_from, and_parts, or_cases, or_left, or_right}
 use Rattle.vt_spec.specs.FileTree.{FileTree, is_under}
 use Rattle.vt_spec.specs.Language.Calls.{TaskName}
 use Rattle.vt_spec.specs.Lists.{holds_of, is_among, when}
 use Rattle.vt_spec.specs.Machine.Invariants.{IsWorld, ListsNumbers, is_there}
-use Rattle.vt_spec.specs.Machine.Locked.{counts_in_layer, is_locked, is_object_of, is_real_upper, lies_in_layer, lies_or_counts_under, live_layers, of_overlay, overlay_or, overlays}
+use Rattle.vt_spec.specs.Machine.Locked.{counts_in_layer, is_locked, is_object_of, is_real_upper, lies_in_layer, lies_or_counts_under, live_layers, of_overlay, overlays}
 use Rattle.vt_spec.specs.Machine.Sealed.{all_named, is_lower_root, no_outsider_on, own_lowers, part_of, part_of_filesystem, part_of_lower, sealed, used_alone, used_filesystems, wholly_locked}
 use Rattle.vt_spec.specs.Machine.Settled.{has_layer_on, named_in}
 use Rattle.vt_spec.specs.Machine.World.{Filesystem, Layer, Overlay, World, filesystem_numbered, is_overlay, layers_of, no_filesystem}
@@ -42,33 +42,7 @@ pub record Counts (world : World ℕ) (number object : ℕ) (layer : Layer ℕ) 
 
 pub counts_how : (world : World ℕ) (number object : ℕ) (layer : Layer ℕ) (merged : Filesystem ℕ)
     → counts_in_layer nat_eq world number object layer merged ≡ true → Counts world number object layer merged
-counts_how world number object layer merged h = by merged.overlay refl h
-  where
-    by_upper : (overlay : Overlay ℕ) → merged.overlay ≡ Some overlay → (u : Option (Layer ℕ)) → overlay.upper ≡ u
-        → holds_of (λ upper. lies_in_layer nat_eq world upper.filesystem upper.directory layer) u ≡ true
-        → is_object_of nat_eq number object merged overlay ≡ true → Counts world number object layer merged
-    by_upper overlay e None f h k = absurd (true≢false (sym h))
-    by_upper overlay e (Some upper) f h k = record {
-      overlay = overlay;
-      upper = upper;
-      is = e;
-      has = f;
-      inside = eqb-true number upper.filesystem (sym (ap (holds_of (λ (l : Layer ℕ). nat_eq number l.filesystem)) f)
-          ∙ (and_parts (holds_of (λ (l : Layer ℕ). nat_eq number l.filesystem) overlay.upper)
-          (list_any (is_real_upper nat_eq overlay object) merged.files.numbers) k).0);
-      lies = h;
-      object_of = k;
-    }
-
-    by : (o : Option (Overlay ℕ)) → merged.overlay ≡ o → overlay_or false (λ overlay.
-        holds_of (λ upper. lies_in_layer nat_eq world upper.filesystem upper.directory layer) overlay.upper
-        && is_object_of nat_eq number object merged overlay) o ≡ true → Counts world number object layer merged
-    by None e h = absurd (true≢false (sym h))
-    by (Some overlay) e h =
-        let both = and_parts
-        (holds_of (λ upper. lies_in_layer nat_eq world upper.filesystem upper.directory layer) overlay.upper)
-        (is_object_of nat_eq number object merged overlay) h in
-        by_upper overlay e overlay.upper refl both.0 both.1
+counts_how world number object layer merged h = grind (arith, common_steps, true≢false, eqb-true, and_parts)
 
 -- What is locked stays so where each overlay with a layer in the filesystem is.
 module _ (a b : World ℕ) (number : ℕ) (same : filesystem_numbered nat_eq b number ≡ filesystem_numbered nat_eq a number)
@@ -83,28 +57,7 @@ module _ (a b : World ℕ) (number : ℕ) (same : filesystem_numbered nat_eq b n
       → Among merged (overlays b) × (counts_in_layer nat_eq b number object layer merged ≡ true)
       × (nat_eq number layer.filesystem ≡ true)
   counts_at object layer merged m h =
-      let c = counts_how a number object layer merged h in
-      let at_upper : Among c.upper (of_overlay [] layers_of merged) =
-      subst (λ o. Among c.upper (overlay_or [] layers_of o)) (sym c.is)
-      (among-append_left (option_to_list c.overlay.upper ++ option_to_list c.overlay.work) c.overlay.lowers c.upper
-      (among-append_left (option_to_list c.overlay.upper) (option_to_list c.overlay.work) c.upper
-      (subst (λ o. Among c.upper (option_to_list o)) (sym c.has) (inl refl)))) in
-      let lies : lies_in_layer nat_eq b c.upper.filesystem c.upper.directory layer ≡ true =
-      subst (λ n. lies_in_layer nat_eq a n c.upper.directory layer ≡ true
-      → lies_in_layer nat_eq b n c.upper.directory layer ≡ true) c.inside (lies_at c.upper.directory layer) c.lies in (
-        within merged m (has_layer number merged c.upper at_upper (eq-eqb number c.upper.filesystem c.inside)),
-        ap (overlay_or false (λ (overlay : Overlay ℕ).
-            holds_of (λ upper. lies_in_layer nat_eq b upper.filesystem upper.directory layer) overlay.upper
-            && is_object_of nat_eq number object merged overlay)) c.is
-            ∙ and_from (holds_of (λ upper. lies_in_layer nat_eq b upper.filesystem upper.directory layer) c.overlay.upper)
-            (is_object_of nat_eq number object merged c.overlay)
-            (ap (holds_of (λ upper. lies_in_layer nat_eq b upper.filesystem upper.directory layer)) c.has ∙ lies)
-            c.object_of,
-        subst (λ n. nat_eq n layer.filesystem ≡ true) (sym c.inside)
-            (and_parts (nat_eq c.upper.filesystem layer.filesystem)
-            (is_under nat_eq (filesystem_numbered nat_eq a c.upper.filesystem).files layer.directory c.upper.directory)
-            c.lies).0,
-      )
+      grind (arith, common_steps, counts_how, among-append_left, lies_at, has_layer, eq-eqb, and_from, and_parts)
 
   pub under_at : (object : ℕ) (layer : Layer ℕ) → lies_or_counts_under nat_eq a number object layer ≡ true
       → (lies_or_counts_under nat_eq b number object layer ≡ true) × (nat_eq number layer.filesystem ≡ true)
@@ -231,25 +184,8 @@ module _ (world : World ℕ) (names : List TaskName) (is : IsWorld nat_eq world)
       → (layer : Layer ℕ) × Among layer (of_overlay [] layers_of merged)
       × Among layer (of_overlay [] (λ (overlay : Overlay ℕ). overlay.lowers) merged)
       × (number ≡ layer.filesystem) × (root ≡ layer.directory)
-  lower_layer number root merged h = by merged.overlay h
-    where
-      by : (o : Option (Overlay ℕ))
-          → overlay_or false (λ (overlay : Overlay ℕ). list_any (λ (layer : Layer ℕ). nat_eq number layer.filesystem
-          && nat_eq root layer.directory) overlay.lowers) o ≡ true
-          → (layer : Layer ℕ) × Among layer (overlay_or [] layers_of o)
-          × Among layer (overlay_or [] (λ (overlay : Overlay ℕ). overlay.lowers) o)
-          × (number ≡ layer.filesystem) × (root ≡ layer.directory)
-      by None h = absurd (true≢false (sym h))
-      by (Some overlay) h =
-          let at = any_among (λ (layer : Layer ℕ). nat_eq number layer.filesystem && nat_eq root layer.directory)
-          overlay.lowers h in
-          let both = and_parts (nat_eq number at.0.filesystem) (nat_eq root at.0.directory) at.2 in (
-            at.0,
-            among-append_right (option_to_list overlay.upper ++ option_to_list overlay.work) overlay.lowers at.0 at.1,
-            at.1,
-            eqb-true number at.0.filesystem both.0,
-            eqb-true root at.0.directory both.1,
-          )
+  lower_layer number root merged h =
+      grind (arith, common_steps, true≢false, any_among, and_parts, among-append_right, eqb-true)
 
   -- what locks a filesystem wholly
   pub record IsWhole (number : ℕ) : Type 0 where

@@ -1,11 +1,11 @@
 -- Groups whose members have changed: what mounts and groups inherit, and what the sweep leaves of them.
-use Rattle.std.proofs.Common.{◌≡◌, refl, sym, ap, ◌∙◌, ℕ, nat_eq, Bool, true, false, cond, Option, Some, None, length, map}
+use Rattle.std.proofs.Common.{arith, ◌≡◌, refl, sym, ap, ◌∙◌, ℕ, nat_eq, Bool, true, false, cond, Option, Some, None, map}
+use Rattle.std.proofs.lemmas.Grind.{common_steps}
 use Rattle.std.specs.List.{list_any}
 use Rattle.std.proofs.lemmas.Bool.{not-false, or_parts}
-use Rattle.vt_spec.specs.Lists.{then_some}
 use Rattle.vt_spec.specs.Machine.Mounts.{Mount, Propagation, group_of, source_of}
 use Rattle.vt_spec.specs.Machine.Mounts.Propagation.{Private, Shared, Slave, Unbindable}
-use Rattle.vt_spec.specs.Machine.Receives.{has_members, heir, inherited, inheriting, is_lost_group, is_member_of, lost_a_group, regrouped, regrouped_by}
+use Rattle.vt_spec.specs.Machine.Receives.{has_members, heir, inherited, inheriting, lost_a_group, regrouped, regrouped_by}
 use Rattle.vt_spec.specs.Machine.Settled.{settled}
 use Rattle.vt_spec.specs.Machine.World.{World}
 use Rattle.vt_spec.proofs.Found.{find-chain_start}
@@ -27,24 +27,8 @@ source_from Unbindable group e = none_is_some group e
 -- a group that has a member inherits its master, also where nothing is lost
 pub master-inherited : (t : World ℕ) (group : ℕ) → has_members nat_eq t.mounts group ≡ true
     → (regrouped nat_eq t).master group ≡ heir nat_eq t (t.master group)
-master-inherited t group h = by (list_any (lost_a_group nat_eq t) t.mounts) refl
-  where
-    unlost : (o : Option ℕ) → t.master group ≡ o → list_any (lost_a_group nat_eq t) t.mounts ≡ false
-        → o ≡ heir nat_eq t o
-    unlost None e kept = refl
-    unlost (Some above) e kept =
-        let y = any_among (is_member_of nat_eq group) t.mounts h in
-        let gone = or_parts (is_lost_group nat_eq t (source_of y.0.propagation))
-        (is_lost_group nat_eq t (then_some (source_of y.0.propagation) t.master))
-        (none_among (lost_a_group nat_eq t) t.mounts kept y.0 y.1) in
-        let its = ap (λ o. then_some o t.master) (source_from y.0.propagation group (member_group group y.0 y.2)) ∙ e in
-        sym (find-chain_start (has_members nat_eq t.mounts) t.master (length t.mounts) above
-        (not-false (has_members nat_eq t.mounts above) (sym (ap (is_lost_group nat_eq t) its) ∙ gone.1)))
-
-    by : (b : Bool) → list_any (lost_a_group nat_eq t) t.mounts ≡ b
-        → (regrouped_by nat_eq b t).master group ≡ heir nat_eq t (t.master group)
-    by true e = refl
-    by false e = unlost (t.master group) refl e
+master-inherited t group h =
+    grind (arith, common_steps, any_among, or_parts, none_among, source_from, member_group, find-chain_start, not-false)
 
 module _ (w : World ℕ) (kind : Mount ℕ → Propagation ℕ) (masters : ℕ → Option ℕ) where
   -- the world with other types and masters, before groups inherit

@@ -1,5 +1,6 @@
 -- Whether tasks are sealed off is told alike by two worlds that are alike.
-use Rattle.std.proofs.Common.{◌≡◌, refl, ap, ◌∙◌, sym, ℕ, nat_eq, Bool, false, not, ◌&&◌, ◌||◌, List, [], ◌∷◌, ◌++◌, map, filter, flat_map}
+use Rattle.std.proofs.Common.{arith, ◌≡◌, refl, ap, ◌∙◌, sym, ℕ, nat_eq, Bool, false, not, ◌&&◌, ◌||◌, List, [], ◌∷◌, ◌++◌, map, filter, flat_map}
+use Rattle.std.proofs.lemmas.Grind.{common_steps}
 use Rattle.std.specs.Prelude.{option_to_list}
 use Rattle.std.specs.List.{list_all, list_any}
 use Rattle.std.proofs.lemmas.List.Sorted.{list_any-IsPermutation}
@@ -153,11 +154,7 @@ module _ (one other : World ℕ) (same : Alike one (with_mounts_of one other)) (
 
 pub same_worlds_are_sealed_alike : SameWorldsAreSealedAlike
 same_worlds_are_sealed_alike one other same names =
-    mounts_of_one (λ world. Alike one world → sealed nat_eq one names ≡ sealed nat_eq world names) one other alike
-    (λ alike. sealed_same one other alike names) alike
-  where
-    alike : Alike one other
-    alike = alike_from_same one other same
+    grind (arith, common_steps, mounts_of_one, sealed_same, alike_from_same)
 
 pub same_worlds_give_footholds_alike : SameWorldsGiveFootholdsAlike
 same_worlds_give_footholds_alike one other same names filesystem = mounts_of_one (λ world. Alike one world

@@ -1,6 +1,6 @@
 -- A turn of theirs that answers a call which ends alike in the part is a turn of their part.
-use Rattle.std.proofs.Common.{◌≡◌, refl, sym, ap, subst, ◌∙◌, inl, inr, ⊎_elim, ℕ, nat_eq, Bool, true, false, true≢false, cond, not, List, [], ◌∷◌, Some, None, Ok, Err, Result, filter, is_ok, is_some, map}
-use Rattle.std.specs.Prelude.{unwrap_or}
+use Rattle.std.proofs.Common.{arith, ◌≡◌, refl, sym, ap, subst, ◌∙◌, inr, ℕ, nat_eq, Bool, true, false, true≢false, cond, not, List, [], ◌∷◌, Some, None, Ok, Err, Result, filter, is_ok, is_some, map}
+use Rattle.std.proofs.lemmas.Grind.{common_steps}
 use Rattle.vt_spec.specs.declared.errors.Deny.{Deny}
 use Rattle.vt_spec.specs.Language.Answers.{Answer}
 use Rattle.vt_spec.specs.Language.Calls.{Call, TaskName, same_name}
@@ -16,7 +16,6 @@ use Rattle.vt_spec.proofs.Options.{none_is_some}
 use Rattle.vt_laws_members.specs.Changes.Changes.{grown}
 use Rattle.vt_laws_members.proofs.changes.tasks.Denied.{denials_end_alike}
 use Rattle.vt_laws_turns.proofs.TurnShapes.{Shape, is_task_call, turn_shape}
-use Rattle.vt_laws_turns.proofs.TurnShapes.Shape.{CallDone, Further, Idle, OtherDone}
 use Rattle.vt_laws_turns.proofs.played.Turning.{Answers, Turns, turn_is}
 use Rattle.vt_laws_containers.specs.SealedTurns.MembersTurns.{TheirAnswersAreOfTheGrownPart, TheirAnswersAreOfTheirPart, TheirRefusalsAreOfTheirPart, TurnsAlikeFor, part_of_sched}
 use Rattle.vt_laws_containers.specs.SealedTurns.OutsidersTurns.{their_calls}
@@ -39,30 +38,12 @@ module _ (sched : Sched ℕ) (name : TaskName) (line : ℕ) (call : Call) (fresh
 
     left_under_way : (turned : Turned ℕ) → is_some turned.reply ≡ true → Shape sched (Someone name) (Some fresh) turned
         → turned.sched.under_way ≡ without_progress name sched.under_way
-    left_under_way turned answers (Idle none is) = none_is_some _ (sym (ap first_of_list none) ∙ first)
-    left_under_way turned answers (OtherDone other found no_call outcome is) =
-        let same : record { line = line; item = Calls call } ≡ other = cc in
-        absurd (true≢false (ap (λ (q : Queued). is_task_call (Someone name) q.item) same ∙ no_call))
-    left_under_way turned answers (CallDone other who l c found outcome is) =
-        let same : other ≡ name = cc in
-        ap (λ (t : Turned ℕ). t.sched.under_way) is ∙ ap (λ n. without_progress n sched.under_way) same
-    left_under_way turned answers (Further task who l c new handed next before at further) =
-        absurd (no_reply turned answers (ap (λ (t : Turned ℕ). t.reply) further.is))
+    left_under_way turned answers known = grind (arith, common_steps, none_is_some, true≢false, is_task_call, no_reply)
 
     by_items : (turned : Turned ℕ) → is_some turned.reply ≡ true → Shape sched (Someone name) (Some fresh) turned
         → (items : List Queued) → first_of_list items ≡ Some (record { line = line; item = Calls call })
         → Turns sched (Someone name) (Some fresh) items turned → IsAnswered sched name line call fresh turned
-    by_items turned answers shape [] e goes = none_is_some _ e
-    by_items turned answers shape (one ∷ rest) e is = ⊎_elim (λ goes. absurd (no_reply turned answers goes.reply))
-        (λ done.
-        let same : one ≡ record { line = line; item = Calls call } = ap (λ o. unwrap_or o one) e in
-        let its : Answers sched (Someone name) (record { line = line; item = Calls call }) (Some fresh) turned =
-        subst (λ (q : Queued). Answers sched (Someone name) q (Some fresh) turned) same done in record {
-          reply = its.reply;
-          world = its.world;
-          queues = its.queues;
-          under_way = left_under_way turned answers shape;
-        }) is
+    by_items turned answers shape items e goes = grind (arith, common_steps, none_is_some, no_reply, left_under_way)
 
     answered : is_some (turn nat_eq sched (Someone name) (Some fresh)).reply ≡ true
         → IsAnswered sched name line call fresh (turn nat_eq sched (Someone name) (Some fresh))
@@ -78,11 +59,7 @@ filter_less {A} p r (x ∷ xs) less = by (p x) (r x) refl refl (filter_less p r 
   where
     by : (b c : Bool) → p x ≡ b → r x ≡ c → filter p (filter r xs) ≡ filter p xs
         → filter p (cond c (x ∷ filter r xs) (filter r xs)) ≡ cond b (x ∷ filter p xs) (filter p xs)
-    by true true e f later =
-        ap (λ b. cond b (x ∷ filter p (filter r xs)) (filter p (filter r xs))) e ∙ ap (λ l. x ∷ l) later
-    by true false e f later = absurd (true≢false (sym (less x (inl refl) e) ∙ f))
-    by false true e f later = ap (λ b. cond b (x ∷ filter p (filter r xs)) (filter p (filter r xs))) e ∙ later
-    by false false e f later = later
+    by b c e f later = grind (arith, common_steps, true≢false)
 
 -- Of a set what is left is the same, whether others than theirs are left out before, if each call under way of the set
 -- is one of theirs.

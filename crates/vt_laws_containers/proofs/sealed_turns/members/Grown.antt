@@ -1,19 +1,18 @@
 -- Of the tasks in a world, those of the set that a call leaves were of the set before it.
-use Rattle.std.proofs.Common.{◌≡◌, refl, sym, ◌∙◌, ⊎_elim, ℕ, nat_eq, Bool, true, false, not, List, [], ◌+◌, ◌||◌, Option, Some, None, Ok, Err, Result, is_ok, is_some, arith}
+use Rattle.std.proofs.lemmas.Grind.{common_steps}
+use Rattle.std.proofs.Common.{◌≡◌, refl, sym, ◌∙◌, ℕ, nat_eq, Bool, true, false, not, List, [], ◌+◌, ◌||◌, Option, Some, None, Ok, Err, Result, is_ok, is_some, arith}
 use Rattle.std.specs.Prelude.{⊤}
 use Rattle.std.proofs.lemmas.Bool.{or_cases}
 use Rattle.vt_spec.specs.declared.errors.Deny.{Deny}
 use Rattle.vt_spec.specs.Language.Answers.{Answer}
-use Rattle.vt_spec.specs.Language.Answers.Answer.{Child, Done}
+use Rattle.vt_spec.specs.Language.Answers.Answer.{Child}
 use Rattle.vt_spec.specs.Language.Calls.{Call, TaskName, same_name}
-use Rattle.vt_spec.specs.Language.Calls.Call.{Exit}
 use Rattle.vt_spec.specs.Lists.{Fresh, is_among}
 use Rattle.vt_spec.specs.Machine.Apply.{apply}
 use Rattle.vt_spec.specs.Machine.Invariants.{IsWorld}
 use Rattle.vt_spec.specs.Machine.Judge.{Judgement, judge_in}
 use Rattle.vt_spec.specs.Machine.Outcomes.{Outcome, after}
 use Rattle.vt_spec.specs.Machine.Permits.{Permit}
-use Rattle.vt_spec.specs.Machine.Permits.Permit.{Allowed, ToBind, ToChange, ToClose, ToEnterNamespace, ToExit, ToFork, ToList, ToListMounts, ToMake, ToMountOverlay, ToMountPlain, ToMove, ToOpen, ToOpenNew, ToPivot, ToRead, ToReadPart, ToRemoveDirectory, ToRename, ToSetCredentials, ToSetDirectory, ToSetFlags, ToSetRoot, ToSetType, ToSetUmask, ToStat, ToUnmount, ToUnmountLazily, ToUnshare, ToWritePart}
 use Rattle.vt_spec.specs.Machine.Policy.{filesystems_changed_by, finished_by, only_looks, policy}
 use Rattle.vt_spec.specs.Machine.Tasks.{child_name}
 use Rattle.vt_spec.specs.Machine.World.{Task, World, task_called}
@@ -32,46 +31,12 @@ NamesItsChild task answer = ⊤
 
 applied : (fresh : Fresh ℕ) (world : World ℕ) (task : Task ℕ) (permit : Permit ℕ)
     → NamesItsChild task (apply nat_eq fresh world task permit).answer
-applied fresh world task Allowed = tt
-applied fresh world task (ToList directory) = tt
-applied fresh world task (ToStat object) = tt
-applied fresh world task (ToRead file) = tt
-applied fresh world task (ToReadPart file offset size) = tt
-applied fresh world task (ToChange location change) = tt
-applied fresh world task (ToMake directory name node) = tt
-applied fresh world task (ToRemoveDirectory parent name directory) = tt
-applied fresh world task (ToRename from old to new object replaced) = tt
-applied fresh world task (ToOpen file access) = tt
-applied fresh world task (ToOpenNew directory name node access) = tt
-applied fresh world task (ToWritePart file offset bytes) = tt
-applied fresh world task (ToClose descriptor) = tt
-applied fresh world task (ToSetDirectory directory) = tt
-applied fresh world task (ToSetRoot root) = tt
-applied fresh world task (ToSetUmask umask) = tt
-applied fresh world task (ToSetCredentials credentials) = tt
-applied fresh world task (ToFork credentials) = refl
-applied fresh world task ToExit = tt
-applied fresh world task ToUnshare = tt
-applied fresh world task (ToEnterNamespace namespace) = tt
-applied fresh world task (ToMountPlain destination flags) = tt
-applied fresh world task (ToMountOverlay destination overlay flags) = tt
-applied fresh world task (ToBind source destination recursive) = tt
-applied fresh world task (ToMove mount destination) = tt
-applied fresh world task (ToUnmount mount) = tt
-applied fresh world task (ToUnmountLazily mount) = tt
-applied fresh world task (ToSetFlags mount flags) = tt
-applied fresh world task (ToSetType mount word recursive) = tt
-applied fresh world task (ToPivot new put) = tt
-applied fresh world task ToListMounts = tt
+applied fresh world task permit = grind (arith, common_steps)
 
 -- a set without a task that ends has no more names
 left_less : (names : List TaskName) (name : TaskName) (call : Call) (other : TaskName)
     → is_among same_name other (left names name call) ≡ true → is_among same_name other names ≡ true
-left_less names name Exit other h =
-    let at = any_among (same_name other) (left names name Exit) h in
-    any_from_among (same_name other) names at.0
-    (among-from_filter (λ member. not (same_name name member)) names at.0 at.1).0 at.2
-left_less names name call other h = h
+left_less names name call other h = grind (arith, common_steps, any_among, any_from_among, among-from_filter)
 
 module _ (world : World ℕ) (names : List TaskName) (name : TaskName) (call : Call) (fresh : Fresh ℕ)
     (is : IsWorld nat_eq world) where
@@ -94,11 +59,8 @@ module _ (world : World ℕ) (names : List TaskName) (name : TaskName) (call : C
 
   by_answer : (task : Task ℕ) → task_called world name ≡ Some task → (answer : Result Answer Deny)
       → NamesItsChild task answer → WereOfTheSet answer
-  by_answer task e (Ok (Child child)) its other there h =
-      ⊎_elim (λ same. absurd (no_child_yet task e other there (same_task_name other child same ∙ its))) (λ m. m)
-      (or_cases (same_name other child) (is_among same_name other names) h)
-  by_answer task e (Ok Done) its other there h = left_less names name call other h
-  by_answer task e answer its other there h = h
+  by_answer task e answer its other there h =
+      grind (arith, common_steps, no_child_yet, same_task_name, or_cases, left_less)
 
   by_judgement : (task : Task ℕ) → task_called world name ≡ Some task → (judgement : Judgement ℕ)
       → WereOfTheSet (after world judgement (apply nat_eq fresh world task)).answer

@@ -1,15 +1,15 @@
 -- The change numbers that calls of theirs hold are those of the part.
-use Rattle.std.proofs.Common.{◌≡◌, refl, sym, ap, ◌∙◌, inl, inr, ⊎_elim, ℕ, nat_eq, Bool, true, false, true≢false, cond, List, [], ◌∷◌, ◌||◌, Option, Some, filter, find, map, eqb-true, eq-eqb}
-use Rattle.std.specs.Prelude.{option_map, unwrap_or}
-use Rattle.std.specs.List.{filter_map, list_any}
+use Rattle.std.proofs.Common.{arith, ◌≡◌, refl, sym, ap, ◌∙◌, inl, inr, ⊎_elim, ℕ, nat_eq, Bool, true, false, true≢false, cond, List, [], ◌∷◌, ◌||◌, Some, filter, find, map, eqb-true, eq-eqb}
+use Rattle.std.proofs.lemmas.Grind.{common_steps}
+use Rattle.std.specs.List.{list_any}
 use Rattle.std.proofs.lemmas.Bool.{or_cases}
 use Rattle.vt_spec.specs.Language.Calls.{TaskName}
-use Rattle.vt_spec.specs.Lists.{first_of_list, holds_of, is_among, when}
+use Rattle.vt_spec.specs.Lists.{first_of_list, holds_of, is_among}
 use Rattle.vt_spec.specs.Machine.Invariants.{IsWorld}
 use Rattle.vt_spec.specs.Machine.Mounts.{Location, Mount}
-use Rattle.vt_spec.specs.Machine.Sealed.{is_own_mount, is_own_namespace, members, own_lowers, own_mounts, part_of, part_of_filesystem, part_of_lower, used_filesystems}
-use Rattle.vt_spec.specs.Machine.Turns.{Progress, filesystem_change_of, is_overtaken, is_stale, last_number, namespace_change_of}
-use Rattle.vt_spec.specs.Machine.World.{Filesystem, Layer, Namespace, Task, World, locations_of, mount_at, mounts_of}
+use Rattle.vt_spec.specs.Machine.Sealed.{is_own_mount, members, own_mounts, part_of, used_filesystems}
+use Rattle.vt_spec.specs.Machine.Turns.{Progress, filesystem_change_of, is_overtaken, is_stale, namespace_change_of}
+use Rattle.vt_spec.specs.Machine.World.{Task, World, locations_of, mount_at, mounts_of}
 use Rattle.vt_spec.proofs.Lists.{Among, among-append_left, among-filter, among-flat_map, among-from_filter, among-map, any_among, any_from_among}
 use Rattle.vt_laws_members.proofs.judging.JudgedOverlays.{any_same}
 use Rattle.vt_laws_members.proofs.judging.MountPoints.{in_own}
@@ -78,33 +78,11 @@ module _ (world : World ℕ) (names : List TaskName) (is : IsWorld nat_eq world)
   -- the part has the numbers of what they use,
   pub filesystem_same : (f : ℕ) → uses f ≡ true → filesystem_change_of nat_eq part f
       ≡ filesystem_change_of nat_eq world f
-  filesystem_same f used = ap (λ o. unwrap_or (option_map (λ (x : Filesystem ℕ). x.change) o) last_number)
-      (found_first numbered (filter_map shown world.filesystems)
-      ∙ ap first_of_list (filter_kept shown numbered whole others world.filesystems)
-      ∙ sym (found_first numbered world.filesystems))
-    where
-      numbered : Filesystem ℕ → Bool
-      numbered x = nat_eq f x.number
-
-      shown : Filesystem ℕ → Option (Filesystem ℕ)
-      shown = part_of_filesystem nat_eq world names
-
-      whole : (x : Filesystem ℕ) → numbered x ≡ true → shown x ≡ Some x
-      whole x e = ap (λ b. cond b (Some x)
-          (when (list_any (λ (layer : Layer ℕ). nat_eq x.number layer.filesystem) (own_lowers nat_eq world names))
-          (part_of_lower nat_eq world names x))) (ap uses (sym (eqb-true f x.number e)) ∙ used)
-
-      others : (x y : Filesystem ℕ) → shown x ≡ Some y → numbered x ≡ false → numbered y ≡ false
-      others x y e fails = ⊎_elim (λ same. ap numbered (sym same.0) ∙ fails)
-          (λ lower. ap numbered (sym lower.0) ∙ fails) (shown_how world names x y e)
+  filesystem_same f used = grind (arith, common_steps, found_first, filter_kept, eqb-true, shown_how)
 
   -- and of their namespaces
   pub namespace_same : namespace_change_of nat_eq part task.namespace ≡ namespace_change_of nat_eq world task.namespace
-  namespace_same = ap (λ o. unwrap_or (option_map (λ (n : Namespace ℕ). n.change) o) last_number)
-      (found_kept (λ (n : Namespace ℕ). nat_eq task.namespace n.number)
-      (λ (n : Namespace ℕ). is_own_namespace nat_eq world names n.number) world.namespaces
-      (λ n e. any_from_among (λ (t : Task ℕ). nat_eq n.number t.namespace) (members world names) task member
-      (eq-eqb n.number task.namespace (sym (eqb-true task.namespace n.number e)))))
+  namespace_same = grind (arith, common_steps, found_kept, any_from_among, eq-eqb, eqb-true)
 
   -- so a call that holds what is seen is overtaken in both or in neither
   pub overtaken_alike : (progress : Progress ℕ)

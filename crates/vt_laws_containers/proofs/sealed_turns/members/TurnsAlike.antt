@@ -1,5 +1,6 @@
 -- A turn of a task of theirs goes in their part as it goes in the world, as long as it answers nothing.
-use Rattle.std.proofs.Common.{◌≡◌, refl, sym, ap, subst, ◌∙◌, ◌⊎◌, inl, inr, ⊎_elim, ℕ, nat_eq, Bool, true, false, true≢false, cond, not, List, [], ◌∷◌, ◌++◌, ◌+◌, Option, Some, None, Ok, Err, Result, filter, find, is_some}
+use Rattle.std.proofs.Common.{arith, ◌≡◌, refl, sym, ap, subst, ◌∙◌, ◌⊎◌, inl, inr, ⊎_elim, ℕ, nat_eq, Bool, true, false, true≢false, cond, not, List, [], ◌∷◌, ◌++◌, ◌+◌, Option, Some, None, Ok, Err, Result, filter, find, is_some}
+use Rattle.std.proofs.lemmas.Grind.{common_steps}
 use Rattle.std.specs.Prelude.{nat_le, slice_get}
 use Rattle.std.specs.List.{list_any}
 use Rattle.vt_spec.specs.declared.errors.Deny.{Deny}
@@ -36,12 +37,7 @@ swapped {A} p q (a ∷ rest) = by (p a) (q a) refl refl (swapped p q rest)
   where
     by : (b c : Bool) → p a ≡ b → q a ≡ c → filter p (filter q rest) ≡ filter q (filter p rest)
         → filter p (cond c (a ∷ filter q rest) (filter q rest)) ≡ filter q (cond b (a ∷ filter p rest) (filter p rest))
-    by true true e f later =
-        ap (λ x. cond x (a ∷ filter p (filter q rest)) (filter p (filter q rest))) e ∙ ap (λ l. a ∷ l) later
-        ∙ sym (ap (λ x. cond x (a ∷ filter q (filter p rest)) (filter q (filter p rest))) f)
-    by true false e f later = later ∙ sym (ap (λ x. cond x (a ∷ filter q (filter p rest)) (filter q (filter p rest))) f)
-    by false true e f later = ap (λ x. cond x (a ∷ filter p (filter q rest)) (filter p (filter q rest))) e ∙ later
-    by false false e f later = later
+    by b c e f later = grind (arith, common_steps)
 
 module _ (sched : Sched ℕ) (names : List TaskName) (has : HasCallsUnderWay sched) where
   abbrev world : World ℕ

@@ -1,14 +1,14 @@
 -- Where a plain tree changes and keeps its names, all stays in use.
-use Rattle.std.proofs.Common.{◌≡◌, refl, sym, ap, subst, ◌∙◌, ℕ, nat_eq, Bool, true, false, cond, [], ◌||◌}
-use Rattle.std.specs.List.{list_all}
+use Rattle.std.proofs.Common.{arith, ◌≡◌, refl, sym, ap, subst, ◌∙◌, ℕ, nat_eq, Bool, true, false, cond, [], ◌||◌}
+use Rattle.std.proofs.lemmas.Grind.{common_steps}
 use Rattle.vt_spec.specs.FileTree.{FileTree}
 use Rattle.vt_spec.specs.Lists.{is_among}
 use Rattle.vt_spec.specs.Machine.Filesystems.{with_files}
-use Rattle.vt_spec.specs.Machine.Settled.{filesystem_lives, named_in, objects_of_overlay}
+use Rattle.vt_spec.specs.Machine.Settled.{filesystem_lives, named_in}
 use Rattle.vt_spec.specs.Machine.World.{Filesystem, World, is_overlay, replaced_if_numbered}
 use Rattle.vt_laws_mounts.specs.LettingGo.InUse.{AllInUse, FilesystemsInUse}
-use Rattle.vt_laws_mounts.specs.LettingGo.OneByOne.{AllInUseBut, FilesystemsInUseBut, GroupsInUseBut, InodesInUseBut, Losers, is_inode_among}
-use Rattle.vt_laws_mounts.specs.LettingGo.TreesOverlays.{ChangesFilesystem, in_use_of, upper_objects, with_filesystems}
+use Rattle.vt_laws_mounts.specs.LettingGo.OneByOne.{AllInUseBut, FilesystemsInUseBut, GroupsInUseBut, InodesInUseBut, Losers}
+use Rattle.vt_laws_mounts.specs.LettingGo.TreesOverlays.{ChangesFilesystem, in_use_of, with_filesystems}
 use Rattle.vt_laws_mounts.proofs.letting_go.Lists.{Among, all_from_among, all_pass, among-from_map, is_among_numbers, or_first, passes}
 use Rattle.vt_laws_mounts.proofs.letting_go.leaving.TreesWithOverlays.{all_but_changed, lives_alike, unchanged}
 use Rattle.vt_laws_mounts.proofs.letting_go.sweeps.InUse.{filesystems_stay, mounts_stay, no_objects}
@@ -69,24 +69,7 @@ module _ (world : World ℕ) (old : Filesystem ℕ) (files : FileTree ℕ) (plai
   new = with_files old files
 
   of_old : (after : World ℕ) → ChangesFilesystem after [] old new
-  of_old after = record {
-    number = refl;
-    root = root;
-    layers = refl;
-    inodes = cc (
-      numbers,
-      all_pass (λ k. is_among nat_eq k old.files.numbers || is_among nat_eq k (named_in files) || is_among nat_eq k
-          (upper_objects after old.number)) old.files.numbers (λ k m. or_first (is_among nat_eq k old.files.numbers ||
-          is_among nat_eq k (named_in files)) (is_among nat_eq k (upper_objects after old.number)) (or_first (is_among
-          nat_eq k old.files.numbers) (is_among nat_eq k (named_in files)) (is_among_numbers k old.files.numbers m))),
-    );
-    names = ap (λ l. list_all (λ k. is_among nat_eq k l || is_inode_among old.number k []) (named_in old.files)) named
-        ∙ all_pass (λ k. is_among nat_eq k (named_in old.files) || is_inode_among old.number k []) (named_in old.files)
-        (λ k m. or_first (is_among nat_eq k (named_in old.files)) (is_inode_among old.number k [])
-        (is_among_numbers k (named_in old.files) m));
-    objects = λ target. ap (list_all (λ k. is_among nat_eq k (objects_of_overlay nat_eq target new)
-        || is_inode_among target k [])) (no_objects world target old plain);
-  }
+  of_old after = grind (arith, common_steps, all_pass, or_first, is_among_numbers, no_objects)
 
   pub tree_changes : (after : World ℕ) (f : Filesystem ℕ) → Among f world.filesystems
       → ChangesFilesystem after [] f (replaced_if_numbered nat_eq new f)

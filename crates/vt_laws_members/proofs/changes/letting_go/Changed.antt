@@ -1,9 +1,10 @@
 -- Where tasks of a set let locations go, the world and the part are ready to be swept.
-use Rattle.std.proofs.Common.{◌≡◌, refl, sym, ap, subst, ◌∙◌, ◌⊎◌, inl, inr, ⊎_elim, ℕ, nat_eq, Bool, true, false, cond, true≢false, List, [], Option, Some, None, filter, map, not, ◌||◌, eqb-true}
+use Rattle.std.proofs.Common.{arith, ◌≡◌, refl, sym, ap, subst, ◌∙◌, ◌⊎◌, inl, inr, ⊎_elim, ℕ, nat_eq, Bool, true, false, true≢false, List, [], Option, Some, None, filter, map, not, ◌||◌, eqb-true}
+use Rattle.std.proofs.lemmas.Grind.{common_steps}
 use Rattle.std.specs.List.{list_any}
 use Rattle.std.proofs.lemmas.Bool.{or_cases, or_left, or_parts, or_right}
 use Rattle.vt_spec.specs.Language.Calls.{TaskName}
-use Rattle.vt_spec.specs.Lists.{holds_of, then_some, when}
+use Rattle.vt_spec.specs.Lists.{holds_of, then_some}
 use Rattle.vt_spec.specs.Machine.Invariants.{IsWorld, MountInvariants, Stands}
 use Rattle.vt_spec.specs.Machine.Mounts.{Location, Mount}
 use Rattle.vt_spec.specs.Machine.Sealed.{is_at, is_member_task, locations, members, outsiders, roots_and_directories, sealed, seen_by_descriptor, used_directly}
@@ -129,24 +130,7 @@ module _ (world : World ℕ) (names : List TaskName) (is : IsWorld nat_eq world)
 
     kept_by : (m : Mount ℕ) → Among m world.mounts
         → then_some (keep world names old m) (keep world names new) ≡ keep world names new m
-    kept_by m n = by (owns old m || stands old m) refl (at old m) refl (owns new m || stands new m) refl (at new m) refl
-      where
-        kept_as : Bool → Bool → Option (Mount ℕ)
-        kept_as p q = cond p (Some m) (when q (stub m))
-
-        by : (p : Bool) → (owns old m || stands old m) ≡ p → (q : Bool) → at old m ≡ q
-            → (r : Bool) → (owns new m || stands new m) ≡ r → (s : Bool) → at new m ≡ s
-            → then_some (kept_as (owns old m || stands old m) (at old m)) (keep world names new)
-            ≡ kept_as (owns new m || stands new m) (at new m)
-        by true e q f r g s h = ap (λ b. then_some (kept_as b (at old m)) (keep world names new)) e
-        by false e q f true g s h = absurd (true≢false (sym (whole_was m n g) ∙ e))
-        by false e true f false g s h = ap (λ b. then_some (kept_as b (at old m)) (keep world names new)) e
-            ∙ ap (λ b. then_some (when b (stub m)) (keep world names new)) f
-            ∙ ap (λ b. cond b (Some (stub m)) (when (at new m) (stub m))) (or_parts (owns new m) (stands new m) g).1
-            ∙ sym (ap (λ b. kept_as b (at new m)) g)
-        by false e false f false g true h =
-            absurd (⊎_elim (λ whole. true≢false (sym whole ∙ e)) (λ there. true≢false (sym there ∙ f)) (at_was m n h))
-        by false e false f false g false h = cc
+    kept_by m n = grind (arith, common_steps, keep, true≢false, whole_was, or_parts, at_was)
 
     abbrev shows : Location ℕ → ℕ
     shows l = (mount_at nat_eq world l).filesystem

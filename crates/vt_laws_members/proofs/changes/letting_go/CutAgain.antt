@@ -1,4 +1,5 @@
 -- What lies under lower layers is cut out of a tree alike, once the tree is cut to more than that.
+use Rattle.std.proofs.lemmas.Grind.{common_steps}
 use Rattle.std.proofs.Common.{◌≡◌, refl, sym, ap, ◌∙◌, ◌⊎◌, inl, inr, ⊎_elim, ℕ, zero, suc, nat_eq, Bool, true, false, cond, true≢false, List, [], ◌∷◌, Option, Some, None, filter, is_some, length, not, ◌&&◌, arith, eqb-true}
 use Rattle.std.specs.List.{list_any}
 use Rattle.std.proofs.lemmas.Bool.{and_from, and_parts, or_cases, or_left, or_right}
@@ -41,30 +42,7 @@ among_both used chosen n = same_truth (is_among nat_eq n (filter (λ k. is_among
 -- a tree that is cut twice
 pub cut_twice : (used chosen : List ℕ) (files : FileTree ℕ) → only_among nat_eq used (only_among nat_eq chosen files)
     ≡ only_among nat_eq (filter (λ k. is_among nat_eq k used) chosen) files
-cut_twice used chosen files = λ i. record {
-  tree = record { root = files.tree.root; node = λ n. node n i };
-  numbers = numbers i;
-}
-  where
-    both : List ℕ
-    both = filter (λ k. is_among nat_eq k used) chosen
-
-    swap : (a b : Bool) (o : Option (Node ℕ)) → cond a (cond b o None) None ≡ cond (b && a) o None
-    swap true true o = refl
-    swap true false o = refl
-    swap false true o = refl
-    swap false false o = refl
-
-    node : (n : ℕ) → cond (is_among nat_eq n used) (cond (is_among nat_eq n chosen) (files.tree.node n) None) None
-        ≡ cond (is_among nat_eq n both) (files.tree.node n) None
-    node n = cc (swap (is_among nat_eq n used) (is_among nat_eq n chosen) (files.tree.node n), among_both used chosen n)
-
-    numbers : filter (λ k. is_among nat_eq k used) (filter (λ k. is_among nat_eq k chosen) files.numbers)
-        ≡ filter (λ k. is_among nat_eq k both) files.numbers
-    numbers = filter_in (λ k. is_among nat_eq k used) (λ k. is_among nat_eq k both)
-        (λ k. is_among nat_eq k chosen) files.numbers
-        (λ k m e. sym (among_both used chosen k ∙ ap (λ b. b && is_among nat_eq k used) e))
-        (λ k m e. among_both used chosen k ∙ ap (λ b. b && is_among nat_eq k used) e)
+cut_twice used chosen files = grind (arith, common_steps, among_both, filter_in)
 
 -- What lies under a directory of a cut tree lay there.
 module _ (files : FileTree ℕ) (chosen : List ℕ) (top : ℕ) where
@@ -230,8 +208,7 @@ module _ (number : ℕ) (lowers : List (Layer ℕ)) where
     pub cut_alike : cut_to part ≡ cut_to whole
     cut_alike = ap (λ list. only_among nat_eq list part) same_numbers ∙ (λ i. record {
       tree = record { root = whole.tree.root; node = λ n. node n (is_among nat_eq n left) refl i };
-      numbers = filter_in (λ n. is_among nat_eq n left) (λ n. is_among nat_eq n left)
-          (λ n. is_among nat_eq n chosen)
+      numbers = filter_in (λ n. is_among nat_eq n left) (λ n. is_among nat_eq n left) (λ n. is_among nat_eq n chosen)
           whole.numbers (λ n m e. refl) (λ n m e. out n e (is_among nat_eq n left) refl) i;
     })
       where

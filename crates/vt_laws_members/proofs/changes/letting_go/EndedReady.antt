@@ -1,5 +1,6 @@
 -- Where mounts of theirs are detached, the world is ready to be swept.
-use Rattle.std.proofs.Common.{◌≡◌, refl, sym, ap, subst, ◌∙◌, ◌⊎◌, inl, inr, ⊎_elim, ℕ, nat_eq, Bool, true, false, true≢false, List, Option, Some, None, filter, is_some, not, ◌||◌, eq-eqb, eqb-true}
+use Rattle.std.proofs.Common.{arith, ◌≡◌, refl, sym, ap, subst, ◌∙◌, ◌⊎◌, inl, inr, ⊎_elim, ℕ, nat_eq, Bool, true, false, true≢false, List, Option, Some, None, filter, is_some, not, ◌||◌, eq-eqb, eqb-true}
+use Rattle.std.proofs.lemmas.Grind.{common_steps}
 use Rattle.std.specs.Prelude.{option_map}
 use Rattle.std.specs.List.{list_all, list_any}
 use Rattle.std.proofs.lemmas.Bool.{and_parts, not-true, or_cases, or_left, or_right}
@@ -7,11 +8,10 @@ use Rattle.vt_spec.specs.Language.Calls.{TaskName}
 use Rattle.vt_spec.specs.Lists.{holds_of}
 use Rattle.vt_spec.specs.Machine.Detach.{is_going, mount_point_left}
 use Rattle.vt_spec.specs.Machine.Invariants.{IsWorld, MountInvariants}
-use Rattle.vt_spec.specs.Machine.Locked.{overlays}
 use Rattle.vt_spec.specs.Machine.Mounts.{Location, Mount}
 use Rattle.vt_spec.specs.Machine.Sealed.{is_at, is_member_task, is_own_namespace, locations, members, no_outsider_on, other_mounts, outsiders, own_lowers, roots_and_directories, sealed, used_alone, used_filesystems, wholly_locked}
-use Rattle.vt_spec.specs.Machine.Settled.{has_layer_on, is_located, mount_lives, without_dead_mounts}
-use Rattle.vt_spec.specs.Machine.World.{Filesystem, Task, World, all_locations, is_overlay, locations_of, mount_at, mount_numbered}
+use Rattle.vt_spec.specs.Machine.Settled.{is_located, mount_lives, without_dead_mounts}
+use Rattle.vt_spec.specs.Machine.World.{Task, World, all_locations, locations_of, mount_at, mount_numbered}
 use Rattle.vt_spec.proofs.Lists.{Among, among-filter, among-flat_map, among-from_filter, among-from_flat_map, among-from_map, among-map, among_from_list_all, among_numbers, any_among, any_from_among, none_among, pair-filter}
 use Rattle.vt_laws_mounts.specs.Mounts.Invariants.{OneNumberEach}
 use Rattle.vt_laws_mounts.proofs.mounts.MountsReplaced.{found_itself}
@@ -158,25 +158,19 @@ module _ (world : World ℕ) (names : List TaskName) (is : IsWorld nat_eq world)
     no_others = record { mounts = mounts_own; locations = locations_own }
 
   pub alone : (number : ℕ) → used_alone nat_eq world names number ≡ true → Alone living set number
-  alone number h =
-      let both = and_parts (no_outsider_on nat_eq world names number)
-      (list_all (λ merged. not (has_layer_on nat_eq number merged) || no_outsider_on nat_eq world names merged.number)
-      (overlays world)) h in
-      record {
-        itself = no_others number both.0;
-        overlays = λ merged m has. no_others merged.number (by both.1 merged m has);
-      }
-    where
-      by : list_all (λ merged. not (has_layer_on nat_eq number merged)
-          || no_outsider_on nat_eq world names merged.number)
-          (overlays world) ≡ true → (merged : Filesystem ℕ) → Among merged world.filesystems
-          → has_layer_on nat_eq number merged ≡ true → no_outsider_on nat_eq world names merged.number ≡ true
-      by all merged m has =
-          ⊎_elim (λ none. absurd (true≢false (sym has ∙ not-true (has_layer_on nat_eq number merged) none))) (λ h. h)
-          (or_cases (not (has_layer_on nat_eq number merged)) (no_outsider_on nat_eq world names merged.number)
-          (among_from_list_all (λ y. not (has_layer_on nat_eq number y) || no_outsider_on nat_eq world names y.number)
-          (overlays world) all merged
-          (among-filter is_overlay world.filesystems merged m (layered_overlay number merged has))))
+  alone number h = grind (
+    arith,
+    common_steps,
+    number,
+    and_parts,
+    no_others,
+    true≢false,
+    not-true,
+    or_cases,
+    among_from_list_all,
+    among-filter,
+    layered_overlay,
+  )
 
   located_so : (l : Location ℕ) → Among l (locations new) → (y : Mount ℕ) × Among y living.mounts × (l.mount ≡ y.number)
   located_so l m =

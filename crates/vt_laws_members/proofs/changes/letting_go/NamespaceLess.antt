@@ -1,5 +1,6 @@
 -- Where mounts of theirs are detached, and tasks and namespaces end, the tasks that are left see less.
-use Rattle.std.proofs.Common.{◌≡◌, refl, sym, ap, subst, ◌∙◌, ◌⊎◌, inl, inr, ⊎_elim, ℕ, nat_eq, Bool, true, false, cond, true≢false, List, [], ◌∷◌, Option, Some, None, filter, is_some, map, not, ◌||◌, ◌&&◌, eq-eqb, eqb-true}
+use Rattle.std.proofs.Common.{arith, ◌≡◌, refl, sym, ap, subst, ◌∙◌, ◌⊎◌, inl, inr, ⊎_elim, ℕ, nat_eq, Bool, true, false, cond, true≢false, List, [], ◌∷◌, Option, Some, None, filter, is_some, map, not, ◌||◌, ◌&&◌, eq-eqb, eqb-true}
+use Rattle.std.proofs.lemmas.Grind.{common_steps}
 use Rattle.std.specs.Prelude.{option_map}
 use Rattle.std.specs.List.{filter_map, list_any}
 use Rattle.std.proofs.lemmas.Bool.{and_parts, or_cases, or_left, or_right}
@@ -9,7 +10,7 @@ use Rattle.vt_spec.specs.Machine.Detach.{after_going, is_going, mount_point_left
 use Rattle.vt_spec.specs.Machine.Invariants.{IsWorld, is_nowhere_or_attached, is_private}
 use Rattle.vt_spec.specs.Machine.Mounts.{Location, Mount, Propagation, detached, group_of, source_of}
 use Rattle.vt_spec.specs.Machine.Mounts.Propagation.{Private, Shared, Slave, Unbindable}
-use Rattle.vt_spec.specs.Machine.Receives.{heir, inherited, is_member_of, slave_of_heir}
+use Rattle.vt_spec.specs.Machine.Receives.{heir, is_member_of}
 use Rattle.vt_spec.specs.Machine.Sealed.{is_at, is_member_task, is_own_mount, locations, members, own_mounts, part_of, roots_and_directories, sealed, seen_by_descriptor, used_directly}
 use Rattle.vt_spec.specs.Machine.World.{Namespace, Task, World, locations_of, mount_at, mount_numbered}
 use Rattle.vt_spec.proofs.Lists.{Among, among-append, among-append_left, among-append_right, among-filter, among-flat_map, among-from_filter, among-from_flat_map, among-from_map, among-map, among_from_list_all, any_among, any_from_among, pair-map}
@@ -76,24 +77,7 @@ placed_so b t w gone m = by b (is_going nat_eq gone m.number) refl
 -- a member of a group after was one before
 pub member_was : (b : Bool) (t w : World ℕ) (gone : List ℕ) (g : ℕ) (m : Mount ℕ)
     → is_member_of nat_eq g (ended_mount b t w gone m) ≡ true → is_member_of nat_eq g m ≡ true
-member_was b t w gone g m = by b (is_going nat_eq gone m.number)
-  where
-    kind_of : (kind : Propagation ℕ) → holds_of (nat_eq g) (group_of (inherited nat_eq t kind)) ≡ true
-        → holds_of (nat_eq g) (group_of kind) ≡ true
-    kind_of (Shared h) e = e
-    kind_of (Slave h) e = absurd (true≢false (sym e ∙ none (heir nat_eq t (Some h))))
-      where
-        none : (o : Option ℕ) → holds_of (nat_eq g) (group_of (slave_of_heir o)) ≡ false
-        none None = refl
-        none (Some above) = refl
-    kind_of Private e = e
-    kind_of Unbindable e = e
-
-    by : (b c : Bool) → is_member_of nat_eq g (ended_by b c t w gone m) ≡ true → is_member_of nat_eq g m ≡ true
-    by true true h = absurd (true≢false (sym h))
-    by true false h = kind_of m.propagation h
-    by false true h = absurd (true≢false (sym h))
-    by false false h = h
+member_was b t w gone g m = grind (arith, common_steps, true≢false)
 
 -- a private mount without a mount point, and what a descriptor shows, stay
 private_alike : (b : Bool) (t u w x : World ℕ) (gone : List ℕ) (m : Mount ℕ) → is_private m.propagation ≡ true

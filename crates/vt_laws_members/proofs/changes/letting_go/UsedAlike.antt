@@ -1,5 +1,6 @@
 -- The inodes in use of a filesystem that a set of tasks uses alone are those in use in the part.
-use Rattle.std.proofs.Common.{◌≡◌, refl, sym, ap, subst, ◌∙◌, inl, inr, ⊎_elim, ℕ, nat_eq, Bool, true, false, cond, List, [], ◌++◌, Option, Some, None, filter, flat_map, map, ◌||◌, eq-eqb, eqb-true}
+use Rattle.std.proofs.Common.{arith, ◌≡◌, sym, ap, subst, ◌∙◌, inl, inr, ⊎_elim, ℕ, nat_eq, Bool, true, cond, List, [], ◌++◌, Option, Some, None, filter, flat_map, map, ◌||◌, eq-eqb, eqb-true}
+use Rattle.std.proofs.lemmas.Grind.{common_steps}
 use Rattle.std.specs.List.{filter_map, list_any}
 use Rattle.std.proofs.lemmas.Bool.{or_left}
 use Rattle.std.proofs.lemmas.Option.{same_Some}
@@ -7,7 +8,7 @@ use Rattle.vt_spec.specs.Language.Calls.{TaskName}
 use Rattle.vt_spec.specs.Lists.{holds_of, is_among, when}
 use Rattle.vt_spec.specs.Machine.Locked.{of_overlay, overlay_or}
 use Rattle.vt_spec.specs.Machine.Mounts.{Location, Mount, root_of}
-use Rattle.vt_spec.specs.Machine.Sealed.{is_at, is_member_task, locations, members, own_lowers, part_of, part_of_filesystem, part_of_lower, roots_and_directories, seen_by_descriptor, used_filesystems}
+use Rattle.vt_spec.specs.Machine.Sealed.{is_at, is_member_task, locations, members, own_lowers, part_of, part_of_filesystem, part_of_lower, roots_and_directories, used_filesystems}
 use Rattle.vt_spec.specs.Machine.Settled.{has_layer_on, layers_in, located_in, named_in, objects_of_overlay, used_in}
 use Rattle.vt_spec.specs.Machine.World.{Filesystem, Layer, Overlay, Task, World, all_locations, layers_of, locations_of, mount_at, upper_object}
 use Rattle.vt_spec.proofs.Lists.{Among, among-append, among-append_left, among-append_right, among-filter, among-filter_map, among-flat_map, among-from_filter, among-from_filter_map, among-from_flat_map, among-from_map, among-map, among_numbers, any_among, is_among_numbers}
@@ -127,28 +128,7 @@ module _ (b : World ℕ) (x : Filesystem ℕ) (object : ℕ) where
 -- an overlay with objects in a filesystem has a layer there
 objects_layered : (number object : ℕ) (merged : Filesystem ℕ) → Among object (objects_of_overlay nat_eq number merged)
     → has_layer_on nat_eq number merged ≡ true
-objects_layered number object merged = by merged.overlay
-  where
-    objects_by : Overlay ℕ → Bool → List ℕ
-    objects_by overlay b = cond b (filter_map (λ n. upper_object (overlay.real n)) merged.files.numbers) []
-
-    upper : (overlay : Overlay ℕ) (o : Option (Layer ℕ)) → overlay.upper ≡ o
-        → Among object (objects_by overlay (holds_of (λ (layer : Layer ℕ). nat_eq number layer.filesystem) o))
-        → list_any (λ (layer : Layer ℕ). nat_eq number layer.filesystem) (layers_of overlay) ≡ true
-    upper overlay None e k = absurd k
-    upper overlay (Some layer) e k = on (nat_eq number layer.filesystem) refl k
-      where
-        on : (b : Bool) → nat_eq number layer.filesystem ≡ b → Among object (objects_by overlay b)
-            → list_any (λ (l : Layer ℕ). nat_eq number l.filesystem) (layers_of overlay) ≡ true
-        on true f h = cc (e, or_left (nat_eq number layer.filesystem) _ f)
-        on false f h = absurd h
-
-    by : (o : Option (Overlay ℕ)) → Among object (overlay_or [] (λ (overlay : Overlay ℕ). objects_by overlay
-        (holds_of (λ (layer : Layer ℕ). nat_eq number layer.filesystem) overlay.upper)) o)
-        → overlay_or false (λ (overlay : Overlay ℕ). list_any (λ (l : Layer ℕ). nat_eq number l.filesystem)
-        (layers_of overlay)) o ≡ true
-    by None k = absurd k
-    by (Some overlay) k = upper overlay overlay.upper refl k
+objects_layered number object merged = grind (arith, common_steps, or_left)
 
 module _ (a : World ℕ) (set : List TaskName) (used_now : List ℕ) (lowers : List (Layer ℕ))
     (it : Ready a set used_now lowers) (one_in_part : OneNumberEach (part_of nat_eq a set)) where
@@ -198,24 +178,7 @@ module _ (a : World ℕ) (set : List TaskName) (used_now : List ℕ) (lowers : L
   -- a mount with a mount point is kept whole, if at all, and is theirs
   with_point : (m y : Mount ℕ) (l : Location ℕ) → Among m a.mounts → kept m ≡ Some y → y.mount_point ≡ Some l
       → (m ≡ y) × (owns m ≡ true)
-  with_point m y l n e point = by (owns m) refl (is_at nat_eq (roots_and_directories theirs) m) refl
-    where
-      by : (p : Bool) → owns m ≡ p → (q : Bool) → is_at nat_eq (roots_and_directories theirs) m ≡ q
-          → (m ≡ y) × (owns m ≡ true)
-      by true own q at = (same_Some m y (sym (own_whole m own) ∙ e), own)
-      by false own true at =
-          let same : m ≡ y = same_Some m y (sym (ap
-          (λ b. cond b (Some m) (when (is_at nat_eq (locations theirs) m) (seen_by_descriptor m)))
-          (ap (λ b. owns m || b) at ∙ ap (λ b. b || true) own)) ∙ e) in
-          ⊎_elim (λ its. (same, its))
-          (λ none. none_is_some l (sym none ∙ ap (λ (k : Mount ℕ). k.mount_point) same ∙ point)) (it.stood m n at)
-      by false own false at = none_is_some l (stub (is_at nat_eq (locations theirs) m)
-          (sym (ap (λ b. cond b (Some m) (when (is_at nat_eq (locations theirs) m) (seen_by_descriptor m)))
-          (ap (λ b. owns m || b) at ∙ ap (λ b. b || false) own)) ∙ e) ∙ point)
-        where
-          stub : (c : Bool) → when c (seen_by_descriptor m) ≡ Some y → None ≡ y.mount_point
-          stub true h = ap (λ (k : Mount ℕ). k.mount_point) (same_Some (seen_by_descriptor m) y h)
-          stub false h = none_is_some y h
+  with_point m y l n e point = grind (arith, common_steps, same_Some, own_whole, none_is_some)
 
   -- a tree that is shown by lower layers alone is plain
   pub lower_plain : (z : Filesystem ℕ) → Among z a.filesystems

@@ -1,5 +1,6 @@
 -- A world in which tasks of a sealed set let locations go is ready to be swept.
-use Rattle.std.proofs.Common.{◌≡◌, refl, sym, ap, subst, ◌∙◌, ◌⊎◌, inl, inr, ⊎_elim, ℕ, nat_eq, Bool, true, false, true≢false, List, [], Option, Some, None, filter, is_some, not, ◌&&◌, ◌||◌, eq-eqb, eqb-true}
+use Rattle.std.proofs.Common.{arith, ◌≡◌, refl, sym, ap, subst, ◌∙◌, ◌⊎◌, inl, inr, ⊎_elim, ℕ, nat_eq, Bool, true, false, true≢false, List, [], Option, Some, None, filter, is_some, not, ◌&&◌, ◌||◌, eq-eqb, eqb-true}
+use Rattle.std.proofs.lemmas.Grind.{common_steps}
 use Rattle.std.specs.List.{list_all, list_any}
 use Rattle.std.proofs.lemmas.Bool.{and_parts, not-true, or_cases, or_left, or_right}
 use Rattle.vt_spec.specs.Language.Calls.{TaskName}
@@ -179,27 +180,18 @@ module _ (world : World ℕ) (names : List TaskName) (is : IsWorld nat_eq world)
     no_others = record { mounts = mounts_own; locations = locations_own }
 
   pub alone : (number : ℕ) → used_alone nat_eq world names number ≡ true → Alone living set number
-  alone number h =
-      let both = and_parts (no_outsider_on nat_eq world names number)
-      (list_all (λ merged. not (has_layer_on nat_eq number merged) || no_outsider_on nat_eq world names merged.number)
-      (overlays world)) h in
-      record {
-        itself = no_others number both.0;
-        overlays = λ merged m has. no_others merged.number (by both.1 merged m has);
-      }
-    where
-      is_one : (merged : Filesystem ℕ) → has_layer_on nat_eq number merged ≡ true → is_overlay merged ≡ true
-      is_one merged = layered_overlay number merged
-
-      by : list_all (λ merged. not (has_layer_on nat_eq number merged)
-          || no_outsider_on nat_eq world names merged.number)
-          (overlays world) ≡ true → (merged : Filesystem ℕ) → Among merged world.filesystems
-          → has_layer_on nat_eq number merged ≡ true → no_outsider_on nat_eq world names merged.number ≡ true
-      by all merged m has =
-          ⊎_elim (λ none. absurd (true≢false (sym has ∙ not-true (has_layer_on nat_eq number merged) none))) (λ h. h)
-          (or_cases (not (has_layer_on nat_eq number merged)) (no_outsider_on nat_eq world names merged.number)
-          (among_from_list_all (λ y. not (has_layer_on nat_eq number y) || no_outsider_on nat_eq world names y.number)
-          (overlays world) all merged (among-filter is_overlay world.filesystems merged m (is_one merged has))))
+  alone number h = grind (
+    arith,
+    common_steps,
+    and_parts,
+    no_others,
+    layered_overlay,
+    true≢false,
+    not-true,
+    or_cases,
+    among_from_list_all,
+    among-filter,
+  )
 
   pub world_ready : Ready living set (used_filesystems nat_eq later set) (own_lowers nat_eq later set)
   world_ready = record {

@@ -1,6 +1,6 @@
 -- What a granted call of theirs that makes, gives or takes a name asks of a plain tree.
-use Rattle.std.proofs.Common.{◌≡◌, refl, sym, ap, subst, ◌∙◌, ⊎_elim, ℕ, nat_eq, eqb-true, eq-eqb, Bool, true, false, true≢false, List, [], ◌∷◌, Some, Ok, is_some, map, ◌||◌, ◌&&◌}
-use Rattle.std.specs.List.{list_all}
+use Rattle.std.proofs.Common.{arith, ◌≡◌, refl, sym, ap, subst, ◌∙◌, ⊎_elim, ℕ, nat_eq, eqb-true, eq-eqb, Bool, true, false, true≢false, List, [], ◌∷◌, Some, Ok, is_some, map, ◌||◌, ◌&&◌}
+use Rattle.std.proofs.lemmas.Grind.{common_steps}
 use Rattle.std.proofs.lemmas.Bool.{or_cases}
 use Rattle.vt_spec.specs.FileTree.{FileTree}
 use Rattle.vt_spec.specs.Language.Calls.{Call, TaskName}
@@ -14,7 +14,6 @@ use Rattle.vt_spec.specs.Machine.Mounts.{Location}
 use Rattle.vt_spec.specs.Machine.Permits.{Permit}
 use Rattle.vt_spec.specs.Machine.Run.{Serves}
 use Rattle.vt_spec.specs.Machine.Sealed.{sealed, used_alone, used_filesystems, wholly_locked}
-use Rattle.vt_spec.specs.Machine.Settled.{named_in, objects_of_overlay}
 use Rattle.vt_spec.specs.Machine.World.{Filesystem, Task, World, filesystem_at, is_overlay, mount_at, task_called}
 use Rattle.vt_spec.specs.TreeInvariant.{IsTree}
 use Rattle.vt_spec.proofs.Lists.{among_numbers}
@@ -25,7 +24,7 @@ use Rattle.vt_laws_mounts.specs.LettingGo.FileChanges.{MayChange, names_lost}
 use Rattle.vt_laws_mounts.specs.LettingGo.InUse.{IsListedTree}
 use Rattle.vt_laws_mounts.specs.LettingGo.OneByOne.{Inode, is_inode_among}
 use Rattle.vt_laws_mounts.specs.LettingGo.TreeChanges.{ChangesTree}
-use Rattle.vt_laws_mounts.specs.LettingGo.TreesOverlays.{ChangesFilesystem, upper_objects}
+use Rattle.vt_laws_mounts.specs.LettingGo.TreesOverlays.{ChangesFilesystem}
 use Rattle.vt_laws_mounts.proofs.letting_go.Lists.{all_pass, among-map, any_passes, or_first, or_second, passes}
 use Rattle.vt_laws_mounts.proofs.letting_go.leaving.NamesKept.{changes_keep_names}
 use Rattle.vt_laws_mounts.proofs.letting_go.sweeps.InUse.{no_objects}
@@ -53,25 +52,8 @@ module _ (world : World ℕ) (old : Filesystem ℕ) (files : FileTree ℕ) (plai
       (ap (λ b. b && nat_eq inode inode) (eq-eqb old.number old.number refl) ∙ eq-eqb inode inode refl)
 
   pub tree_changes : (after : World ℕ) → ChangesFilesystem after lost old (with_files old files)
-  tree_changes after = record {
-    number = refl;
-    root = changes.root;
-    layers = refl;
-    inodes = all_pass (λ k. is_among nat_eq k old.files.numbers || is_among nat_eq k (named_in files)
-        || is_among nat_eq k (upper_objects after old.number))
-        files.numbers (λ k m. or_first (is_among nat_eq k old.files.numbers || is_among nat_eq k (named_in files))
-        (is_among nat_eq k (upper_objects after old.number))
-        (passes (λ n. is_among nat_eq n old.files.numbers || is_among nat_eq n (named_in files)) files.numbers
-        changes.inodes k m));
-    names = all_pass (λ k. is_among nat_eq k (named_in files) || is_inode_among old.number k lost) (named_in old.files)
-        (λ k m. ⊎_elim (or_first (is_among nat_eq k (named_in files)) (is_inode_among old.number k lost))
-        (λ gone. or_second (is_among nat_eq k (named_in files)) (is_inode_among old.number k lost) (lost_name k gone))
-        (or_cases (is_among nat_eq k (named_in files)) (is_among nat_eq k unnamed)
-        (passes (λ n. is_among nat_eq n (named_in files) || is_among nat_eq n unnamed) (named_in old.files)
-        changes.names k m)));
-    objects = λ target. ap (list_all (λ k. is_among nat_eq k (objects_of_overlay nat_eq target (with_files old files))
-        || is_inode_among target k lost)) (no_objects world target old plain);
-  }
+  tree_changes after =
+      grind (arith, common_steps, all_pass, or_first, passes, or_second, lost_name, or_cases, no_objects)
 
   -- they are of it
   pub lost_here : (number object : ℕ) → nat_eq old.number number ≡ false → is_inode_among number object lost ≡ false

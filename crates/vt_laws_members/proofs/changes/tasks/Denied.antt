@@ -1,5 +1,6 @@
 -- A call of theirs that is refused leaves their part, and is refused alike.
-use Rattle.std.proofs.Common.{◌≡◌, refl, sym, ap, subst, ◌∙◌, ℕ, nat_eq, Bool, true, false, true≢false, not, List, [], Option, Some, None, Ok, Err, ◌||◌}
+use Rattle.std.proofs.Common.{arith, ◌≡◌, refl, sym, ap, subst, ◌∙◌, ℕ, nat_eq, Bool, true, false, true≢false, not, List, [], Option, Some, None, Ok, Err, ◌||◌}
+use Rattle.std.proofs.lemmas.Grind.{common_steps}
 use Rattle.std.specs.Prelude.{is_ok}
 use Rattle.vt_spec.specs.declared.errors.Deny.{Deny}
 use Rattle.vt_spec.specs.Language.Calls.{Call, TaskName}
@@ -8,7 +9,6 @@ use Rattle.vt_spec.specs.Machine.Apply.{apply}
 use Rattle.vt_spec.specs.Machine.Judge.{Judgement, judge_in}
 use Rattle.vt_spec.specs.Machine.Outcomes.{Outcome, after, denied}
 use Rattle.vt_spec.specs.Machine.Permits.{Permit}
-use Rattle.vt_spec.specs.Machine.Permits.Permit.{Allowed, ToBind, ToChange, ToClose, ToEnterNamespace, ToExit, ToFork, ToList, ToListMounts, ToMake, ToMountOverlay, ToMountPlain, ToMove, ToOpen, ToOpenNew, ToPivot, ToRead, ToReadPart, ToRemoveDirectory, ToRename, ToSetCredentials, ToSetDirectory, ToSetFlags, ToSetRoot, ToSetType, ToSetUmask, ToStat, ToUnmount, ToUnmountLazily, ToUnshare, ToWritePart}
 use Rattle.vt_spec.specs.Machine.Policy.{filesystems_changed_by, finished, finished_by, only_looks, policy}
 use Rattle.vt_spec.specs.Machine.Sealed.{members, part_of}
 use Rattle.vt_spec.specs.Machine.World.{Task, World, task_called}
@@ -21,37 +21,7 @@ use Rattle.vt_laws_members.proofs.changes.part.PartAgain.{part_again}
 -- what is permitted is answered
 applied_ok : (fresh : Fresh ℕ) (world : World ℕ) (task : Task ℕ) (permit : Permit ℕ)
     → is_ok (apply nat_eq fresh world task permit).answer ≡ true
-applied_ok fresh world task Allowed = refl
-applied_ok fresh world task (ToList directory) = refl
-applied_ok fresh world task (ToStat object) = refl
-applied_ok fresh world task (ToRead file) = refl
-applied_ok fresh world task (ToReadPart file offset size) = refl
-applied_ok fresh world task (ToChange location change) = refl
-applied_ok fresh world task (ToMake directory name node) = refl
-applied_ok fresh world task (ToRemoveDirectory parent name directory) = refl
-applied_ok fresh world task (ToRename from old to new object replaced) = refl
-applied_ok fresh world task (ToOpen file access) = refl
-applied_ok fresh world task (ToOpenNew directory name node access) = refl
-applied_ok fresh world task (ToWritePart file offset bytes) = refl
-applied_ok fresh world task (ToClose descriptor) = refl
-applied_ok fresh world task (ToSetDirectory directory) = refl
-applied_ok fresh world task (ToSetRoot root) = refl
-applied_ok fresh world task (ToSetUmask umask) = refl
-applied_ok fresh world task (ToSetCredentials credentials) = refl
-applied_ok fresh world task (ToFork credentials) = refl
-applied_ok fresh world task ToExit = refl
-applied_ok fresh world task ToUnshare = refl
-applied_ok fresh world task (ToEnterNamespace namespace) = refl
-applied_ok fresh world task (ToMountPlain destination flags) = refl
-applied_ok fresh world task (ToMountOverlay destination overlay flags) = refl
-applied_ok fresh world task (ToBind source destination recursive) = refl
-applied_ok fresh world task (ToMove mount destination) = refl
-applied_ok fresh world task (ToUnmount mount) = refl
-applied_ok fresh world task (ToUnmountLazily mount) = refl
-applied_ok fresh world task (ToSetFlags mount flags) = refl
-applied_ok fresh world task (ToSetType mount word recursive) = refl
-applied_ok fresh world task (ToPivot new put) = refl
-applied_ok fresh world task ToListMounts = refl
+applied_ok fresh world task permit = grind (arith, common_steps)
 
 module _ (world : World ℕ) (names : List TaskName) (name : TaskName) (call : Call)
     (it : IsCallOfTheirs world names name call) (fresh other : Fresh ℕ) where
