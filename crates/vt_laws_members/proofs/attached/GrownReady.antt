@@ -1,5 +1,6 @@
 -- A world that is ready to be swept for a set is ready still, where mounts of theirs change and more come.
-use Rattle.std.proofs.Common.{◌≡◌, refl, sym, ap, subst, ◌∙◌, ◌⊎◌, inl, inr, ⊎_elim, ℕ, nat_eq, Bool, true, false, true≢false, List, [], ◌++◌, Option, Some, None, filter, is_some, map, ◌&&◌}
+use Rattle.std.proofs.Common.{arith, ◌≡◌, refl, sym, ap, subst, ◌∙◌, ◌⊎◌, inl, inr, ⊎_elim, ℕ, nat_eq, Bool, true, false, true≢false, List, [], ◌++◌, Option, Some, None, filter, is_some, map, ◌&&◌}
+use Rattle.std.proofs.lemmas.Grind.{common_steps}
 use Rattle.std.specs.List.{list_all, list_any}
 use Rattle.std.proofs.lemmas.Bool.{or_left}
 use Rattle.vt_spec.specs.FileTree.{is_under}
@@ -136,17 +137,7 @@ module _ (v : World ℕ) (names : List TaskName) (change : Mount ℕ → Mount �
           by : (o : Option ℕ) → y.namespace ≡ o
               → (n : ℕ) × (y.namespace ≡ Some n) × (k : Mount ℕ) × Among k grown.mounts × (l.mount ≡ k.number)
               × (k.namespace ≡ Some n)
-          by None e = absurd (true≢false (sym attached ∙ ap is_some e))
-          by (Some n) e = (
-            n,
-            e,
-            mount_at nat_eq grown l,
-            ⊎_elim (λ found. found) (λ none. absurd (true≢false
-                (sym (ap is_some (sym below ∙ e)) ∙ ap (λ (z : Mount ℕ). is_some z.namespace) none)))
-                (found_or_none grown.mounts l.mount),
-            sym (number-mount_in grown.mounts l.mount),
-            sym below ∙ e,
-          )
+          by o e = grind (arith, common_steps, true≢false, attached, below, found_or_none, number-mount_in)
 
       grown_ready : Ready grown names (used_filesystems nat_eq grown names) (own_lowers nat_eq grown names)
       grown_ready = record {

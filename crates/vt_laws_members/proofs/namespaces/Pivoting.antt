@@ -1,5 +1,6 @@
 -- Each pivot_root(2) ends in the part as in the world.
-use Rattle.std.proofs.Common.{◌≡◌, refl, sym, ap, subst, ◌∙◌, ◌⊎◌, inl, inr, ⊎_elim, ℕ, nat_eq, Bool, true, false, cond, true≢false, List, [], ◌∷◌, Option, Some, None, Ok, Err, filter, map, not, eq-eqb, eqb-true}
+use Rattle.std.proofs.Common.{arith, ◌≡◌, refl, sym, ap, subst, ◌∙◌, ◌⊎◌, inl, inr, ⊎_elim, ℕ, nat_eq, Bool, true, false, cond, true≢false, List, [], ◌∷◌, Option, Some, None, Ok, Err, filter, map, not, eq-eqb, eqb-true}
+use Rattle.std.proofs.lemmas.Grind.{common_steps}
 use Rattle.std.specs.Prelude.{IfOk, is_ok}
 use Rattle.std.proofs.lemmas.Bool.{false_from_ne_true}
 use Rattle.std.proofs.lemmas.List.{append-nil}
@@ -50,20 +51,10 @@ module _ (root new : Mount ℕ) (put : Location ℕ) where
       cond p (record m { mount_point = root.mount_point }) (cond q (record m { mount_point = Some put }) m)
 
   turned_shape : (m : Mount ℕ) → KeepsShape m (turned m)
-  turned_shape m = by (nat_eq m.number new.number) (nat_eq m.number root.number)
-    where
-      by : (p q : Bool) → KeepsShape m (turned_by p q m)
-      by true q = record { number = refl; filesystem = refl; stub = refl; root = refl }
-      by false true = record { number = refl; filesystem = refl; stub = refl; root = refl }
-      by false false = record { number = refl; filesystem = refl; stub = refl; root = refl }
+  turned_shape m = grind (arith, common_steps)
 
   turned_kind : (m : Mount ℕ) → ((turned m).propagation ≡ m.propagation) ⊎ ((turned m).propagation ≡ Private)
-  turned_kind m = inl (by (nat_eq m.number new.number) (nat_eq m.number root.number))
-    where
-      by : (p q : Bool) → (turned_by p q m).propagation ≡ m.propagation
-      by true q = refl
-      by false true = refl
-      by false false = refl
+  turned_kind m = grind (arith, common_steps)
 
   -- a task after it
   abbrev moved : ℕ → Task ℕ → Task ℕ
@@ -109,12 +100,7 @@ module _ (root new : Mount ℕ) (put : Location ℕ) where
   stood_how : (namespace : ℕ) (t : Task ℕ) (l : Location ℕ)
       → Among l ((moved namespace t).root ∷ (moved namespace t).directory ∷ [])
       → Among l (t.root ∷ t.directory ∷ []) ⊎ (l ≡ root_of new)
-  stood_how namespace t l = by (nat_eq namespace t.namespace)
-    where
-      by : (b : Bool) → Among l ((moved_by b t).root ∷ (moved_by b t).directory ∷ [])
-          → Among l (t.root ∷ t.directory ∷ []) ⊎ (l ≡ root_of new)
-      by true m = listed_how t [] l m
-      by false m = inl m
+  stood_how namespace t l = grind (arith, common_steps, listed_how)
 
   located_how : (namespace : ℕ) (t : Task ℕ) (l : Location ℕ) → Among l (locations_of (moved namespace t))
       → Among l (locations_of t) ⊎ (l ≡ root_of new)

@@ -1,5 +1,6 @@
 -- Where mounts of theirs change, new ones come, and namespaces come and go, a set sees what is made of its part.
-use Rattle.std.proofs.Common.{◌≡◌, refl, sym, ap, subst, ◌∙◌, ◌⊎◌, inl, inr, ⊎_elim, ℕ, nat_eq, Bool, true, false, cond, true≢false, List, [], ◌∷◌, ◌++◌, Option, Some, None, filter, map, not, ◌||◌, eq-eqb, eqb-true}
+use Rattle.std.proofs.Common.{arith, ◌≡◌, refl, sym, ap, subst, ◌∙◌, ◌⊎◌, inl, inr, ⊎_elim, ℕ, nat_eq, Bool, true, false, cond, true≢false, List, [], ◌∷◌, ◌++◌, Option, Some, None, filter, map, not, ◌||◌, eq-eqb, eqb-true}
+use Rattle.std.proofs.lemmas.Grind.{common_steps}
 use Rattle.std.specs.List.{filter_map, list_any}
 use Rattle.std.proofs.lemmas.Bool.{or_cases, or_left, or_parts}
 use Rattle.std.proofs.lemmas.List.Elements.{filter-append, filter_map-append}
@@ -203,12 +204,7 @@ module _ (it : Remaking) (does : ChangesTheirs it) (moves : MovesTheirs it) wher
 
   less_whole : (m : Mount ℕ) → Among m world.mounts → (owns old m || stands old m) ≡ false
       → (owns new m || stands new m) ≡ false
-  less_whole m n e = by (owns new m || stands new m) refl
-    where
-      by : (b : Bool) → (owns new m || stands new m) ≡ b → (owns new m || stands new m) ≡ false
-      by false f = f
-      by true f = absurd (true≢false (sym (⊎_elim (λ own. or_left (owns old m) (stands old m) (own_was m n own))
-          (stands_was m n) (or_cases (owns new m) (stands new m) f)) ∙ e))
+  less_whole m n e = grind (arith, common_steps, true≢false, or_left, own_was, stands_was, or_cases)
 
   -- what is kept of what is kept
   abbrev stub : Mount ℕ → Mount ℕ

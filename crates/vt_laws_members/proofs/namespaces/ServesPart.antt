@@ -1,5 +1,6 @@
 -- Numbers that serve a world serve the part of a set.
-use Rattle.std.proofs.Common.{sym, subst, ◌∙◌, inl, inr, ⊎_elim, ℕ, nat_eq, true≢false, List, ◌∷◌, ◌++◌, filter, flat_map, map}
+use Rattle.std.proofs.Common.{arith, sym, subst, ◌∙◌, inl, inr, ⊎_elim, ℕ, nat_eq, true≢false, List, ◌∷◌, ◌++◌, filter, flat_map, map}
+use Rattle.std.proofs.lemmas.Grind.{common_steps}
 use Rattle.std.specs.List.{list_any}
 use Rattle.std.proofs.lemmas.Bool.{false_from_ne_true}
 use Rattle.vt_spec.specs.Language.Calls.{TaskName}
@@ -76,9 +77,5 @@ module _ (world : World ℕ) (names : List TaskName) where
           n k
 
   pub serves_part : (fresh : Fresh ℕ) → Serves nat_eq world fresh → Serves nat_eq part fresh
-  serves_part fresh serves = record {
-    unused = λ k. false_from_ne_true (is_among nat_eq (fresh k) (numbers_in_use part)) (λ used.
-        true≢false (sym (is_among_numbers (numbers_in_use world) (fresh k)
-        (used_was (fresh k) (among_numbers (numbers_in_use part) (fresh k) used))) ∙ serves.unused k));
-    apart = serves.apart;
-  }
+  serves_part fresh serves =
+      grind (arith, common_steps, false_from_ne_true, true≢false, is_among_numbers, used_was, among_numbers)

@@ -1,7 +1,8 @@
 -- The part of a world in which a filesystem of theirs has another tree is the part with that tree.
-use Rattle.std.proofs.Common.{◌≡◌, refl, sym, ap, ◌∙◌, inl, inr, ℕ, nat_eq, eqb-true, Bool, true, false, cond, List, [], ◌∷◌, ◌++◌, Option, Some, None, find, filter, flat_map, map, ◌&&◌}
+use Rattle.std.proofs.Common.{arith, ◌≡◌, refl, sym, ap, ◌∙◌, inl, inr, ℕ, nat_eq, eqb-true, Bool, true, false, cond, List, [], ◌∷◌, ◌++◌, Option, Some, find, filter, flat_map, map, ◌&&◌}
+use Rattle.std.proofs.lemmas.Grind.{common_steps}
 use Rattle.std.specs.Prelude.{option_map, option_to_list, unwrap_or}
-use Rattle.std.specs.List.{cons_option, filter_map, list_any}
+use Rattle.std.specs.List.{filter_map, list_any}
 use Rattle.vt_spec.specs.FileTree.{is_under}
 use Rattle.vt_spec.specs.Language.Calls.{TaskName}
 use Rattle.vt_spec.specs.Lists.{each_once, is_among, when}
@@ -16,12 +17,7 @@ use Rattle.vt_laws_mounts.specs.LettingGo.TreesOverlays.{with_filesystems}
 filter_map_changed : {A : Type 0} (f g : A → Option A) (h : A → A) (xs : List A)
     → ((x : A) → f (h x) ≡ option_map h (g x)) → filter_map f (map h xs) ≡ map h (filter_map g xs)
 filter_map_changed f g h [] same = refl
-filter_map_changed {A} f g h (x ∷ xs) same = cc (same x, by (g x) (filter_map_changed f g h xs same))
-  where
-    by : (o : Option A) → filter_map f (map h xs) ≡ map h (filter_map g xs)
-        → cons_option (option_map h o) (filter_map f (map h xs)) ≡ map h (cons_option o (filter_map g xs))
-    by None later = later
-    by (Some y) later = ap (λ l. h y ∷ l) later
+filter_map_changed {A} f g h (x ∷ xs) same = grind (arith, common_steps, filter_map_changed f g h xs same)
 
 -- the lower layers of an overlay
 abbrev pub lowers_in : Filesystem ℕ → List (Layer ℕ)

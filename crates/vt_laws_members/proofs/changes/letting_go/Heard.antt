@@ -1,5 +1,6 @@
 -- The groups that a sealed set hears are in its part, with their masters.
-use Rattle.std.proofs.Common.{◌≡◌, refl, sym, ap, subst, ◌∙◌, ⊎_elim, ℕ, nat_eq, Bool, true, cond, true≢false, List, Option, Some, None, is_some, length, not, ◌||◌, ◌&&◌, eqb-true}
+use Rattle.std.proofs.Common.{arith, ◌≡◌, refl, sym, ap, subst, ◌∙◌, ⊎_elim, ℕ, nat_eq, Bool, true, cond, true≢false, List, Some, None, is_some, length, not, ◌||◌, ◌&&◌, eqb-true}
+use Rattle.std.proofs.lemmas.Grind.{common_steps}
 use Rattle.std.specs.List.{list_any}
 use Rattle.std.proofs.lemmas.Bool.{and_parts, or_left}
 use Rattle.vt_spec.specs.Language.Calls.{TaskName}
@@ -91,12 +92,7 @@ module _ (world : World ℕ) (names : List TaskName) (is : IsWorld nat_eq world)
   -- a mount in a namespace of theirs is theirs
   pub own_in : (n : ℕ) → list_any (λ (t : Task ℕ). nat_eq n t.namespace) old ≡ true → (m : Mount ℕ) → its_in n m ≡ true
       → is_own world names old m ≡ true
-  own_in n own m = by m.namespace
-    where
-      by : (o : Option ℕ) → holds_of (nat_eq n) o ≡ true
-          → holds_of (λ i. list_any (λ (t : Task ℕ). nat_eq i t.namespace) old) o ≡ true
-      by None h = absurd (true≢false (sym h))
-      by (Some j) h = ap (λ i. list_any (λ (t : Task ℕ). nat_eq i t.namespace) old) (sym (eqb-true n j h)) ∙ own
+  own_in n own m = grind (arith, common_steps, true≢false, eqb-true)
 
   pub own_kept : (m : Mount ℕ) → is_own world names old m ≡ true → keep world names old m ≡ Some m
   own_kept m own = kept_whole world names old m

@@ -1,5 +1,6 @@
 -- A task of a set exits: the set, the tasks and the namespaces that are left.
-use Rattle.std.proofs.Common.{◌≡◌, refl, sym, ap, subst, ◌∙◌, ⊎_elim, ℕ, nat_eq, Bool, true, false, true≢false, List, [], ◌∷◌, Option, Some, None, filter, map, not, cond}
+use Rattle.std.proofs.Common.{arith, ◌≡◌, refl, sym, ap, subst, ◌∙◌, ⊎_elim, ℕ, nat_eq, Bool, true, false, true≢false, List, [], ◌∷◌, Option, Some, None, filter, map, not, cond}
+use Rattle.std.proofs.lemmas.Grind.{common_steps}
 use Rattle.std.specs.Prelude.{option_to_list}
 use Rattle.std.specs.List.{list_all, list_any}
 use Rattle.std.proofs.lemmas.Bool.{and_parts}
@@ -36,13 +37,7 @@ filter_mid {A} p q r (x ∷ xs) less = by (r x) refl (q x) (filter_mid p q r xs 
     by : (b : Bool) → r x ≡ b → (c : Bool) → filter p (filter q (filter r xs)) ≡ filter p (filter q xs)
         → filter p (filter q (cond b (x ∷ filter r xs) (filter r xs)))
         ≡ filter p (cond (q x) (x ∷ filter q xs) (filter q xs))
-    by true e c later = both (q x)
-      where
-        both : (d : Bool) → filter p (cond d (x ∷ filter q (filter r xs)) (filter q (filter r xs)))
-            ≡ filter p (cond d (x ∷ filter q xs) (filter q xs))
-        both true = ap (λ l. cond (p x) (x ∷ l) l) later
-        both false = later
-    by false e c later = later ∙ skip (q x) (p x) refl e
+    by b e c later = grind (arith, common_steps, skip)
 
 module _ (world : World ℕ) (names : List TaskName) (name : TaskName) (it : IsCallOfTheirs world names name Exit)
     (task : Task ℕ) (called : task_called world name ≡ Some task) where

@@ -48,13 +48,7 @@ abbrev pub ended_by : Bool → Bool → World ℕ → World ℕ → List ℕ →
 ended_by b c t w gone m = regrouped_mount b t (cond c (detached m) (moved_mount w gone m))
 
 pub shape_kept : (b : Bool) (t w : World ℕ) (gone : List ℕ) (m : Mount ℕ) → KeepsShape m (ended_mount b t w gone m)
-shape_kept b t w gone m = by b (is_going nat_eq gone m.number)
-  where
-    by : (b c : Bool) → KeepsShape m (ended_by b c t w gone m)
-    by true true = record { number = refl; filesystem = refl; stub = refl; root = refl }
-    by true false = record { number = refl; filesystem = refl; stub = refl; root = refl }
-    by false true = record { number = refl; filesystem = refl; stub = refl; root = refl }
-    by false false = record { number = refl; filesystem = refl; stub = refl; root = refl }
+shape_kept b t w gone m = grind (arith, common_steps)
 
 -- it is in no namespace, or in its own, and then where it is left
 pub placed_so : (b : Bool) (t w : World ℕ) (gone : List ℕ) (m : Mount ℕ)
@@ -62,17 +56,7 @@ pub placed_so : (b : Bool) (t w : World ℕ) (gone : List ℕ) (m : Mount ℕ)
     × (is_going nat_eq gone m.number ≡ true)) ⊎ (((ended_mount b t w gone m).namespace ≡ m.namespace)
     × ((ended_mount b t w gone m).mount_point ≡ option_map (mount_point_left nat_eq w gone) m.mount_point)
     × (is_going nat_eq gone m.number ≡ false))
-placed_so b t w gone m = by b (is_going nat_eq gone m.number) refl
-  where
-    by : (b c : Bool) → is_going nat_eq gone m.number ≡ c
-        → (((ended_by b c t w gone m).namespace ≡ None) × ((ended_by b c t w gone m).mount_point ≡ None)
-        × (is_going nat_eq gone m.number ≡ true)) ⊎ (((ended_by b c t w gone m).namespace ≡ m.namespace)
-        × ((ended_by b c t w gone m).mount_point ≡ option_map (mount_point_left nat_eq w gone) m.mount_point)
-        × (is_going nat_eq gone m.number ≡ false))
-    by true true e = inl (refl, refl, e)
-    by true false e = inr (refl, refl, e)
-    by false true e = inl (refl, refl, e)
-    by false false e = inr (refl, refl, e)
+placed_so b t w gone m = grind (arith, common_steps)
 
 -- a member of a group after was one before
 pub member_was : (b : Bool) (t w : World ℕ) (gone : List ℕ) (g : ℕ) (m : Mount ℕ)
@@ -82,26 +66,11 @@ member_was b t w gone g m = grind (arith, common_steps, true≢false)
 -- a private mount without a mount point, and what a descriptor shows, stay
 private_alike : (b : Bool) (t u w x : World ℕ) (gone : List ℕ) (m : Mount ℕ) → is_private m.propagation ≡ true
     → m.mount_point ≡ None → ended_mount b t w gone m ≡ ended_mount b u x gone m
-private_alike b t u w x gone m e none = by b (is_going nat_eq gone m.number) m.propagation refl
-  where
-    by : (b c : Bool) (kind : Propagation ℕ) → m.propagation ≡ kind → ended_by b c t w gone m ≡ ended_by b c u x gone m
-    by true true kind f = refl
-    by true false (Shared g) f = absurd (true≢false (sym e ∙ ap is_private f))
-    by true false (Slave g) f = absurd (true≢false (sym e ∙ ap is_private f))
-    by true false Private f = cc none
-    by true false Unbindable f = absurd (true≢false (sym e ∙ ap is_private f))
-    by false true kind f = refl
-    by false false kind f = cc none
+private_alike b t u w x gone m e none = grind (arith, common_steps, true≢false)
 
 pub stub_stays : (b : Bool) (t w : World ℕ) (gone : List ℕ) (m : Mount ℕ)
     → ended_mount b t w gone (seen_by_descriptor m) ≡ seen_by_descriptor m
-stub_stays b t w gone m = by b (is_going nat_eq gone m.number)
-  where
-    by : (b c : Bool) → ended_by b c t w gone (seen_by_descriptor m) ≡ seen_by_descriptor m
-    by true true = refl
-    by true false = refl
-    by false true = refl
-    by false false = refl
+stub_stays b t w gone m = grind (arith, common_steps)
 
 source_from : (kind : Propagation ℕ) (g : ℕ) → group_of kind ≡ Some g → source_of kind ≡ Some g
 source_from (Shared h) g e = e

@@ -1,5 +1,6 @@
 -- Calls of theirs by which a name comes or goes on a plain filesystem end in the part as in the world.
-use Rattle.std.proofs.Common.{◌≡◌, refl, sym, ap, subst, ◌∙◌, ℕ, suc, nat_eq, eqb-true, arith, Bool, true, false, List, [], ◌∷◌, Some, Ok, ◌+◌, ◌≤◌}
+use Rattle.std.proofs.lemmas.Grind.{common_steps}
+use Rattle.std.proofs.Common.{◌≡◌, refl, sym, ap, subst, ◌∙◌, ℕ, suc, nat_eq, eqb-true, arith, true, false, List, [], ◌∷◌, Some, Ok, ◌+◌, ◌≤◌}
 use Rattle.std.specs.Prelude.{⊤}
 use Rattle.vt_spec.specs.Language.Answers.Answer.{Done}
 use Rattle.vt_spec.specs.Language.Calls.{Call, TaskName}
@@ -41,11 +42,7 @@ bound (number ∷ rest) = suc (number + bound rest)
 
 above : (list : List ℕ) (number : ℕ) → bound list ≤ number → is_among nat_eq number list ≡ false
 above [] number l = refl
-above (first ∷ rest) number l = cc (differs (nat_eq number first) refl, above rest number (omega (arith, l)))
-  where
-    differs : (b : Bool) → nat_eq number first ≡ b → nat_eq number first ≡ false
-    differs true e = absurd (omega (arith, l, eqb-true number first e))
-    differs false e = e
+above (first ∷ rest) number l = grind (arith, common_steps, eqb-true, above rest number (omega (arith, l)))
 
 -- a supply of numbers that a world does not use
 abbrev pub unused_numbers : World ℕ → Fresh ℕ

@@ -1,5 +1,6 @@
 -- The part of a world in which tasks change alone, and the tasks of a set see what they saw.
-use Rattle.std.proofs.Common.{◌≡◌, refl, sym, ap, ◌∙◌, ℕ, nat_eq, Bool, true, false, cond, List, [], ◌∷◌, ◌++◌, Some, None, filter, flat_map, ◌||◌}
+use Rattle.std.proofs.Common.{arith, ◌≡◌, refl, sym, ap, ◌∙◌, ℕ, nat_eq, Bool, cond, List, [], ◌∷◌, ◌++◌, Some, None, filter, flat_map, ◌||◌}
+use Rattle.std.proofs.lemmas.Grind.{common_steps}
 use Rattle.std.specs.List.{list_any}
 use Rattle.vt_spec.specs.Language.Calls.{TaskName}
 use Rattle.vt_spec.specs.Lists.{each_once, holds_of, is_among, when}
@@ -22,11 +23,7 @@ any_once p xs = same_truth (list_any p (each_once nat_eq xs)) (list_any p xs)
 
 pub any_both : {A : Type 0} (p : A → Bool) (xs ys : List A) → list_any p (xs ++ ys) ≡ (list_any p xs || list_any p ys)
 any_both p [] ys = refl
-any_both p (x ∷ xs) ys = ap (λ b. p x || b) (any_both p xs ys) ∙ shift (p x) (list_any p xs) (list_any p ys)
-  where
-    shift : (a b c : Bool) → (a || (b || c)) ≡ ((a || b) || c)
-    shift true b c = refl
-    shift false b c = refl
+any_both p (x ∷ xs) ys = grind (arith, common_steps, any_both p xs ys)
 
 pub any_of_each : {A B : Type 0} (p : B → Bool) (g : A → List B) (xs : List A)
     → list_any p (flat_map g xs) ≡ list_any (λ x. list_any p (g x)) xs

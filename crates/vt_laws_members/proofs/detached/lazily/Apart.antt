@@ -1,6 +1,7 @@
 -- Where mounts of a sealed set are detached, its mounts share no events with others, neither in the world nor in
 -- the part.
-use Rattle.std.proofs.Common.{◌≡◌, refl, sym, ap, ◌∙◌, ⊎_elim, ℕ, nat_eq, eq-eqb, Bool, true, false, cond, true≢false, List, Option, Some, None, length, not}
+use Rattle.std.proofs.Common.{arith, ◌≡◌, refl, sym, ap, ◌∙◌, ⊎_elim, ℕ, nat_eq, eq-eqb, Bool, true, false, cond, true≢false, List, Option, Some, None, length, not}
+use Rattle.std.proofs.lemmas.Grind.{common_steps}
 use Rattle.std.specs.List.{list_all, list_any}
 use Rattle.std.proofs.lemmas.Bool.{false_from_ne_true, or_from}
 use Rattle.vt_spec.specs.Language.Calls.{TaskName}
@@ -67,12 +68,7 @@ module _ (world : World ℕ) (names : List TaskName) (is : IsWorld nat_eq world)
 
   kind_after : (m : Mount ℕ) → is_going nat_eq gone m.number ≡ false
       → (after m).propagation ≡ cond b (inherited nat_eq t m.propagation) m.propagation
-  kind_after m e = ap (λ c. (ended_by b c t world gone m).propagation) e ∙ by b
-    where
-      by : (c : Bool) → (ended_by c false t world gone m).propagation
-          ≡ cond c (inherited nat_eq t m.propagation) m.propagation
-      by true = refl
-      by false = refl
+  kind_after m e = grind (arith, common_steps, ended_by)
 
   abbrev masters : Bool → Propagation ℕ → Option ℕ
   masters c (Shared s) = master_after c t s
