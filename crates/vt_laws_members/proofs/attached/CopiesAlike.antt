@@ -30,10 +30,7 @@ use Rattle.vt_laws_members.proofs.attached.GrownPart.{found_before}
 
 -- a mount's group is its source
 pub group_source : (kind : Propagation ℕ) (g : ℕ) → group_of kind ≡ Some g → source_of kind ≡ Some g
-group_source (Shared h) g e = e
-group_source (Slave h) g e = none_is_some g e
-group_source Private g e = none_is_some g e
-group_source Unbindable g e = none_is_some g e
+group_source kind g e = grind (arith, common_steps, none_is_some)
 
 -- a world without new filesystems
 pub no_new_ones : (w : World ℕ) → w ≡ record w { filesystems = w.filesystems ++ [] }

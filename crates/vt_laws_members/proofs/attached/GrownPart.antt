@@ -271,11 +271,7 @@ module _ (v : World ℕ) (names : List TaskName) (change : Mount ℕ → Mount �
 
   -- what is used is not new
   used_is_old : (n : ℕ) → is_among nat_eq n (used_filesystems nat_eq v names) ≡ true → fresh_one n ≡ false
-  used_is_old n used = by (fresh_one n) refl
-    where
-      by : (b : Bool) → fresh_one n ≡ b → b ≡ false
-      by true e = absurd (true≢false (sym used ∙ it.unused n e))
-      by false e = refl
+  used_is_old n used = grind (arith, common_steps, true≢false)
 
   direct_is_old : (d : ℕ) → Among d (used_directly nat_eq v names) → fresh_one d ≡ false
   direct_is_old d m = used_is_old d (used_directly_used v names d m)

@@ -1,6 +1,6 @@
 -- The groups and masters of what is attached to mounts of theirs are heard, or new: their masters are the same in the
 -- part.
-use Rattle.std.proofs.Common.{arith, ◌≡◌, refl, sym, ◌∙◌, ℕ, nat_eq, Bool, true, false, cond, List, Some, None}
+use Rattle.std.proofs.Common.{arith, ◌≡◌, ◌∙◌, ℕ, nat_eq, Bool, true, false, List, Some, None}
 use Rattle.std.proofs.lemmas.Grind.{common_steps}
 use Rattle.std.specs.List.{list_any}
 use Rattle.std.proofs.lemmas.Option.{same_Some}
@@ -9,8 +9,7 @@ use Rattle.vt_spec.specs.Lists.{is_among}
 use Rattle.vt_spec.specs.Machine.Attach.{Copies, Twig, copy_type, image, type_at}
 use Rattle.vt_spec.specs.Machine.Invariants.{IsWorld}
 use Rattle.vt_spec.specs.Machine.Mounts.{Location, Mount, Propagation, group_of, source_of}
-use Rattle.vt_spec.specs.Machine.Receives.{is_member_of}
-use Rattle.vt_spec.specs.Machine.Sealed.{members, own_mounts, part_of, sealed, used_filesystems}
+use Rattle.vt_spec.specs.Machine.Sealed.{members, part_of, sealed, used_filesystems}
 use Rattle.vt_spec.specs.Machine.World.{Filesystem, World, mount_at}
 use Rattle.vt_spec.proofs.Lists.{Among}
 use Rattle.vt_spec.proofs.Options.{none_is_some}
@@ -21,11 +20,7 @@ use Rattle.vt_laws_members.proofs.attached.PushedUp.{copy, twig}
 -- a group without master has none in the part
 pub none_known : (world : World ℕ) (names : List TaskName) (g : ℕ) → world.master g ≡ None
     → (part_of nat_eq world names).master g ≡ world.master g
-none_known world names g e = by (list_any (is_member_of nat_eq g) (own_mounts nat_eq world names))
-  where
-    by : (b : Bool) → cond b (world.master g) None ≡ world.master g
-    by true = refl
-    by false = sym e
+none_known world names g e = grind (arith, common_steps)
 
 module _ (world : World ℕ) (names : List TaskName) (is : IsWorld nat_eq world)
     (sealed_off : sealed nat_eq world names ≡ true) (new_ones : List (Filesystem ℕ))

@@ -126,11 +126,7 @@ module _ (world : World ℕ) (names : List TaskName) (is : IsWorld nat_eq world)
     pub mounted : (f : Filesystem ℕ) → Among f new_ones → (o : Mount ℕ) × Among o origins × (o.filesystem ≡ f.number)
 
   fresh_unused : (n : ℕ) → is_fresh n ≡ true → is_among nat_eq n (used_filesystems nat_eq world names) ≡ false
-  fresh_unused n is_new = by (is_among nat_eq n (used_filesystems nat_eq world names)) refl
-    where
-      by : (b : Bool) → is_among nat_eq n (used_filesystems nat_eq world names) ≡ b → b ≡ false
-      by true e = absurd (true≢false (sym is_new ∙ unused n e))
-      by false e = refl
+  fresh_unused n is_new = grind (arith, common_steps, true≢false)
 
   pub copies_grow : ShowTheirs → (master : ℕ → Option ℕ) → Grows world names up all_copies new_ones master
   copies_grow it master = record {

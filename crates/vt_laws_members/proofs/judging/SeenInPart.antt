@@ -44,11 +44,7 @@ module _ (world : World ℕ) (names : List TaskName) (is : IsWorld nat_eq world)
   -- the filesystem of a location that they use is used
   located_directly : (l : Location ℕ) → Among l (locations theirs)
       → Among (mount_at nat_eq world l).filesystem (used_directly nat_eq world names)
-  located_directly l m =
-      among-append_right (map (λ (mount : Mount ℕ). mount.filesystem) (own_mounts nat_eq world names))
-      (map (λ location. (mount_at nat_eq world location).filesystem) (locations theirs))
-      (mount_at nat_eq world l).filesystem
-      (among-map (λ location. (mount_at nat_eq world location).filesystem) (locations theirs) l m)
+  located_directly l m = grind (arith, common_steps, among-append_right, among-map)
 
   pub located_used : (l : Location ℕ) → Among l (locations theirs) → uses (mount_at nat_eq world l).filesystem ≡ true
   located_used l m = used_directly_used world names (mount_at nat_eq world l).filesystem (located_directly l m)

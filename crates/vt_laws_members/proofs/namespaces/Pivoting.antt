@@ -10,7 +10,7 @@ use Rattle.vt_spec.specs.Language.Calls.Call.{PivotRoot}
 use Rattle.vt_spec.specs.Lists.{Fresh, holds_of, is_among}
 use Rattle.vt_spec.specs.Machine.Invariants.{MountInvariants}
 use Rattle.vt_spec.specs.Machine.Judge.{Judgement, judge_in}
-use Rattle.vt_spec.specs.Machine.Mounts.{Location, Mount, root_of, same_location}
+use Rattle.vt_spec.specs.Machine.Mounts.{Location, Mount, root_of}
 use Rattle.vt_spec.specs.Machine.Mounts.Propagation.{Private}
 use Rattle.vt_spec.specs.Machine.Namespaces.{pivoted, pivoted_location, pivoted_mount, pivoted_task}
 use Rattle.vt_spec.specs.Machine.Outcomes.{granted}
@@ -67,35 +67,20 @@ module _ (root new : Mount ℕ) (put : Location ℕ) where
   }) t
 
   moved_name : (namespace : ℕ) (t : Task ℕ) → (moved namespace t).name ≡ t.name
-  moved_name namespace t = by (nat_eq namespace t.namespace)
-    where
-      by : (b : Bool) → (moved_by b t).name ≡ t.name
-      by true = refl
-      by false = refl
+  moved_name namespace t = grind (arith, common_steps)
 
   moved_space : (namespace : ℕ) (t : Task ℕ) → (moved namespace t).namespace ≡ t.namespace
-  moved_space namespace t = by (nat_eq namespace t.namespace)
-    where
-      by : (b : Bool) → (moved_by b t).namespace ≡ t.namespace
-      by true = refl
-      by false = refl
+  moved_space namespace t = grind (arith, common_steps)
 
   -- a root or working directory stays, or is the new root
   location_how : (l : Location ℕ)
       → (pivoted_location nat_eq root new l ≡ l) ⊎ (pivoted_location nat_eq root new l ≡ root_of new)
-  location_how l = by (same_location nat_eq l (root_of root))
-    where
-      by : (b : Bool) → (cond b (root_of new) l ≡ l) ⊎ (cond b (root_of new) l ≡ root_of new)
-      by true = inr refl
-      by false = inl refl
+  location_how l = grind (arith, common_steps)
 
   listed_how : (t : Task ℕ) (rest : List (Location ℕ)) (l : Location ℕ)
       → Among l (pivoted_location nat_eq root new t.root ∷ pivoted_location nat_eq root new t.directory ∷ rest)
       → Among l (t.root ∷ t.directory ∷ rest) ⊎ (l ≡ root_of new)
-  listed_how t rest l m = ⊎_elim
-      (λ e. ⊎_elim (λ same. inl (inl (e ∙ same))) (λ top. inr (e ∙ top)) (location_how t.root)) (λ more. ⊎_elim
-      (λ e. ⊎_elim (λ same. inl (inr (inl (e ∙ same)))) (λ top. inr (e ∙ top)) (location_how t.directory))
-      (λ later. inl (inr (inr later))) more) m
+  listed_how t rest l m = grind (arith, common_steps, location_how)
 
   stood_how : (namespace : ℕ) (t : Task ℕ) (l : Location ℕ)
       → Among l ((moved namespace t).root ∷ (moved namespace t).directory ∷ [])

@@ -49,10 +49,7 @@ parent_lives b kept y l n point =
 -- a mount with a location lives
 pub located_lives : (b : World ℕ) (y : Mount ℕ) (l : Location ℕ) → Among y b.mounts → Among l (all_locations b)
     → l.mount ≡ y.number → Among y (without_dead_mounts nat_eq b).mounts
-located_lives b y l n m e = among-filter (mount_lives nat_eq b) b.mounts y n
-    (or_right (is_some y.namespace) (is_located nat_eq b y.number)
-    (any_from_among (λ (p : Location ℕ). nat_eq y.number p.mount) (all_locations b) l m
-    (eq-eqb y.number l.mount (sym e))))
+located_lives b y l n m e = grind (arith, common_steps, among-filter, or_right, any_from_among, eq-eqb)
 
 -- of some of the tasks
 pub of_all : (names : List TaskName) (tasks : List (Task ℕ)) (l : Location ℕ)

@@ -159,10 +159,7 @@ module _ (world : World ℕ) (names : List TaskName) (name : TaskName) (it : IsC
       (ap (λ (x : Task ℕ). nat_eq n x.namespace) (sym (u.2 ∙ same)) ∙ t.2))) (replaced_how u.0 (in_world u.0 u.1))
     where
       in_new : n ≡ s → IsNewSpace world n
-      in_new e = (
-        λ m k. ap (λ i. in_space i m) e ∙ none_in_new world fresh task can_world m k,
-        λ x k. ap (λ i. nat_eq i x.number) e ∙ new_among_spaces world fresh serves x k,
-      )
+      in_new e = grind (arith, common_steps, in_space, none_in_new, can_world, new_among_spaces)
 
   abbrev OnTheirs : Location ℕ → Type 0
   OnTheirs l = IsTheirs world names it.is.mounts l.mount
@@ -276,19 +273,12 @@ module _ (world : World ℕ) (names : List TaskName) (name : TaskName) (it : IsC
     turned_kind m = grind (arith, common_steps, in_space)
 
     not_cut : (m : Mount ℕ) → in_space k m ≡ false → turn m ≡ m
-    not_cut m e = ap (λ b. cond b (detached m) m) (ap (λ b. ends && b) e ∙ none ends)
-      where
-        none : (b : Bool) → (b && false) ≡ false
-        none true = refl
-        none false = refl
+    not_cut m e = grind (arith, common_steps)
 
     stays_whole : (m : Mount ℕ) → Among m world.mounts → is_own world names old m ≡ false
         → (turn m ≡ m) × (turn (seen_by_descriptor m) ≡ seen_by_descriptor m)
-    stays_whole m n other = (
-      not_cut m (false_from_ne_true (in_space k m) (λ e.
-          true≢false (sym (own_in world names it.is it.sealed_off k k_own m e) ∙ other))),
-      not_cut (seen_by_descriptor m) refl,
-    )
+    stays_whole m n other =
+        grind (arith, common_steps, not_cut, false_from_ne_true, in_space, true≢false, own_in, k_own)
 
     -- a namespace that does not end has its tasks
     still_in : (n : ℕ) → (ends && nat_eq k n) ≡ false → in_spaces old n ≡ true → in_spaces new n ≡ true

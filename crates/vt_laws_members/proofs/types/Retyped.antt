@@ -47,10 +47,7 @@ chain_alike f g P on same (suc n) a p =
 -- what a private mount inherits
 private_alike : (t u : World ℕ) (kind : Propagation ℕ) → is_private kind ≡ true
     → inherited nat_eq t kind ≡ inherited nat_eq u kind
-private_alike t u (Shared g) e = absurd (true≢false (sym e))
-private_alike t u (Slave g) e = absurd (true≢false (sym e))
-private_alike t u Private e = refl
-private_alike t u Unbindable e = absurd (true≢false (sym e))
+private_alike t u kind e = grind (arith, common_steps, true≢false)
 
 -- who becomes a slave was one, or a member
 slave_was : (new : ℕ) (word : TypeWord) (kind : Propagation ℕ) (g : ℕ)
@@ -68,10 +65,7 @@ same_after : (a b : ℕ) (word : TypeWord) (kind : Propagation ℕ) → takes_gr
 same_after a b word kind e = grind (arith, common_steps, true≢false)
 
 master_source : (kind : Propagation ℕ) (g : ℕ) → master_after kind ≡ Some g → source_of kind ≡ Some g
-master_source (Shared h) g e = none_is_some g e
-master_source (Slave h) g e = e
-master_source Private g e = none_is_some g e
-master_source Unbindable g e = none_is_some g e
+master_source kind g e = grind (arith, common_steps, none_is_some)
 
 module _ (fresh : Fresh ℕ) (word : TypeWord) (named : List (Mount ℕ)) where
   abbrev number_for : ℕ → ℕ

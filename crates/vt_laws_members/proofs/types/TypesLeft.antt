@@ -102,11 +102,7 @@ module _ (world : World ℕ) (names : List TaskName) (is : IsWorld nat_eq world)
         stub : (owned m || stood m) ≡ false → (a : Bool) → located m ≡ a
             → then_some (when (located m) (seen_by_descriptor m)) (λ y. kept (after_there y))
             ≡ when (located m) (seen_by_descriptor m)
-        stub e true f = ap (λ c. then_some (when c (seen_by_descriptor m)) (λ y. kept (after_there y))) f
-            ∙ ap (λ c. cond c (Some (after_there (seen_by_descriptor m))) (when (located m) (seen_by_descriptor m)))
-            (or_parts (owned m) (stood m) e).1
-        stub e false f = ap (λ c. then_some (when c (seen_by_descriptor m)) (λ y. kept (after_there y))) f
-            ∙ sym (ap (λ c. when c (seen_by_descriptor m)) f)
+        stub e a f = grind (arith, common_steps, or_parts)
 
         by : (b : Bool) → (owned m || stood m) ≡ b → then_some (kept m) (λ y. kept (after_there y)) ≡ kept (after m)
         by true e = ap (λ c. then_some (kept_as c m) (λ y. kept (after_there y))) e

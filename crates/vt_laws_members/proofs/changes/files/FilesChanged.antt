@@ -1,12 +1,12 @@
 -- The part of a world in which a filesystem of theirs has another tree is the part with that tree.
 use Rattle.std.proofs.Common.{arith, ◌≡◌, refl, sym, ap, ◌∙◌, inl, inr, ℕ, nat_eq, eqb-true, Bool, true, false, cond, List, [], ◌∷◌, ◌++◌, Option, Some, find, filter, flat_map, map, ◌&&◌}
 use Rattle.std.proofs.lemmas.Grind.{common_steps}
-use Rattle.std.specs.Prelude.{option_map, option_to_list, unwrap_or}
+use Rattle.std.specs.Prelude.{option_map, unwrap_or}
 use Rattle.std.specs.List.{filter_map, list_any}
 use Rattle.vt_spec.specs.FileTree.{is_under}
 use Rattle.vt_spec.specs.Language.Calls.{TaskName}
 use Rattle.vt_spec.specs.Lists.{each_once, is_among, when}
-use Rattle.vt_spec.specs.Machine.Locked.{of_overlay, overlay_or}
+use Rattle.vt_spec.specs.Machine.Locked.{of_overlay}
 use Rattle.vt_spec.specs.Machine.Sealed.{change_layers, own_lowers, part_of, part_of_filesystem, part_of_lower, used_directly, used_filesystems}
 use Rattle.vt_spec.specs.Machine.Settled.{only_among}
 use Rattle.vt_spec.specs.Machine.World.{Filesystem, Layer, Overlay, World, filesystem_numbered, no_filesystem}
@@ -136,7 +136,4 @@ pub part_with_files : (world : World ℕ) (names : List TaskName) (h : Filesyste
     → ((x : Filesystem ℕ) → Among x world.filesystems → (h x).overlay ≡ x.overlay)
     → ((x : Filesystem ℕ) → is_among nat_eq x.number (used_filesystems nat_eq world names) ≡ false → h x ≡ x)
     → part_of nat_eq (with_filesystems world h) names ≡ with_filesystems (part_of nat_eq world names) h
-part_with_files world names h numbered overlaid kept = part_with_layers world names h numbered
-    (λ x m. ap (overlay_or [] (λ (overlay : Overlay ℕ). map (λ (layer : Layer ℕ). layer.filesystem)
-    (option_to_list overlay.upper ++ option_to_list overlay.work))) (overlaid x m))
-    (λ x m. ap (overlay_or [] (λ (overlay : Overlay ℕ). overlay.lowers)) (overlaid x m)) kept
+part_with_files world names h numbered overlaid kept = grind (arith, common_steps, part_with_layers)

@@ -75,11 +75,7 @@ module _ (world : World ℕ) (names : List TaskName) (is : IsWorld nat_eq world)
 
   located_lives : (z : Mount ℕ) (l : Location ℕ) → Among z part.mounts → Among l (all_locations after_part)
       → l.mount ≡ (after z).number → Among (after z) living.mounts
-  located_lives z l at n e =
-      among-filter (mount_lives nat_eq after_part) after_part.mounts (after z) (among-map after part.mounts z at)
-      (or_right (is_some (after z).namespace) (is_located nat_eq after_part (after z).number)
-      (any_from_among (λ (p : Location ℕ). nat_eq (after z).number p.mount) (all_locations after_part) l n
-      (eq-eqb (after z).number l.mount (sym e))))
+  located_lives z l at n e = grind (arith, common_steps, among-filter, among-map, or_right, any_from_among, eq-eqb)
 
   one_living : OneNumberEach living
   one_living = grind (arith, common_steps, pair-filter, pair-map, shape, part_one_number)

@@ -57,10 +57,7 @@ kept_alike p f g k (x ∷ xs) pass fail =
     by : (b : Bool) → p (f x) ≡ b → filter p (map g (filter_map k xs)) ≡ filter p (map f xs)
         → filter p (map g (cons_option (k x) (filter_map k xs)))
         ≡ cond (p (f x)) (f x ∷ filter p (map f xs)) (filter p (map f xs))
-    by true h later =
-        let its = pass x (inl refl) h in
-        cc (its.0, its.1)
-    by false h later = cc (skip (k x) refl h)
+    by b h later = grind (arith, common_steps, skip)
 
 -- the namespace of a mount after does not depend on the groups
 space_same : (b : Bool) (t u w x : World ℕ) (gone : List ℕ) (m : Mount ℕ)
@@ -73,18 +70,11 @@ kind_after : (b : Bool) (t w : World ℕ) (gone : List ℕ) (m : Mount ℕ) → 
 kind_after b t w gone m e = grind (arith, common_steps, ended_by)
 
 member_source : (kind : Propagation ℕ) (g : ℕ) → group_of kind ≡ Some g → source_of kind ≡ Some g
-member_source (Shared h) g e = e
-member_source (Slave h) g e = none_is_some g e
-member_source Private g e = none_is_some g e
-member_source Unbindable g e = none_is_some g e
+member_source kind g e = grind (arith, common_steps, none_is_some)
 
 pub raised_number : (before after : World ℕ) (n : Namespace ℕ)
     → (raised_namespace nat_eq before after n).number ≡ n.number
-raised_number before after n = by (same_mounts_in nat_eq before after n.number)
-  where
-    by : (b : Bool) → (cond b n (record n { change = raised n.change })).number ≡ n.number
-    by true = refl
-    by false = refl
+raised_number before after n = grind (arith, common_steps)
 
 module _ (world : World ℕ) (names : List TaskName) (is : IsWorld nat_eq world)
     (sealed_off : sealed nat_eq world names ≡ true) (set : List TaskName) (gone : List ℕ)
@@ -141,11 +131,7 @@ module _ (world : World ℕ) (names : List TaskName) (is : IsWorld nat_eq world)
   is_theirs n = list_any (λ (t : Task ℕ). nat_eq n t.namespace) old
 
   attached : (n : ℕ) (m : Mount ℕ) → its_in n m ≡ true → is_some m.namespace ≡ true
-  attached n m = by m.namespace
-    where
-      by : (o : Option ℕ) → holds_of (nat_eq n) o ≡ true → is_some o ≡ true
-      by None h = h
-      by (Some j) h = refl
+  attached n m = grind (arith, common_steps)
 
   mine : (m : Mount ℕ) → Among m world.mounts → is_own world names old m ≡ true → Among m owns
   mine m n own = among-filter (is_own_mount nat_eq world names) world.mounts m n own
@@ -207,11 +193,7 @@ module _ (world : World ℕ) (names : List TaskName) (is : IsWorld nat_eq world)
   member_placed t w g m = grind (arith, common_steps, ended_by, true≢false)
 
   placed_own : (m : Mount ℕ) → is_own world names old m ≡ true → is_some m.namespace ≡ true
-  placed_own m = by m.namespace
-    where
-      by : (o : Option ℕ) → holds_of is_theirs o ≡ true → is_some o ≡ true
-      by None h = h
-      by (Some j) h = refl
+  placed_own m = grind (arith, common_steps)
 
   -- a group that is heard has members after in both, or in none
   members_after : (g : ℕ) → Heard g → has_members nat_eq u_part.mounts g ≡ has_members nat_eq u.mounts g

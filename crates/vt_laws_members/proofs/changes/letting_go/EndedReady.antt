@@ -4,7 +4,6 @@ use Rattle.std.proofs.lemmas.Grind.{common_steps}
 use Rattle.std.specs.List.{list_all, list_any}
 use Rattle.std.proofs.lemmas.Bool.{and_parts, not-true, or_cases, or_left, or_right}
 use Rattle.vt_spec.specs.Language.Calls.{TaskName}
-use Rattle.vt_spec.specs.Lists.{holds_of}
 use Rattle.vt_spec.specs.Machine.Detach.{is_going}
 use Rattle.vt_spec.specs.Machine.Invariants.{IsWorld, MountInvariants}
 use Rattle.vt_spec.specs.Machine.Mounts.{Location, Mount}
@@ -78,10 +77,7 @@ module _ (world : World ℕ) (names : List TaskName) (is : IsWorld nat_eq world)
   own_after : (m : Mount ℕ) (n : ℕ) → Among m world.mounts → m.namespace ≡ Some n
       → is_own_namespace nat_eq world names n ≡ true
       → (is_own world names new (after m) ≡ true) ⊎ ((after m).namespace ≡ None)
-  own_after m n at e own = ⊎_elim (λ out. inr out.0)
-      (λ stays. inl (ap (holds_of (λ i. list_any (λ (t : Task ℕ). nat_eq i t.namespace) new)) stays.0
-      ∙ still m at stays.2 (ap (holds_of (is_own_namespace nat_eq world names)) e ∙ own)))
-      (placed_so b (left world names is sealed_off gone own_go) world gone m)
+  own_after m n at e own = grind (arith, common_steps, placed_so, left)
 
   none_after : (m : Mount ℕ) → m.namespace ≡ None → (after m).namespace ≡ None
   none_after m e = ⊎_elim (λ out. out.0) (λ stays. stays.0 ∙ e)

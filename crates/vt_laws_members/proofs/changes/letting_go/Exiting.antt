@@ -9,7 +9,6 @@ use Rattle.vt_spec.specs.Language.Calls.Call.{Exit}
 use Rattle.vt_spec.specs.Lists.{Fresh, then_some}
 use Rattle.vt_spec.specs.Machine.Invariants.{HasLivingGroups, is_private}
 use Rattle.vt_spec.specs.Machine.Mounts.{Location, Mount, Propagation, source_of}
-use Rattle.vt_spec.specs.Machine.Mounts.Propagation.{Private, Shared, Slave, Unbindable}
 use Rattle.vt_spec.specs.Machine.Namespaces.{has_tasks, namespaces_ended}
 use Rattle.vt_spec.specs.Machine.Policy.{numbers_raised}
 use Rattle.vt_spec.specs.Machine.Outcomes.{granted}
@@ -70,10 +69,7 @@ module _ (world : World ℕ) (names : List TaskName) (name : TaskName) (it : IsC
       (own_whole world names it.is own.0 from.1)) own.2
 
   source_placed : (kind : Propagation ℕ) (g : ℕ) → source_of kind ≡ Some g → is_private kind ≡ true → ⊥
-  source_placed (Shared h) g e p = true≢false (sym p)
-  source_placed (Slave h) g e p = true≢false (sym p)
-  source_placed Private g e p = none_is_some g e
-  source_placed Unbindable g e p = none_is_some g e
+  source_placed kind g e p = grind (arith, common_steps, true≢false, none_is_some)
 
   pub part_keeps : list_any (lost_a_group nat_eq (record its_part { tasks = its_rest })) its_part.mounts ≡ false
   part_keeps =

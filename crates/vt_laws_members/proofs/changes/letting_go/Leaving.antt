@@ -75,11 +75,7 @@ module _ (world : World ℕ) (names : List TaskName) (name : TaskName) (it : IsC
       (any_from_among (same_name t.name) names at.0 from.0 at.2, ap (λ n. not (same_name name n)) same ∙ from.1)
 
   pub set_from : (t : Task ℕ) → is_member_task names t ≡ true → stays t ≡ true → its t ≡ true
-  set_from t h s =
-      let at = any_among (same_name t.name) names h in
-      any_from_among (same_name t.name) (left names name Exit) at.0
-      (among-filter (λ m. not (same_name name m)) names at.0 at.1
-      (ap (λ n. not (same_name name n)) (sym (same_task_name t.name at.0 at.2)) ∙ s)) at.2
+  set_from t h s = grind (arith, common_steps, any_among, any_from_among, among-filter, same_task_name)
 
   abbrev pub tasks : List (Task ℕ)
   tasks = filter stays world.tasks
@@ -91,10 +87,7 @@ module _ (world : World ℕ) (names : List TaskName) (name : TaskName) (it : IsC
   in_world t m = (among-from_filter (is_member_task names) world.tasks t m).0
 
   pub new_old : (t : Task ℕ) → Among t (filter its tasks) → Among t old
-  new_old t m =
-      let from = among-from_filter its tasks t m in
-      among-filter (is_member_task names) world.tasks t (among-from_filter stays world.tasks t from.0).0
-      (set_parts t from.1).0
+  new_old t m = grind (arith, common_steps, among-from_filter, among-filter, set_parts)
 
   pub old_new : (t : Task ℕ) → Among t (filter stays old) → Among t (filter its tasks)
   old_new t m =

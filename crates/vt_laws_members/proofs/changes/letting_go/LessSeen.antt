@@ -183,11 +183,7 @@ module _ (world : World ℕ) (names : List TaskName) (is : IsWorld nat_eq world)
     was_so = ap (λ q. cond q (Some x) (when (has_lower lowers_before x.number) y)) unused ∙ ap (λ q. when q y) low
 
     unused_now : is_among nat_eq x.number used ≡ false
-    unused_now = by (is_among nat_eq x.number used) refl
-      where
-        by : (b : Bool) → is_among nat_eq x.number used ≡ b → b ≡ false
-        by true e = absurd (true≢false (sym (used_was x.number e) ∙ unused))
-        by false e = refl
+    unused_now = grind (arith, common_steps, true≢false, used_was)
 
     pub has_lowers : HasLowers x.number lowers x.files
         (filter (lies_in_own_lower nat_eq world names x.number) x.files.numbers)

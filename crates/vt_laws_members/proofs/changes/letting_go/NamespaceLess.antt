@@ -9,7 +9,6 @@ use Rattle.vt_spec.specs.Lists.{holds_of, then_some, when}
 use Rattle.vt_spec.specs.Machine.Detach.{after_going, is_going, mount_point_left}
 use Rattle.vt_spec.specs.Machine.Invariants.{IsWorld, is_nowhere_or_attached, is_private}
 use Rattle.vt_spec.specs.Machine.Mounts.{Location, Mount, Propagation, detached, group_of, source_of}
-use Rattle.vt_spec.specs.Machine.Mounts.Propagation.{Private, Shared, Slave, Unbindable}
 use Rattle.vt_spec.specs.Machine.Receives.{heir, is_member_of}
 use Rattle.vt_spec.specs.Machine.Sealed.{is_at, is_member_task, is_own_mount, locations, members, own_mounts, part_of, roots_and_directories, sealed, seen_by_descriptor, used_directly}
 use Rattle.vt_spec.specs.Machine.World.{Namespace, Task, World, locations_of, mount_at, mount_numbered}
@@ -73,10 +72,7 @@ pub stub_stays : (b : Bool) (t w : World ℕ) (gone : List ℕ) (m : Mount ℕ)
 stub_stays b t w gone m = grind (arith, common_steps)
 
 source_from : (kind : Propagation ℕ) (g : ℕ) → group_of kind ≡ Some g → source_of kind ≡ Some g
-source_from (Shared h) g e = e
-source_from (Slave h) g e = none_is_some g e
-source_from Private g e = none_is_some g e
-source_from Unbindable g e = none_is_some g e
+source_from kind g e = grind (arith, common_steps, none_is_some)
 
 -- a mount where they stand is theirs, or in no namespace
 pub stands_on : (world : World ℕ) (names : List TaskName) (is : IsWorld nat_eq world) (m : Mount ℕ)
@@ -138,10 +134,7 @@ module _ (world : World ℕ) (names : List TaskName) (is : IsWorld nat_eq world)
 
   pub ground_whole : (m : Mount ℕ) → IsGround world names is.mounts m
       → (is_own world names old_ones m || is_at nat_eq (roots_and_directories old_ones) m) ≡ true
-  ground_whole m ground =
-      ⊎_elim (or_left (is_own world names old_ones m) (is_at nat_eq (roots_and_directories old_ones) m))
-      (λ stood. or_right (is_own world names old_ones m) (is_at nat_eq (roots_and_directories old_ones) m) stood.1)
-      ground
+  ground_whole m ground = grind (arith, common_steps, or_left, is_own, or_right)
 
 module _ (world : World ℕ) (names : List TaskName) (is : IsWorld nat_eq world)
     (sealed_off : sealed nat_eq world names ≡ true) (set : List TaskName) (gone : List ℕ)
@@ -215,10 +208,7 @@ module _ (world : World ℕ) (names : List TaskName) (is : IsWorld nat_eq world)
 
   -- an own mount of the set that is left was one
   pub own_before : (m : Mount ℕ) → owns new (after m) ≡ true → (owns new m ≡ true) × (owns old m ≡ true)
-  own_before m h = ⊎_elim (λ gone. absurd (true≢false (sym h
-      ∙ ap (holds_of (λ n. list_any (λ (t : Task ℕ). nat_eq n t.namespace) new)) gone.0)))
-      (λ stays. let mine = sym (ap (holds_of (λ n. list_any (λ (t : Task ℕ). nat_eq n t.namespace) new)) stays.0) ∙ h in
-      (mine, own_was m mine)) (placed_so b t_world world gone m)
+  own_before m h = grind (arith, common_steps, true≢false, own_was, placed_so)
 
   pub root_ground : (l : Location ℕ) → Among l (roots_and_directories new) → (m : Mount ℕ) → Among m world.mounts
       → l.mount ≡ m.number → IsGround world names is.mounts m
@@ -317,17 +307,11 @@ module _ (world : World ℕ) (names : List TaskName) (is : IsWorld nat_eq world)
 
   -- mounts by their numbers
   pub one_after : OneNumberEach ended
-  one_after = pair-map (λ (p q : Mount ℕ). nat_eq p.number q.number)
-      (λ (p q : Mount ℕ). nat_eq p.number q.number) after world.mounts
-      (λ p q m n e. ap (λ i. nat_eq i (after q).number) (shape_kept b t_world world gone p).number
-      ∙ ap (nat_eq p.number) (shape_kept b t_world world gone q).number ∙ e) is.mounts.one_number
+  one_after = grind (arith, common_steps, pair-map, shape_kept)
 
   pub shown_after : (m : Mount ℕ) → Among m world.mounts → (l : Location ℕ) → l.mount ≡ m.number
       → mount_at nat_eq ended l ≡ after m
-  shown_after m n l e = cc (
-    (shape_kept b t_world world gone m).number,
-    found_itself ended.mounts one_after (after m) (among-map after world.mounts m n),
-  )
+  shown_after m n l e = grind (arith, common_steps, shape_kept, found_itself, one_after, among-map)
 
   pub filesystem_after : (m : Mount ℕ) → Among m world.mounts → (l : Location ℕ) → l.mount ≡ m.number
       → (mount_at nat_eq ended l).filesystem ≡ (mount_at nat_eq world l).filesystem

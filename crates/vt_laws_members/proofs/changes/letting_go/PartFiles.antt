@@ -1,5 +1,5 @@
 -- Filesystems of a part: their numbers, layers and cuts.
-use Rattle.std.proofs.Common.{arith, ◌≡◌, refl, sym, ap, subst, ◌∙◌, ⊎_elim, ℕ, nat_eq, true, false, List, Option, Some, None, filter}
+use Rattle.std.proofs.Common.{arith, ◌≡◌, refl, ap, subst, ◌∙◌, ⊎_elim, ℕ, nat_eq, true, false, List, Option, Some, None, filter}
 use Rattle.std.proofs.lemmas.Grind.{common_steps}
 use Rattle.std.specs.List.{list_any}
 use Rattle.vt_spec.specs.Language.Calls.{TaskName}
@@ -22,10 +22,7 @@ module _ (world : World ℕ) (names : List TaskName) (is : IsWorld nat_eq world)
   shown = part_of_filesystem nat_eq world names
 
   shown_number : (x y : Filesystem ℕ) → shown x ≡ Some y → (y.number ≡ x.number) × (y.overlay ≡ x.overlay)
-  shown_number x y e = ⊎_elim
-      (λ whole. (ap (λ (f : Filesystem ℕ). f.number) (sym whole.0), ap (λ (f : Filesystem ℕ). f.overlay) (sym whole.0)))
-      (λ low. (ap (λ (f : Filesystem ℕ). f.number) (sym low.0), ap (λ (f : Filesystem ℕ). f.overlay) (sym low.0)))
-      (shown_how world names x y e)
+  shown_number x y e = grind (arith, common_steps, shown_how)
 
   pub numbers_in_part : any_pair (λ (x y : Filesystem ℕ). nat_eq x.number y.number) part.filesystems ≡ false
   numbers_in_part =

@@ -1,5 +1,5 @@
 -- Where tasks change alone and the rest is swept, change numbers of tasks and of the world are raised, and no others.
-use Rattle.std.proofs.Common.{arith, ◌≡◌, refl, sym, ap, ◌∙◌, ℕ, nat_eq, Bool, true, false, true≢false, List, [], Option, Some, None, filter, is_some, map}
+use Rattle.std.proofs.Common.{arith, ◌≡◌, refl, ap, ◌∙◌, ℕ, nat_eq, Bool, true, false, true≢false, List, [], Option, Some, None, filter, is_some, map}
 use Rattle.std.proofs.lemmas.Grind.{common_steps}
 use Rattle.std.proofs.lemmas.Bool.{or_left}
 use Rattle.vt_spec.specs.Language.Calls.{TaskName}
@@ -7,7 +7,7 @@ use Rattle.vt_spec.specs.Lists.{holds_of, same_list}
 use Rattle.vt_spec.specs.Machine.Filesystems.{raised, raised_if_changed}
 use Rattle.vt_spec.specs.Machine.Invariants.{is_private}
 use Rattle.vt_spec.specs.Machine.Mounts.{Mount, Propagation, group_of}
-use Rattle.vt_spec.specs.Machine.Mounts.Propagation.{Private, Shared, Slave, Unbindable}
+use Rattle.vt_spec.specs.Machine.Mounts.Propagation.{Private}
 use Rattle.vt_spec.specs.Machine.Policy.{numbers_raised, raised_namespace, raised_task, same_mount, same_mounts_in}
 use Rattle.vt_spec.specs.Machine.Receives.{has_members}
 use Rattle.vt_spec.specs.Machine.Settled.{is_located, mount_lives, settled}
@@ -25,10 +25,7 @@ attached number (Some n) h = refl
 -- a private mount is in no group
 in_no_group : (group : ℕ) (kind : Propagation ℕ) → is_private kind ≡ true → holds_of (nat_eq group) (group_of kind)
     ≡ false
-in_no_group group (Shared other) e = absurd (true≢false (sym e))
-in_no_group group (Slave master) e = refl
-in_no_group group Private e = refl
-in_no_group group Unbindable e = refl
+in_no_group group kind e = grind (arith, common_steps, true≢false)
 
 -- mounts outside every namespace are private
 abbrev pub DetachedArePrivate : World ℕ → Type 0

@@ -57,10 +57,7 @@ unlost_none : (t : World ℕ) (m : Mount ℕ) → source_of m.propagation ≡ No
 unlost_none t m e = ap (λ o. is_lost_group nat_eq t o || is_lost_group nat_eq t (then_some o t.master)) e
 
 member_source : (kind : Propagation ℕ) (g : ℕ) → group_of kind ≡ Some g → source_of kind ≡ Some g
-member_source (Shared h) g e = e
-member_source (Slave h) g e = none_is_some g e
-member_source Private g e = none_is_some g e
-member_source Unbindable g e = none_is_some g e
+member_source kind g e = grind (arith, common_steps, none_is_some)
 
 module _ (world : World ℕ) (names : List TaskName) (is : IsWorld nat_eq world)
     (sealed_off : sealed nat_eq world names ≡ true) (gone : List ℕ)

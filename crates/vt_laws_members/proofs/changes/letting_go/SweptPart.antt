@@ -136,10 +136,7 @@ module _ (a : World ℕ) (set : List TaskName) (used_now : List ℕ) (lowers : L
       (λ n m. numbered_kept lowers_at (λ x. layers_kept a (chosen x) x) n) ∙ it.lowers_are
 
   one_swept : any_pair (λ (x y : Filesystem ℕ). nat_eq x.number y.number) swept.filesystems ≡ false
-  one_swept =
-      pair-map (λ (x y : Filesystem ℕ). nat_eq x.number y.number) (λ (x y : Filesystem ℕ). nat_eq x.number y.number)
-      sweep a.filesystems (λ x y m n e. ap (λ k. nat_eq k (sweep y).number) (number-only_used a (chosen x) x)
-      ∙ ap (nat_eq x.number) (number-only_used a (chosen y) y) ∙ e) it.one_filesystem
+  one_swept = grind (arith, common_steps, pair-map, number-only_used)
 
   abbrev has_lower : List (Layer ℕ) → ℕ → Bool
   has_lower layers n = list_any (λ (layer : Layer ℕ). nat_eq n layer.filesystem) layers

@@ -99,10 +99,7 @@ module _ (world : World ℕ) (names : List TaskName) (is : IsWorld nat_eq world)
 
   located_lives : (m : Mount ℕ) (l : Location ℕ) → Among m world.mounts → Among l (all_locations later)
       → l.mount ≡ m.number → Among m living.mounts
-  located_lives m l at n e = among-filter (mount_lives nat_eq later) world.mounts m at
-      (or_right (is_some m.namespace) (is_located nat_eq later m.number)
-      (any_from_among (λ (k : Location ℕ). nat_eq m.number k.mount) (all_locations later) l n
-      (eq-eqb m.number l.mount (sym e))))
+  located_lives m l at n e = grind (arith, common_steps, among-filter, or_right, any_from_among, eq-eqb)
 
   of_all : (l : Location ℕ) → Among l (locations new) → Among l (all_locations later)
   of_all l m =

@@ -1,5 +1,5 @@
 -- What a granted call of theirs that makes, gives or takes a name asks of a plain tree.
-use Rattle.std.proofs.Common.{arith, ◌≡◌, refl, sym, ap, subst, ◌∙◌, ⊎_elim, ℕ, nat_eq, eqb-true, eq-eqb, Bool, true, false, true≢false, List, [], ◌∷◌, Some, Ok, is_some, map, ◌||◌, ◌&&◌}
+use Rattle.std.proofs.Common.{arith, ◌≡◌, refl, sym, ap, subst, ◌∙◌, ⊎_elim, ℕ, nat_eq, eqb-true, eq-eqb, true, false, true≢false, List, [], ◌∷◌, Some, Ok, is_some, map, ◌||◌, ◌&&◌}
 use Rattle.std.proofs.lemmas.Grind.{common_steps}
 use Rattle.std.proofs.lemmas.Bool.{or_cases}
 use Rattle.vt_spec.specs.FileTree.{FileTree}
@@ -60,11 +60,7 @@ module _ (world : World ℕ) (old : Filesystem ℕ) (files : FileTree ℕ) (plai
   lost_here number object e = by unnamed
     where
       apart : nat_eq number old.number ≡ false
-      apart = differs (nat_eq number old.number) refl
-        where
-          differs : (b : Bool) → nat_eq number old.number ≡ b → nat_eq number old.number ≡ false
-          differs true f = absurd (true≢false (sym (eq-eqb old.number number (sym (eqb-true number old.number f))) ∙ e))
-          differs false f = f
+      apart = grind (arith, common_steps, true≢false, eq-eqb, eqb-true)
 
       by : (list : List ℕ) → is_inode_among number object (map (λ inode. (old.number, inode)) list) ≡ false
       by [] = refl

@@ -49,10 +49,7 @@ abbrev pub unused_numbers : World ℕ → Fresh ℕ
 unused_numbers world k = bound (numbers_in_use world) + k
 
 pub unused_serve : (world : World ℕ) → Serves nat_eq world (unused_numbers world)
-unused_serve world = record {
-  unused = λ k. above (numbers_in_use world) (bound (numbers_in_use world) + k) (omega arith);
-  apart = λ j k e. omega (arith, eqb-true (bound (numbers_in_use world) + j) (bound (numbers_in_use world) + k) e);
-}
+unused_serve world = grind (arith, common_steps, above, eqb-true)
 
 -- A granted call by which a name comes or goes
 module _ (world : World ℕ) (names : List TaskName) (name : TaskName) (call : Call)

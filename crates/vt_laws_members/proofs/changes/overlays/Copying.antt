@@ -143,16 +143,10 @@ module _ (fresh : Fresh ℕ) (world : World ℕ) (names : List TaskName) (locati
     pub one_layer : (x : Filesystem ℕ) → Among x w.filesystems → nat_eq layer.number x.number ≡ true → x ≡ layer
 
   pub ones_in_world : AreOnes world
-  ones_in_world = record {
-    one_merged = one_in_world world names is number merged_used;
-    one_layer = one_in_world world names is upper.filesystem layer_used;
-  }
+  ones_in_world = grind (arith, common_steps, one_in_world, merged_used, layer_used)
 
   pub ones_in_part : AreOnes part
-  ones_in_part = record {
-    one_merged = one_in_part world names is number merged_used;
-    one_layer = one_in_part world names is upper.filesystem layer_used;
-  }
+  ones_in_part = grind (arith, common_steps, one_in_part, merged_used, layer_used)
 
   -- what an overlay is but for its real objects stays
   pub overlays_stay : {A : Type 0} (w : World ℕ) → AreOnes w → (default : A) (what : Overlay ℕ → A)

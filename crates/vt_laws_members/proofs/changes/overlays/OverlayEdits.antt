@@ -16,7 +16,7 @@ use Rattle.vt_spec.specs.Machine.Outcomes.{granted}
 use Rattle.vt_spec.specs.Machine.Permits.Permit.{ToChange, ToWritePart}
 use Rattle.vt_spec.specs.Machine.Policy.{finished, only_looks}
 use Rattle.vt_spec.specs.Machine.Run.{Serves}
-use Rattle.vt_spec.specs.Machine.Sealed.{locations, members, own_mounts, part_of, used_directly}
+use Rattle.vt_spec.specs.Machine.Sealed.{locations, members, part_of, used_directly}
 use Rattle.vt_spec.specs.Machine.World.{Filesystem, Layer, Overlay, Task, World, filesystem_at, filesystem_numbered, is_overlay, mount_at, node_at, task_called}
 use Rattle.vt_spec.specs.Tree.{bytes_in}
 use Rattle.vt_spec.proofs.Lists.{Among, among-append_right, among-map}
@@ -178,11 +178,7 @@ overlay_part_writes_end_alike world names name descriptor offset byte bytes it t
     itself = ap (task_called world) (sym (name_found world name task called)) ∙ called
 
     direct : Among (mount_at nat_eq world file).filesystem (used_directly nat_eq world names)
-    direct = among-append_right (map (λ mount. mount.filesystem) (own_mounts nat_eq world names))
-        (map (λ (location : Location ℕ). (mount_at nat_eq world location).filesystem) (locations (members world names)))
-        (mount_at nat_eq world file).filesystem
-        (among-map (λ (location : Location ℕ). (mount_at nat_eq world location).filesystem)
-        (locations (members world names)) file theirs.0)
+    direct = grind (arith, common_steps, among-append_right, among-map, theirs)
 
     alike : filesystem_at nat_eq world file ≡ filesystem_at nat_eq part file
     alike =

@@ -127,10 +127,7 @@ module _ (world : World ℕ) (names : List TaskName) (name : TaskName) (is : IsW
     )
       where
         by : (b : Bool) → P kid ≡ b → (list_any P old || (P kid || false)) ≡ list_any P old
-        by true e =
-            let holds = any_from_among P old task member (less e) in
-            ap (λ b. b || (P kid || false)) holds ∙ sym holds
-        by false e = ap (λ b. list_any P old || (b || false)) e ∙ or_none (list_any P old)
+        by b e = grind (arith, common_steps, any_from_among, member, or_none)
 
     own_same : (n : ℕ) → list_any (λ (t : Task ℕ). nat_eq n t.namespace) (members ended set)
         ≡ list_any (λ (t : Task ℕ). nat_eq n t.namespace) old

@@ -28,10 +28,7 @@ use Rattle.vt_laws_members.proofs.changes.letting_go.Taken.{all_last, set_stays}
 
 -- a member receives from its group
 group_source : (kind : Propagation ℕ) (g : ℕ) → group_of kind ≡ Some g → source_of kind ≡ Some g
-group_source (Shared h) g e = e
-group_source (Slave h) g e = none_is_some g e
-group_source Private g e = none_is_some g e
-group_source Unbindable g e = none_is_some g e
+group_source kind g e = grind (arith, common_steps, none_is_some)
 
 module _ (world : World ℕ) (names : List TaskName) (is : IsWorld nat_eq world)
     (sealed_off : sealed nat_eq world names ≡ true) (gone : List ℕ)
@@ -77,10 +74,7 @@ module _ (world : World ℕ) (names : List TaskName) (is : IsWorld nat_eq world)
   masters c Unbindable = None
 
   told : (kind : Propagation ℕ) → master_of here kind ≡ masters b kind
-  told (Shared s) = refl
-  told (Slave s) = refl
-  told Private = refl
-  told Unbindable = refl
+  told kind = grind (arith, common_steps)
 
   -- what holds of a mount's source and up the masters holds of its master after
   module _ (P : ℕ → Type 0) (up : (g lower : ℕ) → world.master lower ≡ Some g → P lower → P g) where

@@ -56,11 +56,7 @@ module _ (world : World ℕ) (first second : List ℕ) where
   goes_at_once number = list_any-append (nat_eq number) first second
 
   same_length : length left.mounts ≡ length world.mounts
-  same_length = cc (
-    length-map left.mounts (λ (mount : Mount ℕ). mount.number),
-    numbers_taken world first,
-    length-map world.mounts (λ (mount : Mount ℕ). mount.number),
-  )
+  same_length = grind (arith, common_steps, length-map, numbers_taken)
 
   -- Places
 
@@ -87,10 +83,7 @@ module _ (world : World ℕ) (first second : List ℕ) where
   -- on a mount that stays at first, and has fallen then
   fallen_point : (place below : Location ℕ) → is_going nat_eq first place.mount ≡ false → down place ≡ Some below
       → (mount_at nat_eq left place).mount_point ≡ Some (end_of falls (length world.mounts) below)
-  fallen_point place below stays e = ap (λ (mount : Mount ℕ). mount.mount_point) (taken world first place.mount)
-      ∙ ap (λ (mount : Mount ℕ). mount.mount_point) (staying_is_placed world first (mount_at nat_eq world place)
-      (ap (is_going nat_eq first) (number_found world.mounts place.mount) ∙ stays))
-      ∙ ap (option_map (mount_point_left nat_eq world first)) e
+  fallen_point place below stays e = grind (arith, common_steps, taken, staying_is_placed, number_found)
 
   fall_further : (a b c : ℕ) (place below : Location ℕ) → down place ≡ Some below
       → FallAlike a (suc b) c below → FallAlike (length world.mounts) b c below
@@ -184,10 +177,7 @@ module _ (world : World ℕ) (first second : List ℕ) where
   same_group : (one other : Bool) (fall fall_then fall_at_once : Location ℕ → Location ℕ) (mount : Mount ℕ)
       → group_if other fall_then (inheriting nat_eq firstly (gone_if one fall mount))
       ≡ group_if (one || other) fall_at_once mount
-  same_group true true fall fall_then fall_at_once mount = refl
-  same_group true false fall fall_then fall_at_once mount = refl
-  same_group false true fall fall_then fall_at_once mount = refl
-  same_group false false fall fall_then fall_at_once mount = group-inherited firstly mount.propagation
+  same_group one other fall fall_then fall_at_once mount = grind (arith, common_steps, group-inherited)
 
   abbrev twice : Mount ℕ → Mount ℕ
   twice mount = after_going nat_eq left second (inheriting nat_eq firstly (after_going nat_eq world first mount))

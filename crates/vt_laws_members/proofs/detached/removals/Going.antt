@@ -142,10 +142,7 @@ module _ (world : World ℕ) (names : List TaskName) (is : IsWorld nat_eq world)
 
     pub own_go : (mount : Mount ℕ) → Among mount world.mounts → is_going nat_eq going_with mount.number ≡ true
         → owns mount ≡ true
-    own_go mount m h =
-        let its = goes_with mount m h in
-        let from = among-from_filter (stands world points) world.mounts its.0 its.1 in
-        own_by world names is.mounts mount its.0 its.2 (top_own its.0 from.0 from.1)
+    own_go mount m h = grind (arith, common_steps, goes_with, among-from_filter, own_by, top_own)
 
     -- where none of a task's namespace stands on the directory, what is in that namespace stays
     pub caller_stays : (task : Task ℕ) → is_mount_point_in nat_eq (looks_of nat_eq world) task.namespace gone ≡ false

@@ -18,19 +18,11 @@ use Rattle.vt_laws_members.proofs.changes.letting_go.Ready.{AllNamed, Alone, IsC
 
 -- the other tree is of the same filesystem
 pub swap_numbered : (old : Filesystem ℕ) (files : FileTree ℕ) (x : Filesystem ℕ) → (swap old files x).number ≡ x.number
-swap_numbered old files x = by (nat_eq old.number x.number) refl
-  where
-    by : (b : Bool) → nat_eq old.number x.number ≡ b → (cond b (with_files old files) x).number ≡ x.number
-    by true e = eqb-true old.number x.number e
-    by false e = refl
+swap_numbered old files x = grind (arith, common_steps, eqb-true)
 
 pub swap_overlaid : (old : Filesystem ℕ) (files : FileTree ℕ) (x : Filesystem ℕ)
     → (nat_eq old.number x.number ≡ true → x ≡ old) → (swap old files x).overlay ≡ x.overlay
-swap_overlaid old files x one = by (nat_eq old.number x.number) refl
-  where
-    by : (b : Bool) → nat_eq old.number x.number ≡ b → (cond b (with_files old files) x).overlay ≡ x.overlay
-    by true e = ap (λ (f : Filesystem ℕ). f.overlay) (sym (one e))
-    by false e = refl
+swap_overlaid old files x one = grind (arith, common_steps)
 
 pub swap_kept : (old : Filesystem ℕ) (files : FileTree ℕ) (x : Filesystem ℕ) → nat_eq old.number x.number ≡ false
     → swap old files x ≡ x
